@@ -1,0 +1,80 @@
+ghost use Rattle.std.specs.Prelude.{◌≡◌, ℤ, pos, ◌+ℤ◌, ◌-ℤ◌, SomeIff};
+ghost use Rattle.rw_base.specs.Quantity.{IsQuantity, AnswersExactly};
+
+use std::marker::Model;
+
+/// The greatest quantity, Q. The least is -Q.
+pub const QUANTITY_MAX: i64 = 100_000_000_000_000_000;
+
+/// Why arithmetic on quantities has no quantity as its answer.
+#[derive(Clone, Copy, Debug, PartialEq, Eq)]
+pub enum ArithFault {
+    /// The divisor is 0.
+    ZeroDivisor,
+    /// The exact result, which is below -Q or above Q.
+    OutOfRange(i128),
+}
+
+/// A whole number from -Q to Q, in whatever unit its slot has: m3, mm, m3/step.
+#[derive(Clone, Copy, Debug, PartialEq, Eq, Drop)]
+pub struct Qty {
+    value: i64,
+}
+
+impl Model for Qty {
+    ghost Value = { ℤ };
+
+    ghost view = { λ q. q.value };
+
+    ghost invariant = { λ q. IsQuantity q.value };
+
+    ghost inverse = { λ z. record { value = z } };
+}
+
+// The exact result as a quantity, if it is one.
+fn within(exact: i128) -> Result<Qty, ArithFault>
+    ensures { AnswersExactly exact result }
+{
+    if -i128::from(QUANTITY_MAX) <= exact && exact <= i128::from(QUANTITY_MAX) {
+        Ok(Qty {
+            value: exact as i64,
+        })
+    } else {
+        Err(ArithFault::OutOfRange(exact))
+    }
+}
+
+impl Qty {
+    /// The quantity of that value. `None` exactly outside -Q to Q.
+    pub fn of(v: i64) -> Option<Qty>
+        ensures { SomeIff result (IsQuantity v) v }
+    {
+        if -QUANTITY_MAX <= v && v <= QUANTITY_MAX {
+            Some(Qty { value: v })
+        } else {
+            None
+        }
+    }
+
+    /// Its value, from -Q to Q.
+    pub fn get(self) -> i64
+        ensures value { result ≡ self }
+        ensures bounds { IsQuantity result }
+    {
+        self.value
+    }
+
+    /// The sum. `OutOfRange` carries the exact sum, exactly where it is outside -Q to Q.
+    pub fn add(self, b: Qty) -> Result<Qty, ArithFault>
+        ensures { AnswersExactly (self +ℤ b) result }
+    {
+        within(i128::from(self.value) + i128::from(b.value))
+    }
+
+    /// The difference. `OutOfRange` carries the exact difference, exactly where it is outside -Q to Q.
+    pub fn sub(self, b: Qty) -> Result<Qty, ArithFault>
+        ensures { AnswersExactly (self -ℤ b) result }
+    {
+        within(i128::from(self.value) - i128::from(b.value))
+    }
+}
