@@ -1,0 +1,5 @@
+pub mod Causes
+pub mod Known
+pub mod Files
+pub mod MemShelf
+pub mod MemSink

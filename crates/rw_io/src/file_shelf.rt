@@ -1,0 +1,81 @@
+ghost use Rattle.std.specs.Prelude.{◌≡◌, ℕ, List, None, is_some, string_bytes};
+ghost use Rattle.std.specs.Option.{option_map};
+
+use crate::{Shelf, ShelfFault};
+use std::fs;
+use std::io::Read;
+use std::rt::Files;
+
+/// The runtime's files, of whose bytes nothing is told. It has one count of faults, which is that of every path.
+#[derive(Drop)]
+pub struct FileShelf<R: Files + Drop> {
+    files: R,
+    started: Option<String>,
+    opened: Option<R::File>,
+    given: u64,
+    faults: u64,
+    ghost paired: { is_some started ≡ is_some opened },
+}
+
+impl<R: Files + Drop> FileShelf<R> {
+    /// A shelf of the runtime's files.
+    pub fn of(files: R) -> FileShelf<R>
+        ensures no_faults { (p : List ℕ) → ⟦<FileShelf<R> as Shelf>⟧.faults result p ≡ 0 }
+        ensures not_started { ⟦<FileShelf<R> as Shelf>⟧.started result ≡ None }
+        ensures untold { (p : List ℕ) → ⟦<FileShelf<R> as Shelf>⟧.holds result p ≡ None }
+    {
+        FileShelf {
+            files,
+            started: None,
+            opened: None,
+            given: 0,
+            faults: 0,
+        }
+    }
+}
+
+impl<R: Files + Drop> Shelf for FileShelf<R> {
+    ghost holds = { λ _ _. None };
+
+    ghost started = { λ s. option_map (λ path. string_bytes path) s.started };
+
+    ghost left = { λ _. None };
+
+    ghost given = { λ s. s.given };
+
+    ghost faults = { λ s _. s.faults };
+
+    fn start(&mut self, path: String) -> Result<(), ShelfFault> {
+        self.started = None;
+        self.opened = None;
+        match fs::open(&self.files, path.as_str()) {
+            Ok(file) => {
+                self.started = Some(path);
+                self.opened = Some(file);
+                self.given = 0;
+                Ok(())
+            }
+            Err(_) => {
+                self.faults = self.faults.saturating_add(1);
+                Err(ShelfFault)
+            }
+        }
+    }
+
+    fn read(&mut self, buf: &mut [u8]) -> Result<usize, ShelfFault> {
+        let _given = self.given;
+        let Some(file) = &mut self.opened else {
+            return Ok(0);
+        };
+        match file.read(buf) {
+            Ok(count) => {
+                self.given = self.given.saturating_add(count as u64);
+                Ok(count)
+            }
+            Err(_) => {
+                self.faults = self.faults.saturating_add(1);
+                Err(ShelfFault)
+            }
+        }
+    }
+}

@@ -1,0 +1,176 @@
+ghost use Rattle.std.specs.Prelude.{◌≡◌, ◌≢◌, ◌↔◌, ◌⊎◌, ℕ, ◌+◌, ◌-◌, ◌^◌, ◌<◌, ◌≤◌, List, [], ◌++◌, Some, None, min, max, length, take, drop, slice_index, Contains, IsErr, IsSome, IfOk, OnOk, OnErr, string_bytes};
+ghost use Rattle.std.specs.Option.{option_map, ForSome};
+ghost use Rattle.rw_io.specs.Causes.{Rose};
+ghost use Rattle.rw_io.specs.Files.{bytes_at, count_at, left_at, place_of};
+
+use crate::plan::Plan;
+use crate::{Shelf, ShelfFault};
+use rw_base::NoMemory;
+use std::alloc::Global;
+
+/// Files in memory, which are told. Of two files of one path the first is held. The calls of `start` and `read`
+/// together are counted from 1, and those with given numbers fail. There is a count of faults for each path that is
+/// held, and one for all other paths.
+#[derive(Drop)]
+pub struct MemShelf {
+    files: Vec<(String, Vec<u8>)>,
+    counts: Vec<u64>,
+    plan: Plan,
+    started: Option<String>,
+    place: usize,
+    at: usize,
+    given: u64,
+    ghost counted: { length counts.items ≡ length files.items + 1 },
+    ghost found: { ForSome started (λ path. place ≡ place_of files.items (string_bytes path)) },
+    ghost inside: { ForSome started (λ path. place < length files.items) },
+}
+
+// The place of the first file of that path, or the number of files.
+fn place_in(files: &[(String, Vec<u8>)], path: &str) -> usize
+    ensures place { result ≡ place_of files.now path.now }
+    ensures bound { result ≤ length files.now }
+{
+    for (i, file) in files.iter().enumerate() {
+        if file.0.as_str() == path {
+            return i;
+        }
+    }
+    files.len()
+}
+
+// One more fault, unless the count stands at its type's end.
+fn raise(counts: &mut Vec<u64>, place: usize)
+    requires { place < length counts.old.items }
+    ensures len { length counts.new.items ≡ length counts.old.items }
+    ensures rose { Rose (slice_index counts.old.items place) (slice_index counts.new.items place) }
+    ensures later { (k : ℕ) → slice_index counts.old.items k ≤ slice_index counts.new.items k }
+    ensures alone { (k : ℕ) → k ≢ place → slice_index counts.new.items k ≡ slice_index counts.old.items k }
+{
+    let count = counts[place].saturating_add(1);
+    counts[place] = count;
+}
+
+// Copies what fits of the bytes from `at` on.
+fn copy_from(bytes: &[u8], at: usize, buf: &mut [u8]) -> usize
+    ensures bound { result ≤ length buf.new }
+    ensures inside { at + result ≤ max at (length bytes.now) }
+    ensures copied { drop at bytes.now ≡ take result buf.new ++ drop (at + result) bytes.now }
+    ensures end { result ≡ 0 → 0 < length buf.new → drop (at + result) bytes.now ≡ [] }
+{
+    if at >= bytes.len() {
+        return 0;
+    }
+    let rest = &bytes[at..];
+    let count = rest.len().min(buf.len());
+    buf[..count].copy_from_slice(&rest[..count]);
+    count
+}
+
+impl MemShelf {
+    ghost use Rattle.rw_io.specs.MemShelf.{calls_of, failing_of};
+
+    /// A shelf of these files by path, of which the calls with the given numbers are to fail.
+    pub fn of(
+        alloc: Global,
+        files: Vec<(String, Vec<u8>)>,
+        failing: Vec<u64>,
+    ) -> Result<MemShelf, NoMemory>
+        ensures held { IfOk result (λ s. (p : List ℕ) → ⟦<MemShelf as Shelf>⟧.holds s p ≡ bytes_at files.items p) }
+        ensures no_faults { IfOk result (λ s. (p : List ℕ) → ⟦<MemShelf as Shelf>⟧.faults s p ≡ 0) }
+        ensures not_started { IfOk result (λ s. ⟦<MemShelf as Shelf>⟧.started s ≡ None) }
+        ensures failing { IfOk result (λ s. failing_of s ≡ failing.items) }
+        ensures no_calls { IfOk result (λ s. calls_of s ≡ 0) }
+    {
+        if files.len() == usize::MAX {
+            return Err(NoMemory);
+        }
+        let counts = vec![in alloc; 0u64; files.len() + 1]?;
+        Ok(MemShelf {
+            files,
+            counts,
+            plan: Plan { failing, calls: 0 },
+            started: None,
+            place: 0,
+            at: 0,
+            given: 0,
+        })
+    }
+}
+
+impl Shelf for MemShelf {
+    ghost use Rattle.rw_io.specs.MemShelf.{calls_of, failing_of, faults_of, holds_of, left_of, started_of, ShareCount};
+    ghost use Rattle.std.specs.Io.{ReadsAtMost};
+    ghost use Rattle.std.specs.Io.KnownBytes.{ReadConsumes};
+    ghost use Rattle.rw_io.specs.Causes.{NoneFell, PathRose};
+    ghost use Rattle.rw_io.specs.Known.{given_after};
+
+    ghost holds = { λ s p. bytes_at s.files.items p };
+
+    ghost started = { λ s. option_map (λ path. string_bytes path) s.started };
+
+    ghost left = { λ s. left_at s.files.items s.started s.place s.at };
+
+    ghost given = { λ s. s.given };
+
+    ghost faults = { λ s p. count_at s.files.items s.counts.items p };
+
+    fn start(&mut self, path: String) -> Result<(), ShelfFault>
+        ensures held { (p : List ℕ) → holds_of self.new p ≡ holds_of self.old p }
+        ensures started { OnOk result (started_of self.new ≡ Some (string_bytes path)) }
+        ensures left { OnOk result (left_of self.new ≡ holds_of self.old (string_bytes path)) }
+        ensures given { OnOk result (⟦<MemShelf as Shelf>⟧.given self.new ≡ 0) }
+        ensures nothing { OnErr result (started_of self.new ≡ None) }
+        ensures later { NoneFell (faults_of self.old) (faults_of self.new) }
+        ensures cause { OnErr result (Rose (faults_of self.old (string_bytes path)) (faults_of self.new (string_bytes path))) }
+
+        // A call fails exactly where it is to fail or the path isn't held, and raises one count alone.
+        ensures fails { IsErr result ↔ (Contains (failing_of self.old) (calls_of self.new) ⊎ (holds_of self.old (string_bytes path) ≡ None)) }
+        ensures calm { OnOk result ((p : List ℕ) → faults_of self.new p ≡ faults_of self.old p) }
+        ensures alone { (p : List ℕ) → ¬ ShareCount self.old p (string_bytes path) → faults_of self.new p ≡ faults_of self.old p }
+        ensures calls { calls_of self.new ≡ min (calls_of self.old + 1) (2 ^ 64 - 1) }
+        ensures plan { failing_of self.new ≡ failing_of self.old }
+    {
+        let place = place_in(&self.files, path.as_str());
+        self.started = None;
+        if self.plan.next_fails() || place >= self.files.len() {
+            raise(&mut self.counts, place);
+            return Err(ShelfFault);
+        }
+        self.place = place;
+        self.started = Some(path);
+        self.at = 0;
+        self.given = 0;
+        Ok(())
+    }
+
+    fn read(&mut self, buf: &mut [u8]) -> Result<usize, ShelfFault>
+        ensures held { (p : List ℕ) → holds_of self.new p ≡ holds_of self.old p }
+        ensures started { started_of self.new ≡ started_of self.old }
+        ensures bound { ReadsAtMost result buf.new }
+        ensures bytes { ReadConsumes (left_of self.old) (left_of self.new) result buf.new }
+        ensures idle { started_of self.old ≡ None → result ≡ Ok 0 }
+        ensures given { ⟦<MemShelf as Shelf>⟧.given self.new ≡ given_after (⟦<MemShelf as Shelf>⟧.given self.old) result }
+        ensures later { NoneFell (faults_of self.old) (faults_of self.new) }
+        ensures cause { OnErr result (PathRose (started_of self.old) (faults_of self.old) (faults_of self.new)) }
+
+        // A call fails exactly where it is to fail and a path is started, and raises the count of that path alone.
+        ensures fails { IsErr result ↔ (Contains (failing_of self.old) (calls_of self.new) × IsSome (started_of self.old)) }
+        ensures calm { OnOk result ((p : List ℕ) → faults_of self.new p ≡ faults_of self.old p) }
+        ensures alone { (p path : List ℕ) → started_of self.old ≡ Some path → ¬ ShareCount self.old p path → faults_of self.new p ≡ faults_of self.old p }
+        ensures calls { calls_of self.new ≡ min (calls_of self.old + 1) (2 ^ 64 - 1) }
+        ensures plan { failing_of self.new ≡ failing_of self.old }
+    {
+        let fails = self.plan.next_fails();
+        if self.started.is_none() {
+            return Ok(0);
+        }
+        if fails {
+            raise(&mut self.counts, self.place);
+            return Err(ShelfFault);
+        }
+        let count = copy_from(&self.files[self.place].1, self.at, buf);
+        self.at += count;
+        self.given = self.given.saturating_add(count as u64);
+        Ok(count)
+    }
+}

@@ -1,0 +1,79 @@
+ghost use Rattle.std.specs.Prelude.{◌≡◌, ◌⊎◌, ◌+◌, ◌-◌, ◌^◌, ◌<◌, ◌≤◌, [], Some, length, min, Contains, IsErr, IfOk, OnOk, OnErr};
+
+use crate::plan::Plan;
+use crate::{Sink, SinkFault};
+use std::alloc::Global;
+
+/// Text in memory, which is told. Each piece is taken whole. The calls of `write` are counted from 1, and those with
+/// given numbers fail, unless the piece is empty. Where there is no memory for a piece, that is a fault.
+#[derive(Drop)]
+pub struct MemSink {
+    bytes: Vec<u8>,
+    plan: Plan,
+    faults: u64,
+}
+
+impl MemSink {
+    ghost use Rattle.rw_io.specs.MemSink.{calls_of, failing_of};
+
+    /// An empty sink, of which the calls with the given numbers are to fail.
+    pub fn of(alloc: Global, failing: Vec<u64>) -> MemSink
+        ensures empty { ⟦<MemSink as Sink>⟧.contents result ≡ Some [] }
+        ensures no_faults { ⟦<MemSink as Sink>⟧.faults result ≡ 0 }
+        ensures failing { failing_of result ≡ failing.items }
+        ensures no_calls { calls_of result ≡ 0 }
+    {
+        MemSink {
+            bytes: Vec::new(alloc),
+            plan: Plan { failing, calls: 0 },
+            faults: 0,
+        }
+    }
+
+    /// What was kept.
+    pub fn held(&self) -> &[u8]
+        ensures { ⟦<MemSink as Sink>⟧.contents self.now ≡ Some result.now }
+    {
+        &self.bytes
+    }
+}
+
+impl Sink for MemSink {
+    ghost use Rattle.rw_io.specs.MemSink.{bytes_of, calls_of, failing_of, faults_of};
+    ghost use Rattle.rw_io.specs.Causes.{Rose};
+    ghost use Rattle.rw_io.specs.Known.{SinkAppends};
+
+    ghost contents = { λ s. Some s.bytes.items };
+
+    ghost faults = { λ s. s.faults };
+
+    fn write(&mut self, piece: &[u8]) -> Result<usize, SinkFault>
+        ensures bound { IfOk result (λ n. n ≤ length piece.now) }
+        ensures some { 0 < length piece.now → IfOk result (λ n. 0 < n) }
+        ensures bytes { SinkAppends (Some (bytes_of self.old)) (Some (bytes_of self.new)) result piece.now }
+        ensures later { faults_of self.old ≤ faults_of self.new }
+        ensures cause { OnErr result (Rose (faults_of self.old) (faults_of self.new)) }
+
+        // An empty piece.
+        ensures empty { length piece.now ≡ 0 → result ≡ Ok 0 }
+        ensures still { length piece.now ≡ 0 → Some (bytes_of self.new) ≡ Some (bytes_of self.old) }
+        ensures calm { length piece.now ≡ 0 → faults_of self.new ≡ faults_of self.old }
+
+        // A piece is taken whole, and a call that is to fail does.
+        ensures whole { IfOk result (λ n. n ≡ length piece.now) }
+        ensures no_fault { OnOk result (faults_of self.new ≡ faults_of self.old) }
+        ensures fails { Contains (failing_of self.old) (calls_of self.new) → 0 < length piece.now → IsErr result }
+        ensures calls { calls_of self.new ≡ min (calls_of self.old + 1) (2 ^ 64 - 1) }
+        ensures plan { failing_of self.new ≡ failing_of self.old }
+    {
+        let fails = self.plan.next_fails();
+        if piece.is_empty() {
+            return Ok(0);
+        }
+        if fails || self.bytes.extend_from_slice(piece).is_err() {
+            self.faults = self.faults.saturating_add(1);
+            return Err(SinkFault);
+        }
+        Ok(piece.len())
+    }
+}

@@ -1,0 +1,41 @@
+ghost use Rattle.std.specs.Prelude.{◌≡◌, None};
+
+use crate::{Sink, SinkFault};
+use std::io::Write;
+
+/// A standard stream, of whose bytes nothing is told. What was written is flushed, and a flush that fails is a fault;
+/// so is a write that takes no byte of a piece that isn't empty.
+#[derive(Drop)]
+pub struct StdSink<W: Write + Drop> {
+    stream: W,
+    faults: u64,
+}
+
+impl<W: Write + Drop> StdSink<W> {
+    /// A sink that writes to that stream.
+    pub fn of(stream: W) -> StdSink<W>
+        ensures no_faults { ⟦<StdSink<W> as Sink>⟧.faults result ≡ 0 }
+        ensures untold { ⟦<StdSink<W> as Sink>⟧.contents result ≡ None }
+    {
+        StdSink { stream, faults: 0 }
+    }
+}
+
+impl<W: Write + Drop> Sink for StdSink<W> {
+    ghost contents = { λ _. None };
+
+    ghost faults = { λ s. s.faults };
+
+    fn write(&mut self, piece: &[u8]) -> Result<usize, SinkFault> {
+        if piece.is_empty() {
+            return Ok(0);
+        }
+        match self.stream.write(piece) {
+            Ok(count) if count > 0 && self.stream.flush().is_ok() => Ok(count),
+            _ => {
+                self.faults = self.faults.saturating_add(1);
+                Err(SinkFault)
+            }
+        }
+    }
+}

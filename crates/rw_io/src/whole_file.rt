@@ -1,0 +1,62 @@
+ghost use Rattle.std.specs.Prelude.{◌≡◌, ℕ, ◌<◌, ◌≤◌, List, length, IfOk, IfSome, IsErrOf};
+ghost use Rattle.rw_io.specs.Causes.{Rose, NoneFell};
+
+use crate::Shelf;
+use std::alloc::Global;
+
+/// The greatest length of a file, in bytes.
+pub const FILE_MAX: usize = 16_777_216;
+
+/// How many bytes are asked for at a time, at most.
+pub const PIECE_MAX: usize = 65_536;
+
+/// Why a file isn't read whole.
+#[derive(Clone, Copy, Debug, PartialEq, Eq)]
+pub enum ReadEnd {
+    /// The count of faults of the path rose in this call.
+    ReadFault,
+    /// More than `FILE_MAX` bytes were given in this call, and no fault came.
+    TooLong,
+    /// There was no memory.
+    NoMemory,
+}
+
+/// Reads the whole file of that path. After a refusal the file is left partly read.
+pub fn read_all<S: Shelf>(alloc: Global, shelf: &mut S, path: &str) -> Result<Vec<u8>, ReadEnd>
+    // The whole file, where the shelf tells it, of at most `FILE_MAX` bytes.
+    ensures whole { IfOk result (λ bytes. IfSome (S.holds shelf.old path.now) (λ file. bytes.items ≡ file)) }
+    ensures short { IfOk result (λ bytes. length bytes.items ≤ FILE_MAX) }
+    ensures given { IfOk result (λ bytes. S.given shelf.new ≡ length bytes.items) }
+
+    // Why it isn't read.
+    ensures fault { IsErrOf result ReadEnd.ReadFault → Rose (S.faults shelf.old path.now) (S.faults shelf.new path.now) }
+    ensures long { IsErrOf result ReadEnd.TooLong → FILE_MAX < S.given shelf.new }
+    ensures longer { IsErrOf result ReadEnd.TooLong → IfSome (S.holds shelf.old path.now) (λ file. FILE_MAX < length file) }
+
+    // What stays.
+    ensures held { (p : List ℕ) → S.holds shelf.new p ≡ S.holds shelf.old p }
+    ensures later { NoneFell (S.faults shelf.old) (S.faults shelf.new) }
+{
+    let Ok(name) = String::from_str(alloc, path) else {
+        return Err(ReadEnd::NoMemory);
+    };
+    if shelf.start(name).is_err() {
+        return Err(ReadEnd::ReadFault);
+    }
+    let mut bytes = Vec::new(alloc);
+    let mut piece = [0u8; PIECE_MAX];
+    loop {
+        let Ok(count) = shelf.read(&mut piece) else {
+            return Err(ReadEnd::ReadFault);
+        };
+        if count == 0 {
+            return Ok(bytes);
+        }
+        if count > FILE_MAX - bytes.len() {
+            return Err(ReadEnd::TooLong);
+        }
+        if bytes.extend_from_slice(&piece[..count]).is_err() {
+            return Err(ReadEnd::NoMemory);
+        }
+    }
+}
