@@ -1,0 +1,9 @@
+pub mod Command
+pub mod Numeral
+pub mod FirstModel
+pub mod FirstInputs
+pub mod Reservoir
+pub mod Stamp
+pub mod Table
+pub mod Reading
+pub mod Refusal

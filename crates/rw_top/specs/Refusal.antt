@@ -1,0 +1,91 @@
+-- Why the top call refuses, with which status, and in which line it says so.
+use Rattle.std.specs.Prelude.{◌≡◌, ◌⊎◌, ℕ, ◌<◌, ℤ, List, ◌++◌, Option, codes, ⊤}
+use Rattle.rw_io.specs.Causes.{Rose}
+use Rattle.rw_io.specs.Known.{GrowsBy, PrefixGrew}
+use Rattle.rw_io.specs.declared.whole_file.ReadEnd.{ReadEnd}
+use Rattle.rw_io.specs.declared.whole_file.ReadEnd.TheVariants.{ReadFault, TooLong as EndTooLong, NoMemory as EndNoMemory}
+use Rattle.rw_top.specs.Command.{IsCommand}
+use Rattle.rw_top.specs.Reading.{IsTooLong, Reaches, ReadsBoth, RefusesInputs, RefusesModel, path_of}
+use Rattle.rw_top.specs.Table.{IsRunText}
+use Rattle.rw_top.specs.declared.refusal.File.{File}
+use Rattle.rw_top.specs.declared.refusal.Refusal.{Refusal}
+use Rattle.rw_top.specs.declared.refusal.Refusal.TheVariants.{Words, CannotRead, CannotWrite, NoMemory, Model, Inputs, TooLong}
+
+abbrev pub status_of : Refusal → ℕ
+status_of Words = 2
+status_of (CannotRead file) = 3
+status_of CannotWrite = 4
+status_of NoMemory = 5
+status_of Model = 6
+status_of Inputs = 8
+status_of (TooLong file) = 10
+
+-- the line that says so
+abbrev pub line_of : List (List ℕ) → Refusal → List ℕ
+line_of words Words = codes "basin: words refused\n"
+line_of words (CannotRead file) = codes "basin: cannot read " ++ (path_of words file ++ codes "\n")
+line_of words CannotWrite = codes "basin: cannot write\n"
+line_of words NoMemory = codes "basin: want of memory\n"
+line_of words Model = codes "basin: model: not the first form\n"
+line_of words Inputs = codes "basin: inputs: not the first form\n"
+line_of words (TooLong file) = codes "basin: too long " ++ (path_of words file ++ codes "\n")
+
+-- the refusal where a file isn't read whole
+abbrev pub refusal_after : ReadEnd → File → Refusal
+refusal_after ReadFault file = CannotRead file
+refusal_after EndTooLong file = TooLong file
+refusal_after EndNoMemory file = NoMemory
+
+-- the file was reached, and a fault of it was counted
+pub record FailsToRead (words : List (List ℕ)) (holds : List ℕ → Option (List ℕ)) (before now : List ℕ → ℕ) (file : File) : Type 0 where
+  pub reached : Reaches words holds file
+  pub rose : Rose (before (path_of words file)) (now (path_of words file))
+
+-- the file is reached, and holds more than a file may, where that is told
+pub record HoldsTooLong (words : List (List ℕ)) (holds : List ℕ → Option (List ℕ)) (file : File) : Type 0 where
+  pub reached : Reaches words holds file
+  pub longer : IsTooLong holds (path_of words file)
+
+-- the file was reached, and more bytes were given of it than a file may hold
+pub record FindsTooLong (words : List (List ℕ)) (holds : List ℕ → Option (List ℕ)) (given : ℕ) (file : File) : Type 0 where
+  pub holds_too_long : HoldsTooLong words holds file
+  pub more : 16777216 < given
+
+-- why nothing was written; want of memory is free
+abbrev pub ReadCause : List (List ℕ) → (List ℕ → Option (List ℕ)) → (List ℕ → ℕ) → (List ℕ → ℕ) → ℕ → Refusal → Type 0
+ReadCause words holds before now given Words = ¬ IsCommand words
+ReadCause words holds before now given (CannotRead file) = FailsToRead words holds before now file
+ReadCause words holds before now given (TooLong file) = FindsTooLong words holds given file
+ReadCause words holds before now given Model = RefusesModel words holds
+ReadCause words holds before now given Inputs = RefusesInputs words holds
+ReadCause words holds before now given NoMemory = ⊤
+ReadCause words holds before now given CannotWrite = ⊥
+
+-- both files were read, and the text of their run was written: all of it, or what `Grew` says
+pub record Writes (Grew : List ℕ → Type 0) (words : List (List ℕ)) (holds : List ℕ → Option (List ℕ)) (fault : Option ℤ) : Type 0 where
+  pub steps : ℕ
+  pub initial : ℕ
+  pub inflows : List ℕ
+  pub outflows : List ℕ
+  pub read : ReadsBoth words holds steps initial inflows outflows
+  pub text : List ℕ
+  pub run_text : IsRunText steps initial inflows outflows fault text
+  pub grew : Grew text
+
+-- the whole text of the run was appended to what the sink held
+abbrev pub WritesAll : List (List ℕ) → (List ℕ → Option (List ℕ)) → Option (List ℕ) → Option (List ℕ) → Option ℤ → Type 0
+WritesAll words holds old new fault = Writes (GrowsBy old new) words holds fault
+
+-- a front of the text of the run was appended
+abbrev pub WritesFront : List (List ℕ) → (List ℕ → Option (List ℕ)) → Option (List ℕ) → Option (List ℕ) → Type 0
+WritesFront words holds old new = (fault : Option ℤ) × Writes (PrefixGrew old new) words holds fault
+
+-- why the call refuses; but for a failed write, nothing was written
+abbrev pub Cause : List (List ℕ) → (List ℕ → Option (List ℕ)) → (List ℕ → ℕ) → (List ℕ → ℕ) → ℕ → Option (List ℕ) → Option (List ℕ) → ℕ → ℕ → Refusal → Type 0
+Cause words holds before now given old new sink_before sink_now CannotWrite = WritesFront words holds old new × Rose sink_before sink_now
+Cause words holds before now given old new sink_before sink_now refusal = ReadCause words holds before now given refusal × (new ≡ old)
+
+-- a front of the line was appended, and all of it unless the sink's count rose
+pub record Tells (old new : Option (List ℕ)) (before now : ℕ) (line : List ℕ) : Type 0 where
+  pub front : PrefixGrew old new line
+  pub whole : Rose before now ⊎ GrowsBy old new line

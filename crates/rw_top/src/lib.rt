@@ -1,0 +1,21 @@
+//! The top call: the words, the files that they name, a run, and its table. With status 0 or 1 it has written exactly
+//! the text that the definitions give for these files; every other status has its cause, and one line that says so.
+#![tactic(auto)]
+
+mod first_inputs;
+mod first_model;
+mod laws;
+mod numeral;
+mod refusal;
+mod reservoir;
+mod simulate;
+mod stamp;
+mod table;
+mod tell;
+mod top;
+mod words;
+
+pub use laws::{one_form_of_inputs, one_form_of_model, one_text};
+pub use refusal::{File, Refusal};
+pub use rw_base::{Blank, Ledger, Steps};
+pub use top::basin_main;

@@ -1,0 +1,59 @@
+ghost use Rattle.std.specs.Prelude.{◌≡◌};
+
+use rw_io::ReadEnd;
+
+/// A file that the words name.
+#[derive(Clone, Copy, Debug, PartialEq, Eq)]
+pub enum File {
+    Model,
+    Inputs,
+}
+
+/// Why the table isn't written, or not wholly.
+#[derive(Clone, Copy, Debug, PartialEq, Eq)]
+pub enum Refusal {
+    /// The words are no command.
+    Words,
+    /// A fault of that file was counted.
+    CannotRead(File),
+    /// A fault of the output was counted.
+    CannotWrite,
+    /// There was no memory.
+    NoMemory,
+    /// The model isn't in the first form.
+    Model,
+    /// The inputs aren't in the first form for that model.
+    Inputs,
+    /// More bytes were given of that file than a file may hold.
+    TooLong(File),
+}
+
+impl Refusal {
+    ghost use Rattle.rw_top.specs.Refusal.{refusal_after, status_of};
+
+    /// The status with which a program ends.
+    pub fn status(self) -> u8
+        ensures { result ≡ status_of self }
+    {
+        match self {
+            Refusal::Words => 2,
+            Refusal::CannotRead(_) => 3,
+            Refusal::CannotWrite => 4,
+            Refusal::NoMemory => 5,
+            Refusal::Model => 6,
+            Refusal::Inputs => 8,
+            Refusal::TooLong(_) => 10,
+        }
+    }
+
+    /// The refusal where that file isn't read whole.
+    pub(crate) fn after(end: ReadEnd, file: File) -> Refusal
+        ensures { result ≡ refusal_after end file }
+    {
+        match end {
+            ReadEnd::ReadFault => Refusal::CannotRead(file),
+            ReadEnd::TooLong => Refusal::TooLong(file),
+            ReadEnd::NoMemory => Refusal::NoMemory,
+        }
+    }
+}

@@ -1,0 +1,86 @@
+ghost use Rattle.std.specs.Prelude.{◌≡◌, ◌≢◌, ◌⊎◌, ◌<◌, ◌≤◌, ℕ, ℤ, List, None, Some};
+ghost use Rattle.rw_io.specs.Causes.{Rose};
+ghost use Rattle.rw_top.specs.Command.{IsCommand, inputs_path, model_path, texts_of};
+ghost use Rattle.rw_top.specs.Reading.{IsHonest, ReadsBoth, RefusesInputs, RefusesModel};
+ghost use Rattle.rw_top.specs.Refusal.{Cause, FailsToRead, FindsTooLong, HoldsTooLong, Tells, WritesAll, WritesFront, line_of, status_of};
+ghost use Rattle.rw_top.specs.declared.refusal.File.{File};
+ghost use Rattle.rw_top.specs.declared.refusal.Refusal.{Refusal};
+
+use crate::Refusal;
+use crate::simulate::simulate;
+use crate::tell::tell;
+use rw_base::{Ledger, Steps};
+use rw_io::{Shelf, Sink};
+use std::alloc::Global;
+
+/// Does what the words ask for, and answers the status with which a program ends. The words don't include the
+/// program's own name.
+///
+/// `simulate MODEL INPUTS` reads both files from the shelf, runs the reservoir and writes its table to `out`. The
+/// status is 0 where the run settled and 1 where it ended in a fault. With each other status one line on `err` says
+/// why: 2 the words, 3 a file that can't be read, 4 an output that can't be written, 5 want of memory, 6 the model,
+/// 8 the inputs, 10 a file of more than 16,777,216 bytes. A failure of `err` changes no status.
+pub fn basin_main<S: Shelf, K: Sink, E: Sink, L: Ledger>(
+    alloc: Global,
+    words: &[String],
+    shelf: &mut S,
+    out: &mut K,
+    err: &mut E,
+    _steps: &mut Steps<L>,
+) -> u8
+    // With 0 or 1 exactly the text of the run was appended: with 0 one that settles, with 1 one that ends in a fault.
+    ensures settled { result ≡ 0 → WritesAll (texts_of words.now) (S.holds shelf.old) (K.contents out.old) (K.contents out.new) None }
+    ensures faulted { result ≡ 1 → (value : ℤ) × WritesAll (texts_of words.now) (S.holds shelf.old) (K.contents out.old) (K.contents out.new) (Some value) }
+    ensures silent { result ≤ 1 → E.contents err.new ≡ E.contents err.old }
+
+    // 2, 6 and 8 come exactly where the words, the model, the inputs are refused; want of memory may come before.
+    ensures words { result ≡ 2 → ¬ IsCommand (texts_of words.now) }
+    ensures words_due { ¬ IsCommand (texts_of words.now) → (result ≡ 2) ⊎ (result ≡ 5) }
+    ensures model { result ≡ 6 → RefusesModel (texts_of words.now) (S.holds shelf.old) }
+    ensures model_due { RefusesModel (texts_of words.now) (S.holds shelf.old)
+        → IsHonest (S.holds shelf.old) (S.faults shelf.old) (S.faults shelf.new) (model_path (texts_of words.now))
+        → (result ≡ 6) ⊎ (result ≡ 5) }
+    ensures inputs { result ≡ 8 → RefusesInputs (texts_of words.now) (S.holds shelf.old) }
+    ensures inputs_due { RefusesInputs (texts_of words.now) (S.holds shelf.old)
+        → IsHonest (S.holds shelf.old) (S.faults shelf.old) (S.faults shelf.new) (model_path (texts_of words.now))
+        → IsHonest (S.holds shelf.old) (S.faults shelf.old) (S.faults shelf.new) (inputs_path (texts_of words.now))
+        → (result ≡ 8) ⊎ (result ≡ 5) }
+
+    // 3 and 4 come only where a count rose, and 10 where too many bytes were given, exactly so where the shelf is honest.
+    ensures read_fault { result ≡ 3 → (file : File) × FailsToRead (texts_of words.now) (S.holds shelf.old) (S.faults shelf.old) (S.faults shelf.new) file }
+    ensures write_fault { result ≡ 4 → Rose (K.faults out.old) (K.faults out.new) }
+    ensures write_front { result ≡ 4 → WritesFront (texts_of words.now) (S.holds shelf.old) (K.contents out.old) (K.contents out.new) }
+    ensures too_long { result ≡ 10 → (file : File) × FindsTooLong (texts_of words.now) (S.holds shelf.old) (S.given shelf.new) file }
+    ensures model_too_long_due { HoldsTooLong (texts_of words.now) (S.holds shelf.old) File.Model
+        → IsHonest (S.holds shelf.old) (S.faults shelf.old) (S.faults shelf.new) (model_path (texts_of words.now))
+        → (result ≡ 10) ⊎ (result ≡ 5) }
+    ensures inputs_too_long_due { HoldsTooLong (texts_of words.now) (S.holds shelf.old) File.Inputs
+        → IsHonest (S.holds shelf.old) (S.faults shelf.old) (S.faults shelf.new) (model_path (texts_of words.now))
+        → IsHonest (S.holds shelf.old) (S.faults shelf.old) (S.faults shelf.new) (inputs_path (texts_of words.now))
+        → (result ≡ 10) ⊎ (result ≡ 5) }
+
+    // Each status from 2 on is that of a refusal with its cause, whose line was told. Nothing else was written.
+    ensures refused { 2 ≤ result → (refusal : Refusal) × (result ≡ status_of refusal)
+        × Cause (texts_of words.now) (S.holds shelf.old) (S.faults shelf.old) (S.faults shelf.new) (S.given shelf.new)
+        (K.contents out.old) (K.contents out.new) (K.faults out.old) (K.faults out.new) refusal
+        × Tells (E.contents err.old) (E.contents err.new) (E.faults err.old) (E.faults err.new) (line_of (texts_of words.now) refusal) }
+    ensures untouched { 2 ≤ result → result ≢ 4 → K.contents out.new ≡ K.contents out.old }
+    ensures held { (p : List ℕ) → S.holds shelf.new p ≡ S.holds shelf.old p }
+
+    // Where all is accepted and no count rises, only memory can be wanting.
+    ensures complete { (steps initial : ℕ) (inflows outflows : List ℕ)
+        → ReadsBoth (texts_of words.now) (S.holds shelf.old) steps initial inflows outflows
+        → IsHonest (S.holds shelf.old) (S.faults shelf.old) (S.faults shelf.new) (model_path (texts_of words.now))
+        → IsHonest (S.holds shelf.old) (S.faults shelf.old) (S.faults shelf.new) (inputs_path (texts_of words.now))
+        → ¬ Rose (K.faults out.old) (K.faults out.new)
+        → (result ≤ 1) ⊎ (result ≡ 5) }
+{
+    match simulate(alloc, words, shelf, out) {
+        Ok(false) => 0,
+        Ok(true) => 1,
+        Err(refusal) => {
+            tell(err, words, refusal);
+            refusal.status()
+        }
+    }
+}
