@@ -1,0 +1,4 @@
+pub mod Quotients
+pub mod Dimensions
+pub mod PredefinedLemmas
+pub mod Units
