@@ -1,4 +1,5 @@
 pub mod Quotients
 pub mod Dimensions
-pub mod PredefinedLemmas
 pub mod Units
+pub mod Rounding
+pub mod Predefined

@@ -1,5 +1,5 @@
 -- The predefined functions, which rules call by name, on whole numbers. A rule's call hands over up to three arguments, and 0 for the others.
-use Rattle.std.specs.Prelude.{◌≡◌, ◌≤◌, ℕ, zero, ◌==◌, if◌then◌else◌, ℤ, pos, ◌-ℤ◌, ◌*ℤ◌, ◌≤ℤ◌, ◌⊎◌, int_div, unsigned_abs}
+use Rattle.std.specs.Prelude.{◌≡◌, ℕ, zero, ◌==◌, if◌then◌else◌, ℤ, pos, ◌-ℤ◌, ◌*ℤ◌, ◌≤ℤ◌, ◌⊎◌, int_div, unsigned_abs}
 use Rattle.std.specs.Int.{int_min, int_max, int_signum}
 
 -- a without its sign

@@ -1,5 +1,5 @@
 -- The table of units.
-use Rattle.std.specs.Prelude.{ℕ, ℤ, pos, List, [], ◌∷◌, Option, Some, None, if◌then◌else◌, codes, bytes_eq}
+use Rattle.std.specs.Prelude.{ℕ, ℤ, pos, List, [], ◌∷◌, map, Option, Some, None, if◌then◌else◌, codes, bytes_eq}
 use Rattle.rw_base.specs.Dimension.{Dimension, dimension, per_of}
 
 abbrev pub volume : Dimension
@@ -14,11 +14,10 @@ timestep = dimension (pos 0) (pos 0) (pos 1) (pos 0)
 abbrev pub energy : Dimension
 energy = dimension (pos 0) (pos 0) (pos 0) (pos 1)
 
--- of a plain number
-abbrev pub none : Dimension
-none = dimension (pos 0) (pos 0) (pos 0) (pos 0)
+abbrev pub plain_number : Dimension
+plain_number = dimension (pos 0) (pos 0) (pos 0) (pos 0)
 
--- each unit: its word, the dimension of what it measures, and how many base units it is
+-- each unit: its word, the dimension of what is measured in it, and its factor, which is how many base units it is
 abbrev pub units : List (List ℕ × Dimension × ℤ)
 units =
     (codes "m3", volume, pos 1) ∷
@@ -32,10 +31,14 @@ units =
     (codes "mm/step", per_of length timestep, pos 1) ∷
     (codes "m3/mm", per_of volume length, pos 1) ∷
     (codes "kWh", energy, pos 1) ∷
-    (codes "", none, pos 1) ∷
+    (codes "", plain_number, pos 1) ∷
     []
 
--- the dimension and the factor beside the word
-abbrev pub looked_up : List (List ℕ × Dimension × ℤ) → List ℕ → Option (Dimension × ℤ)
-looked_up [] word = None
-looked_up (row ∷ rows) word = if bytes_eq row.0 word then Some (row.1, row.2) else looked_up rows word
+-- the words of a table
+abbrev pub words_of : List (List ℕ × Dimension × ℤ) → List (List ℕ)
+words_of rows = map (λ row. row.0) rows
+
+-- the dimension and the factor that stand beside the word in a table
+abbrev pub unit_in : List (List ℕ × Dimension × ℤ) → List ℕ → Option (Dimension × ℤ)
+unit_in [] word = None
+unit_in (row ∷ rows) word = if bytes_eq row.0 word then Some (row.1, row.2) else unit_in rows word

@@ -1,13 +1,14 @@
-ghost use Rattle.std.specs.Prelude.{◌≡◌};
+ghost use Rattle.std.specs.Prelude.{◌≡◌, pos, ◌≤ℤ◌, IfSome};
 ghost use Rattle.rw_base.specs.Dimension.{dimension, IsDimension};
-ghost use Rattle.rw_base.specs.Unit.{units, looked_up};
+ghost use Rattle.rw_base.specs.Unit.{units, unit_in};
 
 use crate::Dim;
 
-/// The dimension that a unit word stands for, and how many base units the unit is: a `dam3` is 1000 m3. `None`
-/// exactly where the table of units doesn't have the word.
+/// The dimension of what is measured in a unit, and the unit's factor: how many of the base units m3, mm, timestep
+/// and kWh it is. A `dam3` is 1000 m3. `None` exactly where the table of units doesn't have the word.
 pub fn unit_of(word: &str) -> Option<(Dim, i64)>
-    ensures { result ≡ looked_up units word.now }
+    ensures unit { result ≡ unit_in units word.now }
+    ensures factor { IfSome result (λ unit. (pos 1 ≤ℤ unit.1) × (unit.1 ≤ℤ pos 1_000_000)) }
 {
     let unit = match word {
         "m3" => (dim(1, 0, 0, 0), 1),

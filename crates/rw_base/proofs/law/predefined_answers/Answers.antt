@@ -1,4 +1,4 @@
-use Rattle.rw_base.proofs.PredefinedLemmas.{IsQuantity-predefined_of}
+use Rattle.rw_base.proofs.Predefined.{IsQuantity-predefined_of}
 use Rattle.rw_base.proofs.law.predefined_answers.Goals as goal
 
 pub returns : goal.returns

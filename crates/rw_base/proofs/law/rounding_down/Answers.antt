@@ -1,5 +1,5 @@
 use Rattle.std.specs.Prelude.{int_div}
-use Rattle.rw_base.proofs.PredefinedLemmas.{rounded_down_is, IsFromZeroTo-rounded_down, distance-rounded_down}
+use Rattle.rw_base.proofs.Rounding.{rounded_down_is, IsFromZeroTo-rounded_down, distance-rounded_down}
 use Rattle.rw_base.proofs.law.rounding_down.Goals as goal
 
 pub returns-clause-multiple : goal.returns-clause-multiple

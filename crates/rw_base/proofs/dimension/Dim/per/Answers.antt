@@ -1,6 +1,5 @@
 use Rattle.std.proofs.Common.{arith}
 use Rattle.std.proofs.lemmas.Int.{ints}
-use Rattle.rw_base.specs.Dimension.{per_of}
 use Rattle.rw_base.proofs.Dimensions.{SomeIff-same}
 use Rattle.rw_base.proofs.dimension.Dim.per.Goals as goal
 

@@ -1,14 +1,12 @@
--- What the predefined functions give.
-use Rattle.std.proofs.Common.{◌≡◌, ◌≢◌, ℕ, zero, suc, ◌+◌, ◌*◌, ◌/◌, ◌%◌, ◌<◌, ◌≤◌, Bool, true, false, ℤ, pos, negsuc, neg_ℤ, ◌+ℤ◌, ◌*ℤ◌, ◌-ℤ◌, ◌≤ℤ◌, refl, sym, ap, ◌∙◌, arith}
-use Rattle.std.specs.Prelude.{◌⊎◌, ◌==◌, ◌-ℤ◌, int_div, int_rem, unsigned_abs, if◌then◌else◌}
-use Rattle.std.proofs.lemmas.Int.{ints, clamps, quot-rem, unsigned_abs-mul}
+-- What rounding down gives.
+use Rattle.std.proofs.Common.{◌≡◌, ◌≢◌, ℕ, zero, suc, ◌*◌, ◌/◌, ◌<◌, ◌≤◌, ℤ, pos, negsuc, ◌*ℤ◌, refl, ap, ◌∙◌, arith}
+use Rattle.std.specs.Prelude.{int_div, unsigned_abs}
+use Rattle.std.proofs.lemmas.Int.{ints, quot-rem, unsigned_abs-mul}
 use Rattle.std.proofs.lemmas.Bool.{cases_lt}
 use Rattle.std.proofs.lemmas.Nat.{div-add-mod'}
 use Rattle.std.proofs.Math.Nat.{mod-lt, mod-le, mul-le-mul_right}
-use Rattle.std.specs.Int.{int_min, int_max}
 use mathlib.Core.Logic.{inl, inr, ⊎_elim}
-use Rattle.rw_base.specs.Quantity.{IsQuantity}
-use Rattle.rw_base.specs.Predefined.{size_of, clamped, rounded_down, sign_of, predefined_of, IsFromZeroTo, IsMultipleOf, distance}
+use Rattle.rw_base.specs.Predefined.{rounded_down, IsFromZeroTo, IsMultipleOf, distance}
 
 pub rounded_down_is : (a b : ℤ) → b ≢ pos 0 → rounded_down a b ≡ int_div a b *ℤ b
 rounded_down_is a (pos zero) h = absurd (h refl)
@@ -66,36 +64,3 @@ pub distance-rounded_down : (a b m : ℤ) → IsMultipleOf b m → IsFromZeroTo 
 distance-rounded_down a (pos zero) m k between = omega (arith, ints)
 distance-rounded_down a (pos (suc b)) m k between = nearest a (pos (suc b)) m (λ e. omega (arith, ints)) k between
 distance-rounded_down a (negsuc b) m k between = nearest a (negsuc b) m (λ e. omega (arith, ints)) k between
-
--- ---- quantities stay quantities
-
-IsQuantity-if : (t : Bool) (x y : ℤ) → IsQuantity x → IsQuantity y → IsQuantity (if t then x else y)
-IsQuantity-if true x y p q = p
-IsQuantity-if false x y p q = q
-
--- what lies between 0 and a quantity is one
-IsQuantity-between : (a m : ℤ) → IsQuantity a → IsFromZeroTo a m → IsQuantity m
-IsQuantity-between a m q (inl up) = record { low = omega (arith, ints); high = omega (arith, ints, q.high) }
-IsQuantity-between a m q (inr down) = record { low = omega (arith, ints, q.low); high = omega (arith, ints) }
-
-IsQuantity-size_of : (a : ℤ) → IsQuantity a → IsQuantity (size_of a)
-IsQuantity-size_of a q = record { low = omega (arith, ints); high = omega (arith, ints, q.low, q.high) }
-
-IsQuantity-sign_of : (a : ℤ) → IsQuantity (sign_of a)
-IsQuantity-sign_of (pos n) = record { low = omega (arith, ints); high = omega (arith, ints) }
-IsQuantity-sign_of (negsuc n) = record { low = omega (arith, ints); high = omega (arith, ints) }
-
-IsQuantity-int_min : (a b : ℤ) → IsQuantity a → IsQuantity b → IsQuantity (int_min a b)
-IsQuantity-int_min a b p q = record { low = omega (arith, ints, clamps, p.low, q.low); high = omega (arith, ints, clamps, p.high) }
-
-IsQuantity-int_max : (a b : ℤ) → IsQuantity a → IsQuantity b → IsQuantity (int_max a b)
-IsQuantity-int_max a b p q = record { low = omega (arith, ints, clamps, p.low); high = omega (arith, ints, clamps, p.high, q.high) }
-
-pub IsQuantity-predefined_of : (k : ℕ) (a b c : ℤ) → IsQuantity a → IsQuantity b → IsQuantity c → IsQuantity (predefined_of k a b c)
-IsQuantity-predefined_of k a b c p q r =
-    IsQuantity-if (k == 1) _ _ (IsQuantity-int_min a b p q)
-    (IsQuantity-if (k == 2) _ _ (IsQuantity-int_max a b p q)
-    (IsQuantity-if (k == 3) _ _ (IsQuantity-size_of a p)
-    (IsQuantity-if (k == 4) _ _ (IsQuantity-int_max b (int_min a c) q (IsQuantity-int_min a c p r))
-    (IsQuantity-if (k == 5) _ _ (IsQuantity-between a (rounded_down a b) p (IsFromZeroTo-rounded_down a b))
-    (IsQuantity-if (k == 6) _ _ (IsQuantity-sign_of a) (record { low = omega (arith, ints); high = omega (arith, ints) }))))))
