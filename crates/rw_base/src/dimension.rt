@@ -1,19 +1,19 @@
-ghost use Rattle.std.specs.Prelude.{◌↔◌, IsTrue, SomeIff};
-ghost use Rattle.rw_base.specs.Dimension.{Dimension, dimension, IsExponent, IsDimension, times_of, per_of};
+ghost use Rattle.std.specs.Prelude.{◌↔◌, IsTrue};
+ghost use Rattle.rw_base.specs.Dimension.{Dimension, dimension, IsExponent, IsDimension, AnswersDimension, times_of, per_of};
 
 use std::marker::Model;
 
-/// The dimension of a quantity: the exponents of the base units m3, mm, timestep and kWh, each from -6 to 6.
-/// Of m3/step it is volume 1 and step -1.
+/// The dimension of a quantity: the exponents of the base units m3, mm, timestep and kWh, each from -6 to 6. Of a flow,
+/// in m3/step, the volume's is 1, the timestep's -1, and the others are 0.
 #[derive(Clone, Copy, Debug, PartialEq, Eq, Drop)]
 pub struct Dim {
-    /// Of the volume's unit, m3.
+    /// The exponent of m3.
     pub volume: i8,
-    /// Of the length's unit, mm.
+    /// The exponent of mm.
     pub length: i8,
-    /// Of the timestep.
+    /// The exponent of the timestep.
     pub step: i8,
-    /// Of the energy's unit, kWh.
+    /// The exponent of kWh.
     pub energy: i8,
 }
 
@@ -27,6 +27,7 @@ impl Model for Dim {
     ghost inverse = { λ d. record { volume = d.volume; length = d.length; step = d.step; energy = d.energy } };
 }
 
+// Whether an exponent of a dimension may have the value.
 fn is_exponent(z: i8) -> bool
     ensures { IsTrue result ↔ IsExponent z }
 {
@@ -36,7 +37,7 @@ fn is_exponent(z: i8) -> bool
 impl Dim {
     /// The dimension with these exponents. `None` exactly where one is outside -6 to 6.
     pub fn of(volume: i8, length: i8, step: i8, energy: i8) -> Option<Dim>
-        ensures { SomeIff result (IsDimension (dimension volume length step energy)) (dimension volume length step energy) }
+        ensures { AnswersDimension (dimension volume length step energy) result }
     {
         if is_exponent(volume) && is_exponent(length) && is_exponent(step) && is_exponent(energy) {
             Some(Dim {
@@ -52,7 +53,7 @@ impl Dim {
 
     /// The dimension of a product: the exponents added. `None` exactly where one is outside -6 to 6.
     pub fn times(self, b: Dim) -> Option<Dim>
-        ensures { SomeIff result (IsDimension (times_of self b)) (times_of self b) }
+        ensures { AnswersDimension (times_of self b) result }
     {
         Dim::of(
             self.volume + b.volume,
@@ -65,7 +66,7 @@ impl Dim {
     /// The dimension of a quotient: the exponents of b taken from those of self. `None` exactly where one is outside
     /// -6 to 6.
     pub fn per(self, b: Dim) -> Option<Dim>
-        ensures { SomeIff result (IsDimension (per_of self b)) (per_of self b) }
+        ensures { AnswersDimension (per_of self b) result }
     {
         Dim::of(
             self.volume - b.volume,

@@ -17,6 +17,8 @@ pub struct RuleNo(pub u16);
 /// The place of one value: a slot at a timestep.
 #[derive(Clone, Copy, Debug, PartialEq, Eq, Drop)]
 pub struct Cell {
+    /// Whose value it is.
     pub slot: SlotNo,
+    /// When it holds.
     pub step: StepNo,
 }

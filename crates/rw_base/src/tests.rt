@@ -1,5 +1,10 @@
 // Worked values.
-use crate::{ArithFault, Cell, Dim, ObjectNo, Qty, RuleNo, SlotNo, StepNo, unit_of};
+ghost use Rattle.std.specs.Prelude.{◌≡◌, ◌<◌};
+
+use crate::{
+    ArithFault, Blank, Cell, Dim, Ledger, ObjectNo, Qty, RuleNo, SlotNo, StepNo, Steps, unit_of,
+};
+use std::marker::Brand;
 use std::test::Fail;
 
 const Q: i64 = 100_000_000_000_000_000;
@@ -186,4 +191,19 @@ fn numbers_are_ordered(rt: HostRuntime) {
         step: StepNo(1),
     };
     assert!(rt; cell.slot > SlotNo(2) && cell.step < StepNo(2));
+}
+
+fn count_two<L: Ledger>(blank: Blank)
+    requires name { blank.name ≡ L.name }
+    requires parts { blank.parts ≡ L.parts }
+    requires some { 0 < blank.parts }
+{
+    let mut steps = Steps::<L>::of(blank);
+    steps.tick();
+    steps.tick();
+}
+
+#[test]
+fn steps_begin_on_a_blank() {
+    count_two::<Brand>(Blank::new(1));
 }

@@ -28,6 +28,7 @@ pub fn unit_of(word: &str) -> Option<(Dim, i64)>
     Some(unit)
 }
 
+// The dimension with these exponents.
 fn dim(volume: i8, length: i8, step: i8, energy: i8) -> Dim
     requires { IsDimension (dimension volume length step energy) }
     ensures { result ≡ dimension volume length step energy }
