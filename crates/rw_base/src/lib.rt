@@ -1,11 +1,22 @@
-//! The arithmetic that every table rests on: quantities are whole numbers within stated bounds, and no sum leaves
-//! them unseen. Each call answers the exact result, or names the exact result that has no place.
+//! The arithmetic that every table rests on. Quantities are whole numbers within stated bounds, and no sum, difference
+//! or product leaves them unseen: each call answers the exact result, or names the exact result that has no place.
+//! Quotients are rounded down. Dimensions say what a quantity measures, and unit words stand for a dimension and a
+//! factor. No call takes memory.
 #![tactic(auto)]
 
+mod dimension;
+pub mod law;
 mod memory;
+mod number;
 mod quantity;
 mod steps;
+#[cfg(test)]
+mod tests;
+mod unit;
 
+pub use dimension::Dim;
 pub use memory::NoMemory;
+pub use number::{Cell, ObjectNo, RuleNo, SlotNo, StepNo};
 pub use quantity::{ArithFault, QUANTITY_MAX, Qty};
 pub use steps::{Blank, Ledger, Steps};
+pub use unit::unit_of;

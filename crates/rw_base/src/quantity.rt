@@ -1,5 +1,6 @@
-ghost use Rattle.std.specs.Prelude.{◌≡◌, ℤ, pos, ◌+ℤ◌, ◌-ℤ◌, SomeIff};
+ghost use Rattle.std.specs.Prelude.{◌≡◌, ◌≢◌, ◌↔◌, ℤ, pos, ◌+ℤ◌, ◌-ℤ◌, ◌*ℤ◌, SomeIff, IsOk, Err};
 ghost use Rattle.rw_base.specs.Quantity.{IsQuantity, AnswersExactly};
+ghost use Rattle.rw_base.specs.Quotient.{floor_div};
 
 use std::marker::Model;
 
@@ -44,6 +45,21 @@ fn within(exact: i128) -> Result<Qty, ArithFault>
     }
 }
 
+// The floor of the quotient of what two quantities hold, which a quantity holds too.
+fn floor_of(a: i64, b: i64) -> i64
+    requires dividend { IsQuantity a }
+    requires divisor { IsQuantity b }
+    requires nonzero { b ≢ pos 0 }
+    ensures exact { result ≡ floor_div a b }
+    ensures bounds { IsQuantity result }
+{
+    if b > 0 {
+        a.div_euclid(b)
+    } else {
+        (-a).div_euclid(-b)
+    }
+}
+
 impl Qty {
     /// The quantity of that value. `None` exactly outside -Q to Q.
     pub fn of(v: i64) -> Option<Qty>
@@ -76,5 +92,27 @@ impl Qty {
         ensures { AnswersExactly (self -ℤ b) result }
     {
         within(i128::from(self.value) - i128::from(b.value))
+    }
+
+    /// The product. `OutOfRange` carries the exact product, exactly where it is outside -Q to Q.
+    pub fn mul(self, b: Qty) -> Result<Qty, ArithFault>
+        ensures { AnswersExactly (self *ℤ b) result }
+    {
+        within(i128::from(self.value) * i128::from(b.value))
+    }
+
+    /// The floor of the exact quotient. `ZeroDivisor` exactly where b is 0. The quotient of two quantities is always
+    /// a quantity, so `OutOfRange` never comes.
+    pub fn div(self, b: Qty) -> Result<Qty, ArithFault>
+        ensures zero { (result ≡ Err ArithFault.ZeroDivisor) ↔ (b ≡ pos 0) }
+        ensures floor { b ≢ pos 0 → AnswersExactly (floor_div self b) result }
+        ensures fits { b ≢ pos 0 → IsOk result }
+    {
+        if b.value == 0 {
+            return Err(ArithFault::ZeroDivisor);
+        }
+        Ok(Qty {
+            value: floor_of(self.value, b.value),
+        })
     }
 }

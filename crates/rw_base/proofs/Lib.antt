@@ -1,0 +1,5 @@
+pub mod Quotients
+pub mod Dimensions
+pub mod Units
+pub mod Rounding
+pub mod Predefined

@@ -1,0 +1,9 @@
+use Rattle.std.proofs.Common.{arith}
+use Rattle.std.proofs.lemmas.Int.{ints}
+use Rattle.rw_base.proofs.Dimensions.{AnswersDimension-same}
+use Rattle.rw_base.proofs.dimension.Dim.times.Goals as goal
+
+-- the exponents that are handed to `of` are those of the answer
+pub returns : goal.returns
+returns c = rw (← c.self.view_is, ← c.b.view_is)
+    (AnswersDimension-same c.of.result _ _ c.of.ensures (omega (arith, ints)) (omega (arith, ints)) (omega (arith, ints)) (omega (arith, ints)))

@@ -1,0 +1,56 @@
+// What the definitions of this crate come to in plain words.
+ghost use Rattle.std.specs.Prelude.{◌≡◌, ◌≢◌, ◌≤◌, ◌↔◌, ℕ, ℤ, pos, neg_ℤ, List, map, Option, Some, None, Contains};
+ghost use Rattle.rw_base.specs.Quantity.{IsQuantity};
+ghost use Rattle.rw_base.specs.Quotient.{floor_div, IsFloor};
+ghost use Rattle.rw_base.specs.Dimension.{Dimension};
+ghost use Rattle.rw_base.specs.Unit.{units, words_of, unit_in};
+ghost use Rattle.rw_base.specs.Predefined.{rounded_down, predefined_of, IsFromZeroTo, IsMultipleOf, distance};
+
+/// Floor division gives the floor of the exact quotient, and no other number is that floor. Of quantities it gives a
+/// quantity.
+pub fn floor_division()
+    ensures floor { (a b : ℤ) → IsFloor a b (floor_div a b) }
+    ensures alone { (a b q : ℤ) → b ≢ pos 0 → IsFloor a b q → q ≡ floor_div a b }
+    ensures fits { (a b : ℤ) → b ≢ pos 0 → IsQuantity a → IsQuantity (floor_div a b) }
+{}
+
+/// Rounding down gives a multiple that lies between 0 and the number, and no multiple there is nearer to it.
+pub fn rounding_down()
+    ensures multiple { (a b : ℤ) → b ≢ pos 0 → IsMultipleOf b (rounded_down a b) }
+    ensures between { (a b : ℤ) → IsFromZeroTo a (rounded_down a b) }
+    ensures nearest { (a b m : ℤ)
+        → IsMultipleOf b m → IsFromZeroTo a m → distance a (rounded_down a b) ≤ distance a m }
+{}
+
+/// A predefined function answers a quantity where its arguments are quantities.
+pub fn predefined_answers()
+    ensures { (k : ℕ) (a b c : ℤ)
+        → IsQuantity a → IsQuantity b → IsQuantity c → IsQuantity (predefined_of k a b c) }
+{}
+
+/// Each row of the table of units is found by its word, so no word stands there twice, and only words of the table
+/// are found.
+pub fn unit_table()
+    ensures found { map (λ row. unit_in units row.0) units ≡ map (λ row. Some (row.1, row.2)) units }
+    ensures none { (word : List ℕ) → unit_in units word ≡ None ↔ ¬ Contains (words_of units) word }
+{}
+
+/// Worked values of the predefined functions.
+pub fn predefined_values()
+    ensures least { predefined_of 1 (pos 3) (neg_ℤ (pos 5)) (pos 0) ≡ neg_ℤ (pos 5) }
+    ensures greatest { predefined_of 2 (pos 3) (neg_ℤ (pos 5)) (pos 0) ≡ pos 3 }
+    ensures size { predefined_of 3 (neg_ℤ (pos 5)) (pos 0) (pos 0) ≡ pos 5 }
+
+    // Clamp: above the range, below it, and where the least is above the greatest.
+    ensures above { predefined_of 4 (pos 9) (pos 2) (pos 7) ≡ pos 7 }
+    ensures below { predefined_of 4 (pos 1) (pos 2) (pos 7) ≡ pos 2 }
+    ensures crossed { predefined_of 4 (pos 5) (pos 7) (pos 2) ≡ pos 7 }
+
+    // RoundDown, toward 0, and of a number over 0.
+    ensures negative { predefined_of 5 (neg_ℤ (pos 7)) (pos 3) (pos 0) ≡ neg_ℤ (pos 6) }
+    ensures positive { predefined_of 5 (pos 7) (neg_ℤ (pos 3)) (pos 0) ≡ pos 6 }
+    ensures over_zero { predefined_of 5 (pos 7) (pos 0) (pos 0) ≡ pos 7 }
+    ensures sign { predefined_of 6 (neg_ℤ (pos 9)) (pos 0) (pos 0) ≡ neg_ℤ (pos 1) }
+    ensures no_sign { predefined_of 6 (pos 0) (pos 0) (pos 0) ≡ pos 0 }
+    ensures no_function { predefined_of 0 (pos 7) (pos 7) (pos 7) ≡ pos 0 }
+{}
