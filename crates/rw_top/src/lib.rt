@@ -4,7 +4,7 @@
 
 mod first_inputs;
 mod first_model;
-mod laws;
+pub mod law;
 mod numeral;
 mod refusal;
 mod reservoir;
@@ -15,7 +15,6 @@ mod tell;
 mod top;
 mod words;
 
-pub use laws::{one_form_of_inputs, one_form_of_model, one_text};
 pub use refusal::{File, Refusal};
 pub use rw_base::{Blank, Ledger, Steps};
 pub use top::basin_main;

@@ -1,5 +1,0 @@
-use Rattle.rw_top.proofs.OneText as lemmas
-use Rattle.rw_top.proofs.laws.one_text.Goals as goal
-
-pub returns : goal.returns
-returns c = lemmas.one_text
