@@ -1,5 +1,6 @@
 pub mod Quotients
 pub mod Dimensions
+pub mod OneAnswer
 pub mod Units
 pub mod Rounding
 pub mod Predefined

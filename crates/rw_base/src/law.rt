@@ -1,10 +1,19 @@
 // What the definitions of this crate come to in plain words.
-ghost use Rattle.std.specs.Prelude.{◌≡◌, ◌≢◌, ◌≤◌, ◌↔◌, ℕ, ℤ, pos, neg_ℤ, List, map, Option, Some, None, Contains};
-ghost use Rattle.rw_base.specs.Quantity.{IsQuantity};
+ghost use Rattle.std.specs.Prelude.{◌≡◌, ◌≢◌, ◌≤◌, ◌↔◌, ℕ, ℤ, pos, neg_ℤ, List, map, Option, Some, None, Result, Contains};
+ghost use Rattle.rw_base.specs.declared.quantity.ArithFault.{ArithFault};
+ghost use Rattle.rw_base.specs.Quantity.{IsQuantity, AnswersExactly};
 ghost use Rattle.rw_base.specs.Quotient.{floor_div, IsFloor};
-ghost use Rattle.rw_base.specs.Dimension.{Dimension};
+ghost use Rattle.rw_base.specs.Dimension.{Dimension, AnswersDimension};
 ghost use Rattle.rw_base.specs.Unit.{units, words_of, unit_in};
 ghost use Rattle.rw_base.specs.Predefined.{rounded_down, predefined_of, IsFromZeroTo, IsMultipleOf, distance};
+
+/// What is exact has one answer: two calls that answer the same exact value, or the same exponents, answer alike.
+pub fn one_answer()
+    ensures quantity { (exact : ℤ) (r s : Result ℤ ArithFault)
+        → AnswersExactly exact r → AnswersExactly exact s → r ≡ s }
+    ensures exponents { (d : Dimension) (r s : Option Dimension)
+        → AnswersDimension d r → AnswersDimension d s → r ≡ s }
+{}
 
 /// Floor division gives the floor of the exact quotient, and no other number is that floor. Of quantities it gives a
 /// quantity.
