@@ -1,11 +1,9 @@
 -- A run has one end and one text.
-use Rattle.std.proofs.Common.{◌≡◌, ◌⊎◌, inl, inr, ℕ, zero, suc, ◌+◌, ◌<◌, ◌≤◌, ℤ, pos, List, [], ◌∷◌, ◌++◌, length, get_or, refl, ap, sym, ◌∙◌, subst, arith, None, Some}
-use Rattle.std.specs.Prelude.{Option, MatchOption}
-use Rattle.jiff.specs.Types.{Date}
-use Rattle.jiff.specs.Words.{epoch_day, date_text}
+use Rattle.std.proofs.Common.{◌≡◌, ℕ, zero, suc, ◌+◌, ◌<◌, ◌≤◌, ℤ, List, [], get_or, refl, ap, sym, ◌∙◌, subst, arith, None, Some}
+use Rattle.std.specs.Prelude.{Option}
 use Rattle.jiff_core.proofs.DateLemmas.{epoch_day_injective}
 use Rattle.rw_top.specs.Reservoir.{IsRun, IsStorage, storage_at}
-use Rattle.rw_top.specs.Table.{HasRows, IsRunText, rows}
+use Rattle.rw_top.specs.Table.{IsRunText, rows}
 use Rattle.rw_top.specs.Stamp.{IsStamp}
 
 -- the steps of a run are its end at most

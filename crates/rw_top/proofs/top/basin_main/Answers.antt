@@ -1,4 +1,4 @@
-use Rattle.std.proofs.Common.{inl, inr, ◌∙◌}
+use Rattle.std.proofs.Common.{inr, ◌∙◌}
 use Rattle.rw_top.proofs.DueLemmas.{complete, inputs_clash, inputs_due, inputs_too_long_due, model_clash, model_due}
 use Rattle.rw_top.proofs.top.basin_main.Goals as goal
 
