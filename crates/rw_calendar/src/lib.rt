@@ -4,7 +4,7 @@
 
 mod fault;
 mod later;
-pub mod laws;
+pub mod law;
 mod stamps;
 mod start;
 mod step_length;

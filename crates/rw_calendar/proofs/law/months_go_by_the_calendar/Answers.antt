@@ -2,7 +2,7 @@ use Rattle.std.proofs.Common.{◌∙◌, ap, arith}
 use Rattle.jiff_core.proofs.SignedLemmas.{signed_arith}
 use Rattle.jiff_core.proofs.DateTimeLemmas.{civil_nanos-parts, time_nanos_bound}
 use Rattle.rw_calendar.proofs.ClockFacts.{civil_nanos-moment_at, months_later_shifted, nanos_of}
-use Rattle.rw_calendar.proofs.laws.months_go_by_the_calendar.Goals as goal
+use Rattle.rw_calendar.proofs.law.months_go_by_the_calendar.Goals as goal
 
 pub returns : goal.returns
 returns c from to k h first midnight shows =

@@ -3,7 +3,7 @@ use Rattle.jiff_core.proofs.SignedLemmas.{signed_arith}
 use Rattle.rw_calendar.specs.Clock.{moment_at}
 use Rattle.rw_calendar.proofs.MomentFacts.{hours_later_is}
 use Rattle.rw_calendar.proofs.ClockFacts.{civil_nanos-moment_at, IsMoment-moment_at, nanos_of}
-use Rattle.rw_calendar.proofs.laws.hours_go_by_the_clock.Goals as goal
+use Rattle.rw_calendar.proofs.law.hours_go_by_the_clock.Goals as goal
 
 pub returns : goal.returns
 returns c from to k h shows =

@@ -1,5 +1,5 @@
 use Rattle.rw_calendar.proofs.MomentFacts.{hours_later_is, months_later_is}
-use Rattle.rw_calendar.proofs.laws.later_moments_exist.Goals as goal
+use Rattle.rw_calendar.proofs.law.later_moments_exist.Goals as goal
 
 pub returns-clause-hours : goal.returns-clause-hours
 returns-clause-hours c m k h = (hours_later_is m k h).moment
