@@ -1,3 +1,4 @@
 pub mod FilesLemmas
+pub mod KnownLemmas
 pub mod ListLemmas
 pub mod Reading

@@ -13,10 +13,3 @@ copied at n m bytes new tail is whole len =
     let all : take m (drop at bytes) ≡ drop at bytes = take_all m (drop at bytes) short in
     let front : take n (new ++ tail) ≡ new = (rw (← len) (take-append_seam new tail)) in
     rw (front, is, all, ← drop-drop n at bytes) (sym (take-append-drop n (drop at bytes)))
-
--- what has grown by a part and then by the next one has grown by both
-pub GrowsBy-next : (a b c : Option (List ℕ)) (done n : ℕ) (text : List ℕ) → GrowsBy a b (take done text) → GrowsBy b c (take n (drop done text)) → GrowsBy a c (take (done + n) text)
-GrowsBy-next a b None done n text h k = tt
-GrowsBy-next a None (Some zs) done n text h k = absurd k
-GrowsBy-next None (Some ys) (Some zs) done n text h k = absurd h
-GrowsBy-next (Some xs) (Some ys) (Some zs) done n text h k = rw (k, h, take-add done n text) (append_assoc xs (take done text) (take n (drop done text)))

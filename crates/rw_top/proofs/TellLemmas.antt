@@ -5,37 +5,17 @@ use Rattle.std.proofs.lemmas.List.{take-append-le, take_all, take_min}
 use Rattle.std.proofs.Math.Seq.{take-append-add}
 use Rattle.rw_io.specs.Causes.{Rose}
 use Rattle.rw_io.specs.Known.{GrowsBy, PrefixGrew}
+use Rattle.rw_io.proofs.KnownLemmas.{GrowsBy-trans, PrefixGrew-left, PrefixGrew-right}
 use Rattle.rw_top.specs.Refusal.{Tells}
-
-GrowsBy-trans : (a b c : Option (List ℕ)) (xs ys : List ℕ) → GrowsBy a b xs → GrowsBy b c ys → GrowsBy a c (xs ++ ys)
-GrowsBy-trans a b None xs ys h k = tt
-GrowsBy-trans a None (Some zs) xs ys h k = absurd k
-GrowsBy-trans None (Some bs) (Some zs) xs ys h k = absurd h
-GrowsBy-trans (Some as') (Some bs) (Some zs) xs ys h k = rw (k, h) (append_assoc as' xs ys)
-
--- a front of the first part is one of the whole
-front_left : (xs ys : List ℕ) (n : ℕ) → (m : ℕ) × (take m (xs ++ ys) ≡ take n xs)
-front_left xs ys n = (min n (length xs), take-append-le (min n (length xs)) xs ys (omega arith) ∙ take_min n xs)
-
-prefix_left : (a b : Option (List ℕ)) (xs ys : List ℕ) → PrefixGrew a b xs → PrefixGrew a b (xs ++ ys)
-prefix_left a b xs ys h =
-    let P : List ℕ → Type 0 = λ t. GrowsBy a b t in
-    let front = front_left xs ys h.0 in
-    (front.0, subst P (sym front.1) h.1)
-
-prefix_right : (a b c : Option (List ℕ)) (xs ys : List ℕ) → GrowsBy a b xs → PrefixGrew b c ys → PrefixGrew a c (xs ++ ys)
-prefix_right a b c xs ys h k =
-    let P : List ℕ → Type 0 = λ t. GrowsBy a c t in
-    (length xs + k.0, subst P (sym (take-append-add xs ys k.0)) (GrowsBy-trans a b c xs (take k.0 ys) h k.1))
 
 -- the first part was cut off
 pub tells_cut : (a b : Option (List ℕ)) (m n : ℕ) (xs ys : List ℕ) → PrefixGrew a b xs → Rose m n → Tells a b m n (xs ++ ys)
-tells_cut a b m n xs ys h rose = record { front = prefix_left a b xs ys h; whole = inl rose }
+tells_cut a b m n xs ys h rose = record { front = PrefixGrew-left a b xs ys h; whole = inl rose }
 
 -- the first part was taken, and the rest as told
 pub tells_on : (a b c : Option (List ℕ)) (m k n : ℕ) (xs ys : List ℕ) → m ≤ k → GrowsBy a b xs → Tells b c k n ys → Tells a c m n (xs ++ ys)
 tells_on a b c m k n xs ys le h told = record {
-  front = prefix_right a b c xs ys h told.front;
+  front = PrefixGrew-right a b c xs ys h told.front;
   whole = elim told.whole [ inl rose ↦ inl (omega (arith, le, rose)) | inr grown ↦ inr (GrowsBy-trans a b c xs ys h grown) ];
 }
 

@@ -1,7 +1,7 @@
 use Rattle.std.proofs.Common.{◌-◌, ◌≤◌, length, drop, arith}
 use Rattle.std.proofs.lemmas.List.{take_all, length-drop}
 use Rattle.std.proofs.lemmas.Grind.{common_steps}
-use Rattle.rw_io.proofs.ListLemmas.{GrowsBy-next}
+use Rattle.rw_io.proofs.KnownLemmas.{GrowsBy-next}
 use Rattle.rw_io.proofs.whole_text.write_all.Goals as goal
 
 pub loop-done-preserved : goal.loop-done-preserved
