@@ -1,8 +1,18 @@
 -- What a comparison of two numbers computes.
-use Rattle.std.proofs.Common.{◌≡◌, ℤ, ◌≤ℤ◌, ◌<ℤ◌, int_le, int_lt, Bool, true, false, refl, sym, arith}
+use Rattle.std.proofs.Common.{◌≡◌, ℤ, ◌≤ℤ◌, ◌<ℤ◌, int_le, int_lt, Bool, true, false, refl, sym, arith, ◌⊎◌, inl, inr}
 use Rattle.std.specs.Ordering.{int_eq}
 use Rattle.std.specs.Cmp.{signed_Decides}
-use Rattle.std.proofs.lemmas.Int.{ints}
+use Rattle.std.proofs.lemmas.Int.{ints, by_lt_z}
+use Rattle.std.proofs.lemmas.Bool.{cases_Bool, both_ways}
+
+pub below_or_not : (a b : ℤ) → (a <ℤ b) ⊎ (b ≤ℤ a)
+below_or_not a b = by_lt_z a b inl inr
+
+pub same_or_not : (a b : ℤ) → (a ≡ b) ⊎ (¬ (a ≡ b))
+same_or_not a b = elim (cases_Bool (int_eq a b)) [
+  | inl same ↦ inl ((signed_Decides a b).0 same)
+  | inr apart ↦ inr (λ same. both_ways (int_eq a b) apart ((signed_Decides a b).1 same))
+]
 
 not_true : (b : Bool) → (b ≡ true → ⊥) → b ≡ false
 not_true true h = absurd (h refl)

@@ -1,12 +1,16 @@
 -- The laws of tables, by the names that they have in src/law.rt.
 use Rattle.std.proofs.Common.{◌≡◌, ℕ, suc, ◌+◌, ◌<◌, ℤ, ◌≤ℤ◌, ◌<ℤ◌, ◌↔◌, ◌⊎◌, inl, inr, subst, List, length, ◌-◌, Option, Some, None, MatchOption, refl, sym, arith}
 use Rattle.std.specs.Prelude.{IsSome, IsSomeAnd}
-use Rattle.std.proofs.lemmas.Int.{ints, by_lt_z}
+use Rattle.std.proofs.lemmas.Int.{ints}
 use Rattle.rw_table.specs.declared.fault.TableFault.{TableFault}
 use Rattle.rw_table.specs.Table.{Row, row_at, IsTable, IsFault}
-use Rattle.rw_table.specs.Curve.{between, vol_of, elev_of, first_row, last_row, IsElevationInside, IsVolumeInside, IsGreatest}
+use Rattle.rw_table.specs.Line.{between}
+use Rattle.rw_table.specs.Curve.{vol_of, elev_of, first_row, last_row, IsElevationInside, IsVolumeInside, IsGreatest}
 use Rattle.rw_table.proofs.Judgement as judgement
-use Rattle.rw_table.proofs.Elevation.{inside, volume_inside as has_volume, volume_of_row, volume_on_line, never_falls, elev_held, elev_outside, at_most_from}
+use Rattle.rw_table.proofs.Comparison.{below_or_not}
+use Rattle.rw_table.proofs.Volume.{inside, volume_inside as has_volume, volume_of_row, volume_on_line, never_falls}
+use Rattle.rw_table.proofs.Count.{volume_at_most, at_most_from}
+use Rattle.rw_table.proofs.Elevation.{elev_held, elev_outside}
 
 pub table_has_no_fault : (rows : List Row) (fault : TableFault) → IsTable rows → ¬ IsFault rows fault
 table_has_no_fault = judgement.no_fault
@@ -54,11 +58,14 @@ volume_inside rows e v table is =
     }
 
 inside_or_not : (rows : List Row) (s : ℤ) → IsVolumeInside rows s ⊎ (¬ IsVolumeInside rows s)
-inside_or_not rows s = by_lt_z s (first_row rows).1
-    (λ before. inr (λ within. omega (arith, ints, within.from_first)))
-    (λ from. by_lt_z (last_row rows).1 s
-    (λ past. inr (λ within. omega (arith, ints, within.to_last)))
-    (λ to. inl (record { from_first = from; to_last = to })))
+inside_or_not rows s = elim (below_or_not s (first_row rows).1) [
+  | inl before ↦ inr (λ within. omega (arith, ints, within.from_first))
+  | inr from ↦
+      elim (below_or_not (last_row rows).1 s) [
+        | inl past ↦ inr (λ within. omega (arith, ints, within.to_last))
+        | inr to ↦ inl (record { from_first = from; to_last = to })
+      ]
+]
 
 pub elevation_is_greatest : (rows : List Row) (s : ℤ) → IsTable rows → MatchOption (elev_of rows s) (¬ IsVolumeInside rows s) (IsGreatest rows s)
 elevation_is_greatest rows s table =
@@ -72,6 +79,13 @@ elevation_is_greatest rows s table =
 
 greatest_of : (rows : List Row) (s : ℤ) (o : Option ℤ) (e : ℤ) → MatchOption o (¬ IsVolumeInside rows s) (IsGreatest rows s) → o ≡ Some e → IsGreatest rows s e
 greatest_of rows s o e says is = subst (λ (o : Option ℤ). MatchOption o (¬ IsVolumeInside rows s) (IsGreatest rows s)) is says
+
+pub elevation_never_falls : (rows : List Row) (s more e f : ℤ) → IsTable rows → s ≤ℤ more → elev_of rows s ≡ Some e → elev_of rows more ≡ Some f → e ≤ℤ f
+elevation_never_falls rows s more e f table after first next =
+    let one = greatest_of rows s (elev_of rows s) e (elevation_is_greatest rows s table) first in
+    let two = greatest_of rows more (elev_of rows more) f (elevation_is_greatest rows more table) next in
+    let v = volume_at_most (vol_of rows e) s one.at_most in
+    two.greatest e (at_most_from (vol_of rows e) more v.0 v.1 (omega (arith, ints, v.2)))
 
 pub volume_after_elevation : (rows : List Row) (s e : ℤ) → IsTable rows → elev_of rows s ≡ Some e → IsSomeAnd (vol_of rows e) (λ v. v ≤ℤ s)
 volume_after_elevation rows s e table is =

@@ -2,7 +2,7 @@
 use Rattle.std.proofs.Common.{◌≡◌, ℕ, ◌+◌, ◌*◌, ◌/◌, ◌<◌, ℤ, pos, negsuc, ◌+ℤ◌, ◌-ℤ◌, ◌≤ℤ◌, ◌<ℤ◌, refl, arith}
 use Rattle.std.proofs.lemmas.Int.{ints}
 use Rattle.rw_table.specs.Table.{Row, IsAbove}
-use Rattle.rw_table.specs.Curve.{between, IsLastOnLine}
+use Rattle.rw_table.specs.Line.{between, IsLastOnLine}
 use Rattle.rw_table.proofs.Quotient.{share_below, share_rises, reach, share_at_reach, share_past_reach, reach_below}
 
 -- a number that isn't negative is a natural one

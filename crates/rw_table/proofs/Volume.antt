@@ -1,141 +1,56 @@
--- The volume at an elevation: where it has a value, that it never falls, and which two rows decide it.
-use Rattle.std.proofs.Common.{◌≡◌, ℕ, zero, suc, ◌<◌, ◌≤◌, ℤ, ◌≤ℤ◌, ◌<ℤ◌, List, [], ◌∷◌, length, Option, Some, None, refl, sym, ap, ◌∙◌, arith}
-use Rattle.std.proofs.lemmas.Int.{ints, by_lt_z}
-use Rattle.rw_table.proofs.Comparison.{le_passes, le_fails, lt_passes, lt_fails, eq_passes, eq_fails}
-use Rattle.rw_table.proofs.Line.{between_bounds, between_rises, between_low}
-use Rattle.rw_table.specs.Table.{Row, row_at, IsAbove, IsRisingAt, IsTable}
-use Rattle.rw_table.specs.Curve.{between, vol_from}
+-- The volume at an elevation in a table.
+use Rattle.std.proofs.Common.{◌≡◌, ℕ, zero, suc, ◌-◌, ◌<◌, ℤ, ◌≤ℤ◌, ◌<ℤ◌, List, [], ◌∷◌, length, Option, Some, None, refl, ap, arith}
+use Rattle.std.proofs.lemmas.Int.{ints}
+use Rattle.rw_table.proofs.Chain.{chain, last, found, has_volume, volume_rises, volume_at_row, volume_between}
+use Rattle.rw_table.specs.Table.{Row, row_at, IsTable}
+use Rattle.rw_table.specs.Line.{between}
+use Rattle.rw_table.specs.Curve.{vol_of, first_row, last_row, IsElevationInside}
 
--- each row is above the one before it
-abbrev pub IsChain : Row → List Row → Type 0
-IsChain low [] = Unit {0}
-IsChain low (high ∷ rows) = IsAbove high low × IsChain high rows
+last_is : (low : Row) (rows : List Row) → last_row (low ∷ rows) ≡ last low rows
+last_is low rows = ap (row_at (low ∷ rows)) (omega arith)
 
-chain_from : (low : Row) (rows : List Row) → ((k : ℕ) → k < length (low ∷ rows) → IsRisingAt (low ∷ rows) k) → IsChain low rows
-chain_from low [] rising = tt
-chain_from low (high ∷ rows) rising =
-    (rising 1 (omega arith) 0 refl, chain_from high rows (λ k within j before. rising (suc k) (omega arith) (suc j) (omega arith)))
+-- where there is a volume, and where there is none
+pub inside : (rows : List Row) (e v : ℤ) → IsTable rows → vol_of rows e ≡ Some v → IsElevationInside rows e
+inside [] e v table is = absurd (omega (arith, table.some))
+inside (low ∷ rows) e v table is =
+    let f = found low rows e v (chain low rows table) is in
+    record { from_first = f.from_first; to_last = rw last_is f.to_last }
 
-pub chain : (low : Row) (rows : List Row) → IsTable (low ∷ rows) → IsChain low rows
-chain low rows table = chain_from low rows (λ k within. (table.good k within).rising)
+pub volume_inside : (rows : List Row) (e : ℤ) → IsTable rows → IsElevationInside rows e → (v : ℤ) × (vol_of rows e ≡ Some v)
+volume_inside [] e table within = absurd (omega (arith, table.some))
+volume_inside (low ∷ rows) e table within =
+    has_volume low rows e (chain low rows table) within.from_first (rw last_is at within.to_last)
 
-abbrev pub last : Row → List Row → Row
-last low rows = row_at (low ∷ rows) (length rows)
+pub volume_of_row : (rows : List Row) (k : ℕ) → IsTable rows → k < length rows → vol_of rows (row_at rows k).0 ≡ Some (row_at rows k).1
+volume_of_row [] k table within = absurd (omega arith)
+volume_of_row (low ∷ rows) k table within = volume_at_row low rows k (chain low rows table) (omega arith)
 
-none_found : {o : Option ℤ} {v : ℤ} → o ≡ None → o ≡ Some v → ⊥
-none_found none some = cc
+pub volume_on_line : (rows : List Row) (k : ℕ) (e : ℤ) → IsTable rows → suc k < length rows → (row_at rows k).0 ≤ℤ e → e <ℤ (row_at rows (suc k)).0 → vol_of rows e ≡ Some (between (row_at rows k) (row_at rows (suc k)) e)
+volume_on_line [] k e table within from to = absurd (omega arith)
+volume_on_line (low ∷ rows) k e table within from to =
+    volume_between low rows k e (chain low rows table) (omega arith) from to
 
-some_found : {o : Option ℤ} {v w : ℤ} → o ≡ Some v → o ≡ Some w → w ≡ v
-some_found one other = cc
+pub never_falls : (rows : List Row) (e later v w : ℤ) → IsTable rows → e ≤ℤ later → vol_of rows e ≡ Some v → vol_of rows later ≡ Some w → v ≤ℤ w
+never_falls [] e later v w table after first next = absurd (omega (arith, table.some))
+never_falls (low ∷ rows) e later v w table after first next =
+    volume_rises low rows e later v w (chain low rows table) after first next
 
--- ---- one interval
+none_from : (o : Option ℤ) → ((v : ℤ) → o ≡ Some v → ⊥) → o ≡ None
+none_from None h = refl
+none_from (Some v) h = absurd (h v refl)
 
-at_end : (low : Row) (e : ℤ) → e ≡ low.0 → vol_from low [] e ≡ Some low.1
-at_end low e same = rw (eq_passes e low.0 same) refl
+no_volume : (rows : List Row) (e : ℤ) → IsTable rows → ¬ IsElevationInside rows e → vol_of rows e ≡ None
+no_volume rows e table outside = none_from (vol_of rows e) (λ v is. outside (inside rows e v table is))
 
-not_at_end : (low : Row) (e : ℤ) → ¬ (e ≡ low.0) → vol_from low [] e ≡ None
-not_at_end low e apart = rw (eq_fails e low.0 apart) refl
+pub volume_before : (rows : List Row) (e : ℤ) → IsTable rows → e <ℤ (first_row rows).0 → vol_of rows e ≡ None
+volume_before rows e table before = no_volume rows e table (λ within. omega (arith, ints, within.from_first))
 
-before_all : (low : Row) (rows : List Row) (e : ℤ) → IsChain low rows → e <ℤ low.0 → vol_from low rows e ≡ None
-before_all low [] e rising before = not_at_end low e (λ same. omega (arith, ints))
-before_all low (high ∷ rows) e rising before =
-    rw (le_fails low.0 e before) (before_all high rows e rising.1 (omega (arith, ints, rising.0.elevation)))
+pub volume_after : (rows : List Row) (e : ℤ) → IsTable rows → (last_row rows).0 <ℤ e → vol_of rows e ≡ None
+volume_after rows e table after = no_volume rows e table (λ within. omega (arith, ints, within.to_last))
 
-in_interval : (low high : Row) (rows : List Row) (e : ℤ) → low.0 ≤ℤ e → e <ℤ high.0 → vol_from low (high ∷ rows) e ≡ Some (between low high e)
-in_interval low high rows e from to = rw (le_passes low.0 e from, lt_passes e high.0 to) refl
-
-past_interval : (low high : Row) (rows : List Row) (e : ℤ) → IsAbove high low → high.0 ≤ℤ e → vol_from low (high ∷ rows) e ≡ vol_from high rows e
-past_interval low high rows e above past =
-    let from = le_passes low.0 e (omega (arith, ints, above.elevation)) in
-    rw (from, lt_fails e high.0 past) refl
-
--- ---- all intervals
-
--- a volume is that of an elevation inside, and at least the first volume
-pub record IsFound (low : Row) (rows : List Row) (e v : ℤ) : Type 0 where
-  pub from_first : low.0 ≤ℤ e
-  pub to_last : e ≤ℤ (last low rows).0
-  pub at_least : low.1 ≤ℤ v
-
-rows_rise : (low : Row) (rows : List Row) → IsChain low rows → (low.0 ≤ℤ (last low rows).0) × (low.1 ≤ℤ (last low rows).1)
-rows_rise low [] rising = (omega (arith, ints), omega (arith, ints))
-rows_rise low (high ∷ rows) rising =
-    let more = rows_rise high rows rising.1 in
-    (omega (arith, ints, rising.0.elevation, more.0), omega (arith, ints, rising.0.volume, more.1))
-
-pub found : (low : Row) (rows : List Row) (e v : ℤ) → IsChain low rows → vol_from low rows e ≡ Some v → IsFound low rows e v
-found low [] e v rising is = by_lt_z e low.0 (λ before. absurd (none_found (before_all low [] e tt before) is)) (λ from.
-    by_lt_z low.0 e (λ past. absurd (none_found (not_at_end low e (λ same. omega (arith, ints))) is)) (λ to.
-    let value : v ≡ low.1 = some_found (at_end low e (omega (arith, ints))) is in
-    record { from_first = from; to_last = to; at_least = omega (arith, ints) }))
-found low (high ∷ rows) e v rising is = by_lt_z e low.0 (λ before. absurd (none_found (before_all low (high ∷ rows) e rising before) is)) (λ from.
-    by_lt_z e high.0 (λ to.
-    let value : v ≡ between low high e = some_found (in_interval low high rows e from to) is in
-    let more = rows_rise high rows rising.1 in
-    let bounds = between_bounds low high e rising.0 from to in
-    record {
-      from_first = from;
-      to_last = omega (arith, ints, more.0);
-      at_least = omega (arith, ints, bounds.0);
-    }) (λ past.
-    let later = found high rows e v rising.1 (sym (past_interval low high rows e rising.0 past) ∙ is) in
-    record {
-      from_first = from;
-      to_last = later.to_last;
-      at_least = omega (arith, ints, rising.0.volume, later.at_least);
-    }))
-
--- an elevation inside has a volume
-pub has_volume : (low : Row) (rows : List Row) (e : ℤ) → IsChain low rows → low.0 ≤ℤ e → e ≤ℤ (last low rows).0 → (v : ℤ) × (vol_from low rows e ≡ Some v)
-has_volume low [] e rising from to = (low.1, at_end low e (omega (arith, ints)))
-has_volume low (high ∷ rows) e rising from to =
-    by_lt_z e high.0 (λ before. (between low high e, in_interval low high rows e from before)) (λ past.
-    let later = has_volume high rows e rising.1 past to in
-    (later.0, past_interval low high rows e rising.0 past ∙ later.1))
-
--- a volume at a greater elevation is no less
-pub volume_rises : (low : Row) (rows : List Row) (e later v w : ℤ) → IsChain low rows → e ≤ℤ later → vol_from low rows e ≡ Some v → vol_from low rows later ≡ Some w → v ≤ℤ w
-volume_rises low [] e later v w rising after first next =
-    let one = found low [] e v tt first in
-    let two = found low [] later w tt next in
-    let value : v ≡ low.1 = some_found (at_end low e (omega (arith, ints, one.from_first, one.to_last))) first in
-    omega (arith, ints, two.at_least)
-volume_rises low (high ∷ rows) e later v w rising after first next =
-    let one = found low (high ∷ rows) e v rising first in
-    let two = found low (high ∷ rows) later w rising next in
-    by_lt_z e high.0 (λ to.
-    let value : v ≡ between low high e = some_found (in_interval low high rows e one.from_first to) first in
-    by_lt_z later high.0 (λ later_to.
-    let next_value : w ≡ between low high later = some_found (in_interval low high rows later two.from_first later_to) next in
-    omega (arith, ints, between_rises low high e later rising.0 one.from_first after)) (λ later_past.
-    let beyond = found high rows later w rising.1 (sym (past_interval low high rows later rising.0 later_past) ∙ next) in
-    let bounds = between_bounds low high e rising.0 one.from_first to in
-    omega (arith, ints, bounds.1, beyond.at_least)))
-    (λ past. volume_rises high rows e later v w rising.1 after
-    (sym (past_interval low high rows e rising.0 past) ∙ first)
-    (sym (past_interval low high rows later rising.0 (omega (arith, ints))) ∙ next))
-
-rises_to : (low : Row) (rows : List Row) (k : ℕ) → IsChain low rows → k ≤ length rows → low.0 ≤ℤ (row_at (low ∷ rows) k).0
-rises_to low rows zero rising within = omega (arith, ints)
-rises_to low [] (suc k) rising within = absurd (omega arith)
-rises_to low (high ∷ rows) (suc k) rising within =
-    omega (arith, ints, rising.0.elevation, rises_to high rows k rising.1 (omega arith))
-
--- at a row's elevation the volume is that row's
-pub volume_at_row : (low : Row) (rows : List Row) (k : ℕ) → IsChain low rows → k ≤ length rows → vol_from low rows (row_at (low ∷ rows) k).0 ≡ Some (row_at (low ∷ rows) k).1
-volume_at_row low [] zero rising within = at_end low low.0 refl
-volume_at_row low [] (suc k) rising within = absurd (omega arith)
-volume_at_row low (high ∷ rows) zero rising within =
-    in_interval low high rows low.0 (omega (arith, ints)) rising.0.elevation ∙ ap Some (between_low low high rising.0)
-volume_at_row low (high ∷ rows) (suc k) rising within =
-    past_interval low high rows (row_at (high ∷ rows) k).0 rising.0 (rises_to high rows k rising.1 (omega arith))
-    ∙ volume_at_row high rows k rising.1 (omega arith)
-
--- from one row to the next the volume is on the line between them
-pub volume_between : (low : Row) (rows : List Row) (k : ℕ) (e : ℤ) → IsChain low rows → k < length rows → (row_at (low ∷ rows) k).0 ≤ℤ e → e <ℤ (row_at rows k).0 → vol_from low rows e ≡ Some (between (row_at (low ∷ rows) k) (row_at rows k) e)
-volume_between low [] k e rising within from to = absurd (omega arith)
-volume_between low (high ∷ rows) zero e rising within from to = in_interval low high rows e from to
-volume_between low (high ∷ rows) (suc k) e rising within from to =
-    let past = rises_to high rows k rising.1 (omega arith) in
-    past_interval low high rows e rising.0 (omega (arith, ints, past, from))
-    ∙ volume_between high rows k e rising.1 (omega arith) from to
+-- as the search finds it, at the number of rows that are no higher
+pub line_volume : (rows : List Row) (place : ℕ) (e : ℤ) → IsTable rows → 0 < place → place < length rows → (row_at rows (place - 1)).0 ≤ℤ e → e <ℤ (row_at rows place).0 → vol_of rows e ≡ Some (between (row_at rows (place - 1)) (row_at rows place) e)
+line_volume rows zero e table some within from to = absurd (omega arith)
+line_volume rows (suc k) e table some within from to =
+    let back : suc k - 1 ≡ k = omega arith in
+    rw back (volume_on_line rows k e table within (rw back at from) to)

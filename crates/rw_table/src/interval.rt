@@ -1,6 +1,6 @@
 ghost use Rattle.std.specs.Prelude.{◌≡◌, ℕ, pos, ◌+◌, ◌-◌, ◌*◌, ◌/◌, ◌<◌, ◌≤◌, ◌-ℤ◌, ◌≤ℤ◌, ◌<ℤ◌};
 ghost use Rattle.rw_table.specs.Table.{IsWithinBounds, IsAbove};
-ghost use Rattle.rw_table.specs.Curve.{between, IsLastOnLine};
+ghost use Rattle.rw_table.specs.Line.{between, IsLastOnLine};
 
 // Of a rise over a run, the share of it after `along` of the run, rounded down.
 fn share(along: u64, rise: u64, run: u64) -> u64

@@ -3,7 +3,8 @@
 ghost use Rattle.std.specs.Prelude.{◌≡◌, ℕ, ◌+◌, ◌<◌, ℤ, ◌≤ℤ◌, ◌<ℤ◌, ◌↔◌, List, length, Some, IsSome, IsSomeAnd, MatchOption};
 ghost use Rattle.rw_table.specs.declared.fault.TableFault.{TableFault};
 ghost use Rattle.rw_table.specs.Table.{Row, row_at, IsTable, IsFault};
-ghost use Rattle.rw_table.specs.Curve.{between, vol_of, elev_of, IsElevationInside, IsVolumeInside, IsGreatest};
+ghost use Rattle.rw_table.specs.Line.{between};
+ghost use Rattle.rw_table.specs.Curve.{vol_of, elev_of, IsElevationInside, IsVolumeInside, IsGreatest};
 
 /// Rows that are a table have no fault.
 pub fn table_has_no_fault()
@@ -50,6 +51,12 @@ pub fn volume_inside()
 pub fn elevation_is_greatest()
     ensures { (rows : List Row) (s : ℤ) → IsTable rows
         → MatchOption (elev_of rows s) (¬ IsVolumeInside rows s) (IsGreatest rows s) }
+{}
+
+/// The elevation never falls as the volume rises.
+pub fn elevation_never_falls()
+    ensures { (rows : List Row) (s more e f : ℤ) → IsTable rows → s ≤ℤ more
+        → elev_of rows s ≡ Some e → elev_of rows more ≡ Some f → e ≤ℤ f }
 {}
 
 /// The volume at the elevation of s is at most s.

@@ -1,7 +1,7 @@
 use Rattle.std.proofs.Common.{◌≡◌, pos, ◌-◌, ◌<◌, ◌<ℤ◌, w64, of_z, FitsSigned, Some, sym, ap, ◌∙◌, length, arith, rules}
 use Rattle.std.proofs.lemmas.Int.{ints, by_lt_z, to_z-of_z}
 use Rattle.rw_table.specs.Table.{row_at}
-use Rattle.rw_table.proofs.Elevation.{volume_before, volume_after, line_volume, volume_of_row}
+use Rattle.rw_table.proofs.Volume.{volume_before, volume_after, line_volume, volume_of_row}
 use Rattle.rw_table.proofs.lookup.volume_at.Goals as goal
 
 pub returns-then-place-eq0 : goal.returns-then-place-eq0
