@@ -1,9 +1,9 @@
 -- The volume on the line from one row to the next.
-use Rattle.std.proofs.Common.{◌≡◌, ℕ, ◌+◌, ◌*◌, ◌/◌, ◌<◌, ℤ, pos, negsuc, ◌+ℤ◌, ◌-ℤ◌, ◌≤ℤ◌, ◌<ℤ◌, refl, arith}
+use Rattle.std.proofs.Common.{◌≡◌, ℕ, ◌≤◌, ◌+◌, ◌*◌, ◌/◌, ◌<◌, ℤ, pos, negsuc, ◌+ℤ◌, ◌-ℤ◌, ◌≤ℤ◌, ◌<ℤ◌, refl, arith}
 use Rattle.std.proofs.lemmas.Int.{ints}
 use Rattle.rw_table.specs.Table.{Row, IsAbove}
 use Rattle.rw_table.specs.Line.{between, IsLastOnLine}
-use Rattle.rw_table.proofs.Quotient.{share_below, share_rises, reach, share_at_reach, share_past_reach, reach_below}
+use Rattle.rw_table.proofs.Quotient.{share_below, share_rises}
 
 -- a number that isn't negative is a natural one
 natural : (z : ℤ) → pos 0 ≤ℤ z → (n : ℕ) × (z ≡ pos n)
@@ -49,15 +49,11 @@ between_low low high above =
     let zero_share : 0 * rise.0 / run.0 ≡ 0 = grind arith in
     omega (arith, ints)
 
--- the reach is the last elevation on the line whose volume is at most s
-pub last_on_line : (low high : Row) (s e : ℤ) (held rise run : ℕ) → s -ℤ low.1 ≡ pos held → high.1 -ℤ low.1 ≡ pos rise → high.0 -ℤ low.0 ≡ pos run → held < rise → 0 < run → e ≡ low.0 +ℤ pos (reach held rise run) → IsLastOnLine low high s e
-last_on_line low high s e held rise run is_s up over less some is_e =
-    let d = reach held rise run in
-    let before : reach held rise run < run = reach_below held rise run less some in
+-- the greatest distance at which the share is at most what s has above the lower row
+pub last_on_line : (low high : Row) (s e : ℤ) (d held rise run : ℕ) → s -ℤ low.1 ≡ pos held → high.1 -ℤ low.1 ≡ pos rise → high.0 -ℤ low.0 ≡ pos run → e ≡ low.0 +ℤ pos d → d < run → d * rise / run ≤ held → held < (d + 1) * rise / run → IsLastOnLine low high s e
+last_on_line low high s e d held rise run is_s up over is_e before within past =
     let is = between-is low high e d rise run (omega (arith, ints)) up over in
     let next = between-is low high (e +ℤ pos 1) (d + 1) rise run (omega (arith, ints)) up over in
-    let within = share_at_reach held rise run (omega arith) some in
-    let past = share_past_reach held rise run (d + 1) (omega arith) some (omega arith) in
     record {
       from_low = omega (arith, ints);
       to_high = omega (arith, ints);

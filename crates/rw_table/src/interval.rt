@@ -11,11 +11,12 @@ fn share(along: u64, rise: u64, run: u64) -> u64
     (u128::from(along) * u128::from(rise) / u128::from(run)) as u64
 }
 
-// How far along the run the share is still at most `held`, which is less than the rise.
+// How far along the run the share of the rise is still at most `held`, which is less than the rise.
 fn reach(held: u64, rise: u64, run: u64) -> u64
     requires less { held < rise }
     requires some { 0 < run }
-    ensures reach { result ≡ ((held + 1) * run - 1) / rise }
+    ensures at_most { result * rise / run ≤ held }
+    ensures greatest { (along : ℕ) → result < along → held < along * rise / run }
     ensures below { result < run }
 {
     (((u128::from(held) + 1) * u128::from(run) - 1) / u128::from(rise)) as u64

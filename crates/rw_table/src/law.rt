@@ -13,7 +13,8 @@ pub fn table_has_no_fault()
 
 /// Rows have at most one fault.
 pub fn one_fault()
-    ensures { (rows : List Row) (fault other : TableFault) → IsFault rows fault → IsFault rows other → fault ≡ other }
+    ensures { (rows : List Row) (fault other : TableFault)
+        → IsFault rows fault → IsFault rows other → fault ≡ other }
 {}
 
 /// There is a volume exactly from the first elevation to the last.
@@ -43,7 +44,8 @@ pub fn volume_never_falls()
 
 /// Each volume is from the first to the last.
 pub fn volume_inside()
-    ensures { (rows : List Row) (e v : ℤ) → IsTable rows → vol_of rows e ≡ Some v → IsVolumeInside rows v }
+    ensures { (rows : List Row) (e v : ℤ) → IsTable rows
+        → vol_of rows e ≡ Some v → IsVolumeInside rows v }
 {}
 
 /// The elevation at a volume is the greatest whole elevation whose volume is at most that. There is none exactly

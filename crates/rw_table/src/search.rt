@@ -6,7 +6,8 @@ ghost use Rattle.rw_table.specs.Table.{Row, IsTable};
 pub fn rows_up_to_elevation(rows: &[(i64, i64)], e: i64) -> usize
     requires { IsTable rows.now }
     ensures bound { result ≤ length rows.now }
-    ensures place { IsPartitionPoint (λ (row : Row). row.0 ≤ℤ e) (λ (row : Row). e <ℤ row.0) rows.now result }
+    ensures place { IsPartitionPoint
+        (λ (row : Row). row.0 ≤ℤ e) (λ (row : Row). e <ℤ row.0) rows.now result }
 {
     rows.partition_point(|row| row.0 <= e)
 }
@@ -15,7 +16,8 @@ pub fn rows_up_to_elevation(rows: &[(i64, i64)], e: i64) -> usize
 pub fn rows_up_to_volume(rows: &[(i64, i64)], s: i64) -> usize
     requires { IsTable rows.now }
     ensures bound { result ≤ length rows.now }
-    ensures place { IsPartitionPoint (λ (row : Row). row.1 ≤ℤ s) (λ (row : Row). s <ℤ row.1) rows.now result }
+    ensures place { IsPartitionPoint
+        (λ (row : Row). row.1 ≤ℤ s) (λ (row : Row). s <ℤ row.1) rows.now result }
 {
     rows.partition_point(|row| row.1 <= s)
 }

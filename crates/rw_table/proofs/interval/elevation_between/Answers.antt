@@ -1,4 +1,4 @@
-use Rattle.std.proofs.Common.{◌≡◌, pos, ◌-ℤ◌, arith}
+use Rattle.std.proofs.Common.{◌≡◌, ◌+◌, pos, ◌-ℤ◌, arith}
 use Rattle.std.proofs.lemmas.Int.{ints}
 use Rattle.rw_table.proofs.Line.{last_on_line}
 use Rattle.rw_table.proofs.interval.elevation_between.Goals as goal
@@ -14,5 +14,5 @@ returns c =
     let held : c.args.s -ℤ c.args.low.1 ≡ pos c.distance-held.result = omega (arith, ints) in
     let rise : c.args.high.1 -ℤ c.args.low.1 ≡ pos c.distance-rise.result = omega (arith, ints) in
     let run : c.args.high.0 -ℤ c.args.low.0 ≡ pos c.distance-run.result = omega (arith, ints) in
-    let reach = c.reach-climbed.ensures.reach in
-    last_on_line c.args.low c.args.high c.args.s _ _ _ _ held rise run (omega (arith, ints)) (omega (arith, ints)) (omega (arith, ints))
+    let reach = c.reach-climbed in
+    last_on_line c.args.low c.args.high c.args.s _ reach.result _ _ _ held rise run (omega (arith, ints)) reach.ensures.below reach.ensures.at_most (reach.ensures.greatest (reach.result + 1) (omega arith))
