@@ -12,39 +12,48 @@ abbrev pub IsChain : Row → List Row → Type 0
 IsChain low [] = Unit {0}
 IsChain low (high ∷ rows) = IsAbove high low × IsChain high rows
 
+-- from what each place says of the row before it
 chain_from : (low : Row) (rows : List Row) → ((k : ℕ) → k < length (low ∷ rows) → IsRisingAt (low ∷ rows) k) → IsChain low rows
 chain_from low [] rising = tt
 chain_from low (high ∷ rows) rising =
     (rising 1 (omega arith) 0 refl, chain_from high rows (λ k within j before. rising (suc k) (omega arith) (suc j) (omega arith)))
 
+-- a table is a chain
 pub chain : (low : Row) (rows : List Row) → IsTable (low ∷ rows) → IsChain low rows
 chain low rows table = chain_from low rows (λ k within. (table.good k within).rising)
 
+-- the last of the rows, where low is the first
 abbrev pub last : Row → List Row → Row
 last low rows = row_at (low ∷ rows) (length rows)
 
+-- an answer is not both none and some
 none_found : {o : Option ℤ} {v : ℤ} → o ≡ None → o ≡ Some v → ⊥
 none_found none some = cc
 
+-- nor two values
 some_found : {o : Option ℤ} {v w : ℤ} → o ≡ Some v → o ≡ Some w → w ≡ v
 some_found one other = cc
 
 -- ---- one interval
 
+-- the last row has a volume at its elevation alone
 at_end : (low : Row) (e : ℤ) → e ≡ low.0 → vol_from low [] e ≡ Some low.1
 at_end low e same = rw (eq_passes e low.0 same) refl
 
 not_at_end : (low : Row) (e : ℤ) → ¬ (e ≡ low.0) → vol_from low [] e ≡ None
 not_at_end low e apart = rw (eq_fails e low.0 apart) refl
 
+-- below the first row there is none
 before_all : (low : Row) (rows : List Row) (e : ℤ) → IsChain low rows → e <ℤ low.0 → vol_from low rows e ≡ None
 before_all low [] e rising before = not_at_end low e (λ same. omega (arith, ints))
 before_all low (high ∷ rows) e rising before =
     rw (le_fails low.0 e before) (before_all high rows e rising.1 (omega (arith, ints, rising.0.elevation)))
 
+-- in the first interval the volume is on its line
 in_interval : (low high : Row) (rows : List Row) (e : ℤ) → low.0 ≤ℤ e → e <ℤ high.0 → vol_from low (high ∷ rows) e ≡ Some (between low high e)
 in_interval low high rows e from to = rw (le_passes low.0 e from, lt_passes e high.0 to) refl
 
+-- and past it the rows after decide
 past_interval : (low high : Row) (rows : List Row) (e : ℤ) → IsAbove high low → high.0 ≤ℤ e → vol_from low (high ∷ rows) e ≡ vol_from high rows e
 past_interval low high rows e above past =
     let from = le_passes low.0 e (omega (arith, ints, above.elevation)) in
@@ -58,12 +67,14 @@ pub record IsFound (low : Row) (rows : List Row) (e v : ℤ) : Type 0 where
   pub to_last : e ≤ℤ (last low rows).0
   pub at_least : low.1 ≤ℤ v
 
+-- the last row is no lower than the first, in both columns
 rows_rise : (low : Row) (rows : List Row) → IsChain low rows → (low.0 ≤ℤ (last low rows).0) × (low.1 ≤ℤ (last low rows).1)
 rows_rise low [] rising = (omega (arith, ints), omega (arith, ints))
 rows_rise low (high ∷ rows) rising =
     let more = rows_rise high rows rising.1 in
     (omega (arith, ints, rising.0.elevation, more.0), omega (arith, ints, rising.0.volume, more.1))
 
+-- what is found is such
 pub found : (low : Row) (rows : List Row) (e v : ℤ) → IsChain low rows → vol_from low rows e ≡ Some v → IsFound low rows e v
 found low [] e v rising is = elim (same_or_not e low.0) [
   | inl same ↦
@@ -134,6 +145,7 @@ volume_rises low (high ∷ rows) e later v w rising after first next =
           volume_rises high rows e later v w rising.1 after (sym (past_interval low high rows e rising.0 past) ∙ first) (sym (past_interval low high rows later rising.0 later_past) ∙ next)
     ]
 
+-- no row is below the first
 rises_to : (low : Row) (rows : List Row) (k : ℕ) → IsChain low rows → k ≤ length rows → low.0 ≤ℤ (row_at (low ∷ rows) k).0
 rises_to low rows zero rising within = omega (arith, ints)
 rises_to low [] (suc k) rising within = absurd (omega arith)

@@ -5,6 +5,7 @@ use Rattle.std.specs.Cmp.{signed_Decides}
 use Rattle.std.proofs.lemmas.Int.{ints, by_lt_z}
 use Rattle.std.proofs.lemmas.Bool.{cases_Bool, both_ways}
 
+-- the cases of two numbers
 pub below_or_not : (a b : ℤ) → (a <ℤ b) ⊎ (b ≤ℤ a)
 below_or_not a b = by_lt_z a b inl inr
 
@@ -14,10 +15,12 @@ same_or_not a b = elim (cases_Bool (int_eq a b)) [
   | inr apart ↦ inr (λ same. both_ways (int_eq a b) apart ((signed_Decides a b).1 same))
 ]
 
+-- a test that is not true is false
 not_true : (b : Bool) → (b ≡ true → ⊥) → b ≡ false
 not_true true h = absurd (h refl)
 not_true false h = refl
 
+-- the tests, each where it passes and where it fails
 pub le_passes : (a b : ℤ) → a ≤ℤ b → int_le a b ≡ true
 le_passes a b h = sym (omega (arith, ints))
 

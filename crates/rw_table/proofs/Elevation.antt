@@ -9,6 +9,7 @@ use Rattle.rw_table.specs.Table.{Row, row_at, IsTable}
 use Rattle.rw_table.specs.Curve.{vol_of, first_row, last_row, greatest_up_to, elev_of, IsElevationInside, IsVolumeInside, IsAtMost, IsGreatest}
 use Rattle.rw_table.specs.Line.{IsLastOnLine}
 
+-- an elevation of a table is a natural number, which the count meets
 natural_inside : (rows : List Row) (e : ℤ) → IsTable rows → IsElevationInside rows e → (k : ℕ) × (e ≡ pos k) × (k < suc (unsigned_abs (last_row rows).0))
 natural_inside rows (pos k) table within =
     let to : pos k ≤ℤ (last_row rows).0 = within.to_last in
@@ -32,14 +33,17 @@ counted_greatest rows s e table counts =
           omega (arith, ints);
     }
 
+-- the first row is at most any volume of the table
 first_at_most : (rows : List Row) (s : ℤ) → IsTable rows → IsVolumeInside rows s → IsAtMost rows (first_row rows).0 s
 first_at_most rows s table held =
     at_most_from (vol_of rows (first_row rows).0) s _ (volume_of_row rows 0 table (omega (arith, table.some))) held.from_first
 
+-- and its elevation is inside
 first_inside : (rows : List Row) → IsTable rows → IsElevationInside rows (first_row rows).0
 first_inside rows table =
     inside rows (first_row rows).0 (first_row rows).1 table (volume_of_row rows 0 table (omega (arith, table.some)))
 
+-- inside the volumes the elevation is what the count finds
 elev_counted : (rows : List Row) (s : ℤ) → IsVolumeInside rows s → elev_of rows s ≡ greatest_up_to rows s (unsigned_abs (last_row rows).0)
 elev_counted rows s held =
     rw (le_passes (first_row rows).1 s held.from_first, le_passes s (last_row rows).1 held.to_last) refl
@@ -49,12 +53,14 @@ pub record HasGreatest (rows : List Row) (s : ℤ) (o : Option ℤ) : Type 0 whe
   pub is : o ≡ Some elevation
   pub greatest : IsGreatest rows s elevation
 
+-- the count finds one, since the first row is at most s
 count_held : (rows : List Row) (s : ℤ) (o : Option ℤ) → IsTable rows → IsVolumeInside rows s → Counts rows s (suc (unsigned_abs (last_row rows).0)) o → HasGreatest rows s o
 count_held rows s None table held none =
     let first = natural_inside rows (first_row rows).0 table (first_inside rows table) in
     absurd (none first.0 first.2 (rw first.1 at (first_at_most rows s table held)))
 count_held rows s (Some e) table held some = record { elevation = e; is = refl; greatest = counted_greatest rows s e table some }
 
+-- inside the volumes there is an elevation, and it is the greatest
 pub elev_held : (rows : List Row) (s : ℤ) → IsTable rows → IsVolumeInside rows s → HasGreatest rows s (elev_of rows s)
 elev_held rows s table held =
     rw (elev_counted rows s held) (count_held rows s _ table held (counted rows s (unsigned_abs (last_row rows).0)))
@@ -68,6 +74,7 @@ elev_is_greatest rows s e table held greatest =
     let same : has.elevation ≡ e = omega (arith, ints) in
     has.is ∙ ap Some same
 
+-- outside there is none
 pub elev_outside : (rows : List Row) (s : ℤ) → ¬ IsVolumeInside rows s → elev_of rows s ≡ None
 elev_outside rows s outside = elim (below_or_not s (first_row rows).1) [
   | inl before ↦ rw (le_fails (first_row rows).1 s before) refl
@@ -89,6 +96,7 @@ none_after rows s e next v table is_next is more other at_most =
       | inr up_to ↦ up_to
     ]
 
+-- an elevation at most s whose next one is more is the greatest
 greatest_from : (rows : List Row) (s e next u v : ℤ) → IsTable rows → vol_of rows e ≡ Some u → u ≤ℤ s → next ≡ e +ℤ pos 1 → vol_of rows next ≡ Some v → s <ℤ v → IsGreatest rows s e
 greatest_from rows s e next u v table is less is_next next_is more = record {
   inside = inside rows e u table is;
@@ -133,9 +141,14 @@ line_elevation rows (suc k) s e table some within from to line =
     (record { from_first = omega (arith, ints); to_last = omega (arith, ints) })
     (last_greatest rows k s e table within to (rw back at line))
 
+-- at the last volume it is the last elevation
 pub last_elevation : (rows : List Row) (s : ℤ) → IsTable rows → s ≡ (last_row rows).1 → elev_of rows s ≡ Some (last_row rows).0
 last_elevation rows s table same =
     let low = no_less rows table 0 (length rows - 1) (omega arith) (omega (arith, table.some)) in
     elev_is_greatest rows s _ table
     (record { from_first = omega (arith, ints); to_last = omega (arith, ints) })
     (row_greatest rows s table same)
+
+-- above the last volume there is none
+pub elevation_after : (rows : List Row) (s : ℤ) → (last_row rows).1 <ℤ s → elev_of rows s ≡ None
+elevation_after rows s past = elev_outside rows s (λ within. omega (arith, ints, within.to_last))

@@ -9,6 +9,7 @@ use Rattle.rw_table.specs.Table.{Row, row_at, IsWithinBounds, IsRisingAt, IsGood
 abbrev IsBad : List Row → (ℕ → Type 0) → Type 0
 IsBad rows IsWrong = (k : ℕ) → IsWrong k → ¬ IsGoodRow rows k
 
+-- a row out of bounds is bad, and so is one that does not rise
 bounds_bad : (rows : List Row) → IsBad rows (λ k. ¬ IsWithinBounds (row_at rows k))
 bounds_bad rows k wrong good = wrong good.bounds
 
@@ -29,11 +30,13 @@ same_place rows m n P Q bad_p bad_q f g = elim (cases_order f.place g.place) [
   ]
 ]
 
+-- so they have one number
 same_number : (rows : List Row) (m n : ℕ) (P Q : ℕ → Type 0) → IsBad rows P → IsBad rows Q → IsFirstBad rows m P → IsFirstBad rows n Q → m ≡ n
 same_number rows m n P Q bad_p bad_q f g =
     let same = same_place rows m n P Q bad_p bad_q f g in
     omega arith
 
+-- a table has no fault
 pub no_fault : (rows : List Row) (fault : TableFault) → IsTable rows → ¬ IsFault rows fault
 no_fault rows TooFewRows table h = absurd (omega arith)
 no_fault rows TooManyRows table h = absurd (omega arith)
@@ -48,6 +51,7 @@ apart rows m n f g =
     let wrong : ¬ IsWithinBounds (row_at rows g.place) = rw (← same) f.wrong in
     wrong g.wrong.0
 
+-- two faults of the same rows are one
 pub one_fault : (rows : List Row) (f g : TableFault) → IsFault rows f → IsFault rows g → f ≡ g
 one_fault rows TooFewRows TooFewRows f g = cc
 one_fault rows TooFewRows TooManyRows f g = absurd (omega arith)

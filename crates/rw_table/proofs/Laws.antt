@@ -8,7 +8,7 @@ use Rattle.rw_table.specs.Line.{between}
 use Rattle.rw_table.specs.Curve.{vol_of, elev_of, first_row, last_row, IsElevationInside, IsVolumeInside, IsGreatest}
 use Rattle.rw_table.proofs.Judgement as judgement
 use Rattle.rw_table.proofs.Comparison.{below_or_not}
-use Rattle.rw_table.proofs.Volume.{inside, volume_inside as has_volume, volume_of_row, volume_on_line, never_falls}
+use Rattle.rw_table.proofs.Volume.{inside, has_volume_inside, volume_of_row, volume_on_line, never_falls}
 use Rattle.rw_table.proofs.Count.{volume_at_most, at_most_from}
 use Rattle.rw_table.proofs.Elevation.{elev_held, elev_outside}
 
@@ -18,6 +18,7 @@ table_has_no_fault = judgement.no_fault
 pub one_fault : (rows : List Row) (fault other : TableFault) → IsFault rows fault → IsFault rows other → fault ≡ other
 one_fault = judgement.one_fault
 
+-- to have a value, in two forms
 some_from : (o : Option ℤ) (v : ℤ) → o ≡ Some v → IsSome o
 some_from None v is = cc
 some_from (Some w) v is = refl
@@ -32,7 +33,7 @@ volume_where rows e table = (
       let v = value_of (vol_of rows e) some in
       inside rows e v.0 table v.1,
   λ within.
-      let v = has_volume rows e table within in
+      let v = has_volume_inside rows e table within in
       some_from (vol_of rows e) v.0 v.1,
 )
 
@@ -57,6 +58,7 @@ volume_inside rows e v table is =
       to_last = never_falls rows e _ v _ table within.to_last is last;
     }
 
+-- a volume is inside or not
 inside_or_not : (rows : List Row) (s : ℤ) → IsVolumeInside rows s ⊎ (¬ IsVolumeInside rows s)
 inside_or_not rows s = elim (below_or_not s (first_row rows).1) [
   | inl before ↦ inr (λ within. omega (arith, ints, within.from_first))
@@ -77,6 +79,7 @@ elevation_is_greatest rows s table =
       | inr outside ↦ subst Says (sym (elev_outside rows s outside)) outside
     ]
 
+-- an elevation that is answered is the greatest
 greatest_of : (rows : List Row) (s : ℤ) (o : Option ℤ) (e : ℤ) → MatchOption o (¬ IsVolumeInside rows s) (IsGreatest rows s) → o ≡ Some e → IsGreatest rows s e
 greatest_of rows s o e says is = subst (λ (o : Option ℤ). MatchOption o (¬ IsVolumeInside rows s) (IsGreatest rows s)) is says
 

@@ -28,6 +28,7 @@ between_bounds low high e above from to =
     let below = share_below d.0 rise.0 run.0 (omega (arith, ints)) (omega (arith, ints)) in
     (omega (arith, ints), omega (arith, ints))
 
+-- further along the line the volume is no less
 pub between_rises : (low high : Row) (e later : ℤ) → IsAbove high low → low.0 ≤ℤ e → e ≤ℤ later → between low high e ≤ℤ between low high later
 between_rises low high e later above from after =
     let d = distance low.0 e from in

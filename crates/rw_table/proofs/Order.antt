@@ -7,6 +7,7 @@ use Rattle.std.specs.List.Sorted.{IsPartitionedBy, IsPartitionPoint}
 use Rattle.rw_table.proofs.Comparison.{le_passes}
 use Rattle.rw_table.specs.Table.{Row, row_at, IsAbove, IsTable}
 
+-- above what is above is above
 above_both : (low middle high : Row) → IsAbove middle low → IsAbove high middle → IsAbove high low
 above_both low middle high first next = record {
   elevation = omega (arith, ints, first.elevation, next.elevation);
@@ -33,6 +34,7 @@ no_less rows table j k up_to within = elim (cases_eq j k) [
 pub record IsRisingColumn (rows : List Row) (column : Row → ℤ) : Type 0 where
   pub rising : (j k : ℕ) → j < k → k < length rows → column (row_at rows j) <ℤ column (row_at rows k)
 
+-- both columns of a table rise
 pub elevations_rise : (rows : List Row) → IsTable rows → IsRisingColumn rows (λ row. row.0)
 elevations_rise rows table = record { rising = λ j k before within. (rises rows table j k before within).elevation }
 

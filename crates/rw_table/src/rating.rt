@@ -7,7 +7,7 @@ use crate::lookup::{elevation_at, volume_at};
 use std::alloc::Global;
 use std::marker::Model;
 
-/// A table of 2 to 200 rows, each an elevation in mm and the volume in m3 up to it, with both columns rising.
+/// A table of 2 to 200 rows, each an elevation in mm and the volume in m3 up to it, with both columns strictly rising.
 #[derive(Debug, Drop)]
 pub struct Rating {
     rows: Vec<(i64, i64)>,

@@ -1,6 +1,7 @@
-use Rattle.std.proofs.Common.{◌≡◌, pos, ◌-◌, ◌<◌, ◌<ℤ◌, w64, of_z, FitsSigned, Some, sym, ap, ◌∙◌, length, arith, rules}
-use Rattle.std.proofs.lemmas.Int.{ints, by_lt_z, to_z-of_z}
+use Rattle.std.proofs.Common.{◌≡◌, pos, ◌-◌, ◌<◌, ◌<ℤ◌, w64, of_z, FitsSigned, Some, sym, ap, ◌∙◌, length, arith, rules, inl, inr}
+use Rattle.std.proofs.lemmas.Int.{ints, to_z-of_z}
 use Rattle.rw_table.specs.Table.{row_at}
+use Rattle.rw_table.proofs.Comparison.{below_or_not}
 use Rattle.rw_table.proofs.Volume.{volume_before, volume_after, line_volume, volume_of_row}
 use Rattle.rw_table.proofs.lookup.volume_at.Goals as goal
 
@@ -36,8 +37,10 @@ returns c =
     let place = c.rows_up_to_elevation-place.result in
     let from = rw (to_z-of_z w64 e c.ranges.e) at (c.rows_up_to_elevation-place.ensures.place.0 (place - 1) (pos 0, pos 0) (omega arith) (omega (arith, c.requires.some))) in
     let whole : place ≡ length rows = omega arith in
-    let past : (row_at rows (place - 1)).0 <ℤ e =
-    by_lt_z (row_at rows (place - 1)).0 e (λ past. past) (λ up_to.
-    let same : (row_at rows (place - 1)).0 ≡ e = omega (arith, ints) in
-    absurd (c.if-low-e.false (ap (of_z w64) same))) in
+    let past : (row_at rows (place - 1)).0 <ℤ e = elim (below_or_not (row_at rows (place - 1)).0 e) [
+      | inl past ↦ past
+      | inr up_to ↦
+          let same : (row_at rows (place - 1)).0 ≡ e = omega (arith, ints) in
+          absurd (c.if-low-e.false (ap (of_z w64) same))
+    ] in
     sym (volume_after rows e c.requires (rw whole at past))
