@@ -32,6 +32,7 @@ pub fn basin_main<S: Shelf, K: Sink, E: Sink, L: Ledger>(
     ensures settled { result ≡ 0 → WritesAll (texts_of words.now) (S.holds shelf.old) (K.contents out.old) (K.contents out.new) None }
     ensures faulted { result ≡ 1 → (value : ℤ) × WritesAll (texts_of words.now) (S.holds shelf.old) (K.contents out.old) (K.contents out.new) (Some value) }
     ensures silent { result ≤ 1 → E.contents err.new ≡ E.contents err.old }
+    ensures still { result ≤ 1 → E.faults err.new ≡ E.faults err.old }
 
     // 2, 6 and 8 come exactly where the words, the model, the inputs are refused; want of memory may come before.
     ensures words { result ≡ 2 → ¬ IsCommand (texts_of words.now) }
