@@ -122,7 +122,8 @@ fn three_days_settle(rt: HostRuntime) -> Result<(), Fail> {
 #[test]
 fn overdrawn_storage_is_a_fault(rt: HostRuntime) -> Result<(), Fail> {
     let inputs = "slot,step,value\nDam.Inflow,1,0\nDam.Outflow,1,1001\n";
-    let table = "# batch 0 fault out of range object Dam slot Dam.Storage step 1 value -1\nstep,stamp,Dam.Inflow,Dam.Outflow,Dam.Storage\n";
+    let table =
+        "# batch 0 fault out of range object Dam slot Dam.Storage step 1 value -1\nstep,stamp,Dam.Inflow,Dam.Outflow,Dam.Storage\n";
     let done = simulate(rt.alloc(), MODEL_OF_ONE, inputs, NONE_FAILS)?;
     assert_eq!(rt; done.status, 1);
     assert_eq!(rt; done.out.as_slice(), table.as_bytes());
@@ -142,13 +143,20 @@ fn refusals_have_their_status_and_line(rt: HostRuntime) -> Result<(), Fail> {
 
     let done = simulate(alloc, MODEL_OF_NONE, INPUTS_OF_THREE, NONE_FAILS)?;
     assert_eq!(rt; done.status, 6);
-    assert_eq!(rt; done.err.as_slice(), b"basin: model: not the first form\n".as_slice());
+    assert_eq!(rt;
+        done.err.as_slice(),
+        b"basin: model: not the first form\n".as_slice()
+    );
     assert!(rt; done.out.is_empty());
 
-    let ranges = "slot,step,value\nDam.Inflow,1-3,100\nDam.Outflow,1,50\nDam.Outflow,2,150\nDam.Outflow,3,100\n";
+    let ranges =
+        "slot,step,value\nDam.Inflow,1-3,100\nDam.Outflow,1,50\nDam.Outflow,2,150\nDam.Outflow,3,100\n";
     let done = simulate(alloc, MODEL_OF_THREE, ranges, NONE_FAILS)?;
     assert_eq!(rt; done.status, 8);
-    assert_eq!(rt; done.err.as_slice(), b"basin: inputs: not the first form\n".as_slice());
+    assert_eq!(rt;
+        done.err.as_slice(),
+        b"basin: inputs: not the first form\n".as_slice()
+    );
     assert!(rt; done.out.is_empty());
     Ok(())
 }
@@ -226,7 +234,11 @@ fn a_file_is_too_long_past_its_greatest_length(rt: HostRuntime) -> Result<(), Fa
     assert_eq!(rt; done.err.as_slice(), b"basin: too long m.toml\n".as_slice());
 
     let words = owned(alloc, &SIMULATE)?;
-    let given = files(alloc, MODEL_OF_ONE.as_bytes(), &line_feeds(alloc, 16_777_217)?)?;
+    let given = files(
+        alloc,
+        MODEL_OF_ONE.as_bytes(),
+        &line_feeds(alloc, 16_777_217)?,
+    )?;
     let done = call(alloc, words, given, NONE_FAILS)?;
     assert_eq!(rt; done.status, 10);
     assert_eq!(rt; done.err.as_slice(), b"basin: too long i.csv\n".as_slice());
