@@ -3,10 +3,11 @@
 
 ghost use Rattle.std.specs.Prelude.{◌≡◌, ◌<◌};
 
+use rw_base::NoMemory;
 use rw_io::{FileShelf, StdSink, write_all};
 use rw_top::{Blank, Ledger, Steps, basin_main};
-use std::alloc::AllocError;
 use std::env;
+use std::io::ErrorKind;
 use std::marker::Brand;
 use std::process::ExitCode;
 
@@ -14,12 +15,16 @@ use std::process::ExitCode;
 const NO_MEMORY: u8 = 5;
 
 // The words behind the program's name. Words that are no text are as none: they are refused.
-fn words(rt: &HostRuntime) -> Result<Vec<String>, AllocError> {
+fn words(rt: &HostRuntime) -> Result<Vec<String>, NoMemory> {
     let mut words = Vec::new(rt.alloc());
-    if let Ok(found) = env::args(rt) {
-        for word in found.skip(1) {
-            words.push(word)?;
+    match env::args(rt) {
+        Ok(found) => {
+            for word in found.skip(1) {
+                words.push(word)?;
+            }
         }
+        Err(error) if error.kind() == ErrorKind::OutOfMemory => return Err(NoMemory),
+        Err(_) => {}
     }
     Ok(words)
 }
