@@ -1,0 +1,66 @@
+-- The volume on the line from one row to the next.
+use Rattle.std.proofs.Common.{◌≡◌, ℕ, ◌+◌, ◌*◌, ◌/◌, ◌<◌, ℤ, pos, negsuc, ◌+ℤ◌, ◌-ℤ◌, ◌≤ℤ◌, ◌<ℤ◌, refl, arith}
+use Rattle.std.proofs.lemmas.Int.{ints}
+use Rattle.rw_table.specs.Table.{Row, IsAbove}
+use Rattle.rw_table.specs.Line.{between, IsLastOnLine}
+use Rattle.rw_table.proofs.Quotient.{share_below, share_rises, reach, share_at_reach, share_past_reach, reach_below}
+
+-- a number that isn't negative is a natural one
+natural : (z : ℤ) → pos 0 ≤ℤ z → (n : ℕ) × (z ≡ pos n)
+natural (pos n) h = (n, refl)
+natural (negsuc n) h = absurd (omega (arith, ints))
+
+-- how far b is from a
+pub distance : (a b : ℤ) → a ≤ℤ b → (n : ℕ) × (b -ℤ a ≡ pos n)
+distance a b h = natural (b -ℤ a) (omega (arith, ints))
+
+-- the line, by distances
+pub between-is : (low high : Row) (e : ℤ) (d rise run : ℕ) → e -ℤ low.0 ≡ pos d → high.1 -ℤ low.1 ≡ pos rise → high.0 -ℤ low.0 ≡ pos run → between low high e ≡ low.1 +ℤ pos (d * rise / run)
+between-is low high e d rise run along up over = rw (along, up, over) refl
+
+-- from its lower row to just before its higher one, the line is at or above the lower volume and below the higher
+pub between_bounds : (low high : Row) (e : ℤ) → IsAbove high low → low.0 ≤ℤ e → e <ℤ high.0 → (low.1 ≤ℤ between low high e) × (between low high e <ℤ high.1)
+between_bounds low high e above from to =
+    let d = distance low.0 e from in
+    let rise = distance low.1 high.1 (omega (arith, ints, above.volume)) in
+    let run = distance low.0 high.0 (omega (arith, ints, above.elevation)) in
+    let is = between-is low high e d.0 rise.0 run.0 d.1 rise.1 run.1 in
+    let below = share_below d.0 rise.0 run.0 (omega (arith, ints)) (omega (arith, ints)) in
+    (omega (arith, ints), omega (arith, ints))
+
+pub between_rises : (low high : Row) (e later : ℤ) → IsAbove high low → low.0 ≤ℤ e → e ≤ℤ later → between low high e ≤ℤ between low high later
+between_rises low high e later above from after =
+    let d = distance low.0 e from in
+    let l = distance low.0 later (omega (arith, ints)) in
+    let rise = distance low.1 high.1 (omega (arith, ints, above.volume)) in
+    let run = distance low.0 high.0 (omega (arith, ints, above.elevation)) in
+    let is = between-is low high e d.0 rise.0 run.0 d.1 rise.1 run.1 in
+    let is_later = between-is low high later l.0 rise.0 run.0 l.1 rise.1 run.1 in
+    let more = share_rises d.0 l.0 rise.0 run.0 (omega (arith, ints)) (omega (arith, ints)) in
+    omega (arith, ints)
+
+-- at the lower row it is that row's volume
+pub between_low : (low high : Row) → IsAbove high low → between low high low.0 ≡ low.1
+between_low low high above =
+    let rise = distance low.1 high.1 (omega (arith, ints, above.volume)) in
+    let run = distance low.0 high.0 (omega (arith, ints, above.elevation)) in
+    let none : low.0 -ℤ low.0 ≡ pos 0 = omega (arith, ints) in
+    let is = between-is low high low.0 0 rise.0 run.0 none rise.1 run.1 in
+    let zero_share : 0 * rise.0 / run.0 ≡ 0 = grind arith in
+    omega (arith, ints)
+
+-- the reach is the last elevation on the line whose volume is at most s
+pub last_on_line : (low high : Row) (s e : ℤ) (held rise run : ℕ) → s -ℤ low.1 ≡ pos held → high.1 -ℤ low.1 ≡ pos rise → high.0 -ℤ low.0 ≡ pos run → held < rise → 0 < run → e ≡ low.0 +ℤ pos (reach held rise run) → IsLastOnLine low high s e
+last_on_line low high s e held rise run is_s up over less some is_e =
+    let d = reach held rise run in
+    let before : reach held rise run < run = reach_below held rise run less some in
+    let is = between-is low high e d rise run (omega (arith, ints)) up over in
+    let next = between-is low high (e +ℤ pos 1) (d + 1) rise run (omega (arith, ints)) up over in
+    let within = share_at_reach held rise run (omega arith) some in
+    let past = share_past_reach held rise run (d + 1) (omega arith) some (omega arith) in
+    record {
+      from_low = omega (arith, ints);
+      to_high = omega (arith, ints);
+      at_most = omega (arith, ints);
+      last = λ _. omega (arith, ints);
+    }

@@ -1,0 +1,26 @@
+use Rattle.std.proofs.Common.{◌≡◌, pos, ◌-◌, ◌<◌, w64, FitsSigned, Some, sym, ap, ◌∙◌, length, arith, rules}
+use Rattle.std.proofs.lemmas.Int.{ints, to_z-of_z}
+use Rattle.rw_table.specs.Table.{row_at}
+use Rattle.rw_table.proofs.Elevation.{line_elevation, last_elevation}
+use Rattle.rw_table.proofs.lookup.elevation_at.Goals as goal
+
+pub returns-then-place-rows : goal.returns-then-place-rows
+returns-then-place-rows c =
+    let place = c.rows_up_to_volume-place.result in
+    let point = c.rows_up_to_volume-place.ensures.place in
+    let same = to_z-of_z w64 c.args.s c.ranges.s in
+    let from = rw same at (point.0 (place - 1) (pos 0, pos 0) (omega arith) (omega arith)) in
+    let to = rw same at (point.1 place (pos 0, pos 0) (omega arith) c.if-place-rows.true) in
+    ap Some (to_z-of_z w64 _ (search rules))
+    ∙ sym (line_elevation c.args.rows.now place c.args.s _ c.requires (omega arith) c.if-place-rows.true from to (rw same at c.elevation_between.ensures))
+
+pub returns-then-low-s : goal.returns-then-low-s
+returns-then-low-s c =
+    let rows = c.args.rows.now in
+    let place = c.rows_up_to_volume-place.result in
+    let within : place - 1 < length rows = omega (arith, c.requires.some) in
+    let whole : place ≡ length rows = omega arith in
+    let bounds = (c.requires.good (place - 1) within).bounds in
+    let is : c.args.s ≡ (row_at rows (place - 1)).1 = omega (arith, ints) in
+    let fits : FitsSigned w64 (row_at rows (place - 1)).0 = omega (arith, ints) in
+    ap Some (to_z-of_z w64 _ fits) ∙ sym (rw whole (last_elevation rows c.args.s c.requires (rw whole at is)))

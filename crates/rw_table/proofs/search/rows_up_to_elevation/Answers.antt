@@ -1,0 +1,12 @@
+use Rattle.std.proofs.Common.{rules, of_calls, int_le}
+use Rattle.std.proofs.lemmas.Fn.{always_returns_same}
+use Rattle.rw_table.specs.Table.{Row}
+use Rattle.rw_table.proofs.Order.{elevations_rise, parted, parted_at}
+use Rattle.rw_table.proofs.search.rows_up_to_elevation.Goals as goal
+
+pub returns-clause-place : goal.returns-clause-place
+returns-clause-place c =
+    let rows = c.args.rows.now in
+    let in_order = parted rows (λ row. row.0) c.args.e (elevations_rise rows c.requires) in
+    parted_at rows (λ row. row.0) c.args.e _
+    (c.partition_point.ensures.partitioned (λ (row : Row). int_le row.0 c.args.e) (always_returns_same _ _ _ (λ a r f k. search (rules, of_calls))) in_order)

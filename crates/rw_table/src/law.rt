@@ -1,0 +1,72 @@
+//! What holds of every table. Each law is the `ensures` of a function that does nothing; its proof has the same name in
+//! `proofs/Laws.antt`.
+ghost use Rattle.std.specs.Prelude.{◌≡◌, ℕ, ◌+◌, ◌<◌, ℤ, ◌≤ℤ◌, ◌<ℤ◌, ◌↔◌, List, length, Some, IsSome, IsSomeAnd, MatchOption};
+ghost use Rattle.rw_table.specs.declared.fault.TableFault.{TableFault};
+ghost use Rattle.rw_table.specs.Table.{Row, row_at, IsTable, IsFault};
+ghost use Rattle.rw_table.specs.Line.{between};
+ghost use Rattle.rw_table.specs.Curve.{vol_of, elev_of, IsElevationInside, IsVolumeInside, IsGreatest};
+
+/// Rows that are a table have no fault.
+pub fn table_has_no_fault()
+    ensures { (rows : List Row) (fault : TableFault) → IsTable rows → ¬ IsFault rows fault }
+{}
+
+/// Rows have at most one fault.
+pub fn one_fault()
+    ensures { (rows : List Row) (fault other : TableFault) → IsFault rows fault → IsFault rows other → fault ≡ other }
+{}
+
+/// There is a volume exactly from the first elevation to the last.
+pub fn volume_where()
+    ensures { (rows : List Row) (e : ℤ) → IsTable rows
+        → IsSome (vol_of rows e) ↔ IsElevationInside rows e }
+{}
+
+/// From one row to the next, the volume is on the line between them.
+pub fn volume_between_rows()
+    ensures { (rows : List Row) (k : ℕ) (e : ℤ) → IsTable rows → k + 1 < length rows
+        → (row_at rows k).0 ≤ℤ e → e <ℤ (row_at rows (k + 1)).0
+        → vol_of rows e ≡ Some (between (row_at rows k) (row_at rows (k + 1)) e) }
+{}
+
+/// At a row's elevation the volume is that row's.
+pub fn volume_at_row()
+    ensures { (rows : List Row) (k : ℕ) → IsTable rows → k < length rows
+        → vol_of rows (row_at rows k).0 ≡ Some (row_at rows k).1 }
+{}
+
+/// The volume never falls as the elevation rises.
+pub fn volume_never_falls()
+    ensures { (rows : List Row) (e later v w : ℤ) → IsTable rows → e ≤ℤ later
+        → vol_of rows e ≡ Some v → vol_of rows later ≡ Some w → v ≤ℤ w }
+{}
+
+/// Each volume is from the first to the last.
+pub fn volume_inside()
+    ensures { (rows : List Row) (e v : ℤ) → IsTable rows → vol_of rows e ≡ Some v → IsVolumeInside rows v }
+{}
+
+/// The elevation at a volume is the greatest whole elevation whose volume is at most that. There is none exactly
+/// outside the first volume to the last.
+pub fn elevation_is_greatest()
+    ensures { (rows : List Row) (s : ℤ) → IsTable rows
+        → MatchOption (elev_of rows s) (¬ IsVolumeInside rows s) (IsGreatest rows s) }
+{}
+
+/// The elevation never falls as the volume rises.
+pub fn elevation_never_falls()
+    ensures { (rows : List Row) (s more e f : ℤ) → IsTable rows → s ≤ℤ more
+        → elev_of rows s ≡ Some e → elev_of rows more ≡ Some f → e ≤ℤ f }
+{}
+
+/// The volume at the elevation of s is at most s.
+pub fn volume_after_elevation()
+    ensures { (rows : List Row) (s e : ℤ) → IsTable rows → elev_of rows s ≡ Some e
+        → IsSomeAnd (vol_of rows e) (λ v. v ≤ℤ s) }
+{}
+
+/// The elevation at the volume of e is at least e.
+pub fn elevation_after_volume()
+    ensures { (rows : List Row) (e v : ℤ) → IsTable rows → vol_of rows e ≡ Some v
+        → IsSomeAnd (elev_of rows v) (λ back. e ≤ℤ back) }
+{}

@@ -1,0 +1,44 @@
+ghost use Rattle.std.specs.Prelude.{◌≡◌};
+ghost use Rattle.rw_table.specs.Table.{IsTable};
+ghost use Rattle.rw_table.specs.Curve.{vol_of, elev_of};
+
+use crate::interval::{elevation_between, volume_between};
+use crate::search::{rows_up_to_elevation, rows_up_to_volume};
+
+/// The volume in m3 at an elevation of e mm, in the rows of a table.
+pub fn volume_at(rows: &[(i64, i64)], e: i64) -> Option<i64>
+    requires { IsTable rows.now }
+    ensures { result ≡ vol_of rows.now e }
+{
+    let place = rows_up_to_elevation(rows, e);
+    if place == 0 {
+        return None;
+    }
+    let low = rows[place - 1];
+    if place < rows.len() {
+        return Some(volume_between(low, rows[place], e));
+    }
+    if low.0 == e {
+        return Some(low.1);
+    }
+    None
+}
+
+/// The greatest whole elevation in mm whose volume is at most s m3, in the rows of a table.
+pub fn elevation_at(rows: &[(i64, i64)], s: i64) -> Option<i64>
+    requires { IsTable rows.now }
+    ensures { result ≡ elev_of rows.now s }
+{
+    let place = rows_up_to_volume(rows, s);
+    if place == 0 {
+        return None;
+    }
+    let low = rows[place - 1];
+    if place < rows.len() {
+        return Some(elevation_between(low, rows[place], s));
+    }
+    if low.1 == s {
+        return Some(low.0);
+    }
+    None
+}

@@ -1,0 +1,64 @@
+ghost use Rattle.std.specs.Prelude.{◌≡◌, ◌⊎◌, Err, OnOk, IfOk, IfErr};
+ghost use Rattle.rw_table.specs.Table.{IsTable, IsFault};
+ghost use Rattle.rw_table.specs.Curve.{vol_of, elev_of};
+
+use crate::fault::{TableFault, judge};
+use crate::lookup::{elevation_at, volume_at};
+use std::alloc::Global;
+use std::marker::Model;
+
+/// A table of 2 to 200 rows, each an elevation in mm and the volume in m3 up to it, with both columns rising.
+#[derive(Debug, Drop)]
+pub struct Rating {
+    rows: Vec<(i64, i64)>,
+}
+
+impl Model for Rating {
+    ghost use Rattle.std.specs.Prelude.{List, ℤ};
+    ghost use Rattle.rw_table.specs.Table.{IsTable};
+
+    ghost Value = { List (ℤ × ℤ) };
+
+    ghost view = { λ r. r.rows.items };
+
+    ghost invariant = { λ r. IsTable r.rows.items };
+}
+
+impl Rating {
+    /// The table of these rows, lowest first.
+    ///
+    /// A fault of the rows is answered as the first that is found: their number, and then, row by row from 1 on, the
+    /// row's bounds and that it is above the row before it. `NoMemory` comes only for rows that are a table.
+    pub fn of(alloc: Global, rows: &[(i64, i64)]) -> Result<Rating, TableFault>
+        ensures rows { IfOk result (λ rating. rating ≡ rows.now) }
+        ensures table { OnOk result (IsTable rows.now) }
+        ensures judged { (fault : TableFault) → IsFault rows.now fault → result ≡ Err fault }
+        ensures cause { IfErr result (λ fault. (fault ≡ TableFault.NoMemory) ⊎ IsFault rows.now fault) }
+        ensures memory { result ≡ Err TableFault.NoMemory → IsTable rows.now }
+    {
+        judge(rows)?;
+        match rows.to_vec(alloc) {
+            Ok(rows) => Ok(Rating { rows }),
+            Err(_) => Err(TableFault::NoMemory),
+        }
+    }
+
+    /// The volume in m3 at an elevation of e mm, rounded down between two rows. `None` outside the table's elevations.
+    pub fn vol(&self, e: i64) -> Option<i64>
+        ensures volume { result ≡ vol_of self.now e }
+        ensures table { IsTable self.now }
+    {
+        volume_at(&self.rows, e)
+    }
+
+    /// The greatest whole elevation in mm whose volume is at most s m3. `None` outside the table's volumes.
+    pub fn elev(&self, s: i64) -> Option<i64>
+        ensures elevation { result ≡ elev_of self.now s }
+        ensures table { IsTable self.now }
+    {
+        elevation_at(&self.rows, s)
+    }
+}
+
+#[cfg(test)]
+mod tests;

@@ -1,0 +1,21 @@
+ghost use Rattle.std.specs.Prelude.{◌≤◌, ◌≤ℤ◌, ◌<ℤ◌, length};
+ghost use Rattle.std.specs.List.Sorted.{IsPartitionPoint};
+ghost use Rattle.rw_table.specs.Table.{Row, IsTable};
+
+/// How many rows of a table are at or below an elevation of e mm.
+pub fn rows_up_to_elevation(rows: &[(i64, i64)], e: i64) -> usize
+    requires { IsTable rows.now }
+    ensures bound { result ≤ length rows.now }
+    ensures place { IsPartitionPoint (λ (row : Row). row.0 ≤ℤ e) (λ (row : Row). e <ℤ row.0) rows.now result }
+{
+    rows.partition_point(|row| row.0 <= e)
+}
+
+/// How many rows of a table have at most a volume of s m3.
+pub fn rows_up_to_volume(rows: &[(i64, i64)], s: i64) -> usize
+    requires { IsTable rows.now }
+    ensures bound { result ≤ length rows.now }
+    ensures place { IsPartitionPoint (λ (row : Row). row.1 ≤ℤ s) (λ (row : Row). s <ℤ row.1) rows.now result }
+{
+    rows.partition_point(|row| row.1 <= s)
+}
