@@ -1,1 +1,6 @@
 pub mod Code
+pub mod Slot
+pub mod Slots
+pub mod Put
+pub mod Name
+pub mod Kind

@@ -2,12 +2,28 @@
 //! cell holds.
 #![tactic(auto)]
 
+mod content;
 mod data_slots;
 mod history;
 mod kind;
+mod kind_rule;
+pub mod law;
 mod name;
+mod name_rule;
+mod put;
+mod role;
+mod slot;
+mod slots;
+mod writer;
 
+pub use content::Content;
 pub use data_slots::{DataSlot, DataSlots};
 pub use history::History;
 pub use kind::{Kind, Supply};
+pub use kind_rule::is_kind;
 pub use name::Name;
+pub use name_rule::is_name;
+pub use put::{PutEnd, put_end};
+pub use role::Role;
+pub use slot::Slot;
+pub use writer::Writer;
