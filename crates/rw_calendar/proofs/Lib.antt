@@ -1,0 +1,4 @@
+pub mod MomentFacts
+pub mod ClockFacts
+pub mod MomentsSoFar
+pub mod TextFacts

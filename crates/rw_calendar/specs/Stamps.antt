@@ -1,0 +1,46 @@
+-- The stamps of timesteps: where each step begins and ends, and how a moment is written.
+use Rattle.std.specs.Prelude.{ℕ, zero, suc, ◌+◌, ◌-◌, ◌/◌, ◌%◌, ◌<◌, ◌≤◌, List, [], ◌∷◌, ◌++◌, codes}
+use Rattle.rw_calendar.specs.declared.start.Start.{Start}
+use Rattle.rw_calendar.specs.declared.step_length.StepLength.{StepLength}
+use Rattle.rw_calendar.specs.Moment.{Moment}
+use Rattle.rw_calendar.specs.Start.{moment_of, IsStart}
+use Rattle.rw_calendar.specs.StepLength.{CanBegin, moment_after}
+
+-- the timesteps of a run
+pub record Timesteps : Type 0 where
+  pub start : Moment
+  pub step_length : StepLength
+  pub count : ℕ
+
+-- step t, counted from 1, begins t - 1 step lengths after the start
+abbrev pub begin_of : Timesteps → ℕ → Moment
+begin_of run t = moment_after run.start run.step_length (t - 1)
+
+-- and ends t step lengths after it
+abbrev pub end_of : Timesteps → ℕ → Moment
+end_of run t = moment_after run.start run.step_length t
+
+-- the timesteps that so many steps of one length from a start make
+abbrev pub timesteps_of : Start → StepLength → ℕ → Timesteps
+timesteps_of start length steps = record { start = moment_of start; step_length = length; count = steps }
+
+-- the last step ends past year 9999
+abbrev pub EndsBeyondYears : Timesteps → Type 0
+EndsBeyondYears run = 9999 < (end_of run run.count).year
+
+-- the steps have stamps
+pub record CanBeStamped (start : Start) (length : StepLength) (steps : ℕ) : Type 0 where
+  pub valid : IsStart start
+  pub begin : CanBegin length (moment_of start)
+  pub within : (end_of (timesteps_of start length steps) steps).year ≤ 9999
+
+-- a number in so many digits
+abbrev pub in_digits : ℕ → ℕ → List ℕ
+in_digits zero n = []
+in_digits (suc k) n = in_digits k (n / 10) ++ (48 + n % 10) ∷ []
+
+-- `2020-02-01T00:00`
+abbrev pub stamp_text : Moment → List ℕ
+stamp_text m =
+    in_digits 4 m.year ++ codes "-" ++ in_digits 2 m.month ++ codes "-" ++ in_digits 2 m.day
+    ++ codes "T" ++ in_digits 2 m.hour ++ codes ":00"

@@ -1,0 +1,50 @@
+//! Laws: what the definitions of moments amount to. Each is a function that does nothing, and its contract is the law.
+ghost use Rattle.std.specs.Prelude.{◌≡◌, ℕ, ◌+◌, ◌*◌, pos, ◌+ℤ◌};
+ghost use Rattle.jiff.specs.Types.{DateTime};
+ghost use Rattle.jiff.specs.Words.{civil_nanos, epoch_day, add_months};
+ghost use Rattle.rw_calendar.specs.declared.step_length.StepLength.TheVariants.{Hours, Month};
+ghost use Rattle.rw_calendar.specs.Clock.{moment_at, IsOnTheHour, Shows};
+ghost use Rattle.rw_calendar.specs.Moment.{Moment, IsMoment, on, next_month, next_day, next_hour, hours_later, months_later};
+ghost use Rattle.rw_calendar.specs.StepLength.{moment_after};
+ghost use Rattle.rw_calendar.specs.Stamps.{Timesteps, begin_of, end_of};
+
+/// The moment so many hours later is the one that the clock shows then: as many times 3,600 seconds later.
+pub fn hours_go_by_the_clock()
+    ensures { (from to : DateTime) (k : ℕ)
+        → IsOnTheHour from → Shows to (hours_later (moment_at from) k)
+        → civil_nanos to ≡ civil_nanos from +ℤ pos (k * 3_600_000_000_000) }
+{}
+
+/// The month so many months later begins on the day that the calendar gives for as many months later.
+pub fn months_go_by_the_calendar()
+    ensures { (from to : DateTime) (k : ℕ)
+        → IsOnTheHour from → from.date.day ≡ 1 → from.time.hour ≡ 0
+        → Shows to (months_later (moment_at from) k)
+        → epoch_day to.date ≡ add_months from.date (pos k) }
+{}
+
+/// From a moment that there is, each later one is a moment that there is.
+pub fn later_moments_exist()
+    ensures hours { (m : Moment) (k : ℕ) → IsMoment m → IsMoment (hours_later m k) }
+    ensures months { (m : Moment) (k : ℕ)
+        → IsMoment m → m.day ≡ 1 → m.hour ≡ 0 → IsMoment (months_later m k) }
+{}
+
+/// A step begins where the step before it ends.
+pub fn steps_meet()
+    ensures { (run : Timesteps) (t : ℕ) → begin_of run (t + 1) ≡ end_of run t }
+{}
+
+/// The calendar at its corners: leap years, the ends of months and years, and the hours of a day.
+#[tactic(auto, unfolding(crate::specs::Moment::hours_later, crate::specs::Moment::months_later))]
+pub fn corners()
+    ensures leap { next_day (on 2020 2 28 0) ≡ on 2020 2 29 0 }
+    ensures after_leap_day { next_day (on 2020 2 29 0) ≡ on 2020 3 1 0 }
+    ensures common { next_day (on 2021 2 28 0) ≡ on 2021 3 1 0 }
+    ensures century { next_day (on 1900 2 28 0) ≡ on 1900 3 1 0 }
+    ensures fourth_century { next_day (on 2000 2 28 0) ≡ on 2000 2 29 0 }
+    ensures year_end { next_hour (on 2020 12 31 23) ≡ on 2021 1 1 0 }
+    ensures six_hours { moment_after (on 2020 1 31 18) (Hours 6) 1 ≡ on 2020 2 1 0 }
+    ensures twelve_months { moment_after (on 2020 1 1 0) Month 12 ≡ on 2021 1 1 0 }
+    ensures past_the_years { moment_after (on 9999 12 31 0) (Hours 24) 1 ≡ on 10000 1 1 0 }
+{}

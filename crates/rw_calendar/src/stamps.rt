@@ -1,0 +1,164 @@
+ghost use Rattle.std.specs.Prelude.{◌≡◌, ◌↔◌, ◌+◌, ◌<◌, ◌≤◌, pos, unsigned_abs, OnOk, IfOk, IsErrOf, string_bytes};
+ghost use Rattle.std.specs.Int.{IsInRange};
+ghost use Rattle.rw_calendar.specs.declared.fault.CalFault.TheVariants as CalFault;
+ghost use Rattle.rw_calendar.specs.Clock.{moment_at, IsOnTheHour, Shows, HasMoments};
+ghost use Rattle.rw_calendar.specs.Moment.{Moment};
+ghost use Rattle.rw_calendar.specs.Start.{IsStart, moment_of};
+ghost use Rattle.rw_calendar.specs.StepLength.{IsStepLength, CanBegin, moment_after};
+ghost use Rattle.rw_calendar.specs.Stamps.{Timesteps, EndsBeyondYears, CanBeStamped, timesteps_of, begin_of, end_of, stamp_text};
+
+use crate::later::{after, can_begin, first_moment};
+use crate::{CalFault, Start, StepLength};
+use jiff::civil::DateTime;
+use rw_base::NoMemory;
+use std::alloc::Global;
+use std::marker::Model;
+
+/// The stamps of a run's timesteps, which count from 1.
+#[derive(Debug, Drop)]
+pub struct Stamps {
+    start: DateTime,
+    step_length: StepLength,
+    count: u16,
+    moments: Vec<DateTime>,
+}
+
+impl Model for Stamps {
+    ghost use Rattle.std.specs.Prelude.{◌≤◌, ◌+◌};
+    ghost use Rattle.rw_calendar.specs.Clock.{moment_at, HasMoments};
+    ghost use Rattle.rw_calendar.specs.Stamps.{Timesteps};
+
+    ghost Value = { Timesteps };
+
+    ghost view = { λ s.
+        record { start = moment_at s.start; step_length = s.step_length; count = s.count } };
+
+    ghost invariant = { λ s. (1 ≤ s.count) × (s.count ≤ 4096)
+        × HasMoments s.start s.step_length (s.count + 1) s.moments.items };
+}
+
+// The moments 0, 1, .. steps step lengths after the start.
+fn moments(
+    alloc: Global,
+    start: DateTime,
+    length: StepLength,
+    steps: u16,
+) -> Result<Vec<DateTime>, NoMemory>
+    requires sharp { IsOnTheHour start }
+    requires length { IsStepLength length }
+    requires begin { CanBegin length (moment_at start) }
+    requires few { steps ≤ 4096 }
+    requires within { (moment_after (moment_at start) length steps).year ≤ 9999 }
+    ensures { IfOk result (λ moments. HasMoments start length (steps + 1) moments.items) }
+{
+    let mut moments = Vec::new(alloc);
+    for k in 0..=steps {
+        let Some(moment) = after(start, length, k) else {
+            unreachable!()
+        };
+        moments.push(moment)?;
+    }
+    Ok(moments)
+}
+
+impl Stamps {
+    /// The stamps of so many steps of one length from a start on. The first fault that there is, in this order, is answered,
+    /// and want of memory only where there is no other.
+    pub fn of(
+        alloc: Global,
+        start: Start,
+        length: StepLength,
+        steps: u16,
+    ) -> Result<Stamps, CalFault>
+        requires some { 1 ≤ steps }
+        requires few { steps ≤ 4096 }
+        requires length { IsStepLength length }
+        ensures ok { IfOk result (λ stamps. stamps ≡ timesteps_of start length steps) }
+        ensures stamped { OnOk result (CanBeStamped start length steps) }
+
+        ensures bad_start { IsErrOf result CalFault.BadStart ↔ (¬ IsStart start) }
+        ensures not_first { IsErrOf result CalFault.NotFirstOfMonth
+            ↔ (IsStart start × ¬ CanBegin length (moment_of start)) }
+        ensures beyond { IsErrOf result CalFault.BeyondYears
+            ↔ (IsStart start × CanBegin length (moment_of start)
+            × EndsBeyondYears (timesteps_of start length steps)) }
+        ensures no_memory { IsErrOf result CalFault.NoMemory → CanBeStamped start length steps }
+    {
+        let Some(first) = first_moment(start) else {
+            return Err(CalFault::BadStart);
+        };
+        if !can_begin(length, first) {
+            return Err(CalFault::NotFirstOfMonth);
+        }
+        if after(first, length, steps).is_none() {
+            return Err(CalFault::BeyondYears);
+        }
+        let moments = moments(alloc, first, length, steps)?;
+        Ok(Stamps {
+            start: first,
+            step_length: length,
+            count: steps,
+            moments,
+        })
+    }
+
+    /// How many steps there are, from 1 to 4096.
+    pub fn count(&self) -> u16
+        ensures value { result ≡ self.now.count }
+        ensures bounds { IsInRange 1 4096 result }
+    {
+        self.count
+    }
+
+    // The moment so many step lengths after the start.
+    fn moment(&self, k: u16) -> DateTime
+        requires { k ≤ self.now.count }
+        ensures { Shows result (moment_after self.now.start self.now.step_length k) }
+    {
+        self.moments[usize::from(k)]
+    }
+
+    /// The year in which step t begins, from 1 to 9999.
+    pub fn year(&self, t: u16) -> i16
+        requires first { 1 ≤ t }
+        requires last { t ≤ self.now.count }
+        ensures value { result ≡ pos (begin_of self.now t).year }
+        ensures bounds { IsInRange 1 9999 (unsigned_abs result) }
+    {
+        self.moment(t - 1).year()
+    }
+
+    /// The month in which step t begins, from 1 to 12.
+    pub fn month(&self, t: u16) -> u8
+        requires first { 1 ≤ t }
+        requires last { t ≤ self.now.count }
+        ensures value { result ≡ (begin_of self.now t).month }
+        ensures bounds { IsInRange 1 12 result }
+    {
+        self.moment(t - 1).month() as u8
+    }
+
+    /// The day of the month on which step t begins, from 1 to 31.
+    pub fn day(&self, t: u16) -> u8
+        requires first { 1 ≤ t }
+        requires last { t ≤ self.now.count }
+        ensures value { result ≡ (begin_of self.now t).day }
+        ensures bounds { IsInRange 1 31 result }
+    {
+        self.moment(t - 1).day() as u8
+    }
+
+    /// The stamp of step t: the moment at which it ends, as `YYYY-MM-DDTHH:00`.
+    pub fn text(&self, alloc: Global, t: u16) -> Result<String, NoMemory>
+        requires first { 1 ≤ t }
+        requires last { t ≤ self.now.count }
+        ensures { IfOk result (λ text. string_bytes text ≡ stamp_text (end_of self.now t)) }
+    {
+        let end = self.moment(t);
+        let (date, hour) = (end.date(), end.hour());
+        Ok(format!(in alloc; "{date}T{hour:02}:00")?)
+    }
+}
+
+#[cfg(test)]
+mod tests;

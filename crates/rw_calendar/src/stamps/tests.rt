@@ -1,0 +1,133 @@
+//! Worked values: which runs have no stamps, and what the others' stamps are.
+ghost use Rattle.std.specs.Prelude.{IsTrue};
+ghost use Rattle.rw_calendar.specs.StepLength.{IsStepLength};
+
+use super::*;
+use std::test::Fail;
+
+const HOURLY: StepLength = StepLength::Hours(1);
+
+const SIX_HOURS: StepLength = StepLength::Hours(6);
+
+const DAILY: StepLength = StepLength::Hours(24);
+
+const MONTHLY: StepLength = StepLength::Month;
+
+fn on(year: i16, month: i8, day: i8, hour: i8) -> Start {
+    Start {
+        year,
+        month,
+        day,
+        hour,
+    }
+}
+
+fn is_step_length(length: StepLength) -> bool
+    ensures { IsTrue result → IsStepLength length }
+{
+    matches!(
+        length,
+        StepLength::Month | StepLength::Hours(1 | 6 | 12 | 24)
+    )
+}
+
+// A start, a step length, and the fault of one such step from there.
+#[test]
+fn refusals(rt: HostRuntime) {
+    let cases = [
+        (on(2021, 2, 29, 0), DAILY, CalFault::BadStart),
+        (on(0, 1, 1, 0), HOURLY, CalFault::BadStart),
+        (on(10_000, 1, 1, 0), HOURLY, CalFault::BadStart),
+        (on(2020, 13, 1, 0), MONTHLY, CalFault::BadStart),
+        (on(2020, 1, 0, 5), MONTHLY, CalFault::BadStart),
+        (on(2020, 1, 1, 24), HOURLY, CalFault::BadStart),
+        (on(2020, 1, 2, 0), MONTHLY, CalFault::NotFirstOfMonth),
+        (on(2020, 1, 1, 1), MONTHLY, CalFault::NotFirstOfMonth),
+        (on(9999, 12, 31, 0), DAILY, CalFault::BeyondYears),
+        (on(9999, 12, 1, 0), MONTHLY, CalFault::BeyondYears),
+    ];
+    for (start, length, fault) in cases {
+        assert!(rt; is_step_length(length));
+        assert_eq!(rt;
+            Stamps::of(rt.alloc(), start, length, 1).err(),
+            Some(fault),
+            "{start:?}"
+        );
+    }
+}
+
+// A start, a step length, a number of steps, and of the last of them the day on which it begins and the stamp.
+#[test]
+fn stamps(rt: HostRuntime) -> Result<(), Fail> {
+    let cases = [
+        (
+            on(2020, 1, 31, 18),
+            SIX_HOURS,
+            1,
+            (2020, 1, 31),
+            "2020-02-01T00:00",
+        ),
+        (
+            on(9999, 12, 30, 0),
+            DAILY,
+            1,
+            (9999, 12, 30),
+            "9999-12-31T00:00",
+        ),
+        (
+            on(2020, 2, 28, 0),
+            DAILY,
+            1,
+            (2020, 2, 28),
+            "2020-02-29T00:00",
+        ),
+        (
+            on(2020, 2, 28, 0),
+            DAILY,
+            2,
+            (2020, 2, 29),
+            "2020-03-01T00:00",
+        ),
+        (
+            on(1900, 2, 28, 0),
+            DAILY,
+            1,
+            (1900, 2, 28),
+            "1900-03-01T00:00",
+        ),
+        (
+            on(2020, 1, 1, 0),
+            MONTHLY,
+            1,
+            (2020, 1, 1),
+            "2020-02-01T00:00",
+        ),
+        (
+            on(2020, 1, 1, 0),
+            MONTHLY,
+            13,
+            (2021, 1, 1),
+            "2021-02-01T00:00",
+        ),
+        (on(1, 1, 1, 0), HOURLY, 1, (1, 1, 1), "0001-01-01T01:00"),
+        (
+            on(2020, 1, 1, 0),
+            MONTHLY,
+            4096,
+            (2361, 4, 1),
+            "2361-05-01T00:00",
+        ),
+    ];
+    for (start, length, steps, day, text) in cases {
+        assert!(rt; is_step_length(length));
+        assert!(rt; 1 <= steps && steps <= 4096);
+        let stamps = Stamps::of(rt.alloc(), start, length, steps)?;
+        assert_eq!(rt; stamps.count(), steps);
+        assert_eq!(rt;
+            (stamps.year(steps), stamps.month(steps), stamps.day(steps)),
+            day
+        );
+        assert_eq!(rt; stamps.text(rt.alloc(), steps)?.as_str(), text);
+    }
+    Ok(())
+}
