@@ -4,3 +4,5 @@ pub mod Slots
 pub mod Put
 pub mod Name
 pub mod Kind
+pub mod Objects
+pub mod Kept

@@ -10,6 +10,8 @@ mod kind_rule;
 pub mod law;
 mod name;
 mod name_rule;
+mod objects;
+mod place;
 mod put;
 mod role;
 mod slot;
