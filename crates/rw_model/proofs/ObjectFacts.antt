@@ -2,6 +2,7 @@
 use Rattle.std.proofs.Common.{◌≡◌, ℕ, ◌+◌, ◌<◌, ◌≤◌, List, [], ◌∷◌, ◌++◌, length, sym, ap, ◌∙◌, arith, append_assoc, append-nil}
 use Rattle.std.specs.Prelude.{map}
 use Rattle.std.proofs.lemmas.List.{map-append, length-append}
+use Rattle.std.proofs.lemmas.List.Elements.{All-push}
 use Rattle.rw_model.specs.Slots.{slots_of}
 use Rattle.rw_model.specs.Objects.{Object, placed_from, slots_from, all_slots}
 use Rattle.rw_model.specs.declared.place.Place.{Place}
@@ -35,11 +36,11 @@ firsts_from-push number before (o ∷ objects) object =
 
 -- what is kept stays in step with the objects
 pub KeepsSlots-push : (objects : List Object) (object : Object) (places more_places : List Place) (firsts more_firsts : List ℕ)
-    → KeepsSlots objects places firsts → length objects < 500 → length (all_slots (objects ++ object ∷ [])) ≤ 4000
+    → KeepsSlots objects places firsts → length objects < 500 → length (slots_of object.kind) ≤ 11 → length (all_slots (objects ++ object ∷ [])) ≤ 4000
     → more_places ≡ places ++ map place_of (placed_from (length objects + 1) 0 (slots_of object.kind))
     → more_firsts ≡ firsts ++ length (all_slots objects) ∷ []
     → KeepsSlots (objects ++ object ∷ []) more_places more_firsts
-KeepsSlots-push objects object places more_places firsts more_firsts kept few few_slots pushed begun =
+KeepsSlots-push objects object places more_places firsts more_firsts kept few small few_slots pushed begun =
     let same : length objects + 1 ≡ 1 + length objects = omega arith in
     let begins : length (all_slots objects) ≡ 0 + length (all_slots objects) = omega arith in
     record {
@@ -50,6 +51,16 @@ KeepsSlots-push objects object places more_places firsts more_firsts kept few fe
           ∙ ap (map place_of) (sym (slots_from-push 1 objects object));
       begin = begun ∙ ap (λ ns. ns ++ length (all_slots objects) ∷ []) kept.begin
           ∙ ap (λ n. firsts_from 1 0 objects ++ n ∷ []) begins ∙ sym (firsts_from-push 1 0 objects object);
+      few_places = All-push (λ (o : Object). length (slots_of o.kind) ≤ 11) objects object kept.few_places small;
       few_objects = omega (arith, length-append objects (object ∷ []));
       few_slots = few_slots;
     }
+
+-- an object more brings its own slots
+pub length-all_slots-push : (objects : List Object) (object : Object) (owner : ℕ) → owner ≡ length objects + 1
+    → length (all_slots (objects ++ object ∷ [])) ≡ length (all_slots objects) + length (placed_from owner 0 (slots_of object.kind))
+length-all_slots-push objects object owner own =
+    let same : owner ≡ 1 + length objects = omega (arith, own) in
+    ap length (slots_from-push 1 objects object)
+    ∙ length-append (all_slots objects) (placed_from (1 + length objects) 0 (slots_of object.kind))
+    ∙ ap (λ n. length (all_slots objects) + length (placed_from n 0 (slots_of object.kind))) (sym same)

@@ -1,5 +1,5 @@
 -- How objects and slots are kept: an object by its name, and a slot by its owner and place.
-use Rattle.std.specs.Prelude.{◌≡◌, ℕ, ◌+◌, ◌≤◌, List, [], ◌∷◌, length, map, string_bytes}
+use Rattle.std.specs.Prelude.{◌≡◌, ℕ, ◌+◌, ◌≤◌, List, [], ◌∷◌, length, map, All, string_bytes}
 use Rattle.std.specs.declared.string.String.{String}
 use Rattle.rw_model.specs.declared.kind.Kind.{Kind}
 use Rattle.rw_model.specs.declared.place.Place.{Place}
@@ -21,5 +21,6 @@ firsts_from number before (object ∷ objects) =
 pub record KeepsSlots (objects : List Object) (places : List Place) (firsts : List ℕ) : Type 0 where
   pub stand : places ≡ map place_of (all_slots objects)
   pub begin : firsts ≡ firsts_from 1 0 objects
+  pub few_places : All (λ (object : Object). length (slots_of object.kind) ≤ 11) objects
   pub few_objects : length objects ≤ 500
   pub few_slots : length (all_slots objects) ≤ 4000

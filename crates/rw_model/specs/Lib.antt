@@ -6,3 +6,4 @@ pub mod Name
 pub mod Kind
 pub mod Objects
 pub mod Kept
+pub mod Draft

@@ -1,10 +1,12 @@
 //! What the definitions of this crate come to in plain words. Each law is the `ensures` of a function that does
 //! nothing.
-ghost use Rattle.std.specs.Prelude.{◌≡◌, ◌≢◌, ◌<◌, ◌≤◌, ℕ, None, Some};
-ghost use Rattle.rw_base.specs.declared.number.ObjectNo.{ObjectNo};
+ghost use Rattle.std.specs.Prelude.{◌≡◌, ◌<◌, ◌≤◌, List, None, Some};
+ghost use Rattle.rw_model.specs.declared.fault.BuildFault.{BuildFault};
 ghost use Rattle.rw_model.specs.declared.content.Content.{Content};
 ghost use Rattle.rw_model.specs.declared.put.PutEnd.TheVariants as PutEnd;
 ghost use Rattle.rw_model.specs.declared.writer.Writer.TheVariants as Writer;
+ghost use Rattle.rw_model.specs.Objects.{Object};
+ghost use Rattle.rw_model.specs.Draft.{IsObjectFault};
 ghost use Rattle.rw_model.specs.Put.{end_of_put, IsSameObject};
 
 /// The put rules, in their order. An unknown cell is written. The held value under a number that isn't smaller is
@@ -24,4 +26,10 @@ pub fn put_rules()
         → 0 < held.number → new.number ≤ held.number → end_of_put (Some held) new ≡ PutEnd.Written }
     ensures weaker { (held new : Content) → (held.value ≡ new.value → new.number < held.number)
         → 0 < held.number → held.number < new.number → end_of_put (Some held) new ≡ PutEnd.Denied held }
+{}
+
+/// There is one answer at most to why an object isn't added.
+pub fn one_object_fault()
+    ensures { (objects : List Object) (object : Object) (fault other : BuildFault)
+        → IsObjectFault objects object fault → IsObjectFault objects object other → fault ≡ other }
 {}

@@ -2,9 +2,13 @@
 //! cell holds.
 #![tactic(auto)]
 
+mod builder;
 mod content;
+mod control;
 mod data_slots;
+mod fault;
 mod history;
+mod judge;
 mod kind;
 mod kind_rule;
 pub mod law;
@@ -18,8 +22,11 @@ mod slot;
 mod slots;
 mod writer;
 
+pub use builder::BasinBuilder;
 pub use content::Content;
+pub use control::{AgendaOrder, RunControl};
 pub use data_slots::{DataSlot, DataSlots};
+pub use fault::BuildFault;
 pub use history::History;
 pub use kind::{Kind, Supply};
 pub use kind_rule::is_kind;

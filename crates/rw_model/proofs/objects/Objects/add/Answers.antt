@@ -22,7 +22,7 @@ invariant_of-self-2 c =
     (KeepsSlots-push c.args.self.now (record { name = c.args.name.now; kind = c.args.kind })
     c.self.inside.places.items c.push_places.new.places.items c.self.inside.firsts.items c.push_reserved.new.self.items
     (subst (λ os. KeepsSlots os c.self.inside.places.items c.self.inside.firsts.items) c.self.view_is c.self.invariant)
-    c.requires.few c.requires.few_slots
+    c.requires.few c.requires.places c.requires.few_slots
     (c.push_places.ensures
     ∙ ap (λ ps. ps ++ map place_of (placed_from (c.count-owner.result + 1) 0 (slots_of c.args.kind))) c.in_ok-reserve.ensures.items
     ∙ ap (λ n. c.self.inside.places.items ++ map place_of (placed_from (n + 1) 0 (slots_of c.args.kind))) c.count-owner.ensures.count)
