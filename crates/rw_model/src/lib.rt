@@ -1,5 +1,8 @@
-//! A model of a river basin as a value: what kinds of objects there are, which slots each has, and when a put to a
-//! cell holds.
+//! The parts of a model of a river basin. `Kind` says what kinds of objects there are, and `Kind::slot` answers the one
+//! table of slots in `specs/Slots.antt`: which slots a kind has, in which places, with their dimensions, roles and bounds.
+//! `is_name` and `is_kind` say which names and parameters a model may have. `put_end` answers what becomes of a put to a
+//! cell. `BasinBuilder` takes objects, refuses those that a basin can't have, by their first fault, and finds slots by
+//! name. Links, bounds and the finished basin are not here yet.
 #![tactic(auto)]
 
 mod builder;
@@ -20,6 +23,8 @@ mod put;
 mod role;
 mod slot;
 mod slots;
+#[cfg(test)]
+mod tests;
 mod writer;
 
 pub use builder::BasinBuilder;
