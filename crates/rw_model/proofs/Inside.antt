@@ -1,0 +1,20 @@
+-- Where a table has an elevation.
+use Rattle.std.proofs.Common.{◌↔◌, ℤ, List, Bool, true, false, Option, Some, None, refl, rules, IsTrue}
+use Rattle.std.specs.Prelude.{MatchOption, is_some, ◌&&◌, if◌then◌else◌, int_le}
+use Rattle.rw_table.specs.Table.{Row}
+use Rattle.rw_table.specs.Curve.{first_row, last_row, elev_of, IsVolumeInside, IsGreatest}
+
+chosen : {X : Type 0} (t : Bool) (x : Option X) → IsTrue (is_some (if t then x else None)) → IsTrue t
+chosen true x h = refl
+chosen false x h = h
+
+inside : (rows : List Row) (s : ℤ) → IsTrue (int_le (first_row rows).1 s && int_le s (last_row rows).1) → IsVolumeInside rows s
+inside rows s h = search rules
+
+found : (o : Option ℤ) (rows : List Row) (s : ℤ) → MatchOption o (IsVolumeInside rows s → ⊥) (IsGreatest rows s) → IsVolumeInside rows s → IsTrue (is_some o)
+found None rows s none h = absurd (none h)
+found (Some e) rows s greatest h = refl
+
+-- a table has an elevation exactly for a volume inside it
+pub some-iff-inside : (rows : List Row) (s : ℤ) → MatchOption (elev_of rows s) (IsVolumeInside rows s → ⊥) (IsGreatest rows s) → IsTrue (is_some (elev_of rows s)) ↔ IsVolumeInside rows s
+some-iff-inside rows s law = (λ some. inside rows s (chosen _ _ some), found (elev_of rows s) rows s law)

@@ -1,0 +1,5 @@
+pub mod Inside
+pub mod ObjectFacts
+pub mod EntryFacts
+pub mod Numbering
+pub mod Faults

@@ -1,0 +1,13 @@
+use Rattle.std.proofs.Common.{◌≡◌, rules, FitsSigned}
+use Rattle.std.specs.Int.{w64}
+use Rattle.std.proofs.lemmas.Int.{to_z-of_z}
+use Rattle.rw_table.specs.Curve.{elev_of}
+use Rattle.rw_model.proofs.Inside.{some-iff-inside}
+use Rattle.rw_model.proofs.kind_rule.is_in_table.Goals as goal
+
+pub returns : goal.returns
+returns c =
+    let fits : FitsSigned w64 c.args.volume = search rules in
+    let elev : c.elev.result ≡ elev_of c.args.rating.now c.args.volume = simp (to_z-of_z w64 _ fits) at c.elev.ensures.elevation in
+    rw (c.is_some.ensures, elev)
+    (some-iff-inside c.args.rating.now c.args.volume (c.elevation_is_greatest.ensures c.args.rating.now c.args.volume c.elev.ensures.table))

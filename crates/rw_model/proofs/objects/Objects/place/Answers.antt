@@ -1,0 +1,16 @@
+use Rattle.std.proofs.Common.{◌-◌, arith}
+use Rattle.std.proofs.lemmas.Grind.{elements}
+use Rattle.rw_model.proofs.Numbering.{StandsAt-stored}
+use Rattle.rw_model.proofs.objects.Objects.place.Goals as goal
+
+pub returns-clause-place : goal.returns-clause-place
+returns-clause-place c = grind (arith, elements)
+
+pub returns-clause-first : goal.returns-clause-first
+returns-clause-first c = (StandsAt-stored c.args.self.now (c.args.s - 1) c.index.result.now (returns-clause-place c)).first
+
+pub returns-clause-last : goal.returns-clause-last
+returns-clause-last c = (StandsAt-stored c.args.self.now (c.args.s - 1) c.index.result.now (returns-clause-place c)).last
+
+pub returns-clause-slot : goal.returns-clause-slot
+returns-clause-slot c = (StandsAt-stored c.args.self.now (c.args.s - 1) c.index.result.now (returns-clause-place c)).slot

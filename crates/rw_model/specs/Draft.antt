@@ -1,0 +1,80 @@
+-- What a builder was told, and the first fault of what it is told next.
+use Rattle.std.specs.Prelude.{◌≡◌, ℕ, ◌<◌, ◌≤◌, ◌⊎◌, Bool, true, false, ◌&&◌, ◌||◌, not, IsTrue, List, [], ◌∷◌, ◌++◌, length, None, bytes_eq}
+use Rattle.rw_model.specs.declared.control.RunControl.{RunControl}
+use Rattle.rw_model.specs.declared.data_slots.DataSlot.{DataSlot}
+use Rattle.rw_model.specs.declared.fault.BuildFault.{BuildFault}
+use Rattle.rw_model.specs.declared.fault.BuildFault.TheVariants.{DuplicateName, UnknownSlot, LinkedTwice, LinkWithinObject, LinkDimension, LinkBounds, BadParameter, TooMany, NoMemory}
+use Rattle.rw_model.specs.declared.kind.Kind.{Kind}
+use Rattle.rw_model.specs.declared.kind.Kind.TheVariants.{DataObject, Gage, Confluence, Bifurcation, Reach, Reservoir, WaterUser, Canal}
+use Rattle.rw_model.specs.Name.{IsName}
+use Rattle.rw_model.specs.Kind.{IsKind}
+use Rattle.rw_model.specs.Objects.{Object, object_named, all_slots}
+
+-- what a builder was told so far
+pub record Draft : Type 0 where
+  pub control : RunControl
+  pub objects : List Object
+
+-- limits in range
+pub record IsControl (control : RunControl) : Type 0 where
+  pub least_object : 16 ≤ control.object_limit
+  pub most_object : control.object_limit ≤ 100
+  pub least_rule : 1 ≤ control.rule_limit
+  pub most_rule : control.rule_limit ≤ 100
+
+-- one of the slots has this name
+abbrev pub has_slot_named : List ℕ → List DataSlot → Bool
+has_slot_named name [] = false
+has_slot_named name (slot ∷ slots) = bytes_eq name slot.name || has_slot_named name slots
+
+-- no slot has the name of a later one
+abbrev pub has_distinct_names : List DataSlot → Bool
+has_distinct_names [] = true
+has_distinct_names (slot ∷ slots) = not (has_slot_named slot.name slots) && has_distinct_names slots
+
+-- no two slots of the kind have the same name
+abbrev pub has_distinct_slots : Kind → Bool
+has_distinct_slots (DataObject slots) = has_distinct_names slots
+has_distinct_slots Gage = true
+has_distinct_slots Confluence = true
+has_distinct_slots Bifurcation = true
+has_distinct_slots (Reach lag history local_inflow diversion return_flow) = true
+has_distinct_slots (Reservoir initial_storage table local_inflow diversion return_flow evaporation max_release) = true
+has_distinct_slots (WaterUser depletion supply) = true
+has_distinct_slots (Canal seepage) = true
+
+-- the object has a name, and its parameters are in range
+pub record IsSound (object : Object) : Type 0 where
+  pub name : IsName object.name
+  pub kind : IsKind object.kind
+
+-- no other object has its name, and its slots have different names
+pub record IsFresh (objects : List Object) (object : Object) : Type 0 where
+  pub name : object_named objects object.name ≡ None
+  pub slots : IsTrue (has_distinct_slots object.kind)
+
+-- there are more than 500 objects; or they have more than 4000 slots
+abbrev pub IsTooMany : List Object → ℕ → Type 0
+IsTooMany objects most =
+    ((most ≡ 500) × (500 < length objects))
+    ⊎ ((most ≡ 4000) × (length objects ≤ 500) × (4000 < length (all_slots objects)))
+
+-- the object can be added to the objects that there are
+pub record CanAdd (objects : List Object) (object : Object) : Type 0 where
+  pub sound : IsSound object
+  pub fresh : IsFresh objects object
+  pub few_objects : length (objects ++ object ∷ []) ≤ 500
+  pub few_slots : length (all_slots (objects ++ object ∷ [])) ≤ 4000
+
+-- why an object isn't added. Its name and parameters are judged first, then what it shares a name with, then numbers; only
+-- an object that can be added wants memory
+abbrev pub IsObjectFault : List Object → Object → BuildFault → Type 0
+IsObjectFault objects object BadParameter = ¬ IsSound object
+IsObjectFault objects object DuplicateName = IsSound object × ¬ IsFresh objects object
+IsObjectFault objects object (TooMany most) = IsSound object × IsFresh objects object × IsTooMany (objects ++ object ∷ []) most
+IsObjectFault objects object UnknownSlot = ⊥
+IsObjectFault objects object LinkedTwice = ⊥
+IsObjectFault objects object LinkWithinObject = ⊥
+IsObjectFault objects object LinkDimension = ⊥
+IsObjectFault objects object LinkBounds = ⊥
+IsObjectFault objects object NoMemory = CanAdd objects object

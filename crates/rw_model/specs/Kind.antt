@@ -1,0 +1,46 @@
+-- The parameters that the kinds may have.
+use Rattle.std.specs.Prelude.{◌≡◌, ℕ, ◌≤◌, ℤ, pos, ◌≤ℤ◌, Bool, IsTrue, List, length, All, Option, IsSome}
+use Rattle.std.specs.Option.{ForSome}
+use Rattle.rw_base.specs.Quantity.{quantity_max, IsQuantity}
+use Rattle.rw_table.specs.Table.{Row}
+use Rattle.rw_table.specs.Curve.{IsVolumeInside}
+use Rattle.rw_model.specs.declared.data_slots.DataSlot.{DataSlot}
+use Rattle.rw_model.specs.declared.kind.Kind.{Kind}
+use Rattle.rw_model.specs.declared.kind.Kind.TheVariants.{DataObject, Gage, Confluence, Bifurcation, Reach, Reservoir, WaterUser, Canal}
+use Rattle.rw_model.specs.Name.{IsName}
+
+-- a whole number from 0 to Q
+pub record IsAmount (z : ℤ) : Type 0 where
+  pub low : pos 0 ≤ℤ z
+  pub high : z ≤ℤ quantity_max
+
+-- 1 to 8 slots, each with a name
+pub record IsDataSlots (slots : List DataSlot) : Type 0 where
+  pub some : 1 ≤ length slots
+  pub few : length slots ≤ 8
+  pub named : All (λ (slot : DataSlot). IsName slot.name) slots
+
+-- a lag of 0 to 30 timesteps, and one inflow for each of them
+pub record IsLagged (lag : ℕ) (history : List ℤ) : Type 0 where
+  pub short : lag ≤ 30
+  pub whole : length history ≡ lag
+  pub quantities : All IsQuantity history
+
+-- an initial storage from 0 to Q m3, which the table has if there is one, evaporation only with a table, and a greatest release from 0 to Q m3/step
+pub record IsStored (initial_storage : ℤ) (table : Option (List Row)) (evaporation : Bool) (max_release : Option ℤ) : Type 0 where
+  pub amount : IsAmount initial_storage
+  pub inside : ForSome table (λ rows. IsVolumeInside rows initial_storage)
+  pub evaporates : IsTrue evaporation → IsSome table
+  pub releases : ForSome max_release IsAmount
+
+-- a kind whose parameters are in range
+abbrev pub IsKind : Kind → Type 0
+IsKind (DataObject slots) = IsDataSlots slots
+IsKind Gage = Unit {0}
+IsKind Confluence = Unit {0}
+IsKind Bifurcation = Unit {0}
+IsKind (Reach lag history local_inflow diversion return_flow) = IsLagged lag history
+IsKind (Reservoir initial_storage table local_inflow diversion return_flow evaporation max_release) =
+    IsStored initial_storage table evaporation max_release
+IsKind (WaterUser depletion supply) = depletion ≤ 1000
+IsKind (Canal seepage) = seepage ≤ 999

@@ -1,0 +1,29 @@
+-- The names that objects and data slots may have.
+use Rattle.std.specs.Prelude.{ℕ, ◌≤◌, ◌⊎◌, ◌≡◌, List, [], ◌∷◌, length, All, Contains, slice_index, codes}
+
+-- a letter, or `_`
+abbrev pub IsLetter : ℕ → Type 0
+IsLetter b = ((97 ≤ b) × (b ≤ 122)) ⊎ (((65 ≤ b) × (b ≤ 90)) ⊎ (b ≡ 95))
+
+abbrev pub IsDigit : ℕ → Type 0
+IsDigit b = (48 ≤ b) × (b ≤ 57)
+
+-- the words that the language of rules keeps for itself
+abbrev pub reserved_words : List (List ℕ)
+reserved_words =
+    codes "RULE" ∷ codes "ENDRULE" ∷ codes "FUNCTION" ∷ codes "ENDFUNCTION" ∷ codes "IS" ∷
+    codes "IF" ∷ codes "THEN" ∷ codes "ELSE" ∷ codes "ENDIF" ∷ codes "WITH" ∷ codes "DO" ∷ codes "ENDWITH" ∷
+    codes "LET" ∷ codes "IN" ∷ codes "ENDLET" ∷ codes "FOR" ∷ codes "ENDFOR" ∷ codes "MAP" ∷ codes "ENDMAP" ∷
+    codes "AND" ∷ codes "OR" ∷ codes "NOT" ∷ codes "TRUE" ∷ codes "FALSE" ∷ codes "KNOWN" ∷
+    codes "APPEND" ∷ codes "ITEM" ∷ codes "LENGTH" ∷ codes "MONTH" ∷ codes "DAY" ∷ codes "YEAR" ∷
+    codes "StorageToElevation" ∷ codes "ElevationToStorage" ∷
+    codes "NUMERIC" ∷ codes "BOOLEAN" ∷ codes "DATETIME" ∷ codes "SLOT" ∷ codes "LIST" ∷ codes "OF" ∷ codes "t" ∷
+    []
+
+-- a letter or `_`, then letters, digits and `_`, 32 bytes at most, and no reserved word
+pub record IsName (text : List ℕ) : Type 0 where
+  pub some : 1 ≤ length text
+  pub short : length text ≤ 32
+  pub starts : IsLetter (slice_index text 0)
+  pub goes_on : All (λ b. IsLetter b ⊎ IsDigit b) text
+  pub free : ¬ Contains reserved_words text

@@ -1,0 +1,78 @@
+ghost use Rattle.std.specs.Prelude.{◌≡◌, ◌+◌, [], ◌∷◌, ◌++◌, length, OnOk, OnErr, IfOk, IfErr, option_map};
+ghost use Rattle.rw_model.specs.Objects.{slot_named};
+ghost use Rattle.rw_model.specs.Draft.{IsControl, CanAdd, IsObjectFault};
+
+use crate::judge::judge_object;
+use crate::objects::Objects;
+use crate::{BuildFault, Kind, RunControl};
+use rw_base::{ObjectNo, SlotNo};
+use std::alloc::Global;
+use std::marker::Model;
+
+/// A basin in the making, seen as what it was told so far.
+#[derive(Drop)]
+pub struct BasinBuilder {
+    control: RunControl,
+    objects: Objects,
+}
+
+impl Model for BasinBuilder {
+    ghost use Rattle.rw_model.specs.Draft.{Draft, IsControl};
+
+    ghost Value = { Draft };
+
+    ghost view = { λ b. record { control = b.control; objects = b.objects } };
+
+    ghost invariant = { λ b. IsControl b.control };
+}
+
+impl BasinBuilder {
+    /// A basin with no object yet. `BadParameter` exactly where a limit is out of range.
+    pub fn begin(alloc: Global, control: RunControl) -> Result<BasinBuilder, BuildFault>
+        ensures begun { IfOk result (λ builder. builder ≡ record { control = control; objects = [] }) }
+        ensures in_range { OnOk result (IsControl control) }
+        ensures refused { IfErr result (λ fault. (fault ≡ BuildFault.BadParameter) × ¬ IsControl control) }
+    {
+        let objects = 16..=100;
+        let rules = 1..=100;
+        if !objects.contains(&control.object_limit) || !rules.contains(&control.rule_limit) {
+            return Err(BuildFault::BadParameter);
+        }
+        Ok(BasinBuilder {
+            control,
+            objects: Objects::new(alloc),
+        })
+    }
+
+    /// Adds an object, and answers its number. Its slots are numbered after those of the objects before it.
+    ///
+    /// `BadParameter` comes where the name or a parameter of the kind is out of range, else `DuplicateName` where another
+    /// object has the name or two slots of a data object have the same, else `TooMany` with 500 for objects and 4000 for
+    /// slots. `NoMemory` comes only where none of these holds. After each of them the builder is as it was.
+    pub fn object(&mut self, name: &str, kind: Kind) -> Result<ObjectNo, BuildFault>
+        ensures added { OnOk result (self.new
+            ≡ record self.old { objects = self.old.objects ++ record { name = name.now; kind = kind } ∷ [] }) }
+        ensures number { IfOk result (λ object. object.0 ≡ length self.new.objects) }
+        ensures can_add { OnOk result (CanAdd self.old.objects (record { name = name.now; kind = kind })) }
+        ensures refused { IfErr result (IsObjectFault self.old.objects (record { name = name.now; kind = kind })) }
+        ensures unchanged { OnErr result (self.new ≡ self.old) }
+    {
+        judge_object(&self.objects, name, &kind)?;
+        let number = self.objects.count() + 1;
+        match self.objects.add(name, kind) {
+            Ok(()) => Ok(ObjectNo(number)),
+            Err(_) => Err(BuildFault::NoMemory),
+        }
+    }
+
+    /// The slot with this name, of the object with that name. `None` exactly where there is no such object, or where it
+    /// has no such slot.
+    pub fn find_slot(&self, object: &str, slot: &str) -> Option<SlotNo>
+        ensures { option_map (λ number. number.0) result ≡ slot_named self.now.objects object.now slot.now }
+    {
+        match self.objects.find_slot(object, slot) {
+            Some(number) => Some(SlotNo(number)),
+            None => None,
+        }
+    }
+}

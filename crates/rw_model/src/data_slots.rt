@@ -1,0 +1,45 @@
+ghost use Rattle.std.specs.Prelude.{◌≡◌};
+
+use crate::Name;
+use rw_base::Dim;
+use std::marker::Model;
+
+/// A slot of a data object.
+#[derive(Debug, Drop)]
+pub struct DataSlot {
+    /// What it is called.
+    pub name: Name,
+    /// What it measures.
+    pub dim: Dim,
+}
+
+/// The slots of a data object, in order of place.
+#[derive(Debug, Drop)]
+pub struct DataSlots {
+    slots: Vec<DataSlot>,
+}
+
+impl Model for DataSlots {
+    ghost use Rattle.std.specs.Prelude.{List};
+    ghost use Rattle.rw_model.specs.declared.data_slots.DataSlot.{DataSlot};
+
+    ghost Value = { List DataSlot };
+
+    ghost view = { λ d. d.slots.items };
+}
+
+impl DataSlots {
+    /// The list of these slots.
+    pub fn of(slots: Vec<DataSlot>) -> DataSlots
+        ensures { result ≡ slots.items }
+    {
+        DataSlots { slots }
+    }
+
+    /// Its slots.
+    pub fn as_slice(&self) -> &[DataSlot]
+        ensures { result.now ≡ self.now }
+    {
+        self.slots.as_slice()
+    }
+}

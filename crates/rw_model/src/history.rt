@@ -1,0 +1,33 @@
+ghost use Rattle.std.specs.Prelude.{◌≡◌};
+
+use std::marker::Model;
+
+/// The inflows of a lagged reach before the run, in m3/step, oldest first.
+#[derive(Debug, Drop)]
+pub struct History {
+    inflows: Vec<i64>,
+}
+
+impl Model for History {
+    ghost use Rattle.std.specs.Prelude.{List, ℤ};
+
+    ghost Value = { List ℤ };
+
+    ghost view = { λ h. h.inflows.items };
+}
+
+impl History {
+    /// The history of these inflows.
+    pub fn of(inflows: Vec<i64>) -> History
+        ensures { result ≡ inflows.items }
+    {
+        History { inflows }
+    }
+
+    /// Its inflows.
+    pub fn as_slice(&self) -> &[i64]
+        ensures { result.now ≡ self.now }
+    {
+        self.inflows.as_slice()
+    }
+}

@@ -1,0 +1,97 @@
+ghost use Rattle.std.specs.Prelude.{◌↔◌, ◌≤◌, IsTrue, All, IsSome};
+ghost use Rattle.std.specs.Option.{ForSome};
+ghost use Rattle.rw_base.specs.Quantity.{IsQuantity};
+ghost use Rattle.rw_table.specs.Curve.{IsVolumeInside};
+ghost use Rattle.rw_model.specs.declared.data_slots.DataSlot.{DataSlot as Slot};
+ghost use Rattle.rw_model.specs.Name.{IsName};
+ghost use Rattle.rw_model.specs.Kind.{IsAmount, IsDataSlots, IsLagged, IsStored, IsKind};
+
+use crate::name_rule::is_name;
+use crate::{DataSlot, Kind};
+use rw_base::QUANTITY_MAX;
+use rw_table::Rating;
+use rw_table::law::elevation_is_greatest;
+
+fn is_quantity(z: i64) -> bool
+    ensures { IsTrue result ↔ IsQuantity z }
+{
+    -QUANTITY_MAX <= z && z <= QUANTITY_MAX
+}
+
+fn is_amount(z: i64) -> bool
+    ensures { IsTrue result ↔ IsAmount z }
+{
+    0 <= z && z <= QUANTITY_MAX
+}
+
+fn are_data_slots(slots: &[DataSlot]) -> bool
+    ensures { IsTrue result ↔ IsDataSlots slots.now }
+{
+    !slots.is_empty() && slots.len() <= 8 && slots.iter().all(|slot| is_name(slot.name.as_str()))
+}
+
+fn is_lagged(lag: u8, history: &[i64]) -> bool
+    ensures { IsTrue result ↔ IsLagged lag history.now }
+{
+    lag <= 30 && history.len() == usize::from(lag) && history.iter().all(|z| is_quantity(*z))
+}
+
+fn is_in_table(rating: &Rating, volume: i64) -> bool
+    ensures { IsTrue result ↔ IsVolumeInside rating.now volume }
+{
+    elevation_is_greatest();
+    rating.elev(volume).is_some()
+}
+
+// Whether the table, if there is one, has the volume.
+fn is_inside(table: &Option<Rating>, volume: i64) -> bool
+    ensures { IsTrue result ↔ ForSome table.now (λ rows. IsVolumeInside rows volume) }
+{
+    match table {
+        Some(rating) => is_in_table(rating, volume),
+        None => true,
+    }
+}
+
+fn is_release(max_release: Option<i64>) -> bool
+    ensures { IsTrue result ↔ ForSome max_release IsAmount }
+{
+    match max_release {
+        Some(most) => is_amount(most),
+        None => true,
+    }
+}
+
+fn is_stored(
+    initial_storage: i64,
+    table: &Option<Rating>,
+    evaporation: bool,
+    max_release: Option<i64>,
+) -> bool
+    ensures { IsTrue result ↔ IsStored initial_storage table.now evaporation max_release }
+{
+    is_amount(initial_storage)
+        && is_inside(table, initial_storage)
+        && (!evaporation || table.is_some())
+        && is_release(max_release)
+}
+
+/// Whether the kind's parameters are in range.
+pub fn is_kind(kind: &Kind) -> bool
+    ensures { IsTrue result ↔ IsKind kind.now }
+{
+    match kind {
+        Kind::DataObject { slots } => are_data_slots(slots.as_slice()),
+        Kind::Gage | Kind::Confluence | Kind::Bifurcation => true,
+        Kind::Reach { lag, history, .. } => is_lagged(*lag, history.as_slice()),
+        Kind::Reservoir {
+            initial_storage,
+            table,
+            evaporation,
+            max_release,
+            ..
+        } => is_stored(*initial_storage, table, *evaporation, *max_release),
+        Kind::WaterUser { depletion, .. } => *depletion <= 1000,
+        Kind::Canal { seepage } => *seepage <= 999,
+    }
+}

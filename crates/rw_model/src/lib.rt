@@ -1,0 +1,43 @@
+//! The parts of a model of a river basin. `Kind` says what kinds of objects there are, and `Kind::slot` answers the one
+//! table of slots in `specs/Slots.antt`: which slots a kind has, in which places, with their dimensions, roles and bounds.
+//! `is_name` and `is_kind` say which names and parameters a model may have. `put_end` answers what becomes of a put to a
+//! cell. `BasinBuilder` takes objects, refuses those that a basin can't have, by their first fault, and finds slots by
+//! name. Links, bounds and the finished basin are not here yet.
+#![tactic(auto)]
+
+mod builder;
+mod content;
+mod control;
+mod data_slots;
+mod fault;
+mod history;
+mod judge;
+mod kind;
+mod kind_rule;
+pub mod law;
+mod name;
+mod name_rule;
+mod objects;
+mod place;
+mod put;
+mod role;
+mod slot;
+mod slots;
+#[cfg(test)]
+mod tests;
+mod writer;
+
+pub use builder::BasinBuilder;
+pub use content::Content;
+pub use control::{AgendaOrder, RunControl};
+pub use data_slots::{DataSlot, DataSlots};
+pub use fault::BuildFault;
+pub use history::History;
+pub use kind::{Kind, Supply};
+pub use kind_rule::is_kind;
+pub use name::Name;
+pub use name_rule::is_name;
+pub use put::{PutEnd, put_end};
+pub use role::Role;
+pub use slot::Slot;
+pub use writer::Writer;

@@ -1,0 +1,133 @@
+ghost use Rattle.std.specs.Prelude.{◌≡◌, pos};
+ghost use Rattle.rw_base.specs.Dimension.{dimension, IsDimension};
+ghost use Rattle.rw_base.specs.Unit.{volume, length};
+ghost use Rattle.rw_model.specs.Slot.{flow, of_range, rate_unit, all_quantities, from_zero, lengths};
+
+use crate::Role;
+use rw_base::{Dim, QUANTITY_MAX};
+use std::marker::Model;
+
+// The greatest elevation, in mm, and the greatest rate of evaporation, in mm/step.
+const LENGTH_MAX: i64 = 10_000_000;
+
+/// A slot that a kind has: its name, what it measures, who gives it its values, and between which it lies.
+#[derive(Drop)]
+pub struct Slot<'a> {
+    name: &'a str,
+    dim: Dim,
+    role: Role,
+    widest: (i64, i64),
+    usual: (i64, i64),
+}
+
+impl<'a> Model for Slot<'a> {
+    ghost use Rattle.rw_model.specs.Slot as specs;
+
+    ghost Value = { specs.Slot };
+
+    ghost view = { λ s. record { name = s.name.now; dim = s.dim; role = s.role; widest = s.widest; usual = s.usual } };
+}
+
+// The dimension with these exponents.
+fn dim(volume: i8, length: i8, step: i8) -> Dim
+    requires { IsDimension (dimension volume length step (pos 0)) }
+    ensures { result ≡ dimension volume length step (pos 0) }
+{
+    Dim {
+        volume,
+        length,
+        step,
+        energy: 0,
+    }
+}
+
+impl<'a> Slot<'a> {
+    /// A flow, in m3/step.
+    pub fn flow(name: &'a str, role: Role) -> Slot<'a>
+        ensures { result ≡ flow name.now role }
+    {
+        Slot {
+            name,
+            dim: dim(1, 0, -1),
+            role,
+            widest: (-QUANTITY_MAX, QUANTITY_MAX),
+            usual: (0, QUANTITY_MAX),
+        }
+    }
+
+    /// A slot of a data object.
+    pub fn data(name: &'a str, dim: Dim) -> Slot<'a>
+        ensures { result ≡ of_range name.now dim Role.Neither all_quantities }
+    {
+        Slot::of_range(name, dim, Role::Neither, (-QUANTITY_MAX, QUANTITY_MAX))
+    }
+
+    /// A volume of stored water, in m3.
+    pub fn storage(name: &'a str) -> Slot<'a>
+        ensures { result ≡ of_range name.now volume Role.Neither from_zero }
+    {
+        Slot::of_range(name, dim(1, 0, 0), Role::Neither, (0, QUANTITY_MAX))
+    }
+
+    /// An elevation, in mm.
+    pub fn elevation(name: &'a str) -> Slot<'a>
+        ensures { result ≡ of_range name.now length Role.Neither lengths }
+    {
+        Slot::of_range(name, dim(0, 1, 0), Role::Neither, (0, LENGTH_MAX))
+    }
+
+    /// A rate of evaporation, in mm/step.
+    pub fn rate(name: &'a str) -> Slot<'a>
+        ensures { result ≡ of_range name.now rate_unit Role.Fixed lengths }
+    {
+        Slot::of_range(name, dim(0, 1, -1), Role::Fixed, (0, LENGTH_MAX))
+    }
+
+    // A slot with the widest bounds where none are set.
+    fn of_range(name: &'a str, dim: Dim, role: Role, bounds: (i64, i64)) -> Slot<'a>
+        ensures { result ≡ of_range name.now dim role bounds }
+    {
+        Slot {
+            name,
+            dim,
+            role,
+            widest: bounds,
+            usual: bounds,
+        }
+    }
+
+    /// What it is called.
+    pub fn name(&self) -> &'a str
+        ensures { result.now ≡ self.now.name }
+    {
+        self.name
+    }
+
+    /// What it measures.
+    pub fn dim(&self) -> Dim
+        ensures { result ≡ self.now.dim }
+    {
+        self.dim
+    }
+
+    /// Who gives it its values.
+    pub fn role(&self) -> Role
+        ensures { result ≡ self.now.role }
+    {
+        self.role
+    }
+
+    /// The least and the greatest value that it can be bound to.
+    pub fn widest(&self) -> (i64, i64)
+        ensures { result ≡ self.now.widest }
+    {
+        self.widest
+    }
+
+    /// The least and the greatest value of one that has no bound of its own.
+    pub fn usual(&self) -> (i64, i64)
+        ensures { result ≡ self.now.usual }
+    {
+        self.usual
+    }
+}
