@@ -122,16 +122,15 @@ fn a_real_file_is_written_and_read(rt: HostRuntime) -> Result<(), Fail> {
     let mut sink = StdSink::of(fs::create(&rt, "inputs.csv")?);
     assert_eq!(rt; sink.write(b""), Ok(0));
     assert!(rt; write_all(&mut sink, text).is_ok());
-    let mut shelf = FileShelf::of(rt);
+    let mut shelf = FileShelf::of(&rt);
     let found = read_all(alloc, &mut shelf, "inputs.csv").map_err(|_| "not read")?;
-    if found.as_slice() != text.as_slice() {
-        return Err("another text was read".into());
-    }
-    if !matches!(
-        read_all(alloc, &mut shelf, "none.csv"),
-        Err(ReadEnd::ReadFault)
-    ) {
-        return Err("a missing file was read".into());
-    }
+    assert_eq!(rt; found.as_slice(), text.as_slice());
+    assert!(rt;
+        matches!(
+            read_all(alloc, &mut shelf, "none.csv"),
+            Err(ReadEnd::ReadFault)
+        )
+    );
+    fs::remove_file(&rt, "inputs.csv")?;
     Ok(())
 }
