@@ -1,14 +1,16 @@
 -- The objects of a map's entries.
-use Rattle.std.proofs.Common.{◌≡◌, ℕ, ◌+◌, List, [], ◌∷◌, ◌++◌, Bool, true, false, Option, Some, None, cond, refl, ap, ◌∙◌, String}
+use Rattle.std.proofs.Common.{nat_eq, ◌≡◌, ℕ, ◌+◌, List, [], ◌∷◌, ◌++◌, Bool, true, false, Option, Some, None, cond, refl, ap, ◌∙◌, String}
 use Rattle.std.specs.Prelude.{string_bytes, bytes_eq, option_map, if◌then◌else◌}
 use Rattle.std.specs.List.{position, position_from}
 use Rattle.std.proofs.lemmas.Iterator.Adapters.{position_from-zero}
-use Rattle.std.specs.Map.{keys_of}
+use Rattle.std.specs.Map.{keys_of, lookup}
 use Rattle.std.proofs.lemmas.List.{map-append}
 use Rattle.indexmap.specs.IndexMap.{insert_entry}
 use Rattle.rw_model.specs.declared.kind.Kind.{Kind}
 use Rattle.rw_model.specs.Objects.{Object, object_from, object_named}
-use Rattle.rw_model.specs.Kept.{objects_of}
+use Rattle.rw_model.specs.Slot.{Bounds}
+use Rattle.rw_model.specs.Draft.{Bound, bound_of}
+use Rattle.rw_model.specs.Kept.{objects_of, bounds_of}
 
 either_way : (test : Bool) (i : ℕ) (place number : Option ℕ) → option_map (λ n. n + 1) place ≡ number
     → option_map (λ n. n + 1) (cond test (Some i) place) ≡ (if test then Some (i + 1) else number)
@@ -53,3 +55,25 @@ objects_of-insert {A} objects name key kind entries more seen fresh called inser
     ∙ map-append _ entries ((key, kind) ∷ [])
     ∙ ap (λ os. last os (string_bytes key)) seen
     ∙ ap (λ n. last objects n) called
+
+-- a slot's bounds are what the map has for it
+pub bound_of-entries : (slot : ℕ) (entries : List (ℕ × Bounds)) → lookup (λ k. nat_eq slot k) entries ≡ bound_of (bounds_of entries) slot
+bound_of-entries slot [] = refl
+bound_of-entries slot (e ∷ entries) = ap (λ rest. cond (nat_eq slot e.0) (Some e.1) rest) (bound_of-entries slot entries)
+
+-- the bounds of a slot that had none go last
+insert_entry-unbound : (slot : ℕ) (bounds : Bounds) (entries : List (ℕ × Bounds)) → bound_of (bounds_of entries) slot ≡ None
+    → insert_entry nat_eq entries slot bounds ≡ entries ++ (slot, bounds) ∷ []
+insert_entry-unbound slot bounds [] free = refl
+insert_entry-unbound slot bounds (e ∷ entries) free =
+    let none = passed_over (nat_eq slot e.0) e.1 (bound_of (bounds_of entries) slot) free in
+    rw none.0 (ap (λ rest. e ∷ rest) (insert_entry-unbound slot bounds entries none.1))
+
+pub bounds_of-insert : (own : List Bound) (slot : ℕ) (bounds : Bounds) (entries more : List (ℕ × Bounds))
+    → bounds_of entries ≡ own → bound_of own slot ≡ None → more ≡ insert_entry nat_eq entries slot bounds
+    → bounds_of more ≡ own ++ record { slot = slot; bounds = bounds } ∷ []
+bounds_of-insert own slot bounds entries more seen free inserted =
+    let unbound : bound_of (bounds_of entries) slot ≡ None = ap (λ os. bound_of os slot) seen ∙ free in
+    ap bounds_of (inserted ∙ insert_entry-unbound slot bounds entries unbound)
+    ∙ map-append _ entries ((slot, bounds) ∷ [])
+    ∙ ap (λ os. os ++ record { slot = slot; bounds = bounds } ∷ []) seen

@@ -1,10 +1,11 @@
--- An object has at most one fault.
+-- An object has at most one fault, and so have bounds.
 use Rattle.std.proofs.Common.{◌≡◌, ℕ, ◌≤◌, List, [], ◌∷◌, ◌++◌, length, refl, ap, sym, ◌∙◌, arith}
 use mathlib.Core.Logic.{⊎_elim}
 use Rattle.rw_model.specs.declared.fault.BuildFault.{BuildFault}
 use Rattle.rw_model.specs.declared.fault.BuildFault.TheVariants.{DuplicateName, UnknownSlot, LinkedTwice, LinkWithinObject, LinkDimension, LinkBounds, BadParameter, TooMany, NoMemory}
 use Rattle.rw_model.specs.Objects.{Object, all_slots}
-use Rattle.rw_model.specs.Draft.{IsTooMany, IsObjectFault}
+use Rattle.rw_model.specs.Draft.{Bound, IsTooMany, IsObjectFault, IsBoundFault}
+use Rattle.rw_model.specs.Slot.{Bounds}
 
 -- there are not too many where there are few
 not_both : (objects : List Object) (most : ℕ) → IsTooMany objects most → length objects ≤ 500 → length (all_slots objects) ≤ 4000 → ⊥
@@ -58,3 +59,47 @@ one-object-fault objects object NoMemory LinkBounds p q = absurd q
 one-object-fault objects object NoMemory BadParameter p q = absurd (q (p.sound))
 one-object-fault objects object NoMemory (TooMany n) p q = absurd (not_both (objects ++ object ∷ []) n q.2 p.few_objects p.few_slots)
 one-object-fault objects object NoMemory NoMemory p q = refl
+
+pub one-bound-fault : (objects : List Object) (given : List Bound) (slot : ℕ) (bounds : Bounds) (f g : BuildFault)
+    → IsBoundFault objects given slot bounds f → IsBoundFault objects given slot bounds g → f ≡ g
+one-bound-fault objects given slot bounds DuplicateName DuplicateName p q = refl
+one-bound-fault objects given slot bounds DuplicateName UnknownSlot p q = absurd (q (p.0))
+one-bound-fault objects given slot bounds DuplicateName LinkedTwice p q = absurd q
+one-bound-fault objects given slot bounds DuplicateName LinkWithinObject p q = absurd q
+one-bound-fault objects given slot bounds DuplicateName LinkDimension p q = absurd q
+one-bound-fault objects given slot bounds DuplicateName LinkBounds p q = absurd q
+one-bound-fault objects given slot bounds DuplicateName BadParameter p q = absurd (p.1 (q.1))
+one-bound-fault objects given slot bounds DuplicateName (TooMany n) p q = absurd q
+one-bound-fault objects given slot bounds DuplicateName NoMemory p q = absurd (p.1 (q.free))
+one-bound-fault objects given slot bounds UnknownSlot DuplicateName p q = absurd (p (q.0))
+one-bound-fault objects given slot bounds UnknownSlot UnknownSlot p q = refl
+one-bound-fault objects given slot bounds UnknownSlot LinkedTwice p q = absurd q
+one-bound-fault objects given slot bounds UnknownSlot LinkWithinObject p q = absurd q
+one-bound-fault objects given slot bounds UnknownSlot LinkDimension p q = absurd q
+one-bound-fault objects given slot bounds UnknownSlot LinkBounds p q = absurd q
+one-bound-fault objects given slot bounds UnknownSlot BadParameter p q = absurd (p (q.0))
+one-bound-fault objects given slot bounds UnknownSlot (TooMany n) p q = absurd q
+one-bound-fault objects given slot bounds UnknownSlot NoMemory p q = absurd (p (q.known))
+one-bound-fault objects given slot bounds LinkedTwice g p q = absurd p
+one-bound-fault objects given slot bounds LinkWithinObject g p q = absurd p
+one-bound-fault objects given slot bounds LinkDimension g p q = absurd p
+one-bound-fault objects given slot bounds LinkBounds g p q = absurd p
+one-bound-fault objects given slot bounds BadParameter DuplicateName p q = absurd (q.1 (p.1))
+one-bound-fault objects given slot bounds BadParameter UnknownSlot p q = absurd (q (p.0))
+one-bound-fault objects given slot bounds BadParameter LinkedTwice p q = absurd q
+one-bound-fault objects given slot bounds BadParameter LinkWithinObject p q = absurd q
+one-bound-fault objects given slot bounds BadParameter LinkDimension p q = absurd q
+one-bound-fault objects given slot bounds BadParameter LinkBounds p q = absurd q
+one-bound-fault objects given slot bounds BadParameter BadParameter p q = refl
+one-bound-fault objects given slot bounds BadParameter (TooMany n) p q = absurd q
+one-bound-fault objects given slot bounds BadParameter NoMemory p q = absurd (p.2 q.within)
+one-bound-fault objects given slot bounds (TooMany m) g p q = absurd p
+one-bound-fault objects given slot bounds NoMemory DuplicateName p q = absurd (q.1 (p.free))
+one-bound-fault objects given slot bounds NoMemory UnknownSlot p q = absurd (q (p.known))
+one-bound-fault objects given slot bounds NoMemory LinkedTwice p q = absurd q
+one-bound-fault objects given slot bounds NoMemory LinkWithinObject p q = absurd q
+one-bound-fault objects given slot bounds NoMemory LinkDimension p q = absurd q
+one-bound-fault objects given slot bounds NoMemory LinkBounds p q = absurd q
+one-bound-fault objects given slot bounds NoMemory BadParameter p q = absurd (q.2 p.within)
+one-bound-fault objects given slot bounds NoMemory (TooMany n) p q = absurd q
+one-bound-fault objects given slot bounds NoMemory NoMemory p q = refl

@@ -1,6 +1,10 @@
 -- Where a table has an elevation.
 use Rattle.std.proofs.Common.{◌↔◌, ℤ, List, Bool, true, false, Option, Some, None, refl, rules, IsTrue}
-use Rattle.std.specs.Prelude.{MatchOption, is_some, ◌&&◌, if◌then◌else◌, int_le}
+use Rattle.std.proofs.Common.{◌≡◌, sym, subst}
+use Rattle.std.specs.Option.{ForSome}
+use Rattle.rw_model.specs.Slot.{Slot, Bounds, IsInside}
+use Rattle.rw_model.specs.Objects.{Placed}
+use Rattle.std.specs.Prelude.{option_map, MatchOption, is_some, ◌&&◌, if◌then◌else◌, int_le}
 use Rattle.rw_table.specs.Table.{Row}
 use Rattle.rw_table.specs.Curve.{first_row, last_row, elev_of, IsVolumeInside, IsGreatest}
 
@@ -18,3 +22,13 @@ found (Some e) rows s greatest h = refl
 -- a table has an elevation exactly for a volume inside it
 pub some-iff-inside : (rows : List Row) (s : ℤ) → MatchOption (elev_of rows s) (IsVolumeInside rows s → ⊥) (IsGreatest rows s) → IsTrue (is_some (elev_of rows s)) ↔ IsVolumeInside rows s
 some-iff-inside rows s law = (λ some. inside rows s (chosen _ _ some), found (elev_of rows s) rows s law)
+
+-- bounds are within a slot's widest where they are inside the widest of what the slot is
+pub widest-iff : (found : Option Placed) (slot : Slot) (bounds : Bounds) (answer : Bool) → option_map (λ (placed : Placed). placed.slot) found ≡ Some slot
+    → (IsTrue answer ↔ IsInside bounds slot.widest) → (IsTrue answer ↔ ForSome found (λ placed. IsInside bounds placed.slot.widest))
+widest-iff None slot bounds answer is iff = absurd (cc)
+widest-iff (Some placed) slot bounds answer is iff =
+    let same : placed.slot ≡ slot = cc in (
+      λ yes p e. let one : placed ≡ p = cc in subst (λ (x : Placed). IsInside bounds x.slot.widest) one (subst (λ (x : Slot). IsInside bounds x.widest) (sym same) (iff.0 yes)),
+      λ all. iff.1 (subst (λ (x : Slot). IsInside bounds x.widest) same (all placed refl)),
+    )

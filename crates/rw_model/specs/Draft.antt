@@ -1,5 +1,7 @@
 -- What a builder was told, and the first fault of what it is told next.
-use Rattle.std.specs.Prelude.{◌≡◌, ℕ, ◌<◌, ◌≤◌, ◌⊎◌, Bool, true, false, ◌&&◌, ◌||◌, not, IsTrue, List, [], ◌∷◌, ◌++◌, length, None, bytes_eq}
+use Rattle.std.specs.Option.{ForSome}
+use Rattle.rw_model.specs.Slot.{Bounds, IsInside}
+use Rattle.std.specs.Prelude.{Option, ◌≢◌, ◌==◌, if◌then◌else◌, Some, ◌≡◌, ℕ, ◌<◌, ◌≤◌, ◌⊎◌, Bool, true, false, ◌&&◌, ◌||◌, not, IsTrue, List, [], ◌∷◌, ◌++◌, length, None, bytes_eq}
 use Rattle.rw_model.specs.declared.control.RunControl.{RunControl}
 use Rattle.rw_model.specs.declared.data_slots.DataSlot.{DataSlot}
 use Rattle.rw_model.specs.declared.fault.BuildFault.{BuildFault}
@@ -8,12 +10,18 @@ use Rattle.rw_model.specs.declared.kind.Kind.{Kind}
 use Rattle.rw_model.specs.declared.kind.Kind.TheVariants.{DataObject, Gage, Confluence, Bifurcation, Reach, Reservoir, WaterUser, Canal}
 use Rattle.rw_model.specs.Name.{IsName}
 use Rattle.rw_model.specs.Kind.{IsKind}
-use Rattle.rw_model.specs.Objects.{Object, object_named, all_slots}
+use Rattle.rw_model.specs.Objects.{Object, object_named, all_slots, slot_at}
+
+-- the bounds that one slot was given
+pub record Bound : Type 0 where
+  pub slot : ℕ
+  pub bounds : Bounds
 
 -- what a builder was told so far
 pub record Draft : Type 0 where
   pub control : RunControl
   pub objects : List Object
+  pub bounds : List Bound
 
 -- limits in range
 pub record IsControl (control : RunControl) : Type 0 where
@@ -78,3 +86,36 @@ IsObjectFault objects object LinkWithinObject = ⊥
 IsObjectFault objects object LinkDimension = ⊥
 IsObjectFault objects object LinkBounds = ⊥
 IsObjectFault objects object NoMemory = CanAdd objects object
+
+-- the bounds that the slot was given, if it was
+abbrev pub bound_of : List Bound → ℕ → Option Bounds
+bound_of [] slot = None
+bound_of (bound ∷ bounds) slot = if slot == bound.slot then Some bound.bounds else bound_of bounds slot
+
+-- the number of a slot
+pub record IsSlot (objects : List Object) (slot : ℕ) : Type 0 where
+  pub first : 1 ≤ slot
+  pub last : slot ≤ length (all_slots objects)
+
+-- bounds that the slot can have
+abbrev pub IsWithinWidest : List Object → ℕ → Bounds → Type 0
+IsWithinWidest objects slot bounds = ForSome (slot_at objects slot) (λ placed. IsInside bounds placed.slot.widest)
+
+-- the slot can be given the bounds
+pub record CanBound (objects : List Object) (given : List Bound) (slot : ℕ) (bounds : Bounds) : Type 0 where
+  pub known : IsSlot objects slot
+  pub free : bound_of given slot ≡ None
+  pub within : IsWithinWidest objects slot bounds
+
+-- why a slot isn't given the bounds. A slot has bounds of its own at most once
+abbrev pub IsBoundFault : List Object → List Bound → ℕ → Bounds → BuildFault → Type 0
+IsBoundFault objects given slot bounds UnknownSlot = ¬ IsSlot objects slot
+IsBoundFault objects given slot bounds DuplicateName = IsSlot objects slot × (bound_of given slot ≢ None)
+IsBoundFault objects given slot bounds BadParameter =
+    IsSlot objects slot × (bound_of given slot ≡ None) × ¬ IsWithinWidest objects slot bounds
+IsBoundFault objects given slot bounds NoMemory = CanBound objects given slot bounds
+IsBoundFault objects given slot bounds LinkedTwice = ⊥
+IsBoundFault objects given slot bounds LinkWithinObject = ⊥
+IsBoundFault objects given slot bounds LinkDimension = ⊥
+IsBoundFault objects given slot bounds LinkBounds = ⊥
+IsBoundFault objects given slot bounds (TooMany most) = ⊥

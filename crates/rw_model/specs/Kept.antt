@@ -3,6 +3,8 @@ use Rattle.std.specs.Prelude.{◌≡◌, ℕ, ◌+◌, ◌≤◌, List, [], ◌�
 use Rattle.std.specs.declared.string.String.{String}
 use Rattle.rw_model.specs.declared.kind.Kind.{Kind}
 use Rattle.rw_model.specs.declared.place.Place.{Place}
+use Rattle.rw_model.specs.Slot.{Bounds}
+use Rattle.rw_model.specs.Draft.{Bound}
 use Rattle.rw_model.specs.Slots.{slots_of}
 use Rattle.rw_model.specs.Objects.{Object, Placed, placed_from, all_slots}
 
@@ -24,3 +26,7 @@ pub record KeepsSlots (objects : List Object) (places : List Place) (firsts : Li
   pub few_places : All (λ (object : Object). length (slots_of object.kind) ≤ 11) objects
   pub few_objects : length objects ≤ 500
   pub few_slots : length (all_slots objects) ≤ 4000
+
+-- the bounds that the map's slots were given
+abbrev pub bounds_of : List (ℕ × Bounds) → List Bound
+bounds_of entries = map (λ (entry : ℕ × Bounds). record { slot = entry.0; bounds = entry.1 }) entries

@@ -1,5 +1,5 @@
 -- What a slot is.
-use Rattle.std.specs.Prelude.{ℕ, ℤ, pos, neg_ℤ, List}
+use Rattle.std.specs.Prelude.{◌≤ℤ◌, ℕ, ℤ, pos, neg_ℤ, List}
 use Rattle.rw_base.specs.Dimension.{Dimension, per_of}
 use Rattle.rw_base.specs.Quantity.{quantity_max}
 use Rattle.rw_base.specs.Unit.{volume, length, timestep}
@@ -42,3 +42,9 @@ flow name role = record { name = name; dim = flow_unit; role = role; widest = al
 -- a slot whose bounds are the widest where none are set
 abbrev pub of_range : List ℕ → Dimension → Role → Bounds → Slot
 of_range name dim role bounds = record { name = name; dim = dim; role = role; widest = bounds; usual = bounds }
+
+-- bounds whose least is not above their greatest, and that lie within others
+pub record IsInside (bounds widest : Bounds) : Type 0 where
+  pub order : bounds.0 ≤ℤ bounds.1
+  pub low : widest.0 ≤ℤ bounds.0
+  pub high : bounds.1 ≤ℤ widest.1

@@ -1,9 +1,10 @@
 ghost use Rattle.std.specs.Prelude.{◌≡◌, ◌+◌, [], ◌∷◌, ◌++◌, length, OnOk, OnErr, IfOk, IfErr, option_map};
 ghost use Rattle.rw_model.specs.Objects.{slot_named};
-ghost use Rattle.rw_model.specs.Draft.{IsControl, CanAdd, IsObjectFault};
+ghost use Rattle.rw_model.specs.Draft.{IsControl, CanAdd, IsObjectFault, CanBound, IsBoundFault};
 
-use crate::judge::judge_object;
+use crate::judge::{judge_bound, judge_object};
 use crate::objects::Objects;
+use crate::own_bounds::OwnBounds;
 use crate::{BuildFault, Kind, RunControl};
 use rw_base::{ObjectNo, SlotNo};
 use std::alloc::Global;
@@ -14,6 +15,7 @@ use std::marker::Model;
 pub struct BasinBuilder {
     control: RunControl,
     objects: Objects,
+    bounds: OwnBounds,
 }
 
 impl Model for BasinBuilder {
@@ -21,7 +23,7 @@ impl Model for BasinBuilder {
 
     ghost Value = { Draft };
 
-    ghost view = { λ b. record { control = b.control; objects = b.objects } };
+    ghost view = { λ b. record { control = b.control; objects = b.objects; bounds = b.bounds } };
 
     ghost invariant = { λ b. IsControl b.control };
 }
@@ -29,7 +31,7 @@ impl Model for BasinBuilder {
 impl BasinBuilder {
     /// A basin with no object yet. `BadParameter` exactly where a limit is out of range.
     pub fn begin(alloc: Global, control: RunControl) -> Result<BasinBuilder, BuildFault>
-        ensures begun { IfOk result (λ builder. builder ≡ record { control = control; objects = [] }) }
+        ensures begun { IfOk result (λ builder. builder ≡ record { control = control; objects = []; bounds = [] }) }
         ensures in_range { OnOk result (IsControl control) }
         ensures refused { IfErr result (λ fault. (fault ≡ BuildFault.BadParameter) × ¬ IsControl control) }
     {
@@ -41,6 +43,7 @@ impl BasinBuilder {
         Ok(BasinBuilder {
             control,
             objects: Objects::new(alloc),
+            bounds: OwnBounds::new(alloc),
         })
     }
 
@@ -61,6 +64,38 @@ impl BasinBuilder {
         let number = self.objects.count() + 1;
         match self.objects.add(name, kind) {
             Ok(()) => Ok(ObjectNo(number)),
+            Err(_) => Err(BuildFault::NoMemory),
+        }
+    }
+
+    /// Gives a slot bounds of its own, in the base units of its dimension.
+    ///
+    /// `UnknownSlot` comes where no slot has the number, else `DuplicateName` where the slot has bounds already, else
+    /// `BadParameter` where the least is above the greatest or one is outside the widest that the slot can have. `NoMemory`
+    /// comes only where none of these holds. After each of them the builder is as it was.
+    pub fn bound(&mut self, slot: SlotNo, min: i64, max: i64) -> Result<(), BuildFault>
+        ensures added { OnOk result (self.new
+            ≡ record self.old { bounds = self.old.bounds ++ record { slot = slot.0; bounds = (min, max) } ∷ [] }) }
+        ensures can_bound { OnOk result (CanBound self.old.objects self.old.bounds slot.0 (min, max)) }
+        ensures refused { IfErr result (IsBoundFault self.old.objects self.old.bounds slot.0 (min, max)) }
+        ensures unchanged { OnErr result (self.new ≡ self.old) }
+    {
+        self.give(slot.0, (min, max))
+    }
+
+    // Gives the slot of this number bounds of its own.
+    fn give(&mut self, slot: u16, bounds: (i64, i64)) -> Result<(), BuildFault>
+        ensures added { OnOk result (self.new
+            ≡ record self.old { bounds = self.old.bounds ++ record { slot = slot; bounds = bounds } ∷ [] }) }
+        ensures can_bound { OnOk result (CanBound self.old.objects self.old.bounds slot bounds) }
+        ensures refused { IfErr result (IsBoundFault self.old.objects self.old.bounds slot bounds) }
+        ensures unchanged { OnErr result (self.new ≡ self.old) }
+    {
+        if let Err(fault) = judge_bound(&self.objects, &self.bounds, slot, bounds) {
+            return Err(fault);
+        }
+        match self.bounds.add(slot, bounds) {
+            Ok(()) => Ok(()),
             Err(_) => Err(BuildFault::NoMemory),
         }
     }

@@ -1,9 +1,10 @@
-ghost use Rattle.std.specs.Prelude.{◌≡◌, ◌≤◌, length, IsTrue, MatchResult};
+ghost use Rattle.std.specs.Prelude.{◌≡◌, ◌↔◌, ◌≤◌, length, IsTrue, MatchResult};
 ghost use Rattle.rw_model.specs.Slots.{slots_of};
 ghost use Rattle.rw_model.specs.Objects.{placed_from};
-ghost use Rattle.rw_model.specs.Draft.{has_slot_named, has_distinct_names, has_distinct_slots, CanAdd, IsObjectFault};
+ghost use Rattle.rw_model.specs.Draft.{has_slot_named, has_distinct_names, has_distinct_slots, CanAdd, IsObjectFault, IsSlot, IsWithinWidest, CanBound, IsBoundFault};
 
 use crate::objects::Objects;
+use crate::own_bounds::OwnBounds;
 use crate::place::count_places;
 use crate::{BuildFault, DataSlot, Kind, is_kind, is_name};
 
@@ -62,6 +63,37 @@ pub fn judge_object(objects: &Objects, name: &str, kind: &Kind) -> Result<(), Bu
     }
     if objects.slot_count() + count_places(kind, owner) > SLOTS_MAX {
         return Err(BuildFault::TooMany(u32::from(SLOTS_MAX)));
+    }
+    Ok(())
+}
+
+// Whether the bounds are ordered, and within the widest that the slot can have.
+fn is_within_widest(objects: &Objects, slot: u16, bounds: (i64, i64)) -> bool
+    requires { IsSlot objects.now slot }
+    ensures { IsTrue result ↔ IsWithinWidest objects.now slot bounds }
+{
+    objects.slot(slot).allows(bounds)
+}
+
+/// Whether a slot can be given bounds, and if not, what is wrong with them.
+pub fn judge_bound(
+    objects: &Objects,
+    given: &OwnBounds,
+    slot: u16,
+    bounds: (i64, i64),
+) -> Result<(), BuildFault>
+    ensures { MatchResult result
+        (λ _. CanBound objects.now given.now slot bounds)
+        (IsBoundFault objects.now given.now slot bounds) }
+{
+    if slot == 0 || slot > objects.slot_count() {
+        return Err(BuildFault::UnknownSlot);
+    }
+    if given.get(slot).is_some() {
+        return Err(BuildFault::DuplicateName);
+    }
+    if !is_within_widest(objects, slot, bounds) {
+        return Err(BuildFault::BadParameter);
     }
     Ok(())
 }

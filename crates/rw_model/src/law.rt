@@ -1,12 +1,13 @@
 //! What the definitions of this crate come to in plain words. Each law is the `ensures` of a function that does
 //! nothing.
-ghost use Rattle.std.specs.Prelude.{◌≡◌, ◌<◌, ◌≤◌, List, None, Some};
+ghost use Rattle.std.specs.Prelude.{◌≡◌, ◌<◌, ◌≤◌, ℕ, List, None, Some};
 ghost use Rattle.rw_model.specs.declared.fault.BuildFault.{BuildFault};
 ghost use Rattle.rw_model.specs.declared.content.Content.{Content};
 ghost use Rattle.rw_model.specs.declared.put.PutEnd.TheVariants as PutEnd;
 ghost use Rattle.rw_model.specs.declared.writer.Writer.TheVariants as Writer;
 ghost use Rattle.rw_model.specs.Objects.{Object};
-ghost use Rattle.rw_model.specs.Draft.{IsObjectFault};
+ghost use Rattle.rw_model.specs.Draft.{Bound, IsObjectFault, IsBoundFault};
+ghost use Rattle.rw_model.specs.Slot.{Bounds};
 ghost use Rattle.rw_model.specs.Put.{end_of_put, IsSameObject};
 
 /// The put rules, in their order. An unknown cell is written. The held value under a number that isn't smaller is
@@ -32,4 +33,10 @@ pub fn put_rules()
 pub fn one_object_fault()
     ensures { (objects : List Object) (object : Object) (fault other : BuildFault)
         → IsObjectFault objects object fault → IsObjectFault objects object other → fault ≡ other }
+{}
+
+/// There is one answer at most to why a slot isn't given bounds.
+pub fn one_bound_fault()
+    ensures { (objects : List Object) (given : List Bound) (slot : ℕ) (bounds : Bounds) (fault other : BuildFault)
+        → IsBoundFault objects given slot bounds fault → IsBoundFault objects given slot bounds other → fault ≡ other }
 {}

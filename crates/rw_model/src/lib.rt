@@ -1,8 +1,8 @@
 //! The parts of a model of a river basin. `Kind` says what kinds of objects there are, and `Kind::slot` answers the one
 //! table of slots in `specs/Slots.antt`: which slots a kind has, in which places, with their dimensions, roles and bounds.
 //! `is_name` and `is_kind` say which names and parameters a model may have. `put_end` answers what becomes of a put to a
-//! cell. `BasinBuilder` takes objects, refuses those that a basin can't have, by their first fault, and finds slots by
-//! name. Links, bounds and the finished basin are not here yet.
+//! cell. `BasinBuilder` takes objects and the bounds of slots, refuses those that a basin can't have, by their first
+//! fault, and finds slots by name. Links and the finished basin are not here yet.
 #![tactic(auto)]
 
 mod builder;
@@ -18,6 +18,7 @@ pub mod law;
 mod name;
 mod name_rule;
 mod objects;
+mod own_bounds;
 mod place;
 mod put;
 mod role;

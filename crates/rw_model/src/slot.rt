@@ -1,7 +1,7 @@
-ghost use Rattle.std.specs.Prelude.{◌≡◌, pos};
+ghost use Rattle.std.specs.Prelude.{◌≡◌, ◌↔◌, IsTrue, pos};
 ghost use Rattle.rw_base.specs.Dimension.{dimension, IsDimension};
 ghost use Rattle.rw_base.specs.Unit.{volume, length};
-ghost use Rattle.rw_model.specs.Slot.{flow, of_range, rate_unit, all_quantities, from_zero, lengths};
+ghost use Rattle.rw_model.specs.Slot.{IsInside, flow, of_range, rate_unit, all_quantities, from_zero, lengths};
 
 use crate::Role;
 use rw_base::{Dim, QUANTITY_MAX};
@@ -129,5 +129,12 @@ impl<'a> Slot<'a> {
         ensures { result ≡ self.now.usual }
     {
         self.usual
+    }
+
+    /// Whether it can have these bounds: ordered, and within its widest.
+    pub fn allows(&self, bounds: (i64, i64)) -> bool
+        ensures { IsTrue result ↔ IsInside bounds self.now.widest }
+    {
+        bounds.0 <= bounds.1 && self.widest.0 <= bounds.0 && bounds.1 <= self.widest.1
     }
 }

@@ -392,3 +392,41 @@ fn the_most_slots(rt: HostRuntime) -> Result<(), Fail> {
     );
     Ok(())
 }
+
+#[test]
+fn bounds(rt: HostRuntime) -> Result<(), Fail> {
+    let alloc = rt.alloc();
+    let mut builder = BasinBuilder::begin(alloc, control(alloc, 16, 1)?)?;
+    assert_eq!(rt;
+        builder.object("Lake", reservoir(alloc, 100, true)?),
+        Ok(ObjectNo(1))
+    );
+    assert_eq!(rt;
+        builder.bound(SlotNo(0), 0, 5),
+        Err(BuildFault::UnknownSlot)
+    );
+    assert_eq!(rt;
+        builder.bound(SlotNo(12), 0, 5),
+        Err(BuildFault::UnknownSlot)
+    );
+    assert_eq!(rt; builder.bound(SlotNo(1), -Q, Q), Ok(()));
+    assert_eq!(rt;
+        builder.bound(SlotNo(1), 9, 5),
+        Err(BuildFault::DuplicateName)
+    );
+    assert_eq!(rt;
+        builder.bound(SlotNo(2), 6, 5),
+        Err(BuildFault::BadParameter)
+    );
+    assert_eq!(rt;
+        builder.bound(SlotNo(3), -1, 5),
+        Err(BuildFault::BadParameter)
+    );
+    assert_eq!(rt;
+        builder.bound(SlotNo(4), 0, 10_000_001),
+        Err(BuildFault::BadParameter)
+    );
+    assert_eq!(rt; builder.bound(SlotNo(4), 0, 10_000_000), Ok(()));
+    assert_eq!(rt; builder.bound(SlotNo(11), 5, 5), Ok(()));
+    Ok(())
+}

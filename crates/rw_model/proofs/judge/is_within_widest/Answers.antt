@@ -1,0 +1,6 @@
+use Rattle.rw_model.specs.Objects.{slot_at}
+use Rattle.rw_model.proofs.Inside.{widest-iff}
+use Rattle.rw_model.proofs.judge.is_within_widest.Goals as goal
+
+pub returns : goal.returns
+returns c = widest-iff (slot_at c.args.objects.now c.args.slot) c.slot.result c.args.bounds c.allows.result c.slot.ensures c.allows.ensures
