@@ -1,5 +1,5 @@
 -- The balance of each kind: what can be solved for, and what else flows.
-use Rattle.std.specs.Prelude.{ℕ, zero, suc, ◌+◌, if◌then◌else◌, ℤ, pos, ◌+ℤ◌, Bool, true, List, [], ◌∷◌, Option, None, Some, unwrap_or, option_map, option_and_then}
+use Rattle.std.specs.Prelude.{ℕ, zero, suc, ◌+◌, if◌then◌else◌, ℤ, pos, ◌+ℤ◌, Bool, List, [], ◌∷◌, Option, None, Some, unwrap_or, option_map, option_and_then}
 use Rattle.rw_table.specs.Table.{Row}
 use Rattle.rw_model.specs.declared.kind.Kind.{Kind}
 use Rattle.rw_model.specs.declared.kind.Kind.TheVariants.{DataObject, Gage, Confluence, Bifurcation, Reach, Reservoir, WaterUser, Canal}

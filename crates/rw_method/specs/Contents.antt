@@ -1,5 +1,5 @@
 -- What a reservoir holds, by its storage or its elevation, and what evaporates from it.
-use Rattle.std.specs.Prelude.{ℕ, ◌==◌, nat_le, if◌then◌else◌, ℤ, pos, ◌-ℤ◌, Bool, true, false, not, ◌&&◌, ◌||◌, List, Option, None, Some, unwrap_or, option_and_then, is_some}
+use Rattle.std.specs.Prelude.{◌==◌, nat_le, if◌then◌else◌, ℤ, pos, ◌-ℤ◌, Bool, true, false, not, ◌&&◌, ◌||◌, List, Option, None, Some, unwrap_or, option_and_then, is_some}
 use Rattle.std.specs.Ordering.{int_eq}
 use Rattle.std.specs.Int.{int_max}
 use Rattle.rw_table.specs.Table.{Row}
@@ -7,8 +7,6 @@ use Rattle.rw_table.specs.Curve.{vol_of, elev_of, first_row}
 use Rattle.rw_method.specs.declared.given.Given.{Given}
 use Rattle.rw_method.specs.declared.solved.Solved.{Solved}
 use Rattle.rw_method.specs.declared.solved.Solved.TheVariants.{Conflict, OutOfRange}
-use Rattle.rw_method.specs.declared.view.View.{View}
-use Rattle.rw_method.specs.View.{given, known_value}
 
 -- by what the contents are given: by nothing, by the storage, or by the elevation
 pub data Basis : Type 0 where

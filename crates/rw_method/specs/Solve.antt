@@ -1,13 +1,12 @@
 -- What a dispatch of an object answers, from what stands in its slots.
-use Rattle.std.specs.Prelude.{ℕ, ◌==◌, if◌then◌else◌, ℤ, Bool, true, not, ◌&&◌, List, [], ◌∷◌, Option, None, Some}
+use Rattle.std.specs.Prelude.{◌==◌, if◌then◌else◌, ℤ, Bool, true, not, ◌&&◌, List, [], ◌∷◌, Option, None, Some}
 use Rattle.rw_table.specs.Table.{Row}
 use Rattle.rw_model.specs.declared.kind.Kind.{Kind}
-use Rattle.rw_model.specs.declared.kind.Kind.TheVariants.{DataObject, Gage, Confluence, Bifurcation, Reach, Reservoir, WaterUser, Canal}
+use Rattle.rw_model.specs.declared.kind.Kind.TheVariants.{Reservoir}
 use Rattle.rw_method.specs.declared.put.Put.{Put}
 use Rattle.rw_method.specs.declared.solved.Solved.{Solved}
 use Rattle.rw_method.specs.declared.solved.Solved.TheVariants.{Idle, Puts, Conflict, OutOfRange}
 use Rattle.rw_method.specs.declared.balanced.Balanced.{Balanced}
-use Rattle.rw_method.specs.declared.balanced.Balanced.TheVariants as Balanced
 use Rattle.rw_method.specs.declared.view.View.{View}
 use Rattle.rw_method.specs.View.{given}
 use Rattle.rw_method.specs.Contents.{basis_of, fault_of_basis, disagreement, can_hold}

@@ -1,11 +1,10 @@
 -- How a term counts in its object's balance, and what it is solved as.
-use Rattle.std.specs.Prelude.{ℕ, ◌-◌, ◌*◌, ℤ, pos, neg_ℤ, ◌+ℤ◌, ◌-ℤ◌, ◌*ℤ◌, ◌≤ℤ◌, if◌then◌else◌, Bool, Option, None, Some}
+use Rattle.std.specs.Prelude.{ℕ, ◌-◌, ◌*◌, ℤ, pos, neg_ℤ, ◌+ℤ◌, ◌-ℤ◌, ◌*ℤ◌, ◌≤ℤ◌, if◌then◌else◌, Option, None, Some}
 use Rattle.std.specs.Ordering.{int_eq}
 use Rattle.rw_base.specs.Quotient.{floor_div}
 use Rattle.rw_method.specs.declared.given.Given.{Given}
 use Rattle.rw_method.specs.declared.share.Share.{Share}
 use Rattle.rw_method.specs.declared.share.Share.TheVariants.{Brings, Takes, Conveys}
-use Rattle.rw_method.specs.declared.term.Term.{Term}
 
 -- so many of a thousand parts, rounded down
 abbrev pub per_mille : ℤ → ℕ → ℤ

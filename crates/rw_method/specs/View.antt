@@ -1,5 +1,5 @@
 -- What an object sees in a dispatch.
-use Rattle.std.specs.Prelude.{ℕ, ◌≡◌, ◌<◌, ◌==◌, nat_le, if◌then◌else◌, ℤ, pos, ◌≤ℤ◌, int_le, Bool, true, false, ◌&&◌, Option, None, Some, option_map, slice_index_or}
+use Rattle.std.specs.Prelude.{ℕ, ◌≡◌, ◌<◌, if◌then◌else◌, ℤ, pos, ◌≤ℤ◌, int_le, Bool, ◌&&◌, Option, None, Some, option_map, slice_index_or}
 use Rattle.std.specs.Option.{ForSome}
 use Rattle.rw_base.specs.declared.number.ObjectNo.{ObjectNo}
 use Rattle.rw_model.specs.declared.writer.Writer.TheVariants.{Object}

@@ -18,6 +18,8 @@ mod settling;
 mod share;
 mod solved;
 mod term;
+#[cfg(test)]
+mod tests;
 mod view;
 
 pub use balanced::Balanced;

@@ -1,4 +1,4 @@
-use Rattle.std.proofs.Common.{rules, arith, ◌≡◌, ℕ, suc, ◌+◌, ◌<◌, ℤ, pos, neg_ℤ, ◌+ℤ◌, ◌*◌, ◌≤ℤ◌, List, length, drop, get_or, drop-cons, add-one, refl, FitsSigned}
+use Rattle.std.proofs.Common.{rules, arith, ◌≡◌, ℕ, ◌+◌, ◌<◌, ℤ, ◌+ℤ◌, List, length, drop, get_or, drop-cons, add-one, FitsSigned}
 use Rattle.std.specs.Int.{w128}
 use Rattle.std.proofs.lemmas.Int.{ints, to_z-of_z}
 use Rattle.rw_method.specs.declared.term.Term.{Term}
