@@ -7,7 +7,7 @@ use rw_base::{ObjectNo, Qty};
 use rw_model::{Content, Writer};
 
 /// What a dispatch of an object sees.
-#[derive(Debug)]
+#[derive(Debug, Drop)]
 pub struct View {
     /// The object.
     pub own: ObjectNo,
