@@ -1,0 +1,6 @@
+use Rattle.std.proofs.Common.{◌≡◌, drop, max}
+use Rattle.rw_method.specs.Settling.{greatest_beside}
+use Rattle.rw_method.proofs.settling.greatest_beside.Given as goal
+
+abbrev pub invariant-loop-term : goal.invariant-loop-term
+invariant-loop-term l = max l.greatest (greatest_beside l.place (drop l.term-index l.terms)) ≡ greatest_beside l.place l.terms

@@ -1,0 +1,9 @@
+use Rattle.std.proofs.Common.{◌≡◌, ◌+◌, ◌≤◌, drop}
+use Rattle.rw_method.specs.Settling.{missing}
+use Rattle.rw_method.proofs.settling.missing.Given as goal
+
+abbrev pub invariant-loop-term : goal.invariant-loop-term
+invariant-loop-term l = record {
+  few : l.count ≤ l.term-index;
+  rest : l.count + missing (drop l.term-index l.terms) ≡ missing l.terms;
+}

@@ -1,0 +1,11 @@
+use Rattle.std.proofs.Common.{◌≡◌, drop}
+use Rattle.std.specs.Prelude.{◌+ℤ◌}
+use Rattle.rw_method.specs.Term.{IsWithin}
+use Rattle.rw_method.specs.Settling.{net_of}
+use Rattle.rw_method.proofs.settling.net_of.Given as goal
+
+abbrev pub invariant-loop-term : goal.invariant-loop-term
+invariant-loop-term l = record {
+  bound : IsWithin l.term-index l.net;
+  rest : l.net +ℤ net_of (drop l.term-index l.terms) ≡ net_of l.terms;
+}

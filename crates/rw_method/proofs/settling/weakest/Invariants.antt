@@ -1,0 +1,6 @@
+use Rattle.std.proofs.Common.{◌≡◌, drop}
+use Rattle.rw_method.specs.Settling.{weakest}
+use Rattle.rw_method.proofs.settling.weakest.Given as goal
+
+abbrev pub invariant-loop-term : goal.invariant-loop-term
+invariant-loop-term l = weakest l.weakest (drop l.term-index l.rest) ≡ weakest l.fn.first l.rest

@@ -1,0 +1,91 @@
+-- The balance of each kind: what can be solved for, and what else flows.
+use Rattle.std.specs.Prelude.{ℕ, zero, suc, ◌+◌, if◌then◌else◌, ℤ, pos, ◌+ℤ◌, Bool, List, [], ◌∷◌, Option, None, Some, unwrap_or, option_map, option_and_then}
+use Rattle.rw_table.specs.Table.{Row}
+use Rattle.rw_model.specs.declared.kind.Kind.{Kind}
+use Rattle.rw_model.specs.declared.kind.Kind.TheVariants.{DataObject, Gage, Confluence, Bifurcation, Reach, Reservoir, WaterUser, Canal}
+use Rattle.rw_model.specs.declared.kind.Supply.TheVariants.{Request, Rule}
+use Rattle.rw_method.specs.declared.given.Given.{Given}
+use Rattle.rw_method.specs.declared.share.Share.{Share}
+use Rattle.rw_method.specs.declared.share.Share.TheVariants.{Brings, Takes, Conveys}
+use Rattle.rw_method.specs.declared.term.Term.{Term}
+use Rattle.rw_method.specs.declared.view.View.{View}
+use Rattle.rw_method.specs.View.{known_value, given}
+use Rattle.rw_method.specs.Contents.{basis_of, contents_by, evaporated, difference}
+
+-- what else is brought than by the terms, where all of it is known, and the terms that can be solved for, in order
+pub record Balance : Type 0 where
+  pub steady : Option ℤ
+  pub terms : List Term
+
+abbrev pub balance : Option ℤ → List Term → Balance
+balance steady terms = record { steady = steady; terms = terms }
+
+-- the sum of two values, where both are there
+abbrev pub sum_of : Option ℤ → Option ℤ → Option ℤ
+sum_of (Some a) (Some b) = Some (a +ℤ b)
+sum_of (Some a) None = None
+sum_of None b = None
+
+-- the slot in a place as a term that counts so
+abbrev pub term_at : View → Share → ℕ → Term
+term_at view share place = record { place = place; share = share; given = given view place }
+
+abbrev pub brings : View → ℕ → Term
+brings view place = term_at view Brings place
+
+abbrev pub takes : View → ℕ → Term
+takes view place = term_at view Takes place
+
+abbrev pub conveys : View → ℕ → ℕ → Term
+conveys view seepage place = term_at view (Conveys seepage) place
+
+-- the contents as a term, which takes water and is put as the storage
+abbrev pub stores : Option Given → Term
+stores contents = record { place = 2; share = Takes; given = contents }
+
+-- the value in a place, and 0 where that slot isn't chosen
+abbrev pub chosen : Bool → View → ℕ → Option ℤ
+chosen choice view place = if choice then known_value view place else Some (pos 0)
+
+-- LocalInflow + ReturnFlow - Diversion, which stand in places one after the other as LocalInflow, Diversion, ReturnFlow
+abbrev pub side_flows : View → ℕ → Bool → Bool → Bool → Option ℤ
+side_flows view place local_inflow diversion return_flow =
+    difference (sum_of (chosen local_inflow view place) (chosen return_flow view (place + 2))) (chosen diversion view (place + 1))
+
+-- Evaporation, known where the rate and the storage before are. A storage that the table doesn't have counts as none evaporated,
+-- since the answer is then OutOfRange
+abbrev pub evaporation_from : List Row → Option ℤ → Option ℤ → Option ℤ
+evaporation_from rows past rate =
+    option_and_then (λ storage. option_map (λ mm. unwrap_or (evaporated rows storage mm) (pos 0)) rate) past
+
+-- Evaporation, which is 0 where it isn't chosen
+abbrev pub evaporation_of : Bool → Option (List Row) → View → Option ℤ
+evaporation_of evaporation None view = Some (pos 0)
+evaporation_of evaporation (Some rows) view =
+    if evaporation then evaporation_from rows view.past (known_value view 7) else Some (pos 0)
+
+abbrev pub balance_of : Kind → View → Balance
+-- a data object has none
+balance_of (DataObject slots) view = balance (Some (pos 0)) []
+-- GageOutflow = GageInflow
+balance_of Gage view = balance (Some (pos 0)) (brings view 0 ∷ takes view 1 ∷ [])
+-- Outflow = Inflow1 + Inflow2
+balance_of Confluence view = balance (Some (pos 0)) (brings view 0 ∷ brings view 1 ∷ takes view 2 ∷ [])
+-- Inflow = Outflow1 + Outflow2
+balance_of Bifurcation view = balance (Some (pos 0)) (brings view 0 ∷ takes view 1 ∷ takes view 2 ∷ [])
+-- Outflow = Inflow + LocalInflow - Diversion + ReturnFlow
+balance_of (Reach zero history local_inflow diversion return_flow) view =
+    balance (side_flows view 2 local_inflow diversion return_flow) (brings view 0 ∷ takes view 1 ∷ [])
+-- Outflow = Inflow(t - lag) + LocalInflow - Diversion + ReturnFlow
+balance_of (Reach (suc lag) history local_inflow diversion return_flow) view =
+    balance (sum_of view.past (side_flows view 2 local_inflow diversion return_flow)) (takes view 1 ∷ [])
+-- Contents = Storage(t - 1) + Inflow + LocalInflow + ReturnFlow - Diversion - Evaporation - Outflow
+balance_of (Reservoir initial_storage table local_inflow diversion return_flow evaporation max_release) view =
+    balance (difference (sum_of view.past (side_flows view 4 local_inflow diversion return_flow)) (evaporation_of evaporation table view))
+    (brings view 0 ∷ takes view 1 ∷ stores (contents_by table (basis_of (given view 2) (given view 3))) ∷ [])
+-- Diversion = DiversionRequest
+balance_of (WaterUser depletion Request) view = balance (known_value view 0) (takes view 1 ∷ [])
+-- none, yet Diversion has to be known
+balance_of (WaterUser depletion Rule) view = balance (known_value view 1) []
+-- Outflow = Inflow - floor(Inflow * seepage / 1000)
+balance_of (Canal seepage) view = balance (Some (pos 0)) (conveys view seepage 0 ∷ takes view 1 ∷ [])

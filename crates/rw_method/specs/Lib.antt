@@ -1,0 +1,9 @@
+pub mod View
+pub mod Term
+pub mod Contents
+pub mod Balance
+pub mod Settling
+pub mod Puts
+pub mod Solve
+pub mod Catalogue
+pub mod Worked

@@ -1,0 +1,95 @@
+-- What is put once a balance is settled.
+use Rattle.std.specs.Prelude.{ℕ, ◌==◌, if◌then◌else◌, ℤ, pos, ◌-ℤ◌, Bool, ◌&&◌, List, [], ◌∷◌, ◌++◌, Option, None, Some, unwrap_or}
+use Rattle.std.specs.Int.{int_min}
+use Rattle.rw_table.specs.Table.{Row}
+use Rattle.rw_model.specs.declared.content.Content.{Content}
+use Rattle.rw_model.specs.declared.kind.Kind.{Kind}
+use Rattle.rw_model.specs.declared.kind.Kind.TheVariants.{Reservoir, WaterUser, Canal}
+use Rattle.rw_model.specs.Slot.{all_quantities}
+use Rattle.rw_method.specs.declared.given.Given.{Given}
+use Rattle.rw_method.specs.declared.put.Put.{Put}
+use Rattle.rw_method.specs.declared.balanced.Balanced.{Balanced}
+use Rattle.rw_method.specs.declared.balanced.Balanced.TheVariants.{Solves}
+use Rattle.rw_method.specs.declared.view.View.{View}
+use Rattle.rw_method.specs.View.{known, given, bounds_at, is_between}
+use Rattle.rw_method.specs.Term.{per_mille}
+use Rattle.rw_method.specs.Contents.{Basis, by_nothing, by_storage, by_elevation, basis_of, elevation_of, volume_of, are_both_zero}
+use Rattle.rw_method.specs.Balance.{evaporation_of}
+
+abbrev pub put : ℕ → ℤ → ℕ → Put
+put place value number = record { place = place; value = value; number = number }
+
+-- a put is a quantity within its slot's bounds
+abbrev pub is_bounded : View → Put → Bool
+is_bounded view put = is_between (bounds_at view put.place) put.value && is_between all_quantities put.value
+
+-- a value and its number, 0 and 0 where nothing is known
+abbrev pub held_by : Option Content → Given
+held_by None = record { value = pos 0; number = 0 }
+held_by (Some content) = record { value = content.value; number = content.number }
+
+-- what a place holds once the balance is settled: what was just solved, or what is known
+abbrev pub held_after : View → Balanced → ℕ → Given
+held_after view (Solves solved value number) place =
+    if solved == place then record { value = value; number = number } else held_by (known view place)
+held_after view balanced place = held_by (known view place)
+
+-- the term that was solved
+abbrev pub solved_put : Balanced → List Put
+solved_put (Solves place value number) = put place value number ∷ []
+solved_put balanced = []
+
+-- the slot in a place gets the value that the table has, if it has one
+abbrev pub put_found : ℕ → Option ℤ → ℕ → List Put
+put_found place None number = []
+put_found place (Some value) number = put place value number ∷ []
+
+-- beside the slot that gives the contents, the other of storage and elevation
+abbrev pub beside_basis : Option (List Row) → Basis → List Put
+beside_basis table by_nothing = []
+beside_basis table (by_storage storage) = put_found 3 (elevation_of table storage.value) storage.number
+beside_basis table (by_elevation elevation) = put_found 2 (volume_of table elevation.value) elevation.number
+
+-- beside the slot that gives the contents the other one, unless both are given with number 0
+abbrev pub beside_given : Option (List Row) → Option Given → Option Given → List Put
+beside_given table storage elevation =
+    if are_both_zero storage elevation then [] else beside_basis table (basis_of storage elevation)
+
+-- the elevation of a solved storage, or what stands beside given contents
+abbrev pub level_puts : Option (List Row) → Option Given → Option Given → Balanced → List Put
+level_puts table storage elevation (Solves place value number) =
+    if place == 2 then put_found 3 (elevation_of table value) number else beside_given table storage elevation
+level_puts table storage elevation balanced = beside_given table storage elevation
+
+-- how much evaporates, with number 0
+abbrev pub evaporation_put : Bool → Option ℤ → List Put
+evaporation_put evaporation amount = if evaporation then put 8 (unwrap_or amount (pos 0)) 0 ∷ [] else []
+
+-- of an outflow the release, up to the greatest one, and the spill above it
+abbrev pub release_puts : Option ℤ → Given → List Put
+release_puts None outflow = []
+release_puts (Some most) outflow =
+    put 9 (int_min outflow.value most) outflow.number ∷
+    put 10 (outflow.value -ℤ int_min outflow.value most) outflow.number ∷
+    []
+
+-- of a diversion what is used up, and what flows back
+abbrev pub user_puts : ℕ → Given → List Put
+user_puts depletion diversion =
+    put 2 (per_mille diversion.value depletion) diversion.number ∷
+    put 3 (diversion.value -ℤ per_mille diversion.value depletion) diversion.number ∷
+    []
+
+-- what seeps away between inflow and outflow
+abbrev pub seepage_put : Given → Given → List Put
+seepage_put inflow outflow = put 2 (inflow.value -ℤ outflow.value) inflow.number ∷ []
+
+-- all that the object puts, in order of place: what was solved, and what is derived from it
+abbrev pub puts_of : Kind → View → Balanced → List Put
+puts_of (Reservoir initial_storage table local_inflow diversion return_flow evaporation max_release) view balanced =
+    solved_put balanced ++ level_puts table (given view 2) (given view 3) balanced
+    ++ evaporation_put evaporation (evaporation_of evaporation table view) ++ release_puts max_release (held_after view balanced 1)
+puts_of (WaterUser depletion supply) view balanced = solved_put balanced ++ user_puts depletion (held_after view balanced 1)
+puts_of (Canal seepage) view balanced =
+    solved_put balanced ++ seepage_put (held_after view balanced 0) (held_after view balanced 1)
+puts_of kind view balanced = solved_put balanced

@@ -1,0 +1,65 @@
+-- What the terms of a balance come to: which of them is solved for, and as what.
+use Rattle.std.specs.Prelude.{ℕ, ◌+◌, max, ◌==◌, nat_lt, nat_le, ℤ, pos, neg_ℤ, ◌+ℤ◌, ◌-ℤ◌, if◌then◌else◌, Bool, false, List, [], ◌∷◌, Option, None, Some, is_some}
+use Rattle.std.specs.Ordering.{int_eq}
+use Rattle.rw_method.specs.declared.given.Given.{Given}
+use Rattle.rw_method.specs.declared.term.Term.{Term}
+use Rattle.rw_method.specs.declared.balanced.Balanced.{Balanced}
+use Rattle.rw_method.specs.declared.balanced.Balanced.TheVariants.{Idle, Holds, Solves, Conflicts}
+use Rattle.rw_method.specs.Term.{brought_by, bringing}
+
+-- how many of the terms aren't given
+abbrev pub missing : List Term → ℕ
+missing [] = 0
+missing (term ∷ terms) = (if is_some term.given then 0 else 1) + missing terms
+
+-- how much the given terms bring, all together
+abbrev pub net_of : List Term → ℤ
+net_of [] = pos 0
+net_of (term ∷ terms) = brought_by term.share term.given +ℤ net_of terms
+
+abbrev pub number_of : Option Given → ℕ
+number_of None = 0
+number_of (Some held) = held.number
+
+-- the greatest number of the given terms but the one of this place, 0 if there is none
+abbrev pub greatest_beside : ℕ → List Term → ℕ
+greatest_beside place [] = 0
+greatest_beside place (term ∷ terms) = max (if term.place == place then 0 else number_of term.given) (greatest_beside place terms)
+
+-- whether a term gives way before a later one
+abbrev pub gives_way_before : Option Given → Option Given → Bool
+gives_way_before None later = is_some later
+gives_way_before (Some held) None = false
+gives_way_before (Some held) (Some later) = nat_lt later.number held.number
+
+-- the term that gives way: one that isn't given, or else the one of the greatest number, and of several such the last
+abbrev pub weakest : Term → List Term → Term
+weakest term [] = term
+weakest term (next ∷ terms) = weakest (if gives_way_before term.given next.given then term else next) terms
+
+-- the value of a term that makes the balance true, from the other terms and what else is brought
+abbrev pub value_from_others : ℤ → List Term → Term → ℤ
+value_from_others steady terms term =
+    bringing term.share (neg_ℤ (steady +ℤ (net_of terms -ℤ brought_by term.share term.given)))
+
+-- the term is put as that value, with the greatest number of the others
+abbrev pub solves : ℤ → List Term → Term → Balanced
+solves steady terms term =
+    Solves term.place (value_from_others steady terms term) (greatest_beside term.place terms)
+
+-- a term that isn't given is solved. A given one stays where the balance is true; otherwise it is solved, unless its number, the
+-- greatest, is 0: then it conflicts
+abbrev pub settled_at : ℤ → List Term → Term → Option Given → Balanced
+settled_at steady terms term None = solves steady terms term
+settled_at steady terms term (Some held) =
+    if int_eq (steady +ℤ net_of terms) (pos 0) then Holds
+    else (if held.number == 0 then Conflicts term.place held.value (value_from_others steady terms term)
+    else solves steady terms term)
+
+-- what the terms come to, beside what else is brought, where that is known. All but one have to be given
+abbrev pub settled : Option ℤ → List Term → Balanced
+settled None terms = Idle
+settled (Some steady) [] = Holds
+settled (Some steady) (term ∷ terms) =
+    if nat_le 2 (missing (term ∷ terms)) then Idle
+    else settled_at steady (term ∷ terms) (weakest term terms) (weakest term terms).given

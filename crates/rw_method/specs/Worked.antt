@@ -1,0 +1,41 @@
+-- Views for worked examples.
+use Rattle.std.specs.Prelude.{ℕ, ℤ, pos, List, [], ◌∷◌, ◌++◌, map, replicate, length, ◌-◌, Option, None, Some}
+use Rattle.rw_base.specs.declared.number.ObjectNo.{ObjectNo}
+use Rattle.rw_base.specs.declared.number.RuleNo.{RuleNo}
+use Rattle.rw_model.specs.declared.content.Content.{Content}
+use Rattle.rw_model.specs.declared.kind.Kind.{Kind}
+use Rattle.rw_model.specs.declared.writer.Writer.TheVariants.{Input, Rule}
+use Rattle.rw_model.specs.Slot.{Slot, Bounds}
+use Rattle.rw_model.specs.Slots.{slots_of}
+use Rattle.rw_table.specs.Table.{Row}
+use Rattle.rw_method.specs.declared.view.View.{View}
+
+-- given as an input
+abbrev pub input : ℤ → Option Content
+input value = Some (record { value = value; number = 0; writer = Input })
+
+-- set by a rule
+abbrev pub by_rule : RuleNo → ℤ → ℕ → Option Content
+by_rule rule value number = Some (record { value = value; number = number; writer = Rule rule })
+
+-- the bounds of a slot for which none are set
+abbrev pub usual_bounds : Option Slot → Bounds
+usual_bounds None = (pos 0, pos 0)
+usual_bounds (Some slot) = slot.usual
+
+-- the twelve places, of which these are the first
+abbrev pub twelve : {X : Type 0} → X → List X → List X
+twelve blank first = first ++ replicate (12 - length first) blank
+
+-- the first slots of an object of this kind hold these, and the others nothing
+abbrev pub seen : Kind → ObjectNo → Option ℤ → List (Option Content) → View
+seen kind own past now = record {
+  own = own;
+  now = twelve None now;
+  past = past;
+  bounds = twelve (pos 0, pos 0) (map usual_bounds (slots_of kind));
+}
+
+-- half a cubic metre to a millimetre up to the second row, and from there on a whole one
+abbrev pub worked_rows : List Row
+worked_rows = (pos 0, pos 0) ∷ (pos 1000, pos 500) ∷ (pos 3000, pos 2500) ∷ []

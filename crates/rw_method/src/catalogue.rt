@@ -1,0 +1,91 @@
+ghost use Rattle.std.specs.Prelude.{◌≡◌, ◌≢◌, ◌↔◌, ◌≤◌, ℕ, map, length, IfOk, IsOk, Err, Some};
+ghost use Rattle.rw_method.specs.declared.catalogue.CatalogueFault.TheVariants as CatalogueFault;
+ghost use Rattle.rw_model.specs.Code.{code_of};
+ghost use Rattle.rw_method.specs.View.{IsViewOf};
+ghost use Rattle.rw_method.specs.Catalogue.{first_wrong, AreInOrder};
+ghost use Rattle.rw_method.specs.Solve.{solve_of};
+
+use crate::{Method, Solved, View};
+use rw_model::Kind;
+
+// How many kinds have a method.
+const KINDS: usize = 7;
+
+/// Why methods are no catalogue.
+#[derive(Clone, Copy, Debug, PartialEq, Eq)]
+pub enum CatalogueFault {
+    /// There aren't 7 methods, but so many.
+    WrongCount(usize),
+    /// The method in this place, counted from 1, is of another kind.
+    WrongPlace(u8),
+}
+
+/// One method for each kind with a balance, in the order of the kinds' numbers.
+#[derive(Drop)]
+pub struct Catalogue {
+    methods: Vec<Box<dyn Method>>,
+    ghost whole: { length methods.items ≡ 7 },
+}
+
+fn code_of(method: &Box<dyn Method>) -> u8
+    ensures { result ≡ code method.now }
+{
+    method.code()
+}
+
+// The first place, counted from 1, with a method of another kind.
+fn first_wrong(methods: &[Box<dyn Method>]) -> Option<u8>
+    requires { length methods.now ≤ 7 }
+    ensures { result ≡ first_wrong 1 (map (λ b. code b) methods.now) }
+{
+    let mut place = 1u8;
+    for method in methods {
+        if code_of(method) != place {
+            return Some(place);
+        }
+        place += 1;
+    }
+    None
+}
+
+fn solve_by(method: &Box<dyn Method>, kind: &Kind, view: &View) -> Solved
+    requires code { code_of kind.now ≡ code method.now }
+    requires view { IsViewOf kind.now view.now }
+    ensures { result ≡ solve_of kind.now view.entry.now }
+{
+    method.solve(kind, view)
+}
+
+impl Catalogue {
+    /// The catalogue of these methods: gage, confluence, bifurcation, reach, reservoir, water user, canal.
+    ///
+    /// Their count is judged first. `WrongPlace` names the first method of another kind.
+    pub fn of(methods: Vec<Box<dyn Method>>) -> Result<Catalogue, CatalogueFault>
+        ensures methods { IfOk result (λ catalogue. catalogue.methods ≡ methods) }
+        ensures order { IfOk result (λ catalogue. AreInOrder (map (λ b. code b) catalogue.methods.items)) }
+        ensures accepted { IsOk result ↔ ((length methods.items ≡ 7) × AreInOrder (map (λ b. code b) methods.items)) }
+        ensures count { (found : ℕ) → result ≡ Err (CatalogueFault.WrongCount found)
+            → (found ≡ length methods.items) × (found ≢ 7) }
+        ensures place { (place : ℕ) → result ≡ Err (CatalogueFault.WrongPlace place)
+            → (length methods.items ≡ 7) × (first_wrong 1 (map (λ b. code b) methods.items) ≡ Some place) }
+    {
+        if methods.len() != KINDS {
+            return Err(CatalogueFault::WrongCount(methods.len()));
+        }
+        if let Some(place) = first_wrong(&methods) {
+            return Err(CatalogueFault::WrongPlace(place));
+        }
+        Ok(Catalogue { methods })
+    }
+
+    /// What a dispatch of an object answers: what the method of its kind does. It takes no memory.
+    pub fn solve(&self, kind: &Kind, view: &View) -> Solved
+        requires order { AreInOrder (map (λ b. code b) self.now.methods.items) }
+        requires balance { 1 ≤ code_of kind.now }
+        requires view { IsViewOf kind.now view.now }
+        ensures { result ≡ solve_of kind.now view.entry.now }
+    {
+        let place = usize::from(kind.code()) - 1;
+        solve_by(&self.methods[place], kind, view)
+    }
+}

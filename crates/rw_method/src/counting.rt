@@ -1,0 +1,69 @@
+ghost use Rattle.std.specs.Prelude.{◌≡◌, ◌-◌, pos, ◌-ℤ◌, ◌*ℤ◌};
+ghost use Rattle.rw_base.specs.Quotient.{floor_div};
+ghost use Rattle.rw_method.specs.Term.{per_mille, least_inflow, brought, bringing, brought_by, IsWithin};
+
+use crate::{Given, Seepage, Share};
+
+/// So many of a thousand parts of an amount, rounded down.
+pub fn per_mille(amount: i64, share: u16) -> i128
+    ensures amount { result ≡ per_mille amount share }
+    ensures bound { IsWithin 1 result }
+{
+    (i128::from(amount) * i128::from(share)).div_euclid(1000)
+}
+
+// How many inflows of 1000 parts there are below the outflow, less the parts that seep away.
+fn whole_inflows(seepage: Seepage, outflow: i128) -> i128
+    requires { IsWithin 10 outflow }
+    ensures count { result ≡ floor_div (pos 1000 *ℤ (outflow -ℤ pos 1)) (pos (1000 - seepage)) }
+    ensures bound { IsWithin 100000 result }
+{
+    (1000 * (outflow - 1)).div_euclid(i128::from(1000 - seepage.get()))
+}
+
+// The least inflow that gives the outflow.
+fn least_inflow(seepage: Seepage, outflow: i128) -> i128
+    requires { IsWithin 10 outflow }
+    ensures { result ≡ least_inflow seepage outflow }
+{
+    if outflow == 0 {
+        return 0;
+    }
+    let count = whole_inflows(seepage, outflow);
+    count + 1
+}
+
+// How much a value brings.
+fn brought(share: Share, value: i64) -> i128
+    ensures amount { result ≡ brought share value }
+    ensures bound { IsWithin 1 result }
+{
+    match share {
+        Share::Brings => i128::from(value),
+        Share::Takes => -i128::from(value),
+        Share::Conveys(seepage) => i128::from(value) - per_mille(value, seepage.get()),
+    }
+}
+
+/// How much a term brings that is given so.
+pub(crate) fn brought_by(share: Share, given: Option<Given>) -> i128
+    ensures amount { result ≡ brought_by share given }
+    ensures bound { IsWithin 1 result }
+{
+    match given {
+        Some(held) => brought(share, held.value),
+        None => 0,
+    }
+}
+
+/// The value of a term that brings so much.
+pub(crate) fn bringing(share: Share, amount: i128) -> i128
+    requires { IsWithin 10 amount }
+    ensures { result ≡ bringing share amount }
+{
+    match share {
+        Share::Brings => amount,
+        Share::Takes => -amount,
+        Share::Conveys(seepage) => least_inflow(seepage, amount),
+    }
+}

@@ -1,0 +1,38 @@
+//! How an object solves what it doesn't know. One definition, `specs/Solve.antt`, says for every kind of object what a
+//! dispatch of it answers, from what stands in its slots. `Method` is the interface of whoever computes that, and a
+//! `Catalogue` has one method for each kind: each answers what the definition says. `settle` is the one solver of
+//! balances that the methods share. No call takes memory.
+#![tactic(auto)]
+
+mod balanced;
+mod catalogue;
+mod counting;
+mod flows;
+mod given;
+mod judging;
+pub mod law;
+mod method;
+mod put;
+mod put_list;
+mod settling;
+mod share;
+mod solved;
+mod term;
+#[cfg(test)]
+mod tests;
+mod view;
+
+pub use balanced::Balanced;
+pub use catalogue::{Catalogue, CatalogueFault};
+pub use counting::per_mille;
+pub use flows::side_flows;
+pub use given::Given;
+pub use judging::{add_put, put_solved};
+pub use method::Method;
+pub use put::Put;
+pub use put_list::PutList;
+pub use settling::settle;
+pub use share::{Seepage, Share};
+pub use solved::Solved;
+pub use term::Term;
+pub use view::View;

@@ -1,0 +1,23 @@
+ghost use Rattle.std.specs.Prelude.{◌≡◌, ℕ};
+ghost use Rattle.rw_model.specs.Code.{code_of};
+ghost use Rattle.rw_method.specs.View.{IsViewOf};
+ghost use Rattle.rw_method.specs.Solve.{solve_of};
+
+use crate::{Solved, View};
+use rw_model::Kind;
+
+/// How the objects of one kind solve what they don't know.
+pub trait Method: Drop {
+    /// The number of the kind.
+    ghost code: { Self → ℕ };
+
+    /// The number of the kind.
+    fn code(&self) -> u8
+        ensures { result ≡ code self.now };
+
+    /// What a dispatch of an object of that kind answers. It takes no memory.
+    fn solve(&self, kind: &Kind, view: &View) -> Solved
+        requires code { code_of kind.now ≡ code self.now }
+        requires view { IsViewOf kind.now view.now }
+        ensures { result ≡ solve_of kind.now view.entry.now };
+}

@@ -1,0 +1,50 @@
+ghost use Rattle.std.specs.Prelude.{◌≡◌, ◌≤◌};
+
+use std::marker::Model;
+
+/// How much of what is conveyed seeps away: 0 to 999 of a thousand parts.
+#[derive(Clone, Copy, Debug, PartialEq, Eq, Drop)]
+pub struct Seepage {
+    parts: u16,
+}
+
+impl Model for Seepage {
+    ghost use Rattle.std.specs.Prelude.{ℕ, ◌≤◌};
+
+    ghost Value = { ℕ };
+
+    ghost view = { λ s. s.parts };
+
+    ghost invariant = { λ s. s.parts ≤ 999 };
+
+    ghost inverse = { λ n. record { parts = n } };
+}
+
+impl Seepage {
+    /// So many of a thousand parts.
+    pub fn of(parts: u16) -> Seepage
+        requires { parts ≤ 999 }
+        ensures { result ≡ parts }
+    {
+        Seepage { parts }
+    }
+
+    /// How many of a thousand parts.
+    pub fn get(self) -> u16
+        ensures value { result ≡ self }
+        ensures bound { result ≤ 999 }
+    {
+        self.parts
+    }
+}
+
+/// How a term counts in its object's balance.
+#[derive(Clone, Copy, Debug, PartialEq, Eq)]
+pub enum Share {
+    /// It brings water.
+    Brings,
+    /// It takes water.
+    Takes,
+    /// It brings water, of which so much of a thousand parts seeps away, rounded down.
+    Conveys(Seepage),
+}

@@ -1,0 +1,26 @@
+use crate::PutList;
+
+/// What a dispatch of an object answers.
+#[derive(Debug, Drop)]
+pub enum Solved {
+    /// Too little is known. Nothing is put.
+    Idle,
+    /// It puts these.
+    Puts(PutList),
+    /// What is given doesn't agree.
+    Conflict {
+        /// The slot's place.
+        place: u8,
+        /// The value that is there.
+        held: i128,
+        /// The value that the other slots give.
+        solved: i128,
+    },
+    /// A value that a slot can't have.
+    OutOfRange {
+        /// The slot's place.
+        place: u8,
+        /// The value.
+        value: i128,
+    },
+}

@@ -1,0 +1,67 @@
+ghost use Rattle.std.specs.Prelude.{◌≡◌};
+ghost use Rattle.rw_method.specs.Balance.{term_at};
+ghost use Rattle.rw_method.specs.View.{known, known_value, given};
+
+use crate::{Given, Share, Term};
+use rw_base::{ObjectNo, Qty};
+use rw_model::{Content, Writer};
+
+/// What a dispatch of an object sees.
+#[derive(Debug, Drop)]
+pub struct View {
+    /// The object.
+    pub own: ObjectNo,
+    /// What stands in its slots at this timestep, by place. `None` where nothing does, and where it has no slot.
+    pub now: [Option<Content>; 12],
+    /// Its storage at the timestep before, or a reach's inflow as many timesteps ago as its lag.
+    pub past: Option<Qty>,
+    /// The least and the greatest value of each slot, by place.
+    pub bounds: [(i64, i64); 12],
+}
+
+impl View {
+    /// What stands in a place, if it is known.
+    pub fn known(&self, place: u8) -> Option<Content>
+        ensures { result ≡ known self.entry.now place }
+    {
+        match self.now.get(usize::from(place)) {
+            Some(content) => *content,
+            None => None,
+        }
+    }
+
+    /// The value that stands in a place, if it is known.
+    pub fn known_value(&self, place: u8) -> Option<i64>
+        ensures { result ≡ known_value self.entry.now place }
+    {
+        match self.known(place) {
+            Some(content) => Some(content.value.get()),
+            None => None,
+        }
+    }
+
+    /// What is given in a place: it is known there, and the object didn't write it itself.
+    pub fn given(&self, place: u8) -> Option<Given>
+        ensures { result ≡ given self.entry.now place }
+    {
+        let content = self.known(place)?;
+        match content.writer {
+            Writer::Object(object) if object == self.own => None,
+            _ => Some(Given {
+                value: content.value.get(),
+                number: content.number,
+            }),
+        }
+    }
+
+    /// The slot in a place, as a term that counts so.
+    pub fn term(&self, share: Share, place: u8) -> Term
+        ensures { result ≡ term_at self.entry.now share place }
+    {
+        Term {
+            place,
+            share,
+            given: self.given(place),
+        }
+    }
+}

@@ -1,0 +1,8 @@
+use Rattle.std.proofs.Common.{arith}
+use Rattle.std.proofs.lemmas.Int.{ints}
+use Rattle.rw_stream.proofs.reach.solve_unlagged.Goals as goal
+
+pub settle-requires-clause-bound : goal.settle-requires-clause-bound
+settle-requires-clause-bound c x is =
+    let bound = c.requires x is in
+    record { low = omega (arith, ints, bound.low); high = omega (arith, ints, bound.high) }

@@ -1,0 +1,36 @@
+ghost use Rattle.std.specs.Prelude.{◌≡◌};
+ghost use Rattle.rw_model.specs.declared.kind.Kind.TheVariants as Kind;
+ghost use Rattle.rw_method.specs.Solve.{solve_of};
+
+use rw_method::{Method, Share, Solved, View, put_solved, settle};
+use rw_model::Kind;
+
+/// The method of a bifurcation: what flows in is parted into two outflows.
+#[derive(Debug, Drop)]
+pub struct BifurcationMethod;
+
+pub(crate) fn solve_bifurcation(view: &View) -> Solved
+    ensures { result ≡ solve_of Kind.Bifurcation view.entry.now }
+{
+    let terms = [
+        view.term(Share::Brings, 0),
+        view.term(Share::Takes, 1),
+        view.term(Share::Takes, 2),
+    ];
+    put_solved(view, settle(Some(0), &terms))
+}
+
+impl Method for BifurcationMethod {
+    ghost code = { λ _. 3 };
+
+    fn code(&self) -> u8 {
+        3
+    }
+
+    fn solve(&self, kind: &Kind, view: &View) -> Solved {
+        match kind {
+            Kind::Bifurcation => solve_bifurcation(view),
+            _ => unreachable!(),
+        }
+    }
+}

@@ -1,0 +1,36 @@
+ghost use Rattle.std.specs.Prelude.{◌≡◌};
+ghost use Rattle.rw_model.specs.declared.kind.Kind.TheVariants as Kind;
+ghost use Rattle.rw_method.specs.Solve.{solve_of};
+
+use rw_method::{Method, Share, Solved, View, put_solved, settle};
+use rw_model::Kind;
+
+/// The method of a confluence: its two inflows flow out together.
+#[derive(Debug, Drop)]
+pub struct ConfluenceMethod;
+
+pub(crate) fn solve_confluence(view: &View) -> Solved
+    ensures { result ≡ solve_of Kind.Confluence view.entry.now }
+{
+    let terms = [
+        view.term(Share::Brings, 0),
+        view.term(Share::Brings, 1),
+        view.term(Share::Takes, 2),
+    ];
+    put_solved(view, settle(Some(0), &terms))
+}
+
+impl Method for ConfluenceMethod {
+    ghost code = { λ _. 2 };
+
+    fn code(&self) -> u8 {
+        2
+    }
+
+    fn solve(&self, kind: &Kind, view: &View) -> Solved {
+        match kind {
+            Kind::Confluence => solve_confluence(view),
+            _ => unreachable!(),
+        }
+    }
+}

@@ -1,0 +1,17 @@
+//! The methods of what water only runs through: gages, confluences, bifurcations and reaches. Each answers what the
+//! definition of a dispatch says of its kind. No call takes memory.
+#![tactic(auto)]
+
+mod bifurcation;
+mod confluence;
+mod gage;
+mod reach;
+#[cfg(test)]
+mod tests;
+#[cfg(test)]
+mod worked;
+
+pub use bifurcation::BifurcationMethod;
+pub use confluence::ConfluenceMethod;
+pub use gage::GageMethod;
+pub use reach::ReachMethod;

@@ -1,0 +1,93 @@
+ghost use Rattle.std.specs.Prelude.{◌≡◌, ◌+ℤ◌, suc, zero, [], ℕ, ℤ, Bool, List};
+ghost use Rattle.std.specs.Option.{ForSome};
+ghost use Rattle.rw_model.specs.declared.kind.Kind.TheVariants as Kind;
+ghost use Rattle.rw_method.specs.Term.{IsWithin};
+ghost use Rattle.rw_method.specs.Balance.{sum_of, side_flows};
+ghost use Rattle.rw_method.specs.Solve.{solve_of};
+
+use rw_base::Qty;
+use rw_method::{Method, Share, Solved, View, put_solved, settle, side_flows};
+use rw_model::Kind;
+
+/// The method of a reach: what flowed in as many timesteps ago as its lag flows out, and what flows in by the side.
+#[derive(Debug, Drop)]
+pub struct ReachMethod;
+
+fn with_side(past: Qty, side: i128) -> i128
+    requires { IsWithin 3 side }
+    ensures flow { result ≡ past +ℤ side }
+    ensures bound { IsWithin 6 result }
+{
+    i128::from(past.get()) + side
+}
+
+// What flowed in as many timesteps ago as the lag, and what flows in by the side.
+fn lagged_outflow(past: Option<Qty>, side: Option<i128>) -> Option<i128>
+    requires { ForSome side (IsWithin 3) }
+    ensures flow { result ≡ sum_of past side }
+    ensures bound { ForSome result (IsWithin 6) }
+{
+    match (past, side) {
+        (Some(past), Some(side)) => Some(with_side(past, side)),
+        _ => None,
+    }
+}
+
+fn solve_unlagged(view: &View, side: Option<i128>) -> Solved
+    requires { ForSome side (IsWithin 3) }
+    ensures { (history : List ℤ) (local_inflow diversion return_flow : Bool)
+        → side ≡ side_flows view.entry.now 2 local_inflow diversion return_flow
+        → result ≡ solve_of (Kind.Reach zero history local_inflow diversion return_flow) view.entry.now }
+{
+    let terms = [view.term(Share::Brings, 0), view.term(Share::Takes, 1)];
+    put_solved(view, settle(side, &terms))
+}
+
+fn solve_lagged(view: &View, side: Option<i128>) -> Solved
+    requires { ForSome side (IsWithin 3) }
+    ensures { (lag : ℕ) (history : List ℤ) (local_inflow diversion return_flow : Bool)
+        → side ≡ side_flows view.entry.now 2 local_inflow diversion return_flow
+        → result ≡ solve_of (Kind.Reach (suc lag) history local_inflow diversion return_flow) view.entry.now }
+{
+    let terms = [view.term(Share::Takes, 1)];
+    put_solved(view, settle(lagged_outflow(view.past, side), &terms))
+}
+
+pub(crate) fn solve_reach(
+    view: &View,
+    lag: u8,
+    local_inflow: bool,
+    diversion: bool,
+    return_flow: bool,
+) -> Solved
+    ensures { (history : List ℤ)
+        → result ≡ solve_of (Kind.Reach lag history local_inflow diversion return_flow) view.entry.now }
+{
+    let side = side_flows(view, 2, local_inflow, diversion, return_flow);
+    if lag == 0 {
+        solve_unlagged(view, side)
+    } else {
+        solve_lagged(view, side)
+    }
+}
+
+impl Method for ReachMethod {
+    ghost code = { λ _. 4 };
+
+    fn code(&self) -> u8 {
+        4
+    }
+
+    fn solve(&self, kind: &Kind, view: &View) -> Solved {
+        match kind {
+            Kind::Reach {
+                lag,
+                local_inflow,
+                diversion,
+                return_flow,
+                ..
+            } => solve_reach(view, *lag, *local_inflow, *diversion, *return_flow),
+            _ => unreachable!(),
+        }
+    }
+}
