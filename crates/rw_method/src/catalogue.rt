@@ -23,7 +23,8 @@ pub enum CatalogueFault {
 /// One method for each kind with a balance, in the order of the kinds' numbers.
 #[derive(Drop)]
 pub struct Catalogue {
-    methods: Vec<Box<dyn Method>>,
+    /// The methods, in that order.
+    pub methods: Vec<Box<dyn Method>>,
     ghost whole: { length methods.items ≡ 7 },
 }
 
