@@ -5,8 +5,8 @@ use Rattle.rw_io.specs.Causes.{Rose}
 use Rattle.rw_top.specs.Command.{inputs_path, model_path}
 use Rattle.rw_top.specs.FirstInputs.{IsFirstInputs}
 use Rattle.rw_top.specs.FirstModel.{IsFirstModel}
-use Rattle.rw_top.specs.Reading.{IsHonest, IsTooLong, ReadsBoth, ReadsModel, RefusesInputs, RefusesModel, WasRead}
-use Rattle.rw_top.specs.Refusal.{Cause, HoldsTooLong, status_of}
+use Rattle.rw_top.specs.Reading.{IsHonestOfBoth, IsHonestOfModel, IsTooLong, ReadsBoth, ReadsModel, RefusesInputs, RefusesModel, WasRead}
+use Rattle.rw_top.specs.Refusal.{Cause, EndsWith, HoldsTooLong, status_of}
 use Rattle.rw_top.specs.declared.refusal.File.TheVariants.{Model as ModelFile, Inputs as InputsFile}
 use Rattle.rw_top.specs.declared.refusal.Refusal.{Refusal}
 use Rattle.rw_top.specs.declared.refusal.Refusal.TheVariants.{Words, CannotRead, CannotWrite, NoMemory, Model, Inputs, TooLong}
@@ -49,7 +49,7 @@ inputs_clash words holds s i ins outs told told' r b =
     r.other ins outs (subst Q (one_steps words holds s i r.steps r.initial told b.model r.model) (subst P text b.form))
 
 -- a model that is refused: the status is the model's
-pub model_due : (words : List (List ℕ)) (holds : List ℕ → Option (List ℕ)) (before now : List ℕ → ℕ) (given : ℕ) (old new : Option (List ℕ)) (m n : ℕ) (r : Refusal) → Cause words holds before now given old new m n r → RefusesModel words holds → IsHonest holds before now (model_path words) → (status_of r ≡ 6) ⊎ (status_of r ≡ 5)
+pub model_due : (words : List (List ℕ)) (holds : List ℕ → Option (List ℕ)) (before now : List ℕ → ℕ) (given : ℕ) (old new : Option (List ℕ)) (m n : ℕ) (r : Refusal) → Cause words holds before now given old new m n r → RefusesModel words holds → IsHonestOfModel words holds before now → EndsWith 6 (status_of r)
 model_due words holds before now given old new m n Words cause due h = absurd (cause.0 due.command)
 model_due words holds before now given old new m n (CannotRead ModelFile) cause due h = absurd (h.stands cause.0.rose)
 model_due words holds before now given old new m n (CannotRead InputsFile) cause due h = absurd (model_clash words holds _ _ h.told due cause.0.reached.2)
@@ -61,37 +61,37 @@ model_due words holds before now given old new m n CannotWrite cause due h = abs
 model_due words holds before now given old new m n NoMemory cause due h = inr refl
 
 -- inputs that are refused: the status is the inputs'
-pub inputs_due : (words : List (List ℕ)) (holds : List ℕ → Option (List ℕ)) (before now : List ℕ → ℕ) (given : ℕ) (old new : Option (List ℕ)) (m n : ℕ) (r : Refusal) → Cause words holds before now given old new m n r → RefusesInputs words holds → IsHonest holds before now (model_path words) → IsHonest holds before now (inputs_path words) → (status_of r ≡ 8) ⊎ (status_of r ≡ 5)
-inputs_due words holds before now given old new m n Words cause due h k = absurd (cause.0 due.model.command)
-inputs_due words holds before now given old new m n (CannotRead ModelFile) cause due h k = absurd (h.stands cause.0.rose)
-inputs_due words holds before now given old new m n (CannotRead InputsFile) cause due h k = absurd (k.stands cause.0.rose)
-inputs_due words holds before now given old new m n (TooLong ModelFile) cause due h k = absurd (long_clash holds _ _ h.told cause.0.holds_too_long.longer due.model.read)
-inputs_due words holds before now given old new m n (TooLong InputsFile) cause due h k = absurd (long_clash holds _ _ k.told cause.0.holds_too_long.longer due.read)
-inputs_due words holds before now given old new m n Model cause due h k = absurd (model_clash words holds _ _ h.told cause.0 due.model)
-inputs_due words holds before now given old new m n Inputs cause due h k = inl refl
-inputs_due words holds before now given old new m n CannotWrite cause due h k = absurd (inputs_clash words holds _ _ _ _ h.told k.told due cause.0.1.read)
-inputs_due words holds before now given old new m n NoMemory cause due h k = inr refl
+pub inputs_due : (words : List (List ℕ)) (holds : List ℕ → Option (List ℕ)) (before now : List ℕ → ℕ) (given : ℕ) (old new : Option (List ℕ)) (m n : ℕ) (r : Refusal) → Cause words holds before now given old new m n r → RefusesInputs words holds → IsHonestOfBoth words holds before now → EndsWith 8 (status_of r)
+inputs_due words holds before now given old new m n Words cause due h = absurd (cause.0 due.model.command)
+inputs_due words holds before now given old new m n (CannotRead ModelFile) cause due h = absurd (h.model.stands cause.0.rose)
+inputs_due words holds before now given old new m n (CannotRead InputsFile) cause due h = absurd (h.inputs.stands cause.0.rose)
+inputs_due words holds before now given old new m n (TooLong ModelFile) cause due h = absurd (long_clash holds _ _ h.model.told cause.0.holds_too_long.longer due.model.read)
+inputs_due words holds before now given old new m n (TooLong InputsFile) cause due h = absurd (long_clash holds _ _ h.inputs.told cause.0.holds_too_long.longer due.read)
+inputs_due words holds before now given old new m n Model cause due h = absurd (model_clash words holds _ _ h.model.told cause.0 due.model)
+inputs_due words holds before now given old new m n Inputs cause due h = inl refl
+inputs_due words holds before now given old new m n CannotWrite cause due h = absurd (inputs_clash words holds _ _ _ _ h.model.told h.inputs.told due cause.0.1.read)
+inputs_due words holds before now given old new m n NoMemory cause due h = inr refl
 
 -- inputs that are too long: the status is that of a file too long
-pub inputs_too_long_due : (words : List (List ℕ)) (holds : List ℕ → Option (List ℕ)) (before now : List ℕ → ℕ) (given : ℕ) (old new : Option (List ℕ)) (m n : ℕ) (r : Refusal) → Cause words holds before now given old new m n r → HoldsTooLong words holds InputsFile → IsHonest holds before now (model_path words) → IsHonest holds before now (inputs_path words) → (status_of r ≡ 10) ⊎ (status_of r ≡ 5)
-inputs_too_long_due words holds before now given old new m n Words cause due h k = absurd (cause.0 due.reached.2.command)
-inputs_too_long_due words holds before now given old new m n (CannotRead ModelFile) cause due h k = absurd (h.stands cause.0.rose)
-inputs_too_long_due words holds before now given old new m n (CannotRead InputsFile) cause due h k = absurd (k.stands cause.0.rose)
-inputs_too_long_due words holds before now given old new m n (TooLong ModelFile) cause due h k = inl refl
-inputs_too_long_due words holds before now given old new m n (TooLong InputsFile) cause due h k = inl refl
-inputs_too_long_due words holds before now given old new m n Model cause due h k = absurd (model_clash words holds _ _ h.told cause.0 due.reached.2)
-inputs_too_long_due words holds before now given old new m n Inputs cause due h k = absurd (long_clash holds _ _ k.told due.longer cause.0.read)
-inputs_too_long_due words holds before now given old new m n CannotWrite cause due h k = absurd (long_clash holds _ _ k.told due.longer cause.0.1.read.read)
-inputs_too_long_due words holds before now given old new m n NoMemory cause due h k = inr refl
+pub inputs_too_long_due : (words : List (List ℕ)) (holds : List ℕ → Option (List ℕ)) (before now : List ℕ → ℕ) (given : ℕ) (old new : Option (List ℕ)) (m n : ℕ) (r : Refusal) → Cause words holds before now given old new m n r → HoldsTooLong words holds InputsFile → IsHonestOfBoth words holds before now → EndsWith 10 (status_of r)
+inputs_too_long_due words holds before now given old new m n Words cause due h = absurd (cause.0 due.reached.2.command)
+inputs_too_long_due words holds before now given old new m n (CannotRead ModelFile) cause due h = absurd (h.model.stands cause.0.rose)
+inputs_too_long_due words holds before now given old new m n (CannotRead InputsFile) cause due h = absurd (h.inputs.stands cause.0.rose)
+inputs_too_long_due words holds before now given old new m n (TooLong ModelFile) cause due h = inl refl
+inputs_too_long_due words holds before now given old new m n (TooLong InputsFile) cause due h = inl refl
+inputs_too_long_due words holds before now given old new m n Model cause due h = absurd (model_clash words holds _ _ h.model.told cause.0 due.reached.2)
+inputs_too_long_due words holds before now given old new m n Inputs cause due h = absurd (long_clash holds _ _ h.inputs.told due.longer cause.0.read)
+inputs_too_long_due words holds before now given old new m n CannotWrite cause due h = absurd (long_clash holds _ _ h.inputs.told due.longer cause.0.1.read.read)
+inputs_too_long_due words holds before now given old new m n NoMemory cause due h = inr refl
 
 -- where both files are read and the output stands, only memory can be wanting
-pub complete : (words : List (List ℕ)) (holds : List ℕ → Option (List ℕ)) (before now : List ℕ → ℕ) (given : ℕ) (old new : Option (List ℕ)) (m n : ℕ) (r : Refusal) → Cause words holds before now given old new m n r → (s i : ℕ) (ins outs : List ℕ) → ReadsBoth words holds s i ins outs → IsHonest holds before now (model_path words) → IsHonest holds before now (inputs_path words) → ¬ Rose m n → status_of r ≡ 5
-complete words holds before now given old new m n Words cause s i ins outs due h k stands = absurd (cause.0 due.model.command)
-complete words holds before now given old new m n (CannotRead ModelFile) cause s i ins outs due h k stands = absurd (h.stands cause.0.rose)
-complete words holds before now given old new m n (CannotRead InputsFile) cause s i ins outs due h k stands = absurd (k.stands cause.0.rose)
-complete words holds before now given old new m n (TooLong ModelFile) cause s i ins outs due h k stands = absurd (long_clash holds _ _ h.told cause.0.holds_too_long.longer due.model.read)
-complete words holds before now given old new m n (TooLong InputsFile) cause s i ins outs due h k stands = absurd (long_clash holds _ _ k.told cause.0.holds_too_long.longer due.read)
-complete words holds before now given old new m n Model cause s i ins outs due h k stands = absurd (model_clash words holds _ _ h.told cause.0 due.model)
-complete words holds before now given old new m n Inputs cause s i ins outs due h k stands = absurd (inputs_clash words holds _ _ _ _ h.told k.told cause.0 due)
-complete words holds before now given old new m n CannotWrite cause s i ins outs due h k stands = absurd (stands cause.1)
-complete words holds before now given old new m n NoMemory cause s i ins outs due h k stands = refl
+pub complete : (words : List (List ℕ)) (holds : List ℕ → Option (List ℕ)) (before now : List ℕ → ℕ) (given : ℕ) (old new : Option (List ℕ)) (m n : ℕ) (r : Refusal) → Cause words holds before now given old new m n r → (s i : ℕ) (ins outs : List ℕ) → ReadsBoth words holds s i ins outs → IsHonestOfBoth words holds before now → ¬ Rose m n → status_of r ≡ 5
+complete words holds before now given old new m n Words cause s i ins outs due h stands = absurd (cause.0 due.model.command)
+complete words holds before now given old new m n (CannotRead ModelFile) cause s i ins outs due h stands = absurd (h.model.stands cause.0.rose)
+complete words holds before now given old new m n (CannotRead InputsFile) cause s i ins outs due h stands = absurd (h.inputs.stands cause.0.rose)
+complete words holds before now given old new m n (TooLong ModelFile) cause s i ins outs due h stands = absurd (long_clash holds _ _ h.model.told cause.0.holds_too_long.longer due.model.read)
+complete words holds before now given old new m n (TooLong InputsFile) cause s i ins outs due h stands = absurd (long_clash holds _ _ h.inputs.told cause.0.holds_too_long.longer due.read)
+complete words holds before now given old new m n Model cause s i ins outs due h stands = absurd (model_clash words holds _ _ h.model.told cause.0 due.model)
+complete words holds before now given old new m n Inputs cause s i ins outs due h stands = absurd (inputs_clash words holds _ _ _ _ h.model.told h.inputs.told cause.0 due)
+complete words holds before now given old new m n CannotWrite cause s i ins outs due h stands = absurd (stands cause.1)
+complete words holds before now given old new m n NoMemory cause s i ins outs due h stands = refl

@@ -60,3 +60,11 @@ path_of words Inputs = inputs_path words
 pub record IsHonest (holds : List ℕ → Option (List ℕ)) (before now : List ℕ → ℕ) (path : List ℕ) : Type 0 where
   pub told : IsSome (holds path)
   pub stands : ¬ Rose (before path) (now path)
+
+-- it is honest of the model, and of the model and its inputs
+abbrev pub IsHonestOfModel : List (List ℕ) → (List ℕ → Option (List ℕ)) → (List ℕ → ℕ) → (List ℕ → ℕ) → Type 0
+IsHonestOfModel words holds before now = IsHonest holds before now (model_path words)
+
+pub record IsHonestOfBoth (words : List (List ℕ)) (holds : List ℕ → Option (List ℕ)) (before now : List ℕ → ℕ) : Type 0 where
+  pub model : IsHonestOfModel words holds before now
+  pub inputs : IsHonest holds before now (inputs_path words)

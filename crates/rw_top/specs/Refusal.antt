@@ -20,6 +20,10 @@ status_of Model = 6
 status_of Inputs = 8
 status_of (TooLong file) = 10
 
+-- the call ends with this status, or with that of want of memory, which may always come
+abbrev pub EndsWith : ℕ → ℕ → Type 0
+EndsWith status result = (result ≡ status) ⊎ (result ≡ 5)
+
 -- the line that says so
 abbrev pub line_of : List (List ℕ) → Refusal → List ℕ
 line_of words Words = codes "basin: words refused\n"

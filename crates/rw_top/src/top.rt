@@ -1,8 +1,8 @@
 ghost use Rattle.std.specs.Prelude.{◌≡◌, ◌≢◌, ◌⊎◌, ◌<◌, ◌≤◌, ℕ, ℤ, List, None, Some};
 ghost use Rattle.rw_io.specs.Causes.{Rose};
-ghost use Rattle.rw_top.specs.Command.{IsCommand, inputs_path, model_path, texts_of};
-ghost use Rattle.rw_top.specs.Reading.{IsHonest, ReadsBoth, RefusesInputs, RefusesModel};
-ghost use Rattle.rw_top.specs.Refusal.{Cause, FailsToRead, FindsTooLong, HoldsTooLong, Tells, WritesAll, WritesFront, line_of, status_of};
+ghost use Rattle.rw_top.specs.Command.{IsCommand, texts_of};
+ghost use Rattle.rw_top.specs.Reading.{IsHonestOfBoth, IsHonestOfModel, ReadsBoth, RefusesInputs, RefusesModel};
+ghost use Rattle.rw_top.specs.Refusal.{Cause, EndsWith, FailsToRead, FindsTooLong, HoldsTooLong, Tells, WritesAll, WritesFront, line_of, status_of};
 ghost use Rattle.rw_top.specs.declared.refusal.File.{File};
 ghost use Rattle.rw_top.specs.declared.refusal.Refusal.{Refusal};
 
@@ -34,31 +34,25 @@ pub fn basin_main<S: Shelf, K: Sink, E: Sink, L: Ledger>(
     ensures silent { result ≤ 1 → E.contents err.new ≡ E.contents err.old }
     ensures still { result ≤ 1 → E.faults err.new ≡ E.faults err.old }
 
-    // 2, 6 and 8 come exactly where the words, the model, the inputs are refused; want of memory may come before.
+    // 2, 6 and 8 come exactly where the words, the model, the inputs are refused, of a shelf that is honest of them.
     ensures words { result ≡ 2 → ¬ IsCommand (texts_of words.now) }
-    ensures words_due { ¬ IsCommand (texts_of words.now) → (result ≡ 2) ⊎ (result ≡ 5) }
+    ensures words_due { ¬ IsCommand (texts_of words.now) → EndsWith 2 result }
     ensures model { result ≡ 6 → RefusesModel (texts_of words.now) (S.holds shelf.old) }
     ensures model_due { RefusesModel (texts_of words.now) (S.holds shelf.old)
-        → IsHonest (S.holds shelf.old) (S.faults shelf.old) (S.faults shelf.new) (model_path (texts_of words.now))
-        → (result ≡ 6) ⊎ (result ≡ 5) }
+        → IsHonestOfModel (texts_of words.now) (S.holds shelf.old) (S.faults shelf.old) (S.faults shelf.new) → EndsWith 6 result }
     ensures inputs { result ≡ 8 → RefusesInputs (texts_of words.now) (S.holds shelf.old) }
     ensures inputs_due { RefusesInputs (texts_of words.now) (S.holds shelf.old)
-        → IsHonest (S.holds shelf.old) (S.faults shelf.old) (S.faults shelf.new) (model_path (texts_of words.now))
-        → IsHonest (S.holds shelf.old) (S.faults shelf.old) (S.faults shelf.new) (inputs_path (texts_of words.now))
-        → (result ≡ 8) ⊎ (result ≡ 5) }
+        → IsHonestOfBoth (texts_of words.now) (S.holds shelf.old) (S.faults shelf.old) (S.faults shelf.new) → EndsWith 8 result }
 
-    // 3 and 4 come only where a count rose, and 10 where too many bytes were given, exactly so where the shelf is honest.
+    // 3 and 4 come only where a count rose, and 10 where too many bytes were given: exactly so of an honest shelf.
     ensures read_fault { result ≡ 3 → (file : File) × FailsToRead (texts_of words.now) (S.holds shelf.old) (S.faults shelf.old) (S.faults shelf.new) file }
     ensures write_fault { result ≡ 4 → Rose (K.faults out.old) (K.faults out.new) }
     ensures write_front { result ≡ 4 → WritesFront (texts_of words.now) (S.holds shelf.old) (K.contents out.old) (K.contents out.new) }
     ensures too_long { result ≡ 10 → (file : File) × FindsTooLong (texts_of words.now) (S.holds shelf.old) (S.given shelf.new) file }
     ensures model_too_long_due { HoldsTooLong (texts_of words.now) (S.holds shelf.old) File.Model
-        → IsHonest (S.holds shelf.old) (S.faults shelf.old) (S.faults shelf.new) (model_path (texts_of words.now))
-        → (result ≡ 10) ⊎ (result ≡ 5) }
+        → IsHonestOfModel (texts_of words.now) (S.holds shelf.old) (S.faults shelf.old) (S.faults shelf.new) → EndsWith 10 result }
     ensures inputs_too_long_due { HoldsTooLong (texts_of words.now) (S.holds shelf.old) File.Inputs
-        → IsHonest (S.holds shelf.old) (S.faults shelf.old) (S.faults shelf.new) (model_path (texts_of words.now))
-        → IsHonest (S.holds shelf.old) (S.faults shelf.old) (S.faults shelf.new) (inputs_path (texts_of words.now))
-        → (result ≡ 10) ⊎ (result ≡ 5) }
+        → IsHonestOfBoth (texts_of words.now) (S.holds shelf.old) (S.faults shelf.old) (S.faults shelf.new) → EndsWith 10 result }
 
     // Each status from 2 on is that of a refusal with its cause, whose line was told. Nothing else was written.
     ensures refused { 2 ≤ result → (refusal : Refusal) × (result ≡ status_of refusal)
@@ -71,10 +65,8 @@ pub fn basin_main<S: Shelf, K: Sink, E: Sink, L: Ledger>(
     // Where all is accepted and no count rises, only memory can be wanting.
     ensures complete { (steps initial : ℕ) (inflows outflows : List ℕ)
         → ReadsBoth (texts_of words.now) (S.holds shelf.old) steps initial inflows outflows
-        → IsHonest (S.holds shelf.old) (S.faults shelf.old) (S.faults shelf.new) (model_path (texts_of words.now))
-        → IsHonest (S.holds shelf.old) (S.faults shelf.old) (S.faults shelf.new) (inputs_path (texts_of words.now))
-        → ¬ Rose (K.faults out.old) (K.faults out.new)
-        → (result ≤ 1) ⊎ (result ≡ 5) }
+        → IsHonestOfBoth (texts_of words.now) (S.holds shelf.old) (S.faults shelf.old) (S.faults shelf.new)
+        → ¬ Rose (K.faults out.old) (K.faults out.new) → (result ≤ 1) ⊎ (result ≡ 5) }
 {
     match simulate(alloc, words, shelf, out) {
         Ok(false) => 0,
