@@ -1,10 +1,7 @@
 -- Parts of lists that are copied and appended.
 use Rattle.std.proofs.Common.{◌≡◌, ℕ, ◌+◌, ◌-◌, ◌≤◌, List, ◌++◌, length, take, drop, sym, arith}
 use Rattle.std.proofs.lemmas.List.{take_all, drop-drop, take-append-drop, length-drop}
-use Rattle.std.proofs.Math.Seq.{take-append_seam, take-add}
-use Rattle.std.specs.Prelude.{Option, None, Some}
-use Rattle.std.proofs.Common.{append_assoc}
-use Rattle.rw_io.specs.Known.{GrowsBy}
+use Rattle.std.proofs.Math.Seq.{take-append_seam}
 
 -- what was copied to the front, and what is left
 pub copied : (at n m : ℕ) (bytes new tail : List ℕ) → new ≡ take n (take m (drop at bytes)) → length bytes - at ≤ m → length new ≡ n → drop at bytes ≡ take n (new ++ tail) ++ drop (at + n) bytes

@@ -1,4 +1,4 @@
-ghost use Rattle.std.specs.Prelude.{◌≡◌, ℕ, ◌<◌, ◌≤◌, List, [], Option, length, OnErr, IfOk};
+ghost use Rattle.std.specs.Prelude.{◌≡◌, ℕ, ◌<◌, ◌≤◌, List, Option, length, OnErr, IfOk};
 ghost use Rattle.rw_io.specs.Causes.{Rose};
 ghost use Rattle.rw_io.specs.Known.{SinkAppends};
 

@@ -1,5 +1,5 @@
 -- What is found of an honest shelf is one thing: so a refusal that is due is given.
-use Rattle.std.proofs.Common.{◌≡◌, ◌⊎◌, inl, inr, ℕ, ◌<◌, ◌≤◌, List, length, refl, sym, ◌∙◌, subst, arith, None, Some, IfSome}
+use Rattle.std.proofs.Common.{◌≡◌, inl, inr, ℕ, ◌<◌, ◌≤◌, List, length, refl, sym, ◌∙◌, subst, arith, None, Some, IfSome}
 use Rattle.std.specs.Prelude.{Option, IsSome}
 use Rattle.rw_io.specs.Causes.{Rose}
 use Rattle.rw_top.specs.Command.{inputs_path, model_path}

@@ -1,8 +1,7 @@
 -- Parts of a line that are written one after another.
-use Rattle.std.proofs.Common.{◌≡◌, inl, inr, ℕ, ◌+◌, ◌≤◌, List, ◌++◌, length, take, min, Bool, true, false, sym, ◌∙◌, subst, arith, append_assoc, None, Some}
+use Rattle.std.proofs.Common.{inl, inr, ℕ, ◌≤◌, List, ◌++◌, length, Bool, true, false, sym, subst, arith}
 use Rattle.std.specs.Prelude.{Option, MatchBool}
-use Rattle.std.proofs.lemmas.List.{take-append-le, take_all, take_min}
-use Rattle.std.proofs.Math.Seq.{take-append-add}
+use Rattle.std.proofs.lemmas.List.{take_all}
 use Rattle.rw_io.specs.Causes.{Rose}
 use Rattle.rw_io.specs.Known.{GrowsBy, PrefixGrew}
 use Rattle.rw_io.proofs.KnownLemmas.{GrowsBy-trans, PrefixGrew-left, PrefixGrew-right}

@@ -1,4 +1,4 @@
-ghost use Rattle.std.specs.Prelude.{◌≡◌, ℕ, ◌^◌, ◌<◌, ◌≤◌, MatchOption, IfSome};
+ghost use Rattle.std.specs.Prelude.{ℕ, ◌^◌, ◌<◌, MatchOption, IfSome};
 ghost use Rattle.rw_top.specs.FirstModel.{IsFirstModel};
 
 use crate::numeral::{read_plain_numeral, skip};

@@ -1,5 +1,4 @@
 ghost use Rattle.std.specs.Prelude.{◌≡◌, ℕ, List, ◌<◌, ◌≤◌, ◌^◌, All, Option, ℤ, string_bytes, is_some, length, IfErr, IfOk, MatchResult};
-ghost use Rattle.rw_io.specs.Causes.{Rose};
 ghost use Rattle.rw_top.specs.Command.{texts_of};
 ghost use Rattle.rw_top.specs.Reading.{ReadsBoth};
 ghost use Rattle.rw_top.specs.Refusal.{Cause, ReadCause, WritesAll};
