@@ -1,6 +1,6 @@
 ghost use Rattle.std.specs.Prelude.{◌≡◌, ◌⊎◌, Err, OnOk, IfOk, IfErr};
 ghost use Rattle.rw_table.specs.Table.{IsTable, IsFault};
-ghost use Rattle.rw_table.specs.Curve.{vol_of, elev_of};
+ghost use Rattle.rw_table.specs.Curve.{vol_of, elev_of, first_row};
 
 use crate::fault::{TableFault, judge};
 use crate::lookup::{elevation_at, volume_at};
@@ -57,6 +57,14 @@ impl Rating {
         ensures table { IsTable self.now }
     {
         elevation_at(&self.rows, s)
+    }
+
+    /// The lowest elevation of the table in mm.
+    pub fn lowest(&self) -> i64
+        ensures lowest { result ≡ (first_row self.now).0 }
+        ensures table { IsTable self.now }
+    {
+        self.rows[0].0
     }
 }
 

@@ -30,6 +30,9 @@ fn worked_values(rt: HostRuntime) -> Result<(), Fail> {
     for (s, want) in elevations {
         assert_eq!(rt; rating.elev(s), want, "the elevation at {s}");
     }
+    assert_eq!(rt; rating.lowest(), 0);
+    let raised = Rating::of(rt.alloc(), &[(700, 0), (1000, 500)])?;
+    assert_eq!(rt; raised.lowest(), 700);
     Ok(())
 }
 
