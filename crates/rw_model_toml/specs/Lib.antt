@@ -1,0 +1,4 @@
+pub mod Refusal
+pub mod Fault
+pub mod Path
+pub mod Value

@@ -1,0 +1,75 @@
+ghost use Rattle.std.specs.Prelude.{◌≤ℤ◌, IfOk, string_bytes};
+ghost use Rattle.toml.specs.View.{view, array_view, table_view};
+ghost use Rattle.rw_model_toml.specs.Fault.{Gives};
+ghost use Rattle.rw_model_toml.specs.Value.{integer_of, text_of, truth_of, items_of, members_of, number_of};
+
+use crate::ModelFault;
+use rw_model::BuildFault;
+use toml::{Table, Value};
+
+/// The integer that the value at the path is.
+pub fn integer(path: String, value: &Value) -> Result<i64, ModelFault>
+    ensures { Gives (λ z. z) result (integer_of (string_bytes path) (view value.now)) }
+{
+    match value {
+        Value::Integer(z) => Ok(*z),
+        _ => Err(ModelFault::WrongKind(path)),
+    }
+}
+
+/// The text that it is.
+pub fn text(path: String, value: &Value) -> Result<&str, ModelFault>
+    ensures { Gives (λ text. text.now) result (text_of (string_bytes path) (view value.now)) }
+{
+    match value {
+        Value::String(text) => Ok(text.as_str()),
+        _ => Err(ModelFault::WrongKind(path)),
+    }
+}
+
+/// The truth value that it is.
+pub fn truth(path: String, value: &Value) -> Result<bool, ModelFault>
+    ensures { Gives (λ b. b) result (truth_of (string_bytes path) (view value.now)) }
+{
+    match value {
+        Value::Boolean(b) => Ok(*b),
+        _ => Err(ModelFault::WrongKind(path)),
+    }
+}
+
+/// The items of the array that it is.
+pub fn items(path: String, value: &Value) -> Result<&Vec<Value>, ModelFault>
+    ensures { Gives (λ items. array_view items.now) result (items_of (string_bytes path) (view value.now)) }
+{
+    match value {
+        Value::Array(items) => Ok(items),
+        _ => Err(ModelFault::WrongKind(path)),
+    }
+}
+
+/// The table that it is.
+pub fn table(path: String, value: &Value) -> Result<&Table, ModelFault>
+    ensures { Gives (λ table. table_view table.now) result (members_of (string_bytes path) (view value.now)) }
+{
+    match value {
+        Value::Table(table) => Ok(table),
+        _ => Err(ModelFault::WrongKind(path)),
+    }
+}
+
+/// The whole number from low to high that it is.
+pub fn number(path: String, value: &Value, low: i64, high: i64) -> Result<i64, ModelFault>
+    ensures read { Gives (λ z. z) result (number_of low high (string_bytes path) (view value.now)) }
+    ensures least { IfOk result (λ z. low ≤ℤ z) }
+    ensures most { IfOk result (λ z. z ≤ℤ high) }
+{
+    match value {
+        Value::Integer(z) => {
+            if *z < low || *z > high {
+                return Err(ModelFault::Build(path, BuildFault::BadParameter));
+            }
+            Ok(*z)
+        }
+        _ => Err(ModelFault::WrongKind(path)),
+    }
+}
