@@ -1,5 +1,5 @@
 -- What a value has to be.
-use Rattle.std.specs.Prelude.{ℕ, ℤ, List, Bool, ◌||◌, if◌then◌else◌, int_lt, Result, Ok, Err}
+use Rattle.std.specs.Prelude.{ℕ, ℤ, List, Bool, ◌||◌, if◌then◌else◌, int_lt, pos, unsigned_abs, Result, Ok, Err}
 use Rattle.toml.specs.Data.{Data, string, integer, boolean, array, table, Items, Members}
 use Rattle.rw_model_toml.specs.Refusal.{Refusal, ◌>>=◌, wrong_kind, out_of_range}
 
@@ -30,3 +30,7 @@ within low high path z = if int_lt z low || int_lt high z then Err (out_of_range
 
 abbrev pub number_of : ℤ → ℤ → List ℕ → Data → Result ℤ Refusal
 number_of low high path value = integer_of path value >>= within low high path
+
+-- a whole number from low to high, neither below 0
+abbrev pub count_of : ℕ → ℕ → List ℕ → Data → Result ℕ Refusal
+count_of low high path value = number_of (pos low) (pos high) path value >>= λ z. Ok (unsigned_abs z)

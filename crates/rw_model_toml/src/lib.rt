@@ -2,7 +2,12 @@
 #![tactic(auto)]
 
 mod fault;
+mod key;
+mod listed;
 mod path;
+mod run;
+mod start_text;
 mod value;
+mod word;
 
 pub use fault::ModelFault;

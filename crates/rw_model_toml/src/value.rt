@@ -1,7 +1,7 @@
-ghost use Rattle.std.specs.Prelude.{◌≤ℤ◌, IfOk, string_bytes};
+ghost use Rattle.std.specs.Prelude.{◌≤◌, ◌≤ℤ◌, IfOk, string_bytes};
 ghost use Rattle.toml.specs.View.{view, array_view, table_view};
 ghost use Rattle.rw_model_toml.specs.Fault.{Gives};
-ghost use Rattle.rw_model_toml.specs.Value.{integer_of, text_of, truth_of, items_of, members_of, number_of};
+ghost use Rattle.rw_model_toml.specs.Value.{integer_of, text_of, truth_of, items_of, members_of, number_of, count_of};
 
 use crate::ModelFault;
 use rw_model::BuildFault;
@@ -72,4 +72,14 @@ pub fn number(path: String, value: &Value, low: i64, high: i64) -> Result<i64, M
         }
         _ => Err(ModelFault::WrongKind(path)),
     }
+}
+
+/// The whole number from low to high that it is, where these are counts.
+pub fn count(path: String, value: &Value, low: u16, high: u16) -> Result<u16, ModelFault>
+    ensures read { Gives (λ n. n) result (count_of low high (string_bytes path) (view value.now)) }
+    ensures least { IfOk result (λ n. low ≤ n) }
+    ensures most { IfOk result (λ n. n ≤ high) }
+{
+    let z = number(path, value, i64::from(low), i64::from(high))?;
+    Ok(z as u16)
 }
