@@ -1,7 +1,8 @@
 -- Keys of a table.
-use Rattle.std.specs.Prelude.{ℕ, List, [], ◌∷◌, Bool, false, ◌||◌, if◌then◌else◌, Option, Some, None, Result, Ok, Err, bytes_eq}
+use Rattle.std.specs.Prelude.{ℕ, List, Bool, if◌then◌else◌, Option, Some, None, Result, Ok, Err, bytes_eq}
+use Rattle.std.specs.List.{list_any}
 use Rattle.toml.specs.Data.{Data, Members, no_members, member, get_member}
-use Rattle.rw_model_toml.specs.Refusal.{Refusal, missing, unknown_key}
+use Rattle.rw_model_toml.specs.Refusal.{Refusal, missing, unknown_key, out_of_range}
 use Rattle.rw_model_toml.specs.Path.{key_path}
 
 -- what the value is judged to be, if there is one
@@ -17,10 +18,14 @@ required judge at key table = judged_or (Err (missing (key_path at key))) (judge
 abbrev pub optional : {A : Type 0} → A → (List ℕ → Data → Result A Refusal) → List ℕ → List ℕ → Members → Result A Refusal
 optional default judge at key table = judged_or (Ok default) (judge (key_path at key)) (get_member key table)
 
+-- what a text at the path stands for, if it stands for anything
+abbrev pub known_or : {A : Type 0} → List ℕ → Option A → Result A Refusal
+known_or path None = Err (out_of_range path)
+known_or path (Some x) = Ok x
+
 -- the key is one of these
 abbrev pub is_listed : List (List ℕ) → List ℕ → Bool
-is_listed [] key = false
-is_listed (listed ∷ keys) key = bytes_eq key listed || is_listed keys key
+is_listed keys key = list_any (bytes_eq key) keys
 
 -- nothing, or the first key that isn't listed. The keys of a table ascend in the order of their bytes
 abbrev pub only_listed : List (List ℕ) → List ℕ → Members → Result (Unit {0}) Refusal

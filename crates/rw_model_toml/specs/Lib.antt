@@ -3,6 +3,10 @@ pub mod Fault
 pub mod Path
 pub mod Value
 pub mod Key
+pub mod ListOf
 pub mod StartText
 pub mod Word
 pub mod Run
+pub mod Names
+pub mod Rows
+pub mod Kinds

@@ -1,20 +1,15 @@
 -- What the table `run` says.
-use Rattle.std.specs.Prelude.{ℕ, List, [], ◌∷◌, Option, Some, None, Result, Ok, Err, codes}
+use Rattle.std.specs.Prelude.{ℕ, List, [], ◌∷◌, Result, Ok, codes}
 use Rattle.rw_calendar.specs.declared.start.Start.{Start}
 use Rattle.rw_calendar.specs.declared.step_length.StepLength.{StepLength}
 use Rattle.rw_model.specs.declared.control.AgendaOrder.{AgendaOrder}
 use Rattle.toml.specs.Data.{Members}
 use Rattle.rw_model_toml.specs.declared.run.Run.{Run}
-use Rattle.rw_model_toml.specs.Refusal.{Refusal, ◌>>=◌, out_of_range}
+use Rattle.rw_model_toml.specs.Refusal.{Refusal, ◌>>=◌}
 use Rattle.rw_model_toml.specs.Value.{text_of, count_of}
-use Rattle.rw_model_toml.specs.Key.{required, optional, only_listed}
+use Rattle.rw_model_toml.specs.Key.{required, optional, known_or, only_listed}
 use Rattle.rw_model_toml.specs.StartText.{start_in}
 use Rattle.rw_model_toml.specs.Word.{step_length_in, agenda_in}
-
--- what a text at the path stands for, if it stands for anything
-abbrev pub known_or : {A : Type 0} → List ℕ → Option A → Result A Refusal
-known_or path None = Err (out_of_range path)
-known_or path (Some x) = Ok x
 
 abbrev pub start_of : Members → Result Start Refusal
 start_of table = required text_of (codes "run") (codes "start") table >>= λ text. known_or (codes "run.start") (start_in text)

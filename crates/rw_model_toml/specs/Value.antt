@@ -1,5 +1,5 @@
 -- What a value has to be.
-use Rattle.std.specs.Prelude.{ℕ, ℤ, List, Bool, ◌||◌, if◌then◌else◌, int_lt, pos, unsigned_abs, Result, Ok, Err}
+use Rattle.std.specs.Prelude.{ℕ, ℤ, List, Bool, ◌||◌, if◌then◌else◌, int_lt, pos, unsigned_abs, Option, Some, Result, Ok, Err}
 use Rattle.toml.specs.Data.{Data, string, integer, boolean, array, table, Items, Members}
 use Rattle.rw_model_toml.specs.Refusal.{Refusal, ◌>>=◌, wrong_kind, out_of_range}
 
@@ -34,3 +34,7 @@ number_of low high path value = integer_of path value >>= within low high path
 -- a whole number from low to high, neither below 0
 abbrev pub count_of : ℕ → ℕ → List ℕ → Data → Result ℕ Refusal
 count_of low high path value = number_of (pos low) (pos high) path value >>= λ z. Ok (unsigned_abs z)
+
+-- the same, of a key that may be left out
+abbrev pub given_number : ℤ → ℤ → List ℕ → Data → Result (Option ℤ) Refusal
+given_number low high path value = number_of low high path value >>= λ z. Ok (Some z)

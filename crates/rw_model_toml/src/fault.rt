@@ -2,7 +2,7 @@ use rw_base::NoMemory;
 use rw_calendar::CalFault;
 use rw_model::BuildFault;
 use rw_table::TableFault;
-use std::alloc::AllocError;
+use std::alloc::{AllocError, AllocFailed};
 use thiserror::Error;
 
 /// Why a model is refused: the path of the key, as `object[2].table[3]`, and what is wrong there.
@@ -44,6 +44,17 @@ impl From<AllocError> for ModelFault {
     ghost from_gives = { λ _ fault. fault ≡ Exhausted };
 
     fn from(_: AllocError) -> Self {
+        ModelFault::NoMemory
+    }
+}
+
+impl<T: Drop> From<AllocFailed<T>> for ModelFault {
+    ghost use Rattle.std.specs.Prelude.{◌≡◌};
+    ghost use Rattle.rw_model_toml.specs.declared.fault.ModelFault.TheVariants.{NoMemory as Exhausted};
+
+    ghost from_gives = { λ _ fault. fault ≡ Exhausted };
+
+    fn from(_: AllocFailed<T>) -> Self {
         ModelFault::NoMemory
     }
 }

@@ -1,13 +1,13 @@
-ghost use Rattle.std.specs.Prelude.{◌≡◌, ◌≤◌, ◌≤ℤ◌, false, IfOk, option_map};
-ghost use Rattle.toml.specs.Data.{get_member};
-ghost use Rattle.toml.specs.View.{view, array_view, table_view};
+ghost use Rattle.std.specs.Prelude.{◌≡◌, ◌≤◌, ◌≤ℤ◌, false, IfOk, None, option_map};
+ghost use Rattle.toml.specs.Data.{get_member, no_items};
+ghost use Rattle.toml.specs.View.{view, items_view, table_view};
 ghost use Rattle.rw_model_toml.specs.Fault.{Gives};
-ghost use Rattle.rw_model_toml.specs.Value.{text_of, truth_of, items_of, members_of, number_of, count_of};
+ghost use Rattle.rw_model_toml.specs.Value.{integer_of, text_of, truth_of, items_of, members_of, number_of, count_of, given_number};
 ghost use Rattle.rw_model_toml.specs.Key.{required, optional};
 
 use crate::ModelFault;
 use crate::path::key_path;
-use crate::value::{count, items, number, table, text, truth};
+use crate::value::{count, integer, items, number, table, text, truth};
 use std::alloc::Global;
 use toml::{Table, Value};
 
@@ -66,13 +66,29 @@ pub fn required_items<'a>(
     at: &str,
     key: &str,
     members: &'a Table,
-) -> Result<&'a Vec<Value>, ModelFault>
-    ensures { Gives (λ items. array_view items.now) result (required items_of at.now key.now (table_view members.now)) }
+) -> Result<&'a [Value], ModelFault>
+    ensures { Gives (λ items. items_view items.now) result (required items_of at.now key.now (table_view members.now)) }
 {
     let path = key_path(alloc, at, key)?;
     match member(members, key) {
         Some(value) => items(path, value),
         None => Err(ModelFault::Missing(path)),
+    }
+}
+
+/// The items of the array at a key, or none.
+pub fn optional_items<'a>(
+    alloc: Global,
+    at: &str,
+    key: &str,
+    members: &'a Table,
+) -> Result<&'a [Value], ModelFault>
+    ensures { Gives (λ items. items_view items.now) result
+        (optional no_items items_of at.now key.now (table_view members.now)) }
+{
+    match member(members, key) {
+        Some(value) => items(key_path(alloc, at, key)?, value),
+        None => Ok(&[]),
     }
 }
 
@@ -87,7 +103,23 @@ pub fn required_table<'a>(
 {
     let path = key_path(alloc, at, key)?;
     match member(members, key) {
-        Some(value) => table(path, value),
+        Some(value) => table(alloc, path.as_str(), value),
+        None => Err(ModelFault::Missing(path)),
+    }
+}
+
+/// The integer at a key that has to be there.
+pub fn required_integer(
+    alloc: Global,
+    at: &str,
+    key: &str,
+    members: &Table,
+) -> Result<i64, ModelFault>
+    ensures { Gives (λ z. z) result (required integer_of at.now key.now (table_view members.now)) }
+{
+    let path = key_path(alloc, at, key)?;
+    match member(members, key) {
+        Some(value) => integer(path, value),
         None => Err(ModelFault::Missing(path)),
     }
 }
@@ -151,5 +183,25 @@ pub fn optional_count(
     match member(members, key) {
         Some(value) => count(key_path(alloc, at, key)?, value, low, high),
         None => Ok(default),
+    }
+}
+
+/// The whole number from low to high at a key, if there is one.
+pub fn number_if_given(
+    alloc: Global,
+    at: &str,
+    key: &str,
+    members: &Table,
+    low: i64,
+    high: i64,
+) -> Result<Option<i64>, ModelFault>
+    ensures { Gives (λ z. z) result (optional None (given_number low high) at.now key.now (table_view members.now)) }
+{
+    match member(members, key) {
+        Some(value) => {
+            let z = number(key_path(alloc, at, key)?, value, low, high)?;
+            Ok(Some(z))
+        }
+        None => Ok(None),
     }
 }

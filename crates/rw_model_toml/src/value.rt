@@ -1,10 +1,11 @@
 ghost use Rattle.std.specs.Prelude.{◌≤◌, ◌≤ℤ◌, IfOk, string_bytes};
-ghost use Rattle.toml.specs.View.{view, array_view, table_view};
+ghost use Rattle.toml.specs.View.{view, items_view, table_view};
 ghost use Rattle.rw_model_toml.specs.Fault.{Gives};
 ghost use Rattle.rw_model_toml.specs.Value.{integer_of, text_of, truth_of, items_of, members_of, number_of, count_of};
 
 use crate::ModelFault;
 use rw_model::BuildFault;
+use std::alloc::Global;
 use toml::{Table, Value};
 
 /// The integer that the value at the path is.
@@ -38,22 +39,22 @@ pub fn truth(path: String, value: &Value) -> Result<bool, ModelFault>
 }
 
 /// The items of the array that it is.
-pub fn items(path: String, value: &Value) -> Result<&Vec<Value>, ModelFault>
-    ensures { Gives (λ items. array_view items.now) result (items_of (string_bytes path) (view value.now)) }
+pub fn items(path: String, value: &Value) -> Result<&[Value], ModelFault>
+    ensures { Gives (λ items. items_view items.now) result (items_of (string_bytes path) (view value.now)) }
 {
     match value {
-        Value::Array(items) => Ok(items),
+        Value::Array(items) => Ok(items.as_slice()),
         _ => Err(ModelFault::WrongKind(path)),
     }
 }
 
 /// The table that it is.
-pub fn table(path: String, value: &Value) -> Result<&Table, ModelFault>
-    ensures { Gives (λ table. table_view table.now) result (members_of (string_bytes path) (view value.now)) }
+pub fn table<'a>(alloc: Global, path: &str, value: &'a Value) -> Result<&'a Table, ModelFault>
+    ensures { Gives (λ table. table_view table.now) result (members_of path.now (view value.now)) }
 {
     match value {
         Value::Table(table) => Ok(table),
-        _ => Err(ModelFault::WrongKind(path)),
+        _ => Err(ModelFault::WrongKind(String::from_str(alloc, path)?)),
     }
 }
 

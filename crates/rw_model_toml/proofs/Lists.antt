@@ -1,0 +1,58 @@
+-- Reading the items of an array one by one.
+use Rattle.std.proofs.Common.{◌≡◌, ℕ, ◌+◌, ◌<◌, List, [], ◌∷◌, ◌++◌, length, drop, get_or, append_assoc, subst, Result, Ok, Err, refl, ap, sym, ◌∙◌}
+use Rattle.toml.specs.declared.value.Value.{Value}
+use Rattle.toml.specs.View.{view, items_view}
+use Rattle.toml.proofs.Views.{items_view-drop}
+use Rattle.toml.specs.Data.{Data, Items, item}
+use Rattle.rw_model_toml.specs.declared.fault.ModelFault.{ModelFault}
+use Rattle.rw_model_toml.specs.Fault.{IsWhy, Gives}
+use Rattle.std.specs.Result.{IsErrAnd}
+use Rattle.rw_model_toml.specs.Refusal.{Refusal, ◌>>=◌}
+use Rattle.rw_model_toml.specs.Path.{element_path}
+use Rattle.rw_model_toml.specs.ListOf.{list_of}
+
+-- what is read after what is there already
+abbrev pub after : {A : Type 0} → List A → Result (List A) Refusal → Result (List A) Refusal
+after done rest = rest >>= λ xs. Ok (done ++ xs)
+
+after-cons : {A : Type 0} (done : List A) (x : A) (rest : Result (List A) Refusal) → after (done ++ x ∷ []) rest ≡ after done (rest >>= λ xs. Ok (x ∷ xs))
+after-cons done x (Ok xs) = ap Ok (append_assoc done (x ∷ []) xs)
+after-cons done x (Err refusal) = refl
+
+-- one more item is read
+pub list_of-next : {A : Type 0} (judge : List ℕ → Data → Result A Refusal) (path : List ℕ) (number : ℕ) (value : Data) (rest : Items) (done : List A) (x : A)
+    → judge (element_path path number) value ≡ Ok x
+    → after (done ++ x ∷ []) (list_of judge path (number + 1) rest) ≡ after done (list_of judge path number (item value rest))
+list_of-next judge path number value rest done x e = after-cons done x (list_of judge path (number + 1) rest) ∙ rw e refl
+
+-- an item is refused
+pub list_of-fails : {A : Type 0} (judge : List ℕ → Data → Result A Refusal) (path : List ℕ) (number : ℕ) (value : Data) (rest : Items) (done : List A) (fault : ModelFault)
+    → IsWhy (judge (element_path path number) value) fault → IsWhy (after done (list_of judge path number (item value rest))) fault
+list_of-fails judge path number value rest done fault why = λ refusal is. rw (why refusal is) refl
+
+-- the code's loop reads one more item
+pub items-next : {A : Type 0} (judge : List ℕ → Data → Result A Refusal) (path : List ℕ) (vs : List Value) (place : ℕ) (v : Value) (at : List ℕ) (done : List A) (x : A) (new : List A) (all : Result (List A) Refusal)
+    → place < length vs → v ≡ get_or vs place v → at ≡ element_path path (place + 1)
+    → judge at (view v) ≡ Ok x → new ≡ done ++ x ∷ []
+    → after done (list_of judge path (place + 1) (items_view (drop place vs))) ≡ all
+    → after new (list_of judge path (place + 1 + 1) (items_view (drop (place + 1) vs))) ≡ all
+items-next judge path vs place v at done x new all within is where_ read added before =
+    rw added (list_of-next judge path (place + 1) (view v) (items_view (drop (place + 1) vs)) done x (ap (λ p. judge p (view v)) (sym where_) ∙ read)
+    ∙ ap (λ is_. after done (list_of judge path (place + 1) is_)) (ap (λ w. item (view w) (items_view (drop (place + 1) vs))) is ∙ sym (items_view-drop vs place v within))
+    ∙ before)
+
+-- the code's loop comes to an item that is refused
+pub items-fails : {A : Type 0} (judge : List ℕ → Data → Result A Refusal) (path : List ℕ) (vs : List Value) (place : ℕ) (v : Value) (at : List ℕ) (done : List A) (all : Result (List A) Refusal) (fault : ModelFault)
+    → place < length vs → v ≡ get_or vs place v → at ≡ element_path path (place + 1)
+    → IsWhy (judge at (view v)) fault
+    → after done (list_of judge path (place + 1) (items_view (drop place vs))) ≡ all
+    → IsWhy all fault
+items-fails judge path vs place v at done all fault within is where_ why before =
+    subst (λ r. IsWhy r fault) (ap (λ is_. after done (list_of judge path (place + 1) is_)) (ap (λ w. item (view w) (items_view (drop (place + 1) vs))) is ∙ sym (items_view-drop vs place v within)) ∙ before)
+    (list_of-fails judge path (place + 1) (view v) (items_view (drop (place + 1) vs)) done fault (subst (λ p. IsWhy (judge p (view v)) fault) where_ why))
+
+-- a fault that is handed on is why the reading is refused
+pub gives-fault : {X Y : Type 0} (seen : X → Y) (result : Result X ModelFault) (reading : Result Y Refusal) (fault : ModelFault)
+    → IsErrAnd result (λ e. e ≡ fault) → IsWhy reading fault → Gives seen result reading
+gives-fault seen (Ok x) reading fault same why = absurd same
+gives-fault seen (Err e) reading fault same why = subst (IsWhy reading) (sym same) why
