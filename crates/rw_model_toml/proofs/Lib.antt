@@ -1,3 +1,5 @@
 pub mod Forms
 pub mod Lists
 pub mod NameFacts
+pub mod Tests
+pub mod RowFacts

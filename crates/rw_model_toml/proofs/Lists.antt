@@ -1,15 +1,16 @@
 -- Reading the items of an array one by one.
-use Rattle.std.proofs.Common.{◌≡◌, ℕ, ◌+◌, ◌<◌, List, [], ◌∷◌, ◌++◌, length, drop, get_or, append_assoc, subst, Result, Ok, Err, refl, ap, sym, ◌∙◌}
+use Rattle.std.proofs.Common.{arith, None, ◌≢◌, ◌≡◌, ℕ, ◌+◌, ◌<◌, List, [], ◌∷◌, ◌++◌, length, drop, get_or, append_assoc, subst, Result, Ok, Err, refl, ap, sym, ◌∙◌}
 use Rattle.toml.specs.declared.value.Value.{Value}
 use Rattle.toml.specs.View.{view, items_view}
 use Rattle.toml.proofs.Views.{items_view-drop}
-use Rattle.toml.specs.Data.{Data, Items, item}
+use Rattle.toml.specs.Data.{no_items, Data, Items, item}
 use Rattle.rw_model_toml.specs.declared.fault.ModelFault.{ModelFault}
 use Rattle.rw_model_toml.specs.Fault.{IsWhy, Gives}
 use Rattle.std.specs.Result.{IsErrAnd}
 use Rattle.rw_model_toml.specs.Refusal.{Refusal, ◌>>=◌}
 use Rattle.rw_model_toml.specs.Path.{element_path}
 use Rattle.rw_model_toml.specs.ListOf.{list_of}
+use Rattle.rw_model_toml.specs.Kinds.{row_in}
 
 -- what is read after what is there already
 abbrev pub after : {A : Type 0} → List A → Result (List A) Refusal → Result (List A) Refusal
@@ -56,3 +57,21 @@ pub gives-fault : {X Y : Type 0} (seen : X → Y) (result : Result X ModelFault)
     → IsErrAnd result (λ e. e ≡ fault) → IsWhy reading fault → Gives seen result reading
 gives-fault seen (Ok x) reading fault same why = absurd same
 gives-fault seen (Err e) reading fault same why = subst (IsWhy reading) (sym same) why
+
+-- what is refused is refused, whatever would be read next
+pub stops : {A B : Type 0} (reading : Result A Refusal) (next : A → Result B Refusal) (fault : ModelFault) → IsWhy reading fault → IsWhy (reading >>= next) fault
+stops reading next fault why = λ refusal is. rw (why refusal is) refl
+
+-- an array of two values
+pub items-two : (vs : List Value) (a b : Value) → length vs ≡ 2 → a ≡ get_or vs 0 a → b ≡ get_or vs 1 b → items_view vs ≡ item (view a) (item (view b) no_items)
+items-two [] a b two first second = absurd (omega arith)
+items-two (x ∷ []) a b two first second = absurd (omega arith)
+items-two (x ∷ y ∷ []) a b two first second = cc
+items-two (x ∷ y ∷ z ∷ vs) a b two first second = absurd (omega arith)
+
+-- an array of another number of values is no row
+pub items-not-two : (vs : List Value) → length vs ≢ 2 → row_in (items_view vs) ≡ None
+items-not-two [] other = refl
+items-not-two (x ∷ []) other = refl
+items-not-two (x ∷ y ∷ []) other = absurd (other refl)
+items-not-two (x ∷ y ∷ z ∷ vs) other = refl

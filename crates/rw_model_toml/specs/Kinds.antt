@@ -1,6 +1,6 @@
 -- What the table of an object says of its kind.
 use Rattle.std.specs.Prelude.{ℕ, ◌==◌, ℤ, pos, neg_ℤ, List, [], ◌∷◌, length, false, nat_le, ◌&&◌, if◌then◌else◌, Option, Some, None, option_map, Result, Ok, Err, bytes_eq, codes}
-use Rattle.toml.specs.Data.{Data, Items, no_items, item, integer, array, Members}
+use Rattle.toml.specs.Data.{Data, Items, no_items, item, as_integer, array, Members}
 use Rattle.rw_base.specs.Dimension.{Dimension}
 use Rattle.rw_base.specs.Quantity.{quantity_max}
 use Rattle.rw_base.specs.Unit.{units, unit_in}
@@ -71,11 +71,14 @@ abbrev pub history_items_of : List ℕ → ℕ → Members → Result Items Refu
 history_items_of at lag table =
     if lag == 0 then optional no_items items_of at (codes "history") table else required items_of at (codes "history") table
 
+abbrev pub inflow_of : List ℕ → Data → Result ℤ Refusal
+inflow_of path value = number_of (neg_ℤ quantity_max) quantity_max path value
+
 -- one past inflow for each timestep of the lag
 abbrev pub history_of : List ℕ → ℕ → Members → Result (List ℤ) Refusal
 history_of at lag table = do
   items ← history_items_of at lag table
-  inflows ← list_of (number_of (neg_ℤ quantity_max) quantity_max) (key_path at (codes "history")) 1 items
+  inflows ← list_of inflow_of (key_path at (codes "history")) 1 items
   if length inflows == lag then Ok inflows else Err (out_of_range (key_path at (codes "history")))
 
 unfoldable pub reach_of : List ℕ → Members → Result Kind Refusal
@@ -86,9 +89,23 @@ reach_of at table = do
   listed ← only_listed (object_keys (codes "lag" ∷ codes "history" ∷ codes "local_inflow" ∷ codes "diversion" ∷ codes "return_flow" ∷ [])) at table
   Ok (Reach lag history options.local_inflow options.diversion options.return_flow)
 
+abbrev pub both_of : Option ℤ → Option ℤ → Option Row
+both_of (Some elevation) (Some volume) = Some (elevation, volume)
+both_of (Some elevation) None = None
+both_of None volume = None
+
+-- two integers, if there are no more
+abbrev pub row_in : Items → Option Row
+row_in (item elevation (item volume no_items)) = both_of (as_integer elevation) (as_integer volume)
+row_in _ = None
+
+abbrev pub row_or : List ℕ → Option Row → Result Row Refusal
+row_or path None = Err (wrong_kind path)
+row_or path (Some row) = Ok row
+
 -- an elevation and a volume
 abbrev pub row_of : List ℕ → Data → Result Row Refusal
-row_of path (array (item (integer elevation) (item (integer volume) no_items))) = Ok (elevation, volume)
+row_of path (array pair) = row_or path (row_in pair)
 row_of path _ = Err (wrong_kind path)
 
 -- rows with which nothing is wrong are a table
@@ -96,17 +113,21 @@ abbrev pub rated : List ℕ → List Row → Option TableFault → Result (Optio
 rated path rows None = Ok (Some rows)
 rated path rows (Some fault) = Err (bad_table path fault)
 
--- the table of elevations and volumes, if there is one
+-- the table of elevations and volumes
 abbrev pub table_of : List ℕ → Data → Result (Option (List Row)) Refusal
 table_of path value = do
   items ← items_of path value
   rows ← list_of row_of path 1 items
   rated path rows (table_fault rows)
 
+-- the same, if there is one
+abbrev pub rating_of : List ℕ → Members → Result (Option (List Row)) Refusal
+rating_of at table = optional None table_of at (codes "table") table
+
 unfoldable pub reservoir_of : List ℕ → Members → Result Kind Refusal
 reservoir_of at table = do
   initial_storage ← required (number_of (pos 0) quantity_max) at (codes "initial_storage") table
-  rows ← optional None table_of at (codes "table") table
+  rows ← rating_of at table
   options ← options_of at table
   evaporation ← optional false truth_of at (codes "evaporation") table
   max_release ← optional None (given_number (pos 0) quantity_max) at (codes "max_release") table

@@ -6,7 +6,7 @@ use Rattle.rw_table.specs.declared.fault.TableFault.TheVariants.{TooFewRows, Too
 use Rattle.rw_table.specs.Table.{Row}
 
 abbrev pub is_within_bounds : Row → Bool
-is_within_bounds row = int_le (pos 0) row.0 && int_le row.0 (pos 10000000) && int_le (pos 0) row.1 && int_le row.1 (pos 10000000000000)
+is_within_bounds row = int_le (pos 0) row.0 && (int_le row.0 (pos 10000000) && (int_le (pos 0) row.1 && int_le row.1 (pos 10000000000000)))
 
 -- greater in both columns than the row before, if there is one
 abbrev pub is_rising : Option Row → Row → Bool

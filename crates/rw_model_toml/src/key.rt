@@ -12,7 +12,7 @@ use std::alloc::Global;
 use toml::{Table, Value};
 
 /// What stands at a key.
-fn member<'a>(members: &'a Table, key: &str) -> Option<&'a Value>
+pub fn member<'a>(members: &'a Table, key: &str) -> Option<&'a Value>
     ensures { option_map (λ value. view value.now) result ≡ get_member key.now (table_view members.now) }
 {
     members.get(key)

@@ -3,11 +3,14 @@
 
 mod data;
 mod fault;
+mod history;
 mod key;
 mod listed;
 mod name;
+mod object_kind;
 mod options;
 mod path;
+mod rating;
 mod run;
 mod start_text;
 mod value;
