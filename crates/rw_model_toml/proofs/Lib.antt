@@ -3,3 +3,4 @@ pub mod Lists
 pub mod NameFacts
 pub mod Tests
 pub mod RowFacts
+pub mod AddedFacts

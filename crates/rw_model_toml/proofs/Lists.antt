@@ -5,9 +5,15 @@ use Rattle.toml.specs.View.{view, items_view}
 use Rattle.toml.proofs.Views.{items_view-drop}
 use Rattle.toml.specs.Data.{no_items, Data, Items, item}
 use Rattle.rw_model_toml.specs.declared.fault.ModelFault.{ModelFault}
-use Rattle.rw_model_toml.specs.Fault.{IsWhy, Gives}
+use Rattle.rw_model_toml.specs.declared.fault.ModelFault.TheVariants.{NoMemory}
+use Rattle.rw_model.specs.declared.fault.BuildFault.{BuildFault}
+use Rattle.rw_model.specs.declared.fault.BuildFault.TheVariants.{DuplicateName, UnknownSlot, LinkedTwice, LinkWithinObject, LinkDimension, LinkBounds, BadParameter, TooMany, NoMemory as BuildNoMemory}
+use Rattle.rw_model.specs.Draft.{Draft}
+use Rattle.rw_model_toml.specs.File.{in_turn}
+use Rattle.rw_model_toml.specs.Fault.{IsWhy, Gives, refusal_of}
 use Rattle.std.specs.Result.{IsErrAnd}
-use Rattle.rw_model_toml.specs.Refusal.{Refusal, ◌>>=◌}
+use Rattle.std.specs.Option.{ForSome}
+use Rattle.rw_model_toml.specs.Refusal.{Refusal, bad_build, ◌>>=◌}
 use Rattle.rw_model_toml.specs.Path.{element_path}
 use Rattle.rw_model_toml.specs.ListOf.{list_of}
 use Rattle.rw_model_toml.specs.Kinds.{row_in}
@@ -75,3 +81,38 @@ items-not-two [] other = refl
 items-not-two (x ∷ []) other = refl
 items-not-two (x ∷ y ∷ []) other = absurd (other refl)
 items-not-two (x ∷ y ∷ z ∷ vs) other = refl
+
+-- what a builder's fault tells is why the model is refused
+pub told-why : {A : Type 0} (reading : Result A Refusal) (path : List ℕ) (fault : BuildFault) (result : ModelFault)
+    → (fault ≡ BuildNoMemory → result ≡ NoMemory) → (fault ≢ BuildNoMemory → ForSome (refusal_of result) (λ refusal. refusal ≡ bad_build path fault))
+    → (fault ≢ BuildNoMemory → reading ≡ Err (bad_build path fault)) → IsWhy reading result
+told-why reading path BuildNoMemory result memory other why = subst (IsWhy reading) (sym (memory refl)) (λ refusal is. cc)
+told-why reading path DuplicateName result memory other why = λ refusal is. why (λ e. cc) ∙ ap Err (sym (other (λ e. cc) refusal is))
+told-why reading path UnknownSlot result memory other why = λ refusal is. why (λ e. cc) ∙ ap Err (sym (other (λ e. cc) refusal is))
+told-why reading path LinkedTwice result memory other why = λ refusal is. why (λ e. cc) ∙ ap Err (sym (other (λ e. cc) refusal is))
+told-why reading path LinkWithinObject result memory other why = λ refusal is. why (λ e. cc) ∙ ap Err (sym (other (λ e. cc) refusal is))
+told-why reading path LinkDimension result memory other why = λ refusal is. why (λ e. cc) ∙ ap Err (sym (other (λ e. cc) refusal is))
+told-why reading path LinkBounds result memory other why = λ refusal is. why (λ e. cc) ∙ ap Err (sym (other (λ e. cc) refusal is))
+told-why reading path BadParameter result memory other why = λ refusal is. why (λ e. cc) ∙ ap Err (sym (other (λ e. cc) refusal is))
+told-why reading path (TooMany most) result memory other why = λ refusal is. why (λ e. cc) ∙ ap Err (sym (other (λ e. cc) refusal is))
+
+-- the code's loop tells one more item to the builder
+pub turn-next : (told : List ℕ → Data → Draft → Result Draft Refusal) (path : List ℕ) (vs : List Value) (place : ℕ) (v : Value) (at : List ℕ) (draft new : Draft) (all : Result Draft Refusal)
+    → place < length vs → v ≡ get_or vs place v → at ≡ element_path path (place + 1)
+    → told at (view v) draft ≡ Ok new
+    → in_turn told path (place + 1) (items_view (drop place vs)) draft ≡ all
+    → in_turn told path (place + 1 + 1) (items_view (drop (place + 1) vs)) new ≡ all
+turn-next told path vs place v at draft new all within is where_ read before =
+    sym (ap (λ r. r >>= in_turn told path (place + 1 + 1) (items_view (drop (place + 1) vs))) (ap (λ p. told p (view v) draft) (sym where_) ∙ read))
+    ∙ ap (λ is_. in_turn told path (place + 1) is_ draft) (ap (λ w. item (view w) (items_view (drop (place + 1) vs))) is ∙ sym (items_view-drop vs place v within))
+    ∙ before
+
+-- the code's loop comes to an item that the builder refuses
+pub turn-fails : (told : List ℕ → Data → Draft → Result Draft Refusal) (path : List ℕ) (vs : List Value) (place : ℕ) (v : Value) (at : List ℕ) (draft : Draft) (all : Result Draft Refusal) (fault : ModelFault)
+    → place < length vs → v ≡ get_or vs place v → at ≡ element_path path (place + 1)
+    → IsWhy (told at (view v) draft) fault
+    → in_turn told path (place + 1) (items_view (drop place vs)) draft ≡ all
+    → IsWhy all fault
+turn-fails told path vs place v at draft all fault within is where_ why before =
+    subst (λ r. IsWhy r fault) (ap (λ is_. in_turn told path (place + 1) is_ draft) (ap (λ w. item (view w) (items_view (drop (place + 1) vs))) is ∙ sym (items_view-drop vs place v within)) ∙ before)
+    (stops _ (in_turn told path (place + 1 + 1) (items_view (drop (place + 1) vs))) fault (subst (λ p. IsWhy (told p (view v) draft) fault) where_ why))

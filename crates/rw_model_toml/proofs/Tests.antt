@@ -1,5 +1,5 @@
 -- Tests on numbers, and choices by tests.
-use Rattle.std.proofs.Common.{◌≡◌, ℤ, ◌≤ℤ◌, ◌<ℤ◌, int_le, int_lt, List, ℕ, Bool, true, false, if◌then◌else◌, refl, sym, inl, inr, arith, ◌⊎◌}
+use Rattle.std.proofs.Common.{◌≡◌, ℤ, ◌≤ℤ◌, ◌<ℤ◌, int_le, int_lt, List, ℕ, Bool, true, false, if◌then◌else◌, Some, refl, sym, inl, inr, arith, ◌⊎◌}
 use Rattle.std.specs.Prelude.{bytes_eq}
 use Rattle.std.specs.Bool.{Decides}
 use Rattle.std.proofs.lemmas.Bool.{both_ways}
@@ -40,3 +40,12 @@ other-word known word apart = not-true (bytes_eq known word) (λ same. apart (sy
 pub unless : {A : Type 0} (b : Bool) (x y : A) → b ≡ false → (if b then x else y) ≡ y
 unless true x y e = absurd (both_ways true e refl)
 unless false x y e = refl
+
+-- a choice whose test passes
+pub where-true : {A : Type 0} (b : Bool) (x y : A) → b ≡ true → (if b then x else y) ≡ x
+where-true true x y e = refl
+where-true false x y e = absurd (both_ways false refl e)
+
+-- what is in two options that are the same
+pub same-Some : {A : Type 0} {x y : A} → Some x ≡ Some y → x ≡ y
+same-Some e = cc

@@ -10,3 +10,6 @@ pub mod Run
 pub mod Names
 pub mod Rows
 pub mod Kinds
+pub mod Control
+pub mod Added
+pub mod File

@@ -1,6 +1,7 @@
 //! Reads a model from the text of its file.
 #![tactic(auto)]
 
+mod bound_table;
 mod data;
 mod fault;
 mod history;
@@ -8,11 +9,15 @@ mod key;
 mod listed;
 mod name;
 mod object_kind;
+mod object_table;
 mod options;
 mod path;
 mod rating;
 mod run;
+mod run_control;
+mod slot_text;
 mod start_text;
+mod told;
 mod value;
 mod word;
 
