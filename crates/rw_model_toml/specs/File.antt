@@ -1,15 +1,20 @@
 -- What the bytes of a model's file are read as: a basin, or the first thing that is wrong.
 use Rattle.std.specs.Prelude.{Bool, ℕ, ◌+◌, ◌==◌, nat_lt, List, [], ◌∷◌, ◌++◌, length, if◌then◌else◌, Option, Some, None, unwrap_or, Result, Ok, Err, codes}
 use Rattle.std.specs.List.{position_or_len, before_first, after_first}
-use Rattle.toml.specs.Data.{Data, Items, no_items, item}
+use Rattle.std.specs.Str.{is_utf8}
+use Rattle.toml.specs.Data.{Data, Items, no_items, item, Members}
+use Rattle.toml.specs.Parse.{parse_document}
+use Rattle.rw_model.specs.declared.control.RunControl.{RunControl}
 use Rattle.rw_model.specs.declared.fault.BuildFault.{BuildFault}
 use Rattle.rw_model.specs.Slot.{Bounds}
 use Rattle.rw_model.specs.Objects.{Object, slot_named}
 use Rattle.rw_model.specs.Draft.{Draft}
 use Rattle.rw_model_toml.specs.Refusal.{Refusal, ◌>>=◌, bad_build}
 use Rattle.rw_model_toml.specs.Path.{element_path}
-use Rattle.rw_model_toml.specs.Value.{integer_of, text_of, members_of}
-use Rattle.rw_model_toml.specs.Key.{required, only_listed}
+use Rattle.rw_model_toml.specs.Value.{integer_of, text_of, items_of, members_of, count_of}
+use Rattle.rw_model_toml.specs.Key.{required, optional, only_listed}
+use Rattle.rw_model_toml.specs.Run.{run_of}
+use Rattle.rw_model_toml.specs.Control.{control_of}
 use Rattle.rw_model_toml.specs.Names.{name_of}
 use Rattle.rw_model_toml.specs.Kinds.{kind_of}
 use Rattle.rw_model_toml.specs.Added.{object_fault, bound_fault}
@@ -71,3 +76,38 @@ bound_of at value draft = do
 abbrev pub in_turn : (List ℕ → Data → Draft → Result Draft Refusal) → List ℕ → ℕ → Items → Draft → Result Draft Refusal
 in_turn told path number no_items draft = Ok draft
 in_turn told path number (item value rest) draft = told (element_path path number) value draft >>= in_turn told path (number + 1) rest
+
+-- what the file says first: its format, which is 1, and the run
+unfoldable pub control_in : Members → Result RunControl Refusal
+control_in table = do
+  format ← required (count_of 1 1) [] (codes "format") table
+  run_table ← required members_of [] (codes "run") table
+  run ← run_of run_table
+  control_of run
+
+abbrev pub empty_draft : RunControl → Draft
+empty_draft control = record { control = control; objects = []; bounds = [] }
+
+-- objects, links and bounds, in this order
+unfoldable pub filled : RunControl → Members → Result Draft Refusal
+filled control table = do
+  objects ← required items_of [] (codes "object") table
+  with_objects ← in_turn object_of (codes "object") 1 objects (empty_draft control)
+  bounds ← optional no_items items_of [] (codes "bound") table
+  in_turn bound_of (codes "bound") 1 bounds with_objects
+
+-- the keys of the file
+abbrev pub file_keys : List (List ℕ)
+file_keys = codes "format" ∷ codes "run" ∷ codes "object" ∷ codes "link" ∷ codes "bound" ∷ []
+
+-- all that the file says
+unfoldable pub draft_of : Members → Result Draft Refusal
+draft_of table = do
+  control ← control_in table
+  draft ← filled control table
+  listed ← only_listed file_keys [] table
+  Ok draft
+
+-- what the bytes are as TOML, if they are that
+abbrev pub toml_of : List ℕ → Option Members
+toml_of bytes = if is_utf8 bytes then parse_document bytes else None

@@ -7,6 +7,7 @@ mod fault;
 mod history;
 mod key;
 mod listed;
+mod model;
 mod name;
 mod object_kind;
 mod object_table;
