@@ -4,3 +4,4 @@ pub mod NameFacts
 pub mod Tests
 pub mod RowFacts
 pub mod AddedFacts
+pub mod Plain

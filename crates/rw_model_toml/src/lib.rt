@@ -6,6 +6,7 @@ mod data;
 mod fault;
 mod history;
 mod key;
+pub mod law;
 mod listed;
 mod model;
 mod name;
