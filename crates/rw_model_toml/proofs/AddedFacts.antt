@@ -17,14 +17,16 @@ use Rattle.rw_model.specs.declared.kind.Kind.{Kind}
 use Rattle.rw_model.specs.declared.kind.Kind.TheVariants.{DataObject, Gage, Confluence, Bifurcation, Reach, Reservoir, WaterUser, Canal}
 use Rattle.rw_model.specs.Name.{IsName}
 use Rattle.rw_model.specs.Kind.{IsAmount, IsDataSlots, IsLagged, IsStored, IsKind}
+use Rattle.rw_model.specs.Links.{is_slot, link_fault, IsLinkFault}
 use Rattle.rw_model.specs.Slot.{Bounds, IsInside}
 use Rattle.rw_model.specs.Objects.{Object, Placed, object_named, all_slots, slot_at}
 use Rattle.rw_model_toml.specs.Refusal.{bad_build}
-use Rattle.rw_model_toml.specs.File.{built, with_object, with_bound}
+use Rattle.rw_model_toml.specs.Told.{built, with_object, with_link, with_bound}
+use Rattle.rw_model.specs.Basin.{cell_count, has_crossed_bounds, IsBasin, finish_fault, IsFinishFault}
 use Rattle.rw_model.specs.Draft.{Draft, Bound, IsSound, IsFresh, CanAdd, IsObjectFault, bound_of, IsSlot, CanBound, IsBoundFault}
 use Rattle.rw_model_toml.specs.Names.{is_name}
 use Rattle.rw_model_toml.specs.Control.{is_from_to}
-use Rattle.rw_model_toml.specs.Added.{is_data_slots, is_lagged, is_inside, is_release, is_stored, is_kind, is_sound, is_fresh, object_fault, has_slot, is_allowed, bound_fault}
+use Rattle.rw_model_toml.specs.Added.{is_data_slots, is_lagged, is_inside, is_release, is_stored, is_kind, is_sound, is_fresh, object_fault, is_allowed, bound_fault}
 use Rattle.rw_model_toml.proofs.NameFacts.{Decides-le, Decides-name}
 use Rattle.rw_model_toml.proofs.Tests.{Decides-int_le, unless, where-true, same-Some}
 
@@ -142,8 +144,8 @@ object-faulty objects object LinkDimension h other = absurd h
 object-faulty objects object LinkBounds h other = absurd h
 object-faulty objects object NoMemory h other = absurd (other refl)
 
-Decides-slot : (objects : List Object) (slot : ℕ) → Decides (has_slot objects slot) (IsSlot objects slot)
-Decides-slot objects slot = Decides-like (has_slot objects slot)
+Decides-slot : (objects : List Object) (slot : ℕ) → Decides (is_slot objects slot) (IsSlot objects slot)
+Decides-slot objects slot = Decides-like (is_slot objects slot)
     (λ p. record { first = p.0; last = p.1 }) (λ p. (p.first, p.last))
     (Decides-and _ _ (Decides-le 1 slot) (Decides-le slot (length (all_slots objects))))
 
@@ -164,19 +166,19 @@ present (Some x) h = refl
 -- bounds with which nothing is wrong
 pub bound-free : (objects : List Object) (given : List Bound) (slot : ℕ) (bounds : Bounds) → CanBound objects given slot bounds → bound_fault objects given slot bounds ≡ None
 bound-free objects given slot bounds can =
-    where-true (has_slot objects slot) _ _ ((Decides-slot objects slot).1 can.known)
+    where-true (is_slot objects slot) _ _ ((Decides-slot objects slot).1 can.known)
     ∙ unless (is_some (bound_of given slot)) _ _ (absent _ can.free)
     ∙ where-true (is_allowed (slot_at objects slot) bounds) _ _ ((Decides-allowed (slot_at objects slot) bounds).1 can.within)
 
 -- bounds with which something is wrong
 pub bound-faulty : (objects : List Object) (given : List Bound) (slot : ℕ) (bounds : Bounds) (fault : BuildFault)
     → IsBoundFault objects given slot bounds fault → fault ≢ NoMemory → bound_fault objects given slot bounds ≡ Some fault
-bound-faulty objects given slot bounds UnknownSlot h other = unless (has_slot objects slot) _ _ (fails _ (Decides-slot objects slot) h)
+bound-faulty objects given slot bounds UnknownSlot h other = unless (is_slot objects slot) _ _ (fails _ (Decides-slot objects slot) h)
 bound-faulty objects given slot bounds DuplicateName (known, taken) other =
-    where-true (has_slot objects slot) _ _ ((Decides-slot objects slot).1 known)
+    where-true (is_slot objects slot) _ _ ((Decides-slot objects slot).1 known)
     ∙ where-true (is_some (bound_of given slot)) _ _ (present _ taken)
 bound-faulty objects given slot bounds BadParameter (known, free, outside) other =
-    where-true (has_slot objects slot) _ _ ((Decides-slot objects slot).1 known)
+    where-true (is_slot objects slot) _ _ ((Decides-slot objects slot).1 known)
     ∙ unless (is_some (bound_of given slot)) _ _ (absent _ free)
     ∙ unless (is_allowed (slot_at objects slot) bounds) _ _ (fails _ (Decides-allowed (slot_at objects slot) bounds) outside)
 bound-faulty objects given slot bounds NoMemory h other = absurd (other refl)
@@ -207,3 +209,31 @@ bound-added at draft slot bounds can = ap (λ fault. built at fault (more-bounds
 pub bound-refused : (at : List ℕ) (draft : Draft) (slot : ℕ) (bounds : Bounds) (fault : BuildFault) → IsBoundFault draft.objects draft.bounds slot bounds fault → fault ≢ NoMemory
     → with_bound at draft slot bounds ≡ Err (bad_build at fault)
 bound-refused at draft slot bounds fault h other = ap (λ f. built at f (more-bounds draft slot bounds)) (bound-faulty draft.objects draft.bounds slot bounds fault h other)
+
+abbrev more-links : Draft → List ℕ → Draft
+more-links draft slots = record draft { links = draft.links ++ slots ∷ [] }
+
+-- the slots are linked
+pub link-added : (at : List ℕ) (draft : Draft) (slots : List ℕ) → link_fault draft.objects draft.links slots ≡ None
+    → with_link at draft slots ≡ Ok (record draft { links = draft.links ++ slots ∷ [] })
+link-added at draft slots free = ap (λ fault. built at fault (more-links draft slots)) free
+
+-- they aren't
+pub link-refused : (at : List ℕ) (draft : Draft) (slots : List ℕ) (fault : BuildFault) → IsLinkFault draft.objects draft.links slots fault → fault ≢ NoMemory
+    → with_link at draft slots ≡ Err (bad_build at fault)
+link-refused at draft slots fault h other =
+    ⊎_elim (λ is. ap (λ f. built at f (more-links draft slots)) is) (λ want. absurd (other want.0)) h
+
+-- what the builder was told makes a basin
+pub basin-made : (path : List ℕ) (draft : Draft) → IsBasin draft → built path (finish_fault draft) draft ≡ Ok draft
+basin-made path draft basin =
+    ap (λ fault. built path fault draft)
+    (unless (nat_le (length draft.objects) 0) _ _ (fails _ (Decides-le (length draft.objects) 0) (λ none. let some : 1 ≤ length draft.objects = basin.some in omega arith))
+    ∙ where-true (nat_le (cell_count draft) 1000000) _ _ ((Decides-le (cell_count draft) 1000000).1 basin.few_cells)
+    ∙ unless (has_crossed_bounds draft) _ _ basin.meets)
+
+-- it doesn't
+pub basin-refused : (path : List ℕ) (draft : Draft) (fault : BuildFault) → IsFinishFault draft fault → fault ≢ NoMemory
+    → built path (finish_fault draft) draft ≡ Err (bad_build path fault)
+basin-refused path draft fault h other =
+    ⊎_elim (λ is. ap (λ f. built path f draft) is) (λ want. absurd (other want.0)) h

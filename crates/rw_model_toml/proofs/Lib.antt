@@ -5,3 +5,4 @@ pub mod Tests
 pub mod RowFacts
 pub mod AddedFacts
 pub mod Plain
+pub mod Utf8

@@ -9,7 +9,9 @@ use Rattle.rw_model_toml.specs.declared.fault.ModelFault.TheVariants.{NoMemory}
 use Rattle.rw_model.specs.declared.fault.BuildFault.{BuildFault}
 use Rattle.rw_model.specs.declared.fault.BuildFault.TheVariants.{DuplicateName, UnknownSlot, LinkedTwice, LinkWithinObject, LinkDimension, LinkBounds, BadParameter, TooMany, NoMemory as BuildNoMemory}
 use Rattle.rw_model.specs.Draft.{Draft}
-use Rattle.rw_model_toml.specs.File.{in_turn}
+use Rattle.rw_base.specs.declared.number.SlotNo.{SlotNo}
+use Rattle.rw_model.specs.Kept.{numbers_of}
+use Rattle.rw_model_toml.specs.Model.{in_turn}
 use Rattle.rw_model_toml.specs.Fault.{IsWhy, Gives, refusal_of}
 use Rattle.std.specs.Result.{IsErrAnd}
 use Rattle.std.specs.Option.{ForSome}
@@ -116,3 +118,8 @@ pub turn-fails : (told : List ℕ → Data → Draft → Result Draft Refusal) (
 turn-fails told path vs place v at draft all fault within is where_ why before =
     subst (λ r. IsWhy r fault) (ap (λ is_. in_turn told path (place + 1) is_ draft) (ap (λ w. item (view w) (items_view (drop (place + 1) vs))) is ∙ sym (items_view-drop vs place v within)) ∙ before)
     (stops _ (in_turn told path (place + 1 + 1) (items_view (drop (place + 1) vs))) fault (subst (λ p. IsWhy (told p (view v) draft) fault) where_ why))
+
+-- the numbers of slots, and one more
+pub numbers-push : (slots : List SlotNo) (slot : SlotNo) → numbers_of (slots ++ slot ∷ []) ≡ numbers_of slots ++ slot.0 ∷ []
+numbers-push [] slot = refl
+numbers-push (s ∷ slots) slot = ap (λ ns. s.0 ∷ ns) (numbers-push slots slot)

@@ -1,5 +1,5 @@
 -- No refusal carries a want of memory.
-use Rattle.std.proofs.Common.{◌≢◌, ℕ, ◌+◌, ◌==◌, nat_lt, nat_le, ℤ, pos, neg_ℤ, int_lt, Bool, true, false, ◌&&◌, ◌||◌, if◌then◌else◌, List, [], ◌∷◌, Option, None, Some, Result, Ok, Err, codes, refl, subst, length}
+use Rattle.std.proofs.Common.{◌≢◌, ℕ, ◌+◌, ◌==◌, nat_lt, nat_le, ℤ, pos, neg_ℤ, int_lt, Bool, true, false, not, ◌&&◌, ◌||◌, if◌then◌else◌, List, [], ◌∷◌, Option, None, Some, Result, Ok, Err, codes, refl, subst, length}
 use Rattle.std.specs.Prelude.{IfErr, bytes_eq, is_some, option_map, ◌++◌}
 use Rattle.std.specs.Option.{ForSome, option_or}
 use Rattle.toml.specs.Data.{Data, string, integer, float, boolean, datetime, array, table, Items, no_items, item, Members, no_members, member, get_member}
@@ -8,8 +8,10 @@ use Rattle.rw_table.specs.declared.fault.TableFault.{TableFault}
 use Rattle.rw_table.specs.declared.fault.TableFault.TheVariants.{TooFewRows, TooManyRows, OutOfBounds, NotRising, NoMemory as TableNoMemory}
 use Rattle.rw_table.specs.Table.{Row}
 use Rattle.rw_model.specs.declared.fault.BuildFault.{BuildFault}
-use Rattle.rw_model.specs.declared.fault.BuildFault.TheVariants.{BadParameter, DuplicateName, UnknownSlot, TooMany, NoMemory as BuildNoMemory}
+use Rattle.rw_model.specs.declared.fault.BuildFault.TheVariants.{BadParameter, DuplicateName, UnknownSlot, LinkedTwice, LinkWithinObject, LinkDimension, LinkBounds, TooMany, NoMemory as BuildNoMemory}
 use Rattle.rw_model.specs.declared.kind.Kind.{Kind}
+use Rattle.rw_model.specs.Links.{is_slot, link_of, shares_owner, is_alike, join_fault, joins_fault, link_fault}
+use Rattle.rw_model.specs.Basin.{cell_count, has_crossed_bounds, finish_fault}
 use Rattle.rw_model.specs.Slot.{Bounds}
 use Rattle.rw_model.specs.Objects.{Object, all_slots, slot_at}
 use Rattle.rw_model.specs.Draft.{Draft, Bound, bound_of}
@@ -26,14 +28,15 @@ use Rattle.rw_base.specs.Quantity.{quantity_max}
 use Rattle.rw_calendar.specs.Start.{moment_of}
 use Rattle.rw_calendar.specs.Stamps.{timesteps_of, end_of}
 use Rattle.rw_model.specs.declared.control.RunControl.{RunControl}
-use Rattle.rw_model_toml.specs.File as file
-use Rattle.rw_model_toml.specs.File.{built, object_of, slot_number, in_turn, control_in, empty_draft, filled, file_keys, draft_of}
+use Rattle.rw_model_toml.specs.Told as told
+use Rattle.rw_model_toml.specs.Told.{built, object_of, slot_number, slot_in, few_linked}
+use Rattle.rw_model_toml.specs.Model.{in_turn, control_in, empty_draft, filled, file_keys, draft_of, basin_of, table_or, toml_of, model_of}
 use Rattle.rw_model_toml.specs.Control.{is_start, can_begin, stamped, control_of}
 use Rattle.rw_model_toml.specs.declared.run.Run.{Run}
 use Rattle.rw_model_toml.specs.Names.{is_name, name_of}
 use Rattle.rw_model_toml.specs.Rows.{is_within_bounds, is_rising, row_fault, rows_fault, table_fault}
 use Rattle.rw_model_toml.specs.Kinds.{object_keys, bare_of, unit_of, slot_of, few_slots, data_of, options_of, history_items_of, inflow_of, history_of, reach_of, row_or, row_in, row_of, rated, table_of, rating_of, reservoir_of, supply_of, water_user_of, canal_of, kind_of}
-use Rattle.rw_model_toml.specs.Added.{is_sound, is_fresh, object_fault, has_slot, is_allowed, bound_fault}
+use Rattle.rw_model_toml.specs.Added.{is_sound, is_fresh, object_fault, is_allowed, bound_fault}
 use Rattle.rw_model_toml.proofs.Tests.{same-Some}
 
 -- where it is refused, no want of memory is told
@@ -334,19 +337,59 @@ object-plain at d draft = chain (members_of at d) _ (members-plain at d) (λ ms.
 
 bound-fault-plain : (objects : List Object) (given : List Bound) (slot : ℕ) (bounds : Bounds) → NoBuildMemory (bound_fault objects given slot bounds)
 bound-fault-plain objects given slot bounds =
-    build-either (has_slot objects slot) _ _
+    build-either (is_slot objects slot) _ _
     (build-either (is_some (bound_of given slot)) _ _ (this-build DuplicateName (λ e. cc))
     (build-either (is_allowed (slot_at objects slot) bounds) _ _ no-build (this-build BadParameter (λ e. cc))))
     (this-build UnknownSlot (λ e. cc))
 
-pub bound-plain : (at : List ℕ) (d : Data) (draft : Draft) → Plain (file.bound_of at d draft)
-unfolding file.bound_of
+pub bound-plain : (at : List ℕ) (d : Data) (draft : Draft) → Plain (told.bound_of at d draft)
+unfolding told.bound_of
 bound-plain at d draft = chain (members_of at d) _ (members-plain at d)
     (λ ms. chain-required text_of at (codes "slot") ms _ text-plain
     (λ text. chain-required integer_of at (codes "min") ms _ integer-plain
     (λ min. chain-required integer_of at (codes "max") ms _ integer-plain
     (λ max. chain-listed (codes "slot" ∷ codes "min" ∷ codes "max" ∷ []) at ms _
     (λ listed. built-plain at (bound_fault draft.objects draft.bounds (slot_number draft.objects text) (min, max)) _ (bound-fault-plain draft.objects draft.bounds (slot_number draft.objects text) (min, max)))))))
+
+build-or : (x y : Option BuildFault) → NoBuildMemory x → NoBuildMemory y → NoBuildMemory (option_or x y)
+build-or None y p q = q
+build-or (Some f) y p q = p
+
+join-fault-plain : (objects : List Object) (links : List (List ℕ)) (before : List ℕ) (slot : ℕ) → NoBuildMemory (join_fault objects links before slot)
+join-fault-plain objects links before slot =
+    build-either (not (is_slot objects slot)) _ _ (this-build UnknownSlot (λ e. cc))
+    (build-either (is_some (link_of links slot)) _ _ (this-build LinkedTwice (λ e. cc))
+    (build-either (shares_owner objects slot before) _ _ (this-build LinkWithinObject (λ e. cc))
+    (build-either (is_alike objects slot before) _ _ no-build (this-build LinkDimension (λ e. cc)))))
+
+joins-fault-plain : (objects : List Object) (links : List (List ℕ)) (before slots : List ℕ) → NoBuildMemory (joins_fault objects links before slots)
+joins-fault-plain objects links before [] = no-build
+joins-fault-plain objects links before (slot ∷ slots) =
+    build-or (join_fault objects links before slot) (joins_fault objects links (before ++ slot ∷ []) slots)
+    (join-fault-plain objects links before slot) (joins-fault-plain objects links (before ++ slot ∷ []) slots)
+
+link-fault-plain : (objects : List Object) (links : List (List ℕ)) (slots : List ℕ) → NoBuildMemory (link_fault objects links slots)
+link-fault-plain objects links slots =
+    build-either (nat_le 2 (length slots) && nat_le (length slots) 8) _ _ (joins-fault-plain objects links [] slots) (this-build BadParameter (λ e. cc))
+
+named-plain : (objects : List Object) (path : List ℕ) (d : Data) → Plain (slot_in objects path d)
+named-plain objects path d = chain (text_of path d) _ (text-plain path d) (λ text. tt)
+
+pub link-plain : (at : List ℕ) (d : Data) (draft : Draft) → Plain (told.link_of at d draft)
+unfolding told.link_of
+link-plain at d draft = chain (members_of at d) _ (members-plain at d)
+    (λ ms. chain-required items_of at (codes "slots") ms _ items-plain
+    (λ ds. chain (list_of (slot_in draft.objects) (key_path at (codes "slots")) 1 ds) _ (list-plain (slot_in draft.objects) _ 1 ds (named-plain draft.objects))
+    (λ slots. chain (few_linked (key_path at (codes "slots")) slots) _ (either (nat_le 2 (length slots) && nat_le (length slots) 8) _ _ tt range-plain)
+    (λ few. chain-listed (codes "slots" ∷ []) at ms _
+    (λ listed. built-plain at (link_fault draft.objects draft.links slots) _ (link-fault-plain draft.objects draft.links slots))))))
+
+finish-fault-plain : (draft : Draft) → NoBuildMemory (finish_fault draft)
+finish-fault-plain draft =
+    build-either (nat_le (length draft.objects) 0) _ _ (this-build BadParameter (λ e. cc))
+    (build-either (nat_le (cell_count draft) 1000000) _ _
+    (build-either (has_crossed_bounds draft) _ _ (this-build LinkBounds (λ e. cc)) no-build)
+    (this-build (TooMany 1000000) (λ e. cc)))
 
 -- ---- the file
 
@@ -366,10 +409,23 @@ filled-plain : (control : RunControl) (ms : Members) → Plain (filled control m
 unfolding filled
 filled-plain control ms = chain-required items_of [] (codes "object") ms _ items-plain
     (λ objects. chain (in_turn object_of (codes "object") 1 objects (empty_draft control)) _ (turn-plain object_of (codes "object") 1 objects (empty_draft control) object-plain)
-    (λ draft. chain-optional no_items items_of [] (codes "bound") ms _ items-plain
-    (λ bounds. turn-plain file.bound_of (codes "bound") 1 bounds draft bound-plain)))
+    (λ draft. chain-optional no_items items_of [] (codes "link") ms _ items-plain
+    (λ links. chain (in_turn told.link_of (codes "link") 1 links draft) _ (turn-plain told.link_of (codes "link") 1 links draft link-plain)
+    (λ linked. chain-optional no_items items_of [] (codes "bound") ms _ items-plain
+    (λ bounds. turn-plain told.bound_of (codes "bound") 1 bounds linked bound-plain)))))
 
-pub draft-plain : (ms : Members) → Plain (draft_of ms)
+draft-plain : (ms : Members) → Plain (draft_of ms)
 unfolding draft_of
 draft-plain ms = chain (control_in ms) _ (in-plain ms) (λ control. chain (filled control ms) _ (filled-plain control ms)
     (λ draft. chain-listed file_keys [] ms _ (λ listed. tt)))
+
+basin-plain : (ms : Members) → Plain (basin_of ms)
+unfolding basin_of
+basin-plain ms = chain (draft_of ms) _ (draft-plain ms) (λ draft. built-plain (codes "basin") (finish_fault draft) draft (finish-fault-plain draft))
+
+table_or-plain : (found : Option Members) → Plain (table_or found)
+table_or-plain None = tt
+table_or-plain (Some ms) = tt
+
+pub model-plain : (bytes : List ℕ) → Plain (model_of bytes)
+model-plain bytes = chain (table_or (toml_of bytes)) basin_of (table_or-plain (toml_of bytes)) basin-plain

@@ -11,6 +11,7 @@ use Rattle.rw_model.specs.declared.kind.Kind.{Kind}
 use Rattle.rw_model.specs.declared.kind.Kind.TheVariants.{DataObject, Gage, Confluence, Bifurcation, Reach, Reservoir, WaterUser, Canal}
 use Rattle.rw_model.specs.Slot.{Bounds}
 use Rattle.rw_model.specs.Objects.{Object, Placed, object_named, all_slots, slot_at}
+use Rattle.rw_model.specs.Links.{is_slot}
 use Rattle.rw_model.specs.Draft.{Bound, has_distinct_slots, bound_of}
 use Rattle.rw_model_toml.specs.Names.{is_name}
 use Rattle.rw_model_toml.specs.Control.{is_from_to}
@@ -68,10 +69,6 @@ object_fault objects object =
     else Some DuplicateName)
     else Some BadParameter
 
--- a slot has this number
-abbrev pub has_slot : List Object → ℕ → Bool
-has_slot objects slot = nat_le 1 slot && nat_le slot (length (all_slots objects))
-
 -- bounds whose least isn't above their greatest, and that lie within the widest of the slot, if there is a slot
 abbrev pub is_allowed : Option Placed → Bounds → Bool
 is_allowed None bounds = true
@@ -81,7 +78,7 @@ is_allowed (Some placed) bounds =
 -- what is wrong with the bounds of a slot, if something is
 abbrev pub bound_fault : List Object → List Bound → ℕ → Bounds → Option BuildFault
 bound_fault objects given slot bounds =
-    if has_slot objects slot
+    if is_slot objects slot
     then (if is_some (bound_of given slot)
     then Some DuplicateName
     else (if is_allowed (slot_at objects slot) bounds then None else Some BadParameter))

@@ -12,4 +12,5 @@ pub mod Rows
 pub mod Kinds
 pub mod Control
 pub mod Added
-pub mod File
+pub mod Told
+pub mod Model

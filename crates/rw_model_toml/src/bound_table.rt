@@ -1,7 +1,8 @@
 ghost use Rattle.std.specs.Prelude.{codes};
 ghost use Rattle.toml.specs.View.{view, items_view};
 ghost use Rattle.rw_model_toml.specs.Fault.{Gives};
-ghost use Rattle.rw_model_toml.specs.File.{with_bound, bound_of, in_turn};
+ghost use Rattle.rw_model_toml.specs.Told.{with_bound, bound_of};
+ghost use Rattle.rw_model_toml.specs.Model.{in_turn};
 
 use crate::ModelFault;
 use crate::key::{required_integer, required_text};
@@ -31,7 +32,7 @@ fn add_bound(
     }
 }
 
-#[tactic(auto, unfolding(crate::specs::File::bound_of))]
+#[tactic(auto, unfolding(crate::specs::Told::bound_of))]
 fn read_bound(
     alloc: Global,
     builder: &mut BasinBuilder,

@@ -3,11 +3,10 @@
 ghost use Rattle.std.specs.Prelude.{◌↔◌, ℕ, List, IsTrue, IfErr, MatchOption};
 ghost use Rattle.rw_table.specs.Table.{Row, IsTable, IsFault};
 ghost use Rattle.rw_model.specs.Name.{IsName};
-ghost use Rattle.toml.specs.Data.{Members};
 ghost use Rattle.rw_model_toml.specs.Refusal.{IsPlain};
 ghost use Rattle.rw_model_toml.specs.Names.{is_name};
 ghost use Rattle.rw_model_toml.specs.Rows.{table_fault};
-ghost use Rattle.rw_model_toml.specs.File.{draft_of};
+ghost use Rattle.rw_model_toml.specs.Model.{model_of};
 
 /// The test of a name finds exactly the names that a model may have.
 pub fn names_are_names()
@@ -21,5 +20,5 @@ pub fn faults_of_tables()
 
 /// No refusal carries a want of memory.
 pub fn refusals_are_plain()
-    ensures { (table : Members) → IfErr (draft_of table) IsPlain }
+    ensures { (bytes : List ℕ) → IfErr (model_of bytes) IsPlain }
 {}

@@ -7,6 +7,7 @@ mod fault;
 mod history;
 mod key;
 pub mod law;
+mod link_table;
 mod listed;
 mod model;
 mod name;
@@ -24,3 +25,4 @@ mod value;
 mod word;
 
 pub use fault::ModelFault;
+pub use model::read_model;

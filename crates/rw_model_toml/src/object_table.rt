@@ -1,7 +1,8 @@
 ghost use Rattle.std.specs.Prelude.{codes};
 ghost use Rattle.toml.specs.View.{view, items_view};
 ghost use Rattle.rw_model_toml.specs.Fault.{Gives};
-ghost use Rattle.rw_model_toml.specs.File.{with_object, object_of, in_turn};
+ghost use Rattle.rw_model_toml.specs.Told.{with_object, object_of};
+ghost use Rattle.rw_model_toml.specs.Model.{in_turn};
 
 use crate::ModelFault;
 use crate::key::required_text;
@@ -29,7 +30,7 @@ fn add_object(
     }
 }
 
-#[tactic(auto, unfolding(crate::specs::File::object_of))]
+#[tactic(auto, unfolding(crate::specs::Told::object_of))]
 fn read_object(
     alloc: Global,
     builder: &mut BasinBuilder,

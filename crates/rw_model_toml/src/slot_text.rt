@@ -1,5 +1,5 @@
 ghost use Rattle.std.specs.Prelude.{◌≡◌};
-ghost use Rattle.rw_model_toml.specs.File.{slot_number};
+ghost use Rattle.rw_model_toml.specs.Told.{slot_number};
 
 use rw_base::SlotNo;
 use rw_model::BasinBuilder;

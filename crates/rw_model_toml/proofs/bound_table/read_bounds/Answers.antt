@@ -1,5 +1,5 @@
 use Rattle.std.proofs.Common.{◌∙◌, codes}
-use Rattle.rw_model_toml.specs.File.{bound_of}
+use Rattle.rw_model_toml.specs.Told.{bound_of}
 use Rattle.rw_model_toml.proofs.Lists.{turn-next, turn-fails, gives-fault}
 use Rattle.rw_model_toml.proofs.bound_table.read_bounds.Goals as goal
 

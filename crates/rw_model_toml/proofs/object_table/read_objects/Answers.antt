@@ -1,5 +1,5 @@
 use Rattle.std.proofs.Common.{◌∙◌, codes}
-use Rattle.rw_model_toml.specs.File.{object_of}
+use Rattle.rw_model_toml.specs.Told.{object_of}
 use Rattle.rw_model_toml.proofs.Lists.{turn-next, turn-fails, gives-fault}
 use Rattle.rw_model_toml.proofs.object_table.read_objects.Goals as goal
 
