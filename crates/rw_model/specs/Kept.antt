@@ -1,11 +1,14 @@
 -- How objects and slots are kept: an object by its name, and a slot by its owner and place.
-use Rattle.std.specs.Prelude.{◌≡◌, ℕ, ◌+◌, ◌≤◌, List, [], ◌∷◌, length, map, All, string_bytes}
+use Rattle.std.specs.Prelude.{◌≡◌, ℕ, ◌+◌, ◌≤◌, List, [], ◌∷◌, length, map, All, Option, None, slice_index_or, string_bytes}
+use Rattle.std.specs.declared.vec.Vec.{Vec}
+use Rattle.rw_base.specs.declared.number.SlotNo.{SlotNo}
 use Rattle.std.specs.declared.string.String.{String}
 use Rattle.rw_model.specs.declared.kind.Kind.{Kind}
 use Rattle.rw_model.specs.declared.place.Place.{Place}
 use Rattle.rw_model.specs.Slot.{Bounds}
 use Rattle.rw_model.specs.Draft.{Bound}
 use Rattle.rw_model.specs.Slots.{slots_of}
+use Rattle.rw_model.specs.Links.{link_of}
 use Rattle.rw_model.specs.Objects.{Object, Placed, placed_from, all_slots}
 
 abbrev pub objects_of : {A : Type 0} → List (String A × Kind) → List Object
@@ -30,3 +33,14 @@ pub record KeepsSlots (objects : List Object) (places : List Place) (firsts : Li
 -- the bounds that the map's slots were given
 abbrev pub bounds_of : List (ℕ × Bounds) → List Bound
 bounds_of entries = map (λ (entry : ℕ × Bounds). record { slot = entry.0; bounds = entry.1 }) entries
+
+-- the numbers that slots have
+abbrev pub numbers_of : List SlotNo → List ℕ
+numbers_of slots = map (λ (slot : SlotNo). slot.0) slots
+
+abbrev pub links_of : {A : Type 0} → List (Vec SlotNo A) → List (List ℕ)
+links_of {A} links = map (λ (link : Vec SlotNo A). numbers_of link.items) links
+
+-- beside each slot stands the place of the link that has it
+abbrev pub KeepsPlaces : List (List ℕ) → List (Option ℕ) → Type 0
+KeepsPlaces links places = (k : ℕ) → slice_index_or places k None ≡ link_of links (k + 1)

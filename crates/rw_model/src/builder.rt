@@ -1,8 +1,11 @@
-ghost use Rattle.std.specs.Prelude.{◌≡◌, ◌+◌, [], ◌∷◌, ◌++◌, length, OnOk, OnErr, IfOk, IfErr, option_map};
+ghost use Rattle.std.specs.Prelude.{◌≡◌, ◌+◌, [], ◌∷◌, ◌++◌, length, None, OnOk, OnErr, IfOk, IfErr, option_map};
 ghost use Rattle.rw_model.specs.Objects.{slot_named};
+ghost use Rattle.rw_model.specs.Kept.{numbers_of};
+ghost use Rattle.rw_model.specs.Links.{link_fault, IsLinkFault};
 ghost use Rattle.rw_model.specs.Draft.{IsControl, CanAdd, IsObjectFault, CanBound, IsBoundFault};
 
-use crate::judge::{judge_bound, judge_object};
+use crate::judge::{judge_bound, judge_link, judge_object};
+use crate::links::Links;
 use crate::objects::Objects;
 use crate::own_bounds::OwnBounds;
 use crate::{BuildFault, Kind, RunControl};
@@ -15,23 +18,25 @@ use std::marker::Model;
 pub struct BasinBuilder {
     control: RunControl,
     objects: Objects,
+    links: Links,
     bounds: OwnBounds,
 }
 
 impl Model for BasinBuilder {
-    ghost use Rattle.rw_model.specs.Draft.{Draft, IsControl};
+    ghost use Rattle.rw_model.specs.Draft.{Draft};
+    ghost use Rattle.rw_model.specs.Basin.{IsDraft};
 
     ghost Value = { Draft };
 
-    ghost view = { λ b. record { control = b.control; objects = b.objects; bounds = b.bounds } };
+    ghost view = { λ b. record { control = b.control; objects = b.objects; links = b.links; bounds = b.bounds } };
 
-    ghost invariant = { λ b. IsControl b.control };
+    ghost invariant = { λ b. IsDraft (record { control = b.control; objects = b.objects; links = b.links; bounds = b.bounds }) };
 }
 
 impl BasinBuilder {
     /// A basin with no object yet. `BadParameter` exactly where a limit is out of range.
     pub fn begin(alloc: Global, control: RunControl) -> Result<BasinBuilder, BuildFault>
-        ensures begun { IfOk result (λ builder. builder ≡ record { control = control; objects = []; bounds = [] }) }
+        ensures begun { IfOk result (λ builder. builder ≡ record { control = control; objects = []; links = []; bounds = [] }) }
         ensures in_range { OnOk result (IsControl control) }
         ensures refused { IfErr result (λ fault. (fault ≡ BuildFault.BadParameter) × ¬ IsControl control) }
     {
@@ -43,6 +48,7 @@ impl BasinBuilder {
         Ok(BasinBuilder {
             control,
             objects: Objects::new(alloc),
+            links: Links::new(alloc),
             bounds: OwnBounds::new(alloc),
         })
     }
@@ -64,6 +70,27 @@ impl BasinBuilder {
         let number = self.objects.count() + 1;
         match self.objects.add(name, kind) {
             Ok(()) => Ok(ObjectNo(number)),
+            Err(_) => Err(BuildFault::NoMemory),
+        }
+    }
+
+    /// Links slots, which then carry one value: 2 to 8 slots of different objects, which all measure the same.
+    ///
+    /// `BadParameter` comes where there are fewer than 2 slots or more than 8. Then slot by slot, `UnknownSlot` comes where
+    /// no slot has the number, else `LinkedTwice` where an earlier link has the slot, else `LinkWithinObject` where an
+    /// earlier slot of this link is of the same object, else `LinkDimension` where it doesn't measure what the first one
+    /// does. `NoMemory` comes only where none of these holds. After each of them the builder is as it was.
+    pub fn link(&mut self, slots: &[SlotNo]) -> Result<(), BuildFault>
+        ensures added { OnOk result (self.new ≡ record self.old { links = self.old.links ++ numbers_of slots.now ∷ [] }) }
+        ensures can_link { OnOk result (link_fault self.old.objects self.old.links (numbers_of slots.now) ≡ None) }
+        ensures refused { IfErr result (IsLinkFault self.old.objects self.old.links (numbers_of slots.now)) }
+        ensures unchanged { OnErr result (self.new ≡ self.old) }
+    {
+        if let Some(fault) = judge_link(&self.objects, &self.links, slots) {
+            return Err(fault);
+        }
+        match self.links.add(slots, self.objects.slot_count()) {
+            Ok(()) => Ok(()),
             Err(_) => Err(BuildFault::NoMemory),
         }
     }

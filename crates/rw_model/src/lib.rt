@@ -15,6 +15,7 @@ mod judge;
 mod kind;
 mod kind_rule;
 pub mod law;
+mod links;
 mod name;
 mod name_rule;
 mod objects;
