@@ -3,3 +3,5 @@ pub mod ObjectFacts
 pub mod EntryFacts
 pub mod Numbering
 pub mod Faults
+pub mod Linking
+pub mod Drafting

@@ -1,8 +1,10 @@
 -- When a basin is valid, and what is wrong with what a builder was told where it makes none.
-use Rattle.std.specs.Prelude.{◌≡◌, ℕ, ◌==◌, ◌*◌, ◌≤◌, nat_le, Bool, false, int_lt, IsTrue, if◌then◌else◌, List, length, map, All, Contains, Option, Some, None, bytes_eq}
+use Rattle.std.specs.Prelude.{◌≡◌, ◌⊎◌, ℕ, ◌==◌, ◌*◌, ◌≤◌, nat_le, Bool, true, false, int_lt, IsTrue, if◌then◌else◌, List, length, map, All, Contains, Option, Some, None, bytes_eq}
 use Rattle.std.specs.List.{list_any, filter, IsDistinct}
 use Rattle.rw_model.specs.declared.fault.BuildFault.{BuildFault}
-use Rattle.rw_model.specs.declared.fault.BuildFault.TheVariants.{LinkBounds, BadParameter, TooMany}
+use Rattle.rw_model.specs.declared.fault.BuildFault.TheVariants.{LinkBounds, BadParameter, TooMany, NoMemory}
+use Rattle.rw_model.specs.declared.role.Role.{Role}
+use Rattle.rw_model.specs.declared.role.Role.TheVariants.{Solvable, Fixed, Derived, Neither}
 use Rattle.rw_model.specs.Slot.{Bounds}
 use Rattle.rw_model.specs.Objects.{Object, all_slots, slot_at}
 use Rattle.rw_model.specs.Draft.{Draft, Bound, IsControl, IsSound, IsSlot, IsWithinWidest, has_distinct_slots}
@@ -53,7 +55,7 @@ has_crossed_bounds draft =
 
 -- a basin: at least one object, at most 1000000 values, and each slot can have a value
 pub record IsBasin (draft : Draft) : Type 0 where
-  pub draft : IsDraft draft
+  pub whole : IsDraft draft
   pub some : 1 ≤ length draft.objects
   pub few_cells : cell_count draft ≤ 1000000
   pub meets : has_crossed_bounds draft ≡ false
@@ -63,3 +65,14 @@ abbrev pub finish_fault : Draft → Option BuildFault
 finish_fault draft =
     if nat_le (length draft.objects) 0 then Some BadParameter else
     if nat_le (cell_count draft) 1000000 then (if has_crossed_bounds draft then Some LinkBounds else None) else Some (TooMany 1000000)
+
+-- why a builder makes no basin; only what is one wants memory
+abbrev pub IsFinishFault : Draft → BuildFault → Type 0
+IsFinishFault draft fault = (finish_fault draft ≡ Some fault) ⊎ ((fault ≡ NoMemory) × IsBasin draft)
+
+-- all slots but those that a method derives can be set by inputs and rules
+abbrev pub is_settable : Role → Bool
+is_settable Solvable = true
+is_settable Fixed = true
+is_settable Derived = false
+is_settable Neither = true

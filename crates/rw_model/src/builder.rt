@@ -1,21 +1,29 @@
 ghost use Rattle.std.specs.Prelude.{◌≡◌, ◌+◌, [], ◌∷◌, ◌++◌, length, None, OnOk, OnErr, IfOk, IfErr, option_map};
 ghost use Rattle.rw_model.specs.Objects.{slot_named};
+ghost use Rattle.rw_model.specs.Basin.{IsDraft, IsBasin, finish_fault, IsFinishFault};
 ghost use Rattle.rw_model.specs.Kept.{numbers_of};
 ghost use Rattle.rw_model.specs.Links.{link_fault, IsLinkFault};
 ghost use Rattle.rw_model.specs.Draft.{IsControl, CanAdd, IsObjectFault, CanBound, IsBoundFault};
 
+use crate::basin::Basin;
+use crate::bounds::{all_bounds, has_crossed_bounds};
+use crate::groups::{groups_of, slots_up_to};
 use crate::judge::{judge_bound, judge_link, judge_object};
 use crate::links::Links;
 use crate::objects::Objects;
 use crate::own_bounds::OwnBounds;
 use crate::{BuildFault, Kind, RunControl};
-use rw_base::{ObjectNo, SlotNo};
+use rw_base::{NoMemory, ObjectNo, SlotNo};
 use std::alloc::Global;
 use std::marker::Model;
+
+// The most values of a basin, over all slots and timesteps.
+const CELLS_MAX: u32 = 1_000_000;
 
 /// A basin in the making, seen as what it was told so far.
 #[derive(Drop)]
 pub struct BasinBuilder {
+    alloc: Global,
     control: RunControl,
     objects: Objects,
     links: Links,
@@ -46,6 +54,7 @@ impl BasinBuilder {
             return Err(BuildFault::BadParameter);
         }
         Ok(BasinBuilder {
+            alloc,
             control,
             objects: Objects::new(alloc),
             links: Links::new(alloc),
@@ -125,6 +134,63 @@ impl BasinBuilder {
             Ok(()) => Ok(()),
             Err(_) => Err(BuildFault::NoMemory),
         }
+    }
+
+    /// The basin of what was told.
+    ///
+    /// `BadParameter` comes where there is no object, else `TooMany` with 1000000 where the slots have more values over
+    /// all timesteps, else `LinkBounds` where the bounds of linked slots leave them no value. `NoMemory` comes only where
+    /// none of these holds.
+    pub fn finish(self) -> Result<Basin, BuildFault>
+        ensures finished { IfOk result (λ basin. basin ≡ self) }
+        ensures valid { OnOk result (IsBasin self) }
+        ensures refused { IfErr result (IsFinishFault self) }
+    {
+        if let Some(fault) = self.judge_finish() {
+            return Err(fault);
+        }
+        match self.completed() {
+            Ok(basin) => Ok(basin),
+            Err(_) => Err(BuildFault::NoMemory),
+        }
+    }
+
+    // Why what was told is no basin.
+    fn judge_finish(&self) -> Option<BuildFault>
+        ensures fault { result ≡ finish_fault self.now }
+        ensures told { IsDraft self.now }
+    {
+        if self.objects.count() == 0 {
+            return Some(BuildFault::BadParameter);
+        }
+        let cells = u32::from(self.objects.slot_count()) * u32::from(self.control.stamps.count());
+        if cells > CELLS_MAX {
+            return Some(BuildFault::TooMany(CELLS_MAX));
+        }
+        if has_crossed_bounds(&self.objects, &self.links, &self.bounds) {
+            return Some(BuildFault::LinkBounds);
+        }
+        None
+    }
+
+    // The basin of what was told, where nothing is wrong with that.
+    fn completed(self) -> Result<Basin, NoMemory>
+        requires { IsBasin self }
+        ensures { IfOk result (λ basin. basin ≡ self) }
+    {
+        let count = self.objects.slot_count();
+        let slots = slots_up_to(self.alloc, count)?;
+        let groups = groups_of(self.alloc, &self.links, count)?;
+        let bounds = all_bounds(self.alloc, &self.objects, &self.links, &self.bounds)?;
+        Ok(Basin {
+            control: self.control,
+            objects: self.objects,
+            links: self.links,
+            given: self.bounds,
+            slots,
+            groups,
+            bounds,
+        })
     }
 
     /// The slot with this name, of the object with that name. `None` exactly where there is no such object, or where it

@@ -5,11 +5,15 @@
 //! fault, and finds slots by name. Links and the finished basin are not here yet.
 #![tactic(auto)]
 
+mod basin;
+mod before;
+mod bounds;
 mod builder;
 mod content;
 mod control;
 mod data_slots;
 mod fault;
+mod groups;
 mod history;
 mod judge;
 mod kind;
@@ -29,6 +33,7 @@ mod slots;
 mod tests;
 mod writer;
 
+pub use basin::Basin;
 pub use builder::BasinBuilder;
 pub use content::Content;
 pub use control::{AgendaOrder, RunControl};

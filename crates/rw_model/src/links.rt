@@ -1,7 +1,7 @@
-ghost use Rattle.std.specs.Prelude.{◌≡◌, ◌+◌, ◌≤◌, ℕ, [], ◌∷◌, ◌++◌, length, map, All, if◌then◌else◌, None, Some, OnOk, OnErr, vec_len, slice_index_or};
+ghost use Rattle.std.specs.Prelude.{◌≡◌, ◌+◌, ◌≤◌, ℕ, [], ◌∷◌, ◌++◌, length, map, All, if◌then◌else◌, None, Some, OnOk, OnErr, IfOk, vec_len, vec_capacity, slice_index_or};
 ghost use Rattle.std.specs.Option.{ForSome};
 ghost use Rattle.rw_model.specs.Links.{is_among, link_of, linked_with};
-ghost use Rattle.rw_model.specs.Kept.{numbers_of};
+ghost use Rattle.rw_model.specs.Kept.{numbers_of, links_of};
 
 use rw_base::{NoMemory, SlotNo};
 use std::alloc::Global;
@@ -26,6 +26,17 @@ impl Model for Links {
     ghost invariant = { λ l. KeepsPlaces (links_of l.links.items) l.places.items };
 }
 
+// Makes room to say of so many slots which link has them.
+fn widen(places: &mut Vec<Option<usize>>, count: usize) -> Result<(), NoMemory>
+    ensures same { (k : ℕ) → slice_index_or places.new.items k None ≡ slice_index_or places.old.items k None }
+    ensures room { OnOk result (count ≤ vec_len places.new) }
+{
+    if places.len() < count {
+        places.resize(count, None)?;
+    }
+    Ok(())
+}
+
 // Says of each of the slots that this link has it.
 fn mark(places: &mut Vec<Option<usize>>, slots: &[SlotNo], link: usize)
     requires { All (λ (slot : SlotNo). (1 ≤ slot.0) × (slot.0 ≤ vec_len places.old)) slots.now }
@@ -36,6 +47,19 @@ fn mark(places: &mut Vec<Option<usize>>, slots: &[SlotNo], link: usize)
     for slot in slots {
         places[usize::from(slot.0) - 1] = Some(link);
     }
+}
+
+fn copied(alloc: Global, slots: &[SlotNo]) -> Result<Vec<SlotNo>, NoMemory>
+    ensures { IfOk result (λ copy. copy.items ≡ slots.now) }
+{
+    Ok(slots.to_vec(alloc)?)
+}
+
+fn append(links: &mut Vec<Vec<SlotNo>>, link: Vec<SlotNo>)
+    requires { vec_len links.old + 1 ≤ vec_capacity links.old }
+    ensures { links_of links.new.items ≡ links_of links.old.items ++ numbers_of link.items ∷ [] }
+{
+    links.push_reserved(link);
 }
 
 impl Links {
@@ -87,14 +111,12 @@ impl Links {
         ensures ok { OnOk result (self.new ≡ self.old ++ numbers_of slots.now ∷ []) }
         ensures err { OnErr result (self.new ≡ self.old) }
     {
-        let link = slots.to_vec(self.alloc)?;
+        let place = self.count();
+        let link = copied(self.alloc, slots)?;
         self.links.reserve(1)?;
-        let more = usize::from(count);
-        if self.places.len() < more {
-            self.places.resize(more, None)?;
-        }
-        mark(&mut self.places, slots, self.links.len());
-        self.links.push_reserved(link);
+        widen(&mut self.places, usize::from(count))?;
+        mark(&mut self.places, slots, place);
+        append(&mut self.links, link);
         Ok(())
     }
 }
