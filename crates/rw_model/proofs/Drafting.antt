@@ -1,8 +1,7 @@
 -- What a builder was told stays in order with each thing more that it takes.
-use Rattle.std.proofs.Common.{◌≡◌, ◌≢◌, ℕ, zero, suc, ◌+◌, ◌-◌, ◌<◌, ◌≤◌, nat_le, ◌==◌, List, [], ◌∷◌, ◌++◌, length, Bool, true, false, not, ◌&&◌, ◌||◌, Option, Some, None, refl, sym, ap, subst, ◌∙◌, append-nil, append_assoc, arith, rules, slice_index_or}
-use Rattle.std.specs.Prelude.{map, take, All, Contains, slice_get, bytes_eq, is_some, pos, IsTrue, Result, Ok, Err, OnOk, OnErr, cond, option_map, unwrap_or, if◌then◌else◌}
+use Rattle.std.proofs.Common.{◌≡◌, ℕ, zero, suc, ◌+◌, ◌-◌, ◌<◌, ◌≤◌, nat_le, ◌==◌, List, [], ◌∷◌, ◌++◌, length, Bool, true, false, ◌&&◌, ◌||◌, Option, Some, None, refl, sym, ap, subst, ◌∙◌, append-nil, append_assoc, arith}
+use Rattle.std.specs.Prelude.{map, All, Contains, slice_get, bytes_eq, pos, IsTrue, Result, Ok, Err, OnOk, OnErr, cond, option_map, unwrap_or, if◌then◌else◌}
 use Rattle.std.specs.List.{list_any, filter, IsDistinct}
-use Rattle.std.specs.Cmp.{IsEquivalence}
 use Rattle.std.specs.Option.{option_or, ForSome}
 use Rattle.std.specs.Ordering.{int_eq}
 use Rattle.std.proofs.lemmas.Bool.Decides.{Decides-int_eq}
@@ -15,13 +14,13 @@ use Rattle.rw_model.specs.declared.fault.BuildFault.{BuildFault}
 use Rattle.rw_model.specs.declared.fault.BuildFault.TheVariants.{BadParameter}
 use Rattle.rw_model.specs.Slot.{Bounds, IsInside}
 use Rattle.rw_model.specs.Slots.{slots_of}
-use Rattle.rw_model.specs.Objects.{Object, Placed, placed_from, object_from, object_named, all_slots, slot_at}
+use Rattle.rw_model.specs.Objects.{Object, Placed, placed_from, object_from, all_slots, slot_at}
 use Rattle.rw_model.specs.declared.control.RunControl.{RunControl}
-use Rattle.rw_model.specs.Draft.{Draft, IsControl, Bound, IsSound, IsSlot, IsWithinWidest, CanAdd, CanBound, bound_of, has_distinct_slots}
-use Rattle.rw_model.specs.Links.{is_among, is_slot, owner_of, dim_of, link_from, link_of, is_same_dim, is_alike, shares_owner, join_fault, joins_fault, link_fault}
+use Rattle.rw_model.specs.Draft.{Draft, IsControl, Bound, IsSound, IsSlot, CanAdd, CanBound, bound_of, has_distinct_slots}
+use Rattle.rw_model.specs.Links.{is_among, is_slot, owner_of, dim_of, link_from, link_of, is_same_dim, join_fault, joins_fault, link_fault}
 use Rattle.rw_model.specs.Basin.{IsLink, link_count, IsBound, IsDraft}
 use Rattle.rw_model.proofs.ObjectFacts.{slots_from-push}
-use Rattle.rw_model.proofs.Linking.{among_all, IsJoined, joined}
+use Rattle.rw_model.proofs.Linking.{among_all, joined}
 
 -- ---- what is known of a slot stays with an object more
 

@@ -5,3 +5,5 @@ pub mod Numbering
 pub mod Faults
 pub mod Linking
 pub mod Drafting
+pub mod Grouping
+pub mod Bounding

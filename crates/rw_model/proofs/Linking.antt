@@ -1,16 +1,13 @@
 -- Which link has a slot, what a link with no fault is, and what stays when a basin grows.
-use Rattle.std.proofs.Common.{◌≡◌, ◌≢◌, ℕ, suc, ◌+◌, ◌-◌, ◌<◌, ◌≤◌, nat_le, ◌==◌, List, [], ◌∷◌, ◌++◌, length, Bool, true, false, not, ◌&&◌, ◌||◌, Option, Some, None, refl, sym, ap, subst, ◌∙◌, arith, rules, slice_index_or}
-use Rattle.std.specs.Prelude.{map, take, All, Contains, slice_get, is_some, if◌then◌else◌}
-use Rattle.std.specs.List.{list_any, filter, IsDistinct}
+use Rattle.std.proofs.Common.{◌≡◌, ℕ, suc, ◌+◌, ◌<◌, ◌≤◌, ◌==◌, List, [], ◌∷◌, ◌++◌, length, Bool, true, false, not, ◌||◌, Option, Some, None, refl, sym, ap, ◌∙◌, arith, slice_index_or}
+use Rattle.std.specs.Prelude.{All, is_some, if◌then◌else◌}
 use Rattle.std.specs.Option.{option_or}
-use Rattle.std.proofs.lemmas.List.{length-append, map-append}
 use Rattle.std.proofs.lemmas.List.Elements.{All-head, All-tail, All-map}
 use Rattle.rw_base.specs.declared.number.SlotNo.{SlotNo}
-use Rattle.rw_model.specs.declared.fault.BuildFault.{BuildFault}
 use Rattle.rw_model.specs.declared.fault.BuildFault.TheVariants.{UnknownSlot, LinkedTwice, LinkWithinObject, LinkDimension}
 use Rattle.rw_model.specs.Kept.{numbers_of, KeepsPlaces}
-use Rattle.rw_model.specs.Objects.{Object, all_slots}
-use Rattle.rw_model.specs.Links.{is_among, is_slot, link_from, link_of, is_alike, shares_owner, join_fault, joins_fault}
+use Rattle.rw_model.specs.Objects.{Object}
+use Rattle.rw_model.specs.Links.{is_among, is_slot, link_from, link_of, is_alike, shares_owner, join_fault}
 
 -- ---- which link has a slot
 

@@ -6,7 +6,7 @@ use Rattle.rw_model.specs.declared.fault.BuildFault.TheVariants.{LinkBounds, Bad
 use Rattle.rw_model.specs.declared.role.Role.{Role}
 use Rattle.rw_model.specs.declared.role.Role.TheVariants.{Solvable, Fixed, Derived, Neither}
 use Rattle.rw_model.specs.Slot.{Bounds}
-use Rattle.rw_model.specs.Objects.{Object, all_slots, slot_at}
+use Rattle.rw_model.specs.Objects.{Object, all_slots}
 use Rattle.rw_model.specs.Draft.{Draft, Bound, IsControl, IsSound, IsSlot, IsWithinWidest, has_distinct_slots}
 use Rattle.rw_model.specs.Links.{owner_of, dim_of, slot_numbers, bounds_in}
 

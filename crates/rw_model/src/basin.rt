@@ -93,6 +93,7 @@ impl Basin {
     }
 
     /// An object's slot in a place, counted from 0. `None` exactly where it has none there.
+    #[tactic(auto, using(crate::proofs::Bounding::known_in_place))]
     pub fn slot_at(&self, o: ObjectNo, place: u8) -> Option<SlotNo>
         requires { IsObject self.now.objects o.0 }
         ensures number { option_map (λ slot. slot.0) result ≡ slot_in_place self.now.objects o.0 place }
@@ -162,6 +163,7 @@ impl Basin {
 
     /// The slot with this name, of the object with that name. `None` exactly where there is no such object, or where it
     /// has no such slot.
+    #[tactic(auto, using(crate::proofs::Bounding::known_by_name))]
     pub fn find_slot(&self, object: &str, slot: &str) -> Option<SlotNo>
         ensures number { option_map (λ number. number.0) result ≡ slot_named self.now.objects object.now slot.now }
         ensures known { ForSome result (λ number. IsSlot self.now.objects number.0) }

@@ -56,6 +56,12 @@ fn bounds_in(objects: &Objects, links: &Links, given: &OwnBounds, slot: u16) -> 
     meet_all(objects, given, own, links.with(slot))
 }
 
+fn is_crossed(bounds: (i64, i64)) -> bool
+    ensures { result ≡ is_crossed bounds }
+{
+    bounds.1 < bounds.0
+}
+
 /// Whether there is a slot that can have no value.
 pub fn has_crossed_bounds(objects: &Objects, links: &Links, given: &OwnBounds) -> bool
     requires { All (IsLink objects.now) links.now }
@@ -63,7 +69,7 @@ pub fn has_crossed_bounds(objects: &Objects, links: &Links, given: &OwnBounds) -
 {
     for before in 0..objects.slot_count() {
         let bounds = bounds_in(objects, links, given, before + 1);
-        if bounds.1 < bounds.0 {
+        if is_crossed(bounds) {
             return true;
         }
     }

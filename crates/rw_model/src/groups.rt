@@ -1,4 +1,4 @@
-ghost use Rattle.std.specs.Prelude.{◌≡◌, ◌<◌, ℕ, [], ◌∷◌, ◌++◌, IfOk, OnOk, replicate, slice_index_or, slice_set, vec_len};
+ghost use Rattle.std.specs.Prelude.{◌≡◌, ◌+◌, ◌<◌, ◌≤◌, length, [], ◌∷◌, ◌++◌, IfOk, OnOk, slice_index_or, slice_set, vec_len};
 ghost use Rattle.std.specs.List.{range_with_len};
 ghost use Rattle.rw_model.specs.Kept.{numbers_of, links_of, KeepsGroups};
 
@@ -17,19 +17,19 @@ pub fn slots_up_to(alloc: Global, count: u16) -> Result<Vec<SlotNo>, NoMemory>
     Ok(slots)
 }
 
-// So many groups that have no slot yet.
-fn empty_groups(alloc: Global, count: usize) -> Result<Vec<Vec<SlotNo>>, NoMemory>
-    ensures { IfOk result (λ groups. links_of groups.items ≡ replicate count []) }
+// A group for each link that has no slot yet.
+fn empty_groups(alloc: Global, links: &Links) -> Result<Vec<Vec<SlotNo>>, NoMemory>
+    ensures { IfOk result (λ groups. KeepsGroups links.now 0 (links_of groups.items)) }
 {
     let mut groups = Vec::new(alloc);
-    for _ in 0..count {
+    for _ in 0..links.count() {
         groups.push(Vec::new(alloc))?;
     }
     Ok(groups)
 }
 
 fn join(groups: &mut Vec<Vec<SlotNo>>, place: usize, slot: SlotNo) -> Result<(), NoMemory>
-    requires { place < vec_len groups.old }
+    requires { place < length (links_of groups.old.items) }
     ensures { OnOk result (links_of groups.new.items
         ≡ slice_set (links_of groups.old.items) place (slice_index_or (links_of groups.old.items) place [] ++ slot.0 ∷ [])) }
 {
@@ -37,19 +37,26 @@ fn join(groups: &mut Vec<Vec<SlotNo>>, place: usize, slot: SlotNo) -> Result<(),
     Ok(())
 }
 
+// A slot joins the group of its link, if it has one.
+fn join_link(groups: &mut Vec<Vec<SlotNo>>, links: &Links, before: u16) -> Result<(), NoMemory>
+    requires kept { KeepsGroups links.now before (links_of groups.old.items) }
+    requires few { before < 4000 }
+    ensures { OnOk result (KeepsGroups links.now (before + 1) (links_of groups.new.items)) }
+{
+    match links.place(before + 1) {
+        Some(place) => join(groups, place, SlotNo(before + 1)),
+        None => Ok(()),
+    }
+}
+
 /// The slots of each link, rising, of a basin with so many slots.
-pub fn groups_of(
-    alloc: Global,
-    links: &Links,
-    count: u16,
-) -> Result<Vec<Vec<SlotNo>>, NoMemory>
+pub fn groups_of(alloc: Global, links: &Links, count: u16) -> Result<Vec<Vec<SlotNo>>, NoMemory>
+    requires { count ≤ 4000 }
     ensures { IfOk result (λ groups. KeepsGroups links.now count (links_of groups.items)) }
 {
-    let mut groups = empty_groups(alloc, links.count())?;
+    let mut groups = empty_groups(alloc, links)?;
     for before in 0..count {
-        if let Some(place) = links.place(before + 1) {
-            join(&mut groups, place, SlotNo(before + 1))?;
-        }
+        join_link(&mut groups, links, before)?;
     }
     Ok(groups)
 }

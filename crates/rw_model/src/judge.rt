@@ -139,12 +139,7 @@ fn is_same_dim(a: Dim, b: Dim) -> bool
 }
 
 // What is wrong with a slot that a link names after others.
-fn join_fault(
-    objects: &Objects,
-    links: &Links,
-    before: &[SlotNo],
-    slot: u16,
-) -> Option<BuildFault>
+fn join_fault(objects: &Objects, links: &Links, before: &[SlotNo], slot: u16) -> Option<BuildFault>
     requires { All (λ (other : SlotNo). IsSlot objects.now other.0) before.now }
     ensures fault { result ≡ join_fault objects.now links.now (numbers_of before.now) slot }
     ensures known { result ≡ None → IsSlot objects.now slot }
