@@ -7,3 +7,4 @@ pub mod Linking
 pub mod Drafting
 pub mod Grouping
 pub mod Bounding
+pub mod Linked

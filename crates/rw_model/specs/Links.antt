@@ -1,5 +1,5 @@
 -- Links between slots: what is wrong with a link, the groups that links make, and which values the bounds of a group leave.
-use Rattle.std.specs.Prelude.{◌≡◌, ◌⊎◌, ℕ, ◌+◌, ◌==◌, nat_le, Bool, true, false, ◌&&◌, ◌||◌, not, if◌then◌else◌, List, [], ◌∷◌, ◌++◌, length, Option, Some, None, is_some, pos, option_map, unwrap_or, option_and_then}
+use Rattle.std.specs.Prelude.{◌≡◌, ◌⊎◌, ℕ, ℤ, ◌≤ℤ◌, ◌+◌, ◌==◌, nat_le, Bool, true, false, ◌&&◌, ◌||◌, not, if◌then◌else◌, List, [], ◌∷◌, ◌++◌, length, Option, Some, None, is_some, pos, option_map, unwrap_or, option_and_then}
 use Rattle.std.specs.Prelude.{slice_get}
 use Rattle.std.specs.List.{list_any, filter, range_with_len}
 use Rattle.std.specs.Option.{option_or}
@@ -96,6 +96,11 @@ abbrev pub group_of : List Object → List (List ℕ) → ℕ → List ℕ
 group_of objects links slot = filter (is_together links slot) (slot_numbers objects)
 
 -- ---- the values that bounds leave
+
+-- a value from the least to the greatest
+pub record IsBetween (bounds : Bounds) (value : ℤ) : Type 0 where
+  pub low : bounds.0 ≤ℤ value
+  pub high : value ≤ℤ bounds.1
 
 -- the bounds that the slot was given, and its usual ones where it was given none
 abbrev pub own_bounds : List Object → List Bound → ℕ → Bounds
