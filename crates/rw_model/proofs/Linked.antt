@@ -159,7 +159,7 @@ has_slot place (l ∷ links) link slot zero at found =
     let same : l ≡ link = cc in
     ap (is_among slot) (sym same)
     ∙ hit (is_among slot l) place (link_from (place + 1) links slot)
-        (λ later. let after' = link_from-after (place + 1) (place + 0) links slot later in omega (arith, after')) at
+    (λ later. let after' = link_from-after (place + 1) (place + 0) links slot later in omega (arith, after')) at
 has_slot place (l ∷ links) link slot (suc i) at found =
     has_slot (place + 1) links link slot i (missed (is_among slot l) place i (link_from (place + 1) links slot) at) found
 
@@ -223,7 +223,7 @@ group-is-link draft link slot other whole in_links in_link' =
     let at : link_of draft.links slot ≡ Some i = placed_at 0 draft.links link slot i (whole.once slot) found has ∙ ap Some begins in (
       λ grouped.
           let together = All-contains (λ x. is_together draft.links slot x ≡ true) (group_of draft.objects draft.links slot) other
-              (filter_passes (is_together draft.links slot) (slot_numbers draft.objects)) grouped in
+          (filter_passes (is_together draft.links slot) (slot_numbers draft.objects)) grouped in
           has_among other link (in_link draft.objects draft.links link slot other i found at has (slot == other) refl together),
       λ linked.
           let there = among other link linked in
