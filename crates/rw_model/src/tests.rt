@@ -1,31 +1,15 @@
-//! Worked values: the slots of each kind, names and parameters in range, the put rules, and what a builder refuses.
+//! Worked values: the slots of each kind, names and parameters in range, and the put rules.
 use crate::{
-    AgendaOrder, BasinBuilder, BuildFault, Content, DataSlot, DataSlots, History, Kind, Name,
-    PutEnd, Role, RunControl, Supply, Writer, is_kind, is_name, put_end,
+    Content, DataSlot, DataSlots, History, Kind, Name, PutEnd, Role, Supply, Writer, is_kind,
+    is_name, put_end,
 };
-use rw_base::{Dim, ObjectNo, Qty, RuleNo, SlotNo};
-use rw_calendar::{Stamps, Start, StepLength};
+use rw_base::{Dim, ObjectNo, Qty, RuleNo};
 use rw_table::Rating;
 use std::alloc::Global;
 use std::process::Abort;
 use std::test::Fail;
 
 const Q: i64 = 100_000_000_000_000_000;
-
-fn control(alloc: Global, object_limit: u8, rule_limit: u8) -> Result<RunControl, Fail> {
-    let start = Start {
-        year: 2020,
-        month: 1,
-        day: 1,
-        hour: 0,
-    };
-    Ok(RunControl {
-        stamps: Stamps::of(alloc, start, StepLength::Hours(24), 10)?,
-        agenda: AgendaOrder::HighFirst,
-        object_limit,
-        rule_limit,
-    })
-}
 
 fn reach(alloc: Global, lag: u8, inflows: &[i64], chosen: bool) -> Result<Kind, Fail> {
     Ok(Kind::Reach {
