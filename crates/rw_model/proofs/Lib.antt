@@ -3,3 +3,8 @@ pub mod ObjectFacts
 pub mod EntryFacts
 pub mod Numbering
 pub mod Faults
+pub mod Linking
+pub mod Drafting
+pub mod Grouping
+pub mod Bounding
+pub mod Linked

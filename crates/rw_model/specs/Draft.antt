@@ -21,6 +21,7 @@ pub record Bound : Type 0 where
 pub record Draft : Type 0 where
   pub control : RunControl
   pub objects : List Object
+  pub links : List (List ℕ)
   pub bounds : List Bound
 
 -- limits in range
@@ -96,6 +97,11 @@ bound_of (bound ∷ bounds) slot = if slot == bound.slot then Some bound.bounds 
 pub record IsSlot (objects : List Object) (slot : ℕ) : Type 0 where
   pub first : 1 ≤ slot
   pub last : slot ≤ length (all_slots objects)
+
+-- the number of an object
+pub record IsObject (objects : List Object) (object : ℕ) : Type 0 where
+  pub first : 1 ≤ object
+  pub last : object ≤ length objects
 
 -- bounds that the slot can have
 abbrev pub IsWithinWidest : List Object → ℕ → Bounds → Type 0

@@ -1,11 +1,16 @@
 -- How objects and slots are kept: an object by its name, and a slot by its owner and place.
-use Rattle.std.specs.Prelude.{◌≡◌, ℕ, ◌+◌, ◌≤◌, List, [], ◌∷◌, length, map, All, string_bytes}
+use Rattle.std.specs.Prelude.{◌≡◌, ℕ, ◌+◌, ◌≤◌, List, [], ◌∷◌, length, map, All, Bool, Option, Some, None, slice_index_or, string_bytes}
+use Rattle.std.specs.declared.vec.Vec.{Vec}
+use Rattle.rw_base.specs.declared.number.SlotNo.{SlotNo}
 use Rattle.std.specs.declared.string.String.{String}
 use Rattle.rw_model.specs.declared.kind.Kind.{Kind}
 use Rattle.rw_model.specs.declared.place.Place.{Place}
 use Rattle.rw_model.specs.Slot.{Bounds}
-use Rattle.rw_model.specs.Draft.{Bound}
+use Rattle.rw_model.specs.Draft.{Draft, Bound}
 use Rattle.rw_model.specs.Slots.{slots_of}
+use Rattle.rw_model.specs.Links.{link_of, is_same_link, slot_numbers, bounds_in}
+use Rattle.rw_model.specs.Basin.{IsBasin}
+use Rattle.std.specs.List.{filter, range_with_len}
 use Rattle.rw_model.specs.Objects.{Object, Placed, placed_from, all_slots}
 
 abbrev pub objects_of : {A : Type 0} → List (String A × Kind) → List Object
@@ -30,3 +35,30 @@ pub record KeepsSlots (objects : List Object) (places : List Place) (firsts : Li
 -- the bounds that the map's slots were given
 abbrev pub bounds_of : List (ℕ × Bounds) → List Bound
 bounds_of entries = map (λ (entry : ℕ × Bounds). record { slot = entry.0; bounds = entry.1 }) entries
+
+-- the numbers that slots have
+abbrev pub numbers_of : List SlotNo → List ℕ
+numbers_of slots = map (λ (slot : SlotNo). slot.0) slots
+
+abbrev pub links_of : {A : Type 0} → List (Vec SlotNo A) → List (List ℕ)
+links_of {A} links = map (λ (link : Vec SlotNo A). numbers_of link.items) links
+
+-- beside each slot stands the place of the link that has it
+abbrev pub KeepsPlaces : List (List ℕ) → List (Option ℕ) → Type 0
+KeepsPlaces links places = (k : ℕ) → slice_index_or places k None ≡ link_of links (k + 1)
+
+-- the slot stands in the link in this place
+abbrev pub is_in_link : List (List ℕ) → ℕ → ℕ → Bool
+is_in_link links place slot = is_same_link (Some place) (link_of links slot)
+
+-- for each link its slots, rising, of a basin with so many slots
+pub record KeepsGroups (links : List (List ℕ)) (count : ℕ) (groups : List (List ℕ)) : Type 0 where
+  pub every : length groups ≡ length links
+  pub each : (place : ℕ) → slice_index_or groups place [] ≡ filter (is_in_link links place) (range_with_len 1 count)
+
+-- a valid basin, its slots, the groups that its links make, and what bounds leave each slot
+pub record KeepsBasin (draft : Draft) (slots : List ℕ) (groups : List (List ℕ)) (bounds : List Bounds) : Type 0 where
+  pub valid : IsBasin draft
+  pub slots_are : slots ≡ slot_numbers draft.objects
+  pub groups_are : KeepsGroups draft.links (length (all_slots draft.objects)) groups
+  pub bounds_are : bounds ≡ map (bounds_in draft.objects draft.links draft.bounds) (slot_numbers draft.objects)

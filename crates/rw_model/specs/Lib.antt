@@ -7,3 +7,6 @@ pub mod Kind
 pub mod Objects
 pub mod Kept
 pub mod Draft
+pub mod Links
+pub mod Before
+pub mod Basin

@@ -1,37 +1,50 @@
-ghost use Rattle.std.specs.Prelude.{◌≡◌, ◌+◌, [], ◌∷◌, ◌++◌, length, OnOk, OnErr, IfOk, IfErr, option_map};
+ghost use Rattle.std.specs.Prelude.{◌≡◌, ◌+◌, [], ◌∷◌, ◌++◌, length, None, OnOk, OnErr, IfOk, IfErr, option_map};
 ghost use Rattle.rw_model.specs.Objects.{slot_named};
+ghost use Rattle.rw_model.specs.Basin.{IsDraft, IsBasin, finish_fault, IsFinishFault};
+ghost use Rattle.rw_model.specs.Kept.{numbers_of};
+ghost use Rattle.rw_model.specs.Links.{link_fault, IsLinkFault};
 ghost use Rattle.rw_model.specs.Draft.{IsControl, CanAdd, IsObjectFault, CanBound, IsBoundFault};
 
-use crate::judge::{judge_bound, judge_object};
+use crate::basin::Basin;
+use crate::bounds::{all_bounds, has_crossed_bounds};
+use crate::groups::{groups_of, slots_up_to};
+use crate::judge::{judge_bound, judge_link, judge_object};
+use crate::links::Links;
 use crate::objects::Objects;
 use crate::own_bounds::OwnBounds;
 use crate::{BuildFault, Kind, RunControl};
-use rw_base::{ObjectNo, SlotNo};
+use rw_base::{NoMemory, ObjectNo, SlotNo};
 use std::alloc::Global;
 use std::marker::Model;
+
+// The most values of a basin, over all slots and timesteps.
+const CELLS_MAX: u32 = 1_000_000;
 
 /// A basin in the making, seen as what it was told so far.
 #[derive(Drop)]
 pub struct BasinBuilder {
+    alloc: Global,
     control: RunControl,
     objects: Objects,
+    links: Links,
     bounds: OwnBounds,
 }
 
 impl Model for BasinBuilder {
-    ghost use Rattle.rw_model.specs.Draft.{Draft, IsControl};
+    ghost use Rattle.rw_model.specs.Draft.{Draft};
+    ghost use Rattle.rw_model.specs.Basin.{IsDraft};
 
     ghost Value = { Draft };
 
-    ghost view = { λ b. record { control = b.control; objects = b.objects; bounds = b.bounds } };
+    ghost view = { λ b. record { control = b.control; objects = b.objects; links = b.links; bounds = b.bounds } };
 
-    ghost invariant = { λ b. IsControl b.control };
+    ghost invariant = { λ b. IsDraft (record { control = b.control; objects = b.objects; links = b.links; bounds = b.bounds }) };
 }
 
 impl BasinBuilder {
     /// A basin with no object yet. `BadParameter` exactly where a limit is out of range.
     pub fn begin(alloc: Global, control: RunControl) -> Result<BasinBuilder, BuildFault>
-        ensures begun { IfOk result (λ builder. builder ≡ record { control = control; objects = []; bounds = [] }) }
+        ensures begun { IfOk result (λ builder. builder ≡ record { control = control; objects = []; links = []; bounds = [] }) }
         ensures in_range { OnOk result (IsControl control) }
         ensures refused { IfErr result (λ fault. (fault ≡ BuildFault.BadParameter) × ¬ IsControl control) }
     {
@@ -41,8 +54,10 @@ impl BasinBuilder {
             return Err(BuildFault::BadParameter);
         }
         Ok(BasinBuilder {
+            alloc,
             control,
             objects: Objects::new(alloc),
+            links: Links::new(alloc),
             bounds: OwnBounds::new(alloc),
         })
     }
@@ -64,6 +79,27 @@ impl BasinBuilder {
         let number = self.objects.count() + 1;
         match self.objects.add(name, kind) {
             Ok(()) => Ok(ObjectNo(number)),
+            Err(_) => Err(BuildFault::NoMemory),
+        }
+    }
+
+    /// Links slots, which then carry one value: 2 to 8 slots of different objects, which all measure the same.
+    ///
+    /// `BadParameter` comes where there are fewer than 2 slots or more than 8. Then slot by slot, `UnknownSlot` comes where
+    /// no slot has the number, else `LinkedTwice` where an earlier link has the slot, else `LinkWithinObject` where an
+    /// earlier slot of this link is of the same object, else `LinkDimension` where it doesn't measure what the first one
+    /// does. `NoMemory` comes only where none of these holds. After each of them the builder is as it was.
+    pub fn link(&mut self, slots: &[SlotNo]) -> Result<(), BuildFault>
+        ensures added { OnOk result (self.new ≡ record self.old { links = self.old.links ++ numbers_of slots.now ∷ [] }) }
+        ensures can_link { OnOk result (link_fault self.old.objects self.old.links (numbers_of slots.now) ≡ None) }
+        ensures refused { IfErr result (IsLinkFault self.old.objects self.old.links (numbers_of slots.now)) }
+        ensures unchanged { OnErr result (self.new ≡ self.old) }
+    {
+        if let Some(fault) = judge_link(&self.objects, &self.links, slots) {
+            return Err(fault);
+        }
+        match self.links.add(slots, self.objects.slot_count()) {
+            Ok(()) => Ok(()),
             Err(_) => Err(BuildFault::NoMemory),
         }
     }
@@ -98,6 +134,63 @@ impl BasinBuilder {
             Ok(()) => Ok(()),
             Err(_) => Err(BuildFault::NoMemory),
         }
+    }
+
+    /// The basin of what was told.
+    ///
+    /// `BadParameter` comes where there is no object, else `TooMany` with 1000000 where the slots have more values over
+    /// all timesteps, else `LinkBounds` where the bounds of linked slots leave them no value. `NoMemory` comes only where
+    /// none of these holds.
+    pub fn finish(self) -> Result<Basin, BuildFault>
+        ensures finished { IfOk result (λ basin. basin ≡ self) }
+        ensures valid { OnOk result (IsBasin self) }
+        ensures refused { IfErr result (IsFinishFault self) }
+    {
+        if let Some(fault) = self.judge_finish() {
+            return Err(fault);
+        }
+        match self.completed() {
+            Ok(basin) => Ok(basin),
+            Err(_) => Err(BuildFault::NoMemory),
+        }
+    }
+
+    // Why what was told is no basin.
+    fn judge_finish(&self) -> Option<BuildFault>
+        ensures fault { result ≡ finish_fault self.now }
+        ensures told { IsDraft self.now }
+    {
+        if self.objects.count() == 0 {
+            return Some(BuildFault::BadParameter);
+        }
+        let cells = u32::from(self.objects.slot_count()) * u32::from(self.control.stamps.count());
+        if cells > CELLS_MAX {
+            return Some(BuildFault::TooMany(CELLS_MAX));
+        }
+        if has_crossed_bounds(&self.objects, &self.links, &self.bounds) {
+            return Some(BuildFault::LinkBounds);
+        }
+        None
+    }
+
+    // The basin of what was told, where nothing is wrong with that.
+    fn completed(self) -> Result<Basin, NoMemory>
+        requires { IsBasin self }
+        ensures { IfOk result (λ basin. basin ≡ self) }
+    {
+        let count = self.objects.slot_count();
+        let slots = slots_up_to(self.alloc, count)?;
+        let groups = groups_of(self.alloc, &self.links, count)?;
+        let bounds = all_bounds(self.alloc, &self.objects, &self.links, &self.bounds)?;
+        Ok(Basin {
+            control: self.control,
+            objects: self.objects,
+            links: self.links,
+            given: self.bounds,
+            slots,
+            groups,
+            bounds,
+        })
     }
 
     /// The slot with this name, of the object with that name. `None` exactly where there is no such object, or where it

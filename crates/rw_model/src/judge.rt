@@ -1,18 +1,25 @@
-ghost use Rattle.std.specs.Prelude.{◌≡◌, ◌↔◌, ◌≤◌, length, IsTrue, MatchResult};
+ghost use Rattle.std.specs.Prelude.{◌≡◌, ◌↔◌, ◌≤◌, length, All, None, IsTrue, MatchResult};
 ghost use Rattle.rw_model.specs.Slots.{slots_of};
 ghost use Rattle.rw_model.specs.Objects.{placed_from};
+ghost use Rattle.rw_model.specs.Links.{is_same_dim, is_alike, shares_owner, link_of, join_fault, link_fault};
+ghost use Rattle.rw_model.specs.Kept.{numbers_of};
 ghost use Rattle.rw_model.specs.Draft.{has_slot_named, has_distinct_names, has_distinct_slots, CanAdd, IsObjectFault, IsSlot, IsWithinWidest, CanBound, IsBoundFault};
 
+use crate::links::Links;
 use crate::objects::Objects;
 use crate::own_bounds::OwnBounds;
 use crate::place::count_places;
 use crate::{BuildFault, DataSlot, Kind, is_kind, is_name};
+use rw_base::{Dim, SlotNo};
 
 // The most objects of a basin.
 const OBJECTS_MAX: u16 = 500;
 
 // The most slots of a basin.
 const SLOTS_MAX: u16 = 4000;
+
+// The most slots of a link.
+const LINK_MAX: usize = 8;
 
 fn has_slot_named(name: &str, slots: &[DataSlot]) -> bool
     ensures { result ≡ has_slot_named name.now slots.now }
@@ -96,4 +103,78 @@ pub fn judge_bound(
         return Err(BuildFault::BadParameter);
     }
     Ok(())
+}
+
+// Whether an object of one of the slots is that of the slot.
+fn shares_owner(objects: &Objects, slot: u16, before: &[SlotNo]) -> bool
+    requires slot { IsSlot objects.now slot }
+    requires before { All (λ (other : SlotNo). IsSlot objects.now other.0) before.now }
+    ensures { result ≡ shares_owner objects.now slot (numbers_of before.now) }
+{
+    let owner = objects.owner(slot);
+    for other in before {
+        if owner == objects.owner(other.0) {
+            return true;
+        }
+    }
+    false
+}
+
+// Whether the slot measures what the first of the others does.
+fn is_alike(objects: &Objects, slot: u16, before: &[SlotNo]) -> bool
+    requires slot { IsSlot objects.now slot }
+    requires before { All (λ (other : SlotNo). IsSlot objects.now other.0) before.now }
+    ensures { result ≡ is_alike objects.now slot (numbers_of before.now) }
+{
+    match before.first() {
+        Some(first) => is_same_dim(objects.dim(first.0), objects.dim(slot)),
+        None => true,
+    }
+}
+
+fn is_same_dim(a: Dim, b: Dim) -> bool
+    ensures { result ≡ is_same_dim a b }
+{
+    a.volume == b.volume && a.length == b.length && a.step == b.step && a.energy == b.energy
+}
+
+// What is wrong with a slot that a link names after others.
+fn join_fault(objects: &Objects, links: &Links, before: &[SlotNo], slot: u16) -> Option<BuildFault>
+    requires { All (λ (other : SlotNo). IsSlot objects.now other.0) before.now }
+    ensures fault { result ≡ join_fault objects.now links.now (numbers_of before.now) slot }
+    ensures known { result ≡ None → IsSlot objects.now slot }
+    ensures free { result ≡ None → link_of links.now slot ≡ None }
+{
+    if slot == 0 || slot > objects.slot_count() {
+        return Some(BuildFault::UnknownSlot);
+    }
+    if links.place(slot).is_some() {
+        return Some(BuildFault::LinkedTwice);
+    }
+    if shares_owner(objects, slot, before) {
+        return Some(BuildFault::LinkWithinObject);
+    }
+    if is_alike(objects, slot, before) {
+        None
+    } else {
+        Some(BuildFault::LinkDimension)
+    }
+}
+
+/// What is wrong with a link, if something is.
+pub fn judge_link(objects: &Objects, links: &Links, slots: &[SlotNo]) -> Option<BuildFault>
+    ensures fault { result ≡ link_fault objects.now links.now (numbers_of slots.now) }
+    ensures known { result ≡ None → All (λ (slot : SlotNo). IsSlot objects.now slot.0) slots.now }
+    ensures free { result ≡ None → All (λ (slot : SlotNo). link_of links.now slot.0 ≡ None) slots.now }
+{
+    if slots.len() < 2 || slots.len() > LINK_MAX {
+        return Some(BuildFault::BadParameter);
+    }
+    for (place, slot) in slots.iter().enumerate() {
+        let fault = join_fault(objects, links, &slots[..place], slot.0);
+        if fault.is_some() {
+            return fault;
+        }
+    }
+    None
 }

@@ -1,12 +1,14 @@
 //! What the definitions of this crate come to in plain words. Each law is the `ensures` of a function that does
 //! nothing.
-ghost use Rattle.std.specs.Prelude.{◌≡◌, ◌<◌, ◌≤◌, ℕ, List, None, Some};
+ghost use Rattle.std.specs.Prelude.{◌≡◌, ◌<◌, ◌≤◌, ◌↔◌, ℕ, ℤ, List, [], ◌∷◌, All, Contains, None, Some};
 ghost use Rattle.rw_model.specs.declared.fault.BuildFault.{BuildFault};
 ghost use Rattle.rw_model.specs.declared.content.Content.{Content};
 ghost use Rattle.rw_model.specs.declared.put.PutEnd.TheVariants as PutEnd;
 ghost use Rattle.rw_model.specs.declared.writer.Writer.TheVariants as Writer;
 ghost use Rattle.rw_model.specs.Objects.{Object};
-ghost use Rattle.rw_model.specs.Draft.{Bound, IsObjectFault, IsBoundFault};
+ghost use Rattle.rw_model.specs.Draft.{Draft, Bound, IsObjectFault, IsBoundFault, IsSlot};
+ghost use Rattle.rw_model.specs.Links.{link_of, link_fault, IsLinkFault, group_of, own_bounds, linked_with, bounds_in, IsBetween};
+ghost use Rattle.rw_model.specs.Basin.{IsLink, IsDraft, IsFinishFault};
 ghost use Rattle.rw_model.specs.Slot.{Bounds};
 ghost use Rattle.rw_model.specs.Put.{end_of_put, IsSameObject};
 
@@ -39,4 +41,42 @@ pub fn one_object_fault()
 pub fn one_bound_fault()
     ensures { (objects : List Object) (given : List Bound) (slot : ℕ) (bounds : Bounds) (fault other : BuildFault)
         → IsBoundFault objects given slot bounds fault → IsBoundFault objects given slot bounds other → fault ≡ other }
+{}
+
+/// There is one answer at most to why slots aren't linked.
+pub fn one_link_fault()
+    ensures { (objects : List Object) (links : List (List ℕ)) (slots : List ℕ) (fault other : BuildFault)
+        → IsLinkFault objects links slots fault → IsLinkFault objects links slots other → fault ≡ other }
+{}
+
+/// There is one answer at most to why a builder makes no basin.
+pub fn one_finish_fault()
+    ensures { (draft : Draft) (fault other : BuildFault)
+        → IsFinishFault draft fault → IsFinishFault draft other → fault ≡ other }
+{}
+
+/// Slots with which nothing is wrong are 2 to 8, of different objects, measure the same, and are in no earlier link.
+pub fn linked_slots()
+    ensures link { (objects : List Object) (links : List (List ℕ)) (slots : List ℕ)
+        → link_fault objects links slots ≡ None → IsLink objects slots }
+    ensures free { (objects : List Object) (links : List (List ℕ)) (slots : List ℕ)
+        → link_fault objects links slots ≡ None → All (λ slot. link_of links slot ≡ None) slots }
+{}
+
+/// The group of a slot that no link has is the slot alone. In a valid basin the group of a slot that a link has is that
+/// link: it has its slots and no others.
+pub fn links_and_groups()
+    ensures alone { (objects : List Object) (links : List (List ℕ)) (slot : ℕ)
+        → IsSlot objects slot → link_of links slot ≡ None → group_of objects links slot ≡ slot ∷ [] }
+    ensures linked { (draft : Draft) (link : List ℕ) (slot other : ℕ)
+        → IsDraft draft → Contains draft.links link → Contains link slot
+        → Contains (group_of draft.objects draft.links slot) other ↔ Contains link other }
+{}
+
+/// A value is between the bounds of a slot exactly where it is between its own bounds and those of each slot of its link.
+pub fn bounds_of_a_group()
+    ensures { (objects : List Object) (links : List (List ℕ)) (given : List Bound) (slot : ℕ) (value : ℤ)
+        → IsBetween (bounds_in objects links given slot) value
+        ↔ (IsBetween (own_bounds objects given slot) value
+        × All (λ other. IsBetween (own_bounds objects given other) value) (linked_with links slot)) }
 {}

@@ -1,20 +1,28 @@
 //! The parts of a model of a river basin. `Kind` says what kinds of objects there are, and `Kind::slot` answers the one
 //! table of slots in `specs/Slots.antt`: which slots a kind has, in which places, with their dimensions, roles and bounds.
 //! `is_name` and `is_kind` say which names and parameters a model may have. `put_end` answers what becomes of a put to a
-//! cell. `BasinBuilder` takes objects and the bounds of slots, refuses those that a basin can't have, by their first
-//! fault, and finds slots by name. Links and the finished basin are not here yet.
+//! cell. `BasinBuilder` takes objects, links and the bounds of slots, refuses those that a basin can't have, by their first
+//! fault, and finds slots by name. A finished `Basin` is valid and holds what was added, in order; its readers take no
+//! memory.
 #![tactic(auto)]
 
+mod basin;
+mod before;
+mod bounds;
 mod builder;
+#[cfg(test)]
+mod builder_tests;
 mod content;
 mod control;
 mod data_slots;
 mod fault;
+mod groups;
 mod history;
 mod judge;
 mod kind;
 mod kind_rule;
 pub mod law;
+mod links;
 mod name;
 mod name_rule;
 mod objects;
@@ -28,6 +36,7 @@ mod slots;
 mod tests;
 mod writer;
 
+pub use basin::Basin;
 pub use builder::BasinBuilder;
 pub use content::Content;
 pub use control::{AgendaOrder, RunControl};

@@ -2,12 +2,14 @@ ghost use Rattle.std.specs.Prelude.{◌≡◌, ◌+◌, ◌-◌, ◌<◌, ◌≤
 ghost use Rattle.rw_model.specs.Slots.{slots_of, slot_in};
 ghost use Rattle.rw_model.specs.Objects.{object_named, object_at, slots_from, all_slots, slot_at, slot_in_place, slot_named};
 ghost use Rattle.rw_model.specs.Kept.{place_of};
+ghost use Rattle.rw_model.specs.Draft.{IsSlot};
+ghost use Rattle.rw_model.specs.Links.{owner_of, dim_of};
 
 use crate::Kind;
 use crate::place::{Place, number_in_place, number_of_name, push_places};
 use crate::slot::Slot;
 use indexmap::IndexMap;
-use rw_base::NoMemory;
+use rw_base::{Dim, NoMemory};
 use std::alloc::Global;
 use std::marker::Model;
 
@@ -156,6 +158,24 @@ impl Objects {
         ensures few { result ≤ 4000 }
     {
         self.firsts[usize::from(o) - 1]
+    }
+
+    /// The object that owns the slot of this number.
+    pub fn owner(&self, s: u16) -> u16
+        requires { IsSlot self.now s }
+        ensures owner { result ≡ owner_of self.now s }
+        ensures first { 1 ≤ result }
+        ensures last { result ≤ length self.now }
+    {
+        self.place(s).owner
+    }
+
+    /// What the slot of this number measures.
+    pub fn dim(&self, s: u16) -> Dim
+        requires { IsSlot self.now s }
+        ensures { result ≡ dim_of self.now s }
+    {
+        self.slot(s).dim()
     }
 
     /// The number of an object's slot in a place.

@@ -1,31 +1,15 @@
-//! Worked values: the slots of each kind, names and parameters in range, the put rules, and what a builder refuses.
+//! Worked values: the slots of each kind, names and parameters in range, and the put rules.
 use crate::{
-    AgendaOrder, BasinBuilder, BuildFault, Content, DataSlot, DataSlots, History, Kind, Name,
-    PutEnd, Role, RunControl, Supply, Writer, is_kind, is_name, put_end,
+    Content, DataSlot, DataSlots, History, Kind, Name, PutEnd, Role, Supply, Writer, is_kind,
+    is_name, put_end,
 };
-use rw_base::{Dim, ObjectNo, Qty, RuleNo, SlotNo};
-use rw_calendar::{Stamps, Start, StepLength};
+use rw_base::{Dim, ObjectNo, Qty, RuleNo};
 use rw_table::Rating;
 use std::alloc::Global;
 use std::process::Abort;
 use std::test::Fail;
 
 const Q: i64 = 100_000_000_000_000_000;
-
-fn control(alloc: Global, object_limit: u8, rule_limit: u8) -> Result<RunControl, Fail> {
-    let start = Start {
-        year: 2020,
-        month: 1,
-        day: 1,
-        hour: 0,
-    };
-    Ok(RunControl {
-        stamps: Stamps::of(alloc, start, StepLength::Hours(24), 10)?,
-        agenda: AgendaOrder::HighFirst,
-        object_limit,
-        rule_limit,
-    })
-}
 
 fn reach(alloc: Global, lag: u8, inflows: &[i64], chosen: bool) -> Result<Kind, Fail> {
     Ok(Kind::Reach {
@@ -295,138 +279,4 @@ fn puts(rt: HostRuntime) {
         assert_eq!(rt; put_end(Some(held), new), end);
     }
     assert_eq!(rt; put_end(None, held(9, rule)), PutEnd::Written);
-}
-
-#[test]
-fn two_gages_and_data(rt: HostRuntime) -> Result<(), Fail> {
-    let alloc = rt.alloc();
-    let mut builder = BasinBuilder::begin(alloc, control(alloc, 16, 1)?)?;
-    assert_eq!(rt; builder.object("Upper", Kind::Gage), Ok(ObjectNo(1)));
-    assert_eq!(rt; builder.object("Lower", Kind::Gage), Ok(ObjectNo(2)));
-    assert_eq!(rt;
-        builder.object("Targets", data(alloc, &["Volume", "Least"])?),
-        Ok(ObjectNo(3))
-    );
-    assert_eq!(rt;
-        builder.object("Lower", Kind::Gage),
-        Err(BuildFault::DuplicateName)
-    );
-    assert_eq!(rt;
-        builder.object("More", data(alloc, &["A", "A"])?),
-        Err(BuildFault::DuplicateName)
-    );
-    assert_eq!(rt;
-        builder.object("t", Kind::Gage),
-        Err(BuildFault::BadParameter)
-    );
-    assert_eq!(rt;
-        builder.object("Lower", Kind::Canal { seepage: 1000 }),
-        Err(BuildFault::BadParameter)
-    );
-    assert_eq!(rt; builder.find_slot("Upper", "GageInflow"), Some(SlotNo(1)));
-    assert_eq!(rt; builder.find_slot("Lower", "GageOutflow"), Some(SlotNo(4)));
-    assert_eq!(rt; builder.find_slot("Targets", "Least"), Some(SlotNo(6)));
-    assert_eq!(rt; builder.find_slot("Targets", "GageInflow"), None);
-    assert_eq!(rt; builder.find_slot("More", "A"), None);
-    Ok(())
-}
-
-#[test]
-fn limits_of_a_run(rt: HostRuntime) -> Result<(), Fail> {
-    let alloc = rt.alloc();
-    for (objects, rules, good) in [
-        (16, 1, true),
-        (100, 100, true),
-        (15, 1, false),
-        (101, 1, false),
-        (16, 0, false),
-        (16, 101, false),
-    ] {
-        let begun = BasinBuilder::begin(alloc, control(alloc, objects, rules)?).is_ok();
-        assert_eq!(rt; begun, good, "{objects}, {rules}");
-    }
-    Ok(())
-}
-
-#[test]
-fn the_most_objects(rt: HostRuntime) -> Result<(), Fail> {
-    let alloc = rt.alloc();
-    let mut builder = BasinBuilder::begin(alloc, control(alloc, 16, 1)?)?;
-    for number in 1..501_u16 {
-        let name = format!(in alloc; "Gage{number}")?;
-        assert_eq!(rt;
-            builder.object(name.as_str(), Kind::Gage),
-            Ok(ObjectNo(number))
-        );
-    }
-    assert_eq!(rt;
-        builder.object("Gage501", Kind::Gage),
-        Err(BuildFault::TooMany(500))
-    );
-    assert_eq!(rt;
-        builder.find_slot("Gage500", "GageOutflow"),
-        Some(SlotNo(1000))
-    );
-    Ok(())
-}
-
-#[test]
-fn the_most_slots(rt: HostRuntime) -> Result<(), Fail> {
-    let alloc = rt.alloc();
-    let mut builder = BasinBuilder::begin(alloc, control(alloc, 16, 1)?)?;
-    for number in 1..364_u16 {
-        let name = format!(in alloc; "Lake{number}")?;
-        assert_eq!(rt;
-            builder.object(name.as_str(), reservoir(alloc, 100, true)?),
-            Ok(ObjectNo(number))
-        );
-    }
-    assert_eq!(rt;
-        builder.object("Reach", reach(alloc, 0, &[], true)?),
-        Ok(ObjectNo(364))
-    );
-    assert_eq!(rt; builder.object("Gage", Kind::Gage), Ok(ObjectNo(365)));
-    assert_eq!(rt;
-        builder.object("More", data(alloc, &["A"])?),
-        Err(BuildFault::TooMany(4000))
-    );
-    Ok(())
-}
-
-#[test]
-fn bounds(rt: HostRuntime) -> Result<(), Fail> {
-    let alloc = rt.alloc();
-    let mut builder = BasinBuilder::begin(alloc, control(alloc, 16, 1)?)?;
-    assert_eq!(rt;
-        builder.object("Lake", reservoir(alloc, 100, true)?),
-        Ok(ObjectNo(1))
-    );
-    assert_eq!(rt;
-        builder.bound(SlotNo(0), 0, 5),
-        Err(BuildFault::UnknownSlot)
-    );
-    assert_eq!(rt;
-        builder.bound(SlotNo(12), 0, 5),
-        Err(BuildFault::UnknownSlot)
-    );
-    assert_eq!(rt; builder.bound(SlotNo(1), -Q, Q), Ok(()));
-    assert_eq!(rt;
-        builder.bound(SlotNo(1), 9, 5),
-        Err(BuildFault::DuplicateName)
-    );
-    assert_eq!(rt;
-        builder.bound(SlotNo(2), 6, 5),
-        Err(BuildFault::BadParameter)
-    );
-    assert_eq!(rt;
-        builder.bound(SlotNo(3), -1, 5),
-        Err(BuildFault::BadParameter)
-    );
-    assert_eq!(rt;
-        builder.bound(SlotNo(4), 0, 10_000_001),
-        Err(BuildFault::BadParameter)
-    );
-    assert_eq!(rt; builder.bound(SlotNo(4), 0, 10_000_000), Ok(()));
-    assert_eq!(rt; builder.bound(SlotNo(11), 5, 5), Ok(()));
-    Ok(())
 }

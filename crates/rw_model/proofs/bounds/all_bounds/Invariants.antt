@@ -1,0 +1,8 @@
+use Rattle.std.proofs.Common.{◌≡◌}
+use Rattle.std.specs.Prelude.{map}
+use Rattle.std.specs.List.{range_with_len}
+use Rattle.rw_model.specs.Links.{bounds_in}
+use Rattle.rw_model.proofs.bounds.all_bounds.Given as goal
+
+abbrev pub invariant-loop-before : goal.invariant-loop-before
+invariant-loop-before l = l.all.items ≡ map (bounds_in l.objects l.links l.given) (range_with_len 1 l.before)

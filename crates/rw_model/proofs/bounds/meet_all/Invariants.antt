@@ -1,0 +1,8 @@
+use Rattle.std.proofs.Common.{◌≡◌}
+use Rattle.std.specs.Prelude.{drop}
+use Rattle.rw_model.specs.Links.{meet_all}
+use Rattle.rw_model.specs.Kept.{numbers_of}
+use Rattle.rw_model.proofs.bounds.meet_all.Given as goal
+
+abbrev pub invariant-loop-slot : goal.invariant-loop-slot
+invariant-loop-slot l = meet_all l.objects l.given l.met (numbers_of (drop l.slot-index l.slots)) ≡ meet_all l.objects l.given l.fn.bounds (numbers_of l.slots)

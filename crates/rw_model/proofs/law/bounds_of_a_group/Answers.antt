@@ -1,0 +1,6 @@
+use Rattle.rw_model.specs.Links.{own_bounds, linked_with}
+use Rattle.rw_model.proofs.Linked.{meet_all-each}
+use Rattle.rw_model.proofs.law.bounds_of_a_group.Goals as goal
+
+pub returns : goal.returns
+returns c objects links given slot value = meet_all-each objects given (own_bounds objects given slot) (linked_with links slot) value

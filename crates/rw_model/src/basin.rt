@@ -1,0 +1,189 @@
+ghost use Rattle.std.specs.Prelude.{◌≡◌, ◌≤◌, length, None, Some, All, Contains, not, option_map};
+ghost use Rattle.std.specs.Option.{ForSome};
+ghost use Rattle.rw_model.specs.Code.{code_of};
+ghost use Rattle.rw_model.specs.Kind.{IsKind};
+ghost use Rattle.rw_model.specs.Slot.{IsInside, all_quantities};
+ghost use Rattle.rw_model.specs.Objects.{object_at, all_slots, slot_at, slot_in_place, slot_named};
+ghost use Rattle.rw_model.specs.Draft.{IsObject, IsSlot, IsWithinWidest};
+ghost use Rattle.rw_model.specs.Links.{group_of, bounds_in};
+ghost use Rattle.rw_model.specs.Before.{before_of};
+ghost use Rattle.rw_model.specs.Basin.{is_settable, IsBasin};
+ghost use Rattle.rw_model.specs.Kept.{numbers_of};
+
+use crate::before::before_in;
+use crate::links::Links;
+use crate::objects::Objects;
+use crate::own_bounds::OwnBounds;
+use crate::{Kind, Role, RunControl};
+use rw_base::{Dim, ObjectNo, Qty, SlotNo};
+use std::marker::Model;
+
+/// A valid basin, seen as what its builder was told. Objects are numbered from 1 in the order in which they were added,
+/// and slots from 1, object by object, in the order of their places. No call takes memory.
+#[derive(Drop)]
+pub struct Basin {
+    pub(crate) control: RunControl,
+    pub(crate) objects: Objects,
+    pub(crate) links: Links,
+    pub(crate) given: OwnBounds,
+    pub(crate) slots: Vec<SlotNo>,
+    pub(crate) groups: Vec<Vec<SlotNo>>,
+    pub(crate) bounds: Vec<(i64, i64)>,
+}
+
+impl Model for Basin {
+    ghost use Rattle.rw_model.specs.Draft.{Draft};
+    ghost use Rattle.rw_model.specs.Kept.{numbers_of, links_of, KeepsBasin};
+
+    ghost Value = { Draft };
+
+    ghost view = { λ b. record { control = b.control; objects = b.objects; links = b.links; bounds = b.given } };
+
+    ghost invariant = { λ b. KeepsBasin (record { control = b.control; objects = b.objects; links = b.links; bounds = b.given })
+        (numbers_of b.slots.items) (links_of b.groups.items) b.bounds.items };
+}
+
+impl Basin {
+    /// How many objects there are, 1 to 500.
+    pub fn object_count(&self) -> u16
+        ensures count { result ≡ length self.now.objects }
+        ensures valid { IsBasin self.now }
+    {
+        self.objects.count()
+    }
+
+    /// How many slots there are, at most 4000.
+    pub fn slot_count(&self) -> u16
+        ensures count { result ≡ length (all_slots self.now.objects) }
+        ensures valid { IsBasin self.now }
+    {
+        self.objects.slot_count()
+    }
+
+    /// How a run goes.
+    pub fn control(&self) -> &RunControl
+        ensures { result.now ≡ self.now.control }
+    {
+        &self.control
+    }
+
+    /// What an object is called.
+    pub fn object_name(&self, o: ObjectNo) -> &str
+        requires { IsObject self.now.objects o.0 }
+        ensures { option_map (λ object. object.name) (object_at self.now.objects o.0) ≡ Some result.now }
+    {
+        self.objects.name(o.0)
+    }
+
+    /// The kind of an object, with its parameters, which are in range.
+    pub fn kind(&self, o: ObjectNo) -> &Kind
+        requires { IsObject self.now.objects o.0 }
+        ensures kind { option_map (λ object. object.kind) (object_at self.now.objects o.0) ≡ Some result.now }
+        ensures sound { IsKind result.now }
+    {
+        self.objects.kind(o.0)
+    }
+
+    /// The number of an object's kind.
+    pub fn kind_code(&self, o: ObjectNo) -> u8
+        requires { IsObject self.now.objects o.0 }
+        ensures { option_map (λ object. code_of object.kind) (object_at self.now.objects o.0) ≡ Some result }
+    {
+        self.objects.kind(o.0).code()
+    }
+
+    /// An object's slot in a place, counted from 0. `None` exactly where it has none there.
+    #[tactic(auto, using(crate::proofs::Bounding::known_in_place))]
+    pub fn slot_at(&self, o: ObjectNo, place: u8) -> Option<SlotNo>
+        requires { IsObject self.now.objects o.0 }
+        ensures number { option_map (λ slot. slot.0) result ≡ slot_in_place self.now.objects o.0 place }
+        ensures known { ForSome result (λ slot. IsSlot self.now.objects slot.0) }
+    {
+        match self.objects.slot_in_place(o.0, place) {
+            Some(number) => Some(SlotNo(number)),
+            None => None,
+        }
+    }
+
+    /// The object that owns a slot.
+    pub fn owner(&self, s: SlotNo) -> ObjectNo
+        requires { IsSlot self.now.objects s.0 }
+        ensures owner { option_map (λ placed. placed.owner) (slot_at self.now.objects s.0) ≡ Some result.0 }
+        ensures known { IsObject self.now.objects result.0 }
+    {
+        ObjectNo(self.objects.place(s.0).owner)
+    }
+
+    /// What a slot is called.
+    pub fn slot_name(&self, s: SlotNo) -> &str
+        requires { IsSlot self.now.objects s.0 }
+        ensures { option_map (λ placed. placed.slot.name) (slot_at self.now.objects s.0) ≡ Some result.now }
+    {
+        self.objects.slot(s.0).name()
+    }
+
+    /// What a slot measures.
+    pub fn dim(&self, s: SlotNo) -> Dim
+        requires { IsSlot self.now.objects s.0 }
+        ensures { option_map (λ placed. placed.slot.dim) (slot_at self.now.objects s.0) ≡ Some result }
+    {
+        self.objects.slot(s.0).dim()
+    }
+
+    /// Whether inputs and rules can set a slot: all but those that a method derives.
+    pub fn settable(&self, s: SlotNo) -> bool
+        requires { IsSlot self.now.objects s.0 }
+        ensures { option_map (λ placed. is_settable placed.slot.role) (slot_at self.now.objects s.0) ≡ Some result }
+    {
+        self.objects.slot(s.0).role() != Role::Derived
+    }
+
+    /// The least and the greatest value of a slot, in the base units of its dimension: what the bounds of all slots of its
+    /// link leave. They are ordered, and within the widest that the slot can have.
+    pub fn bounds(&self, s: SlotNo) -> (i64, i64)
+        requires { IsSlot self.now.objects s.0 }
+        ensures bounds { result ≡ bounds_in self.now.objects self.now.links self.now.bounds s.0 }
+        ensures widest { IsWithinWidest self.now.objects s.0 result }
+        ensures quantities { IsInside result all_quantities }
+    {
+        self.bounds[usize::from(s.0) - 1]
+    }
+
+    /// The slots that carry one value with a slot, rising, itself included.
+    pub fn group(&self, s: SlotNo) -> &[SlotNo]
+        requires { IsSlot self.now.objects s.0 }
+        ensures group { numbers_of result.now ≡ group_of self.now.objects self.now.links s.0 }
+        ensures known { All (λ (slot : SlotNo). IsSlot self.now.objects slot.0) result.now }
+    {
+        match self.links.place(s.0) {
+            Some(place) => self.groups[place].as_slice(),
+            None => std::slice::from_ref(&self.slots[usize::from(s.0) - 1]),
+        }
+    }
+
+    /// The slot with this name, of the object with that name. `None` exactly where there is no such object, or where it
+    /// has no such slot.
+    #[tactic(auto, using(crate::proofs::Bounding::known_by_name))]
+    pub fn find_slot(&self, object: &str, slot: &str) -> Option<SlotNo>
+        ensures number { option_map (λ number. number.0) result ≡ slot_named self.now.objects object.now slot.now }
+        ensures known { ForSome result (λ number. IsSlot self.now.objects number.0) }
+    {
+        match self.objects.find_slot(object, slot) {
+            Some(number) => Some(SlotNo(number)),
+            None => None,
+        }
+    }
+
+    /// The value of a slot at a timestep before the run, where step 0 is the last of them: the storage and the elevation
+    /// of a reservoir at step 0, and the inflows of a lagged reach at the steps of its history. `None` elsewhere.
+    pub fn before(&self, s: SlotNo, step: i64) -> Option<Qty>
+        requires { IsSlot self.now.objects s.0 }
+        ensures { result ≡ before_of self.now.objects s.0 step }
+    {
+        let place = self.objects.place(s.0);
+        match before_in(self.objects.kind(place.owner), place.place, step) {
+            Some(value) => Qty::of(value),
+            None => None,
+        }
+    }
+}
