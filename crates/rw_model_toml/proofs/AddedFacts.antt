@@ -1,5 +1,5 @@
 -- The tests of an object and of bounds find the faults that a builder answers.
-use Rattle.std.proofs.Common.{◌≡◌, ◌≢◌, ◌∙◌, ◌≤◌, ℕ, nat_lt, ℤ, pos, ◌≤ℤ◌, Bool, true, false, ◌||◌, not, if◌then◌else◌, IsTrue, List, [], ◌∷◌, ◌++◌, length, Option, None, Some, refl, sym, ap, subst, ◌-ℤ◌, Ok, Err, arith}
+use Rattle.std.proofs.Common.{nat_le, ◌≡◌, ◌≢◌, ◌∙◌, ◌≤◌, ℕ, nat_lt, ℤ, pos, ◌≤ℤ◌, Bool, true, false, ◌||◌, not, if◌then◌else◌, IsTrue, List, [], ◌∷◌, ◌++◌, length, Option, None, Some, refl, sym, ap, subst, ◌-ℤ◌, Ok, Err, arith}
 use Rattle.std.specs.Prelude.{is_some, IsSome}
 use mathlib.Core.Logic.{⊎_elim}
 use Rattle.std.specs.Bool.{Decides}
