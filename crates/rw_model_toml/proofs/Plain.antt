@@ -39,7 +39,7 @@ use Rattle.rw_model_toml.specs.Names.{is_name, name_of}
 use Rattle.rw_model_toml.specs.Rows.{is_within_bounds, is_rising, row_fault, rows_fault, table_fault}
 use Rattle.rw_model_toml.specs.Kinds.{object_keys, bare_of, unit_of, slot_of, few_slots, data_of, options_of, history_items_of, inflow_of, history_of, reach_of, row_or, row_in, row_of, rated, table_of, rating_of, reservoir_of, supply_of, water_user_of, canal_of, kind_of}
 use Rattle.rw_model_toml.specs.Added.{is_sound, is_fresh, object_fault, is_allowed, bound_fault}
-use Rattle.rw_model_toml.proofs.Tests.{same-Some}
+use Rattle.rw_model_toml.proofs.Deciding.{same-Some}
 
 -- where it is refused, no want of memory is told
 abbrev pub Plain : {A : Type 0} → Result A Refusal → Type 0
