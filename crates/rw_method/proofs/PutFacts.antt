@@ -26,3 +26,8 @@ fit_judged fit xs h = rw h refl
 pub misfit_judged : (fit : Put → Bool) (xs : List Put) (p : Put) (more : List Put) → AllFit fit xs → fit p ≡ false
     → OutOfRange p.place p.value ≡ judged fit (xs ++ p ∷ more)
 misfit_judged fit xs p more h no_fit = rw (fit_before fit xs (p ∷ more) h) rw no_fit refl
+
+-- after one more that fits, the next that doesn't is the answer
+pub second_misfit_judged : (fit : Put → Bool) (xs : List Put) (p q : Put) (more : List Put) → AllFit fit xs → fit p ≡ true → fit q ≡ false
+    → OutOfRange q.place q.value ≡ judged fit (xs ++ p ∷ q ∷ more)
+second_misfit_judged fit xs p q more h fits no_fit = rw (fit_before fit xs (p ∷ q ∷ more) h) rw fits rw no_fit refl
