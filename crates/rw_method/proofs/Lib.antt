@@ -1,1 +1,2 @@
 pub mod PutFacts
+pub mod LeastInflow
