@@ -1,15 +1,29 @@
 //! What the definitions of this crate come to. Each law is the `ensures` of a function that does nothing.
-ghost use Rattle.std.specs.Prelude.{◌≡◌, ◌≢◌, ◌≤◌, ◌<ℤ◌, ℕ, ℤ, pos, neg_ℤ, List, [], ◌∷◌, Option, true, false, Some, None};
+ghost use Rattle.std.specs.Prelude.{◌≡◌, ◌≢◌, ◌≤◌, ◌<ℤ◌, ℕ, ℤ, pos, neg_ℤ, List, [], ◌∷◌, All, Option, true, false, Some, None};
 ghost use Rattle.rw_base.specs.declared.number.ObjectNo.{ObjectNo};
 ghost use Rattle.rw_base.specs.declared.number.RuleNo.{RuleNo};
 ghost use Rattle.rw_model.specs.declared.kind.Kind.TheVariants as Kind;
 ghost use Rattle.rw_model.specs.declared.kind.Supply.TheVariants as Supply;
 ghost use Rattle.rw_method.specs.declared.solved.Solved.TheVariants as Solved;
+ghost use Rattle.rw_method.specs.declared.balanced.Balanced.TheVariants as Balanced;
+ghost use Rattle.rw_method.specs.declared.term.Term.{Term};
 ghost use Rattle.rw_method.specs.declared.share.Share.TheVariants as Share;
-ghost use Rattle.rw_method.specs.Term.{brought, least_inflow};
+ghost use Rattle.rw_method.specs.Term.{IsShare, brought, least_inflow};
+ghost use Rattle.rw_method.specs.Settling.{weakest, settled, GivesWay, IsSolved};
 ghost use Rattle.rw_method.specs.Puts.{put};
 ghost use Rattle.rw_method.specs.Solve.{solve_of};
 ghost use Rattle.rw_method.specs.Worked.{input, by_rule, seen, worked_rows};
+
+/// The term that gives way is one that isn't given, or else one of the greatest number, and of several such the last.
+pub fn term_that_gives_way()
+    ensures { (first : Term) (rest : List Term) → GivesWay (first ∷ rest) (weakest first rest) }
+{}
+
+/// Where a term is solved, it is the one that gives way, the others are all given, and its value makes the balance true.
+pub fn solved_term()
+    ensures { (steady : ℤ) (terms : List Term) (place number : ℕ) (value : ℤ) → All (λ (term : Term). IsShare term.share) terms
+        → settled (Some steady) terms ≡ Balanced.Solves place value number → IsSolved steady terms place value }
+{}
 
 /// The least inflow of a canal conveys the outflow, and each lesser inflow conveys less. No outflow comes from no inflow.
 pub fn least_inflow_of_a_canal()
