@@ -29,7 +29,7 @@ pub use catalogue::{Catalogue, CatalogueFault};
 pub use counting::per_mille;
 pub use flows::side_flows;
 pub use given::Given;
-pub use judging::{add_put, put_solved};
+pub use judging::{add_put, begin_puts, held_after, put_solved};
 pub use method::Method;
 pub use put::Put;
 pub use put_list::PutList;
