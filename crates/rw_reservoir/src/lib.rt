@@ -3,7 +3,7 @@
 //! derived. No call takes memory.
 #![tactic(auto)]
 
-// mod asking;
+mod asking;
 mod balance;
 mod basis;
 mod contents;
