@@ -1,5 +1,4 @@
 ghost use Rattle.std.specs.Prelude.{◌≡◌, ◌<◌, ◌∷◌, [], ◌++◌, length, IsTrue, OnOk, IfErr};
-ghost use Rattle.rw_method.specs.Contents.{can_hold};
 ghost use Rattle.rw_model.specs.Slot.{all_quantities};
 ghost use Rattle.rw_method.specs.View.{is_between};
 ghost use Rattle.rw_method.specs.Puts.{put};
@@ -10,12 +9,12 @@ use crate::contents::can_hold;
 use rw_method::{PutList, Solved, View, add_put};
 use rw_table::Rating;
 
-// Whether the reservoir can hold a quantity.
-fn can_hold_quantity(table: &Option<Rating>, value: i128) -> bool
-    requires { IsTrue (is_between all_quantities value) }
-    ensures { result ≡ can_hold table.now value }
+/// The same quantity in 64 bits.
+pub(crate) fn narrow(quantity: i128) -> i64
+    requires { IsTrue (is_between all_quantities quantity) }
+    ensures { result ≡ quantity }
 {
-    can_hold(table, value as i64)
+    quantity as i64
 }
 
 /// Adds a put that its slot can have, and that can be held where it is a storage; otherwise that is the answer.
@@ -35,7 +34,7 @@ pub(crate) fn ask(
     if let Err(answer) = add_put(view, puts, place, value, number) {
         return Err(answer);
     }
-    if place == 2 && !can_hold_quantity(table, value) {
+    if place == 2 && !can_hold(table, narrow(value)) {
         return Err(Solved::OutOfRange { place, value });
     }
     Ok(())

@@ -9,8 +9,8 @@ mod basis;
 mod contents;
 mod evaporation;
 mod fault;
-// mod level;
-// mod release;
-// mod reservoir;
+mod level;
+mod release;
+mod reservoir;
 
-// pub use reservoir::ReservoirMethod;
+pub use reservoir::ReservoirMethod;
