@@ -47,3 +47,74 @@ fn balance(
     ];
     settle(steady(view.past, side, evaporated), &terms)
 }
+
+// Puts the term that was solved.
+fn ask_solved(
+    view: &View,
+    table: &Option<Rating>,
+    puts: &mut PutList,
+    balanced: Balanced,
+) -> Result<(), Solved>
+    requires { length puts.old < 8 }
+    ensures added { OnOk result (puts.new ≡ puts.old ++ solved_put balanced) }
+    ensures fits { OnOk result (AllFit (can_get table.now view.entry.now) (solved_put balanced)) }
+    ensures bounded { OnOk result (AllFit (is_bounded view.entry.now) (solved_put balanced)) }
+    ensures refused { IfErr result (IsRefused (can_get table.now view.entry.now) (solved_put balanced)) }
+    ensures room { OnOk result (length puts.new ≤ length puts.old + 1) }
+{
+    match balanced {
+        Balanced::Solves {
+            place,
+            value,
+            number,
+        } => ask(view, table, puts, place, value, number),
+        _ => Ok(()),
+    }
+}
+
+// Puts the term that was solved, and what is known of the contents by it.
+fn ask_contents(
+    view: &View,
+    table: &Option<Rating>,
+    puts: &mut PutList,
+    balanced: Balanced,
+) -> Result<(), Solved>
+    requires { length puts.old < 7 }
+    ensures added { OnOk result (puts.new ≡ puts.old ++ (solved_put balanced
+        ++ level_puts table.now (given view.entry.now 2) (given view.entry.now 3) balanced)) }
+    ensures fits { OnOk result (AllFit (can_get table.now view.entry.now) (solved_put balanced
+        ++ level_puts table.now (given view.entry.now 2) (given view.entry.now 3) balanced)) }
+    ensures bounded { OnOk result (AllFit (is_bounded view.entry.now) (solved_put balanced)) }
+    ensures refused { IfErr result (IsRefused (can_get table.now view.entry.now) (solved_put balanced
+        ++ level_puts table.now (given view.entry.now 2) (given view.entry.now 3) balanced)) }
+    ensures room { OnOk result (length puts.new ≤ length puts.old + 2) }
+{
+    match ask_solved(view, table, puts, balanced) {
+        Ok(()) => ask_level(view, table, puts, view.given(2), view.given(3), balanced),
+        Err(answer) => Err(answer),
+    }
+}
+
+// Puts how much evaporates, and the parts of the outflow.
+fn ask_derived(
+    view: &View,
+    table: &Option<Rating>,
+    puts: &mut PutList,
+    evaporation: bool,
+    evaporated: Option<i128>,
+    max_release: Option<i64>,
+    outflow: Given,
+) -> Result<(), Solved>
+    requires { length puts.old < 6 }
+    ensures added { OnOk result (puts.new
+        ≡ puts.old ++ (evaporation_put evaporation evaporated ++ release_puts max_release outflow)) }
+    ensures fits { OnOk result (AllFit (can_get table.now view.entry.now)
+        (evaporation_put evaporation evaporated ++ release_puts max_release outflow)) }
+    ensures refused { IfErr result (IsRefused (can_get table.now view.entry.now)
+        (evaporation_put evaporation evaporated ++ release_puts max_release outflow)) }
+{
+    match ask_evaporation(view, table, puts, evaporation, evaporated) {
+        Ok(()) => ask_release(view, table, puts, max_release, outflow),
+        Err(answer) => Err(answer),
+    }
+}
