@@ -1,5 +1,5 @@
 -- The first misfit of puts that are asked for one after the other.
-use Rattle.std.proofs.Common.{◌≡◌, refl, ap, ◌∙◌, Bool, true, false, List, [], ◌∷◌, ◌++◌, Option, Some, None}
+use Rattle.std.proofs.Common.{◌≡◌, refl, ap, ◌∙◌, Bool, true, false, List, [], ◌∷◌, ◌++◌, append_assoc, Option, Some, None}
 use Rattle.std.specs.Prelude.{if◌then◌else◌, option_map}
 use Rattle.rw_method.specs.declared.put.Put.{Put}
 use Rattle.rw_method.specs.declared.solved.Solved.{Solved}
@@ -45,3 +45,16 @@ refused_by puts (Some misfit) answer refused = cc
 
 pub judged_refused : (fit : Put → Bool) (puts : List Put) (answer : Solved) → IsRefused fit puts answer → judged fit puts ≡ answer
 judged_refused fit puts answer refused = refused_by puts (first_misfit fit puts) answer refused
+
+-- puts in four parts, of which the first two are asked for together, and then the last two
+pub refused_in_front : (fit : Put → Bool) (a b c d : List Put) (answer : Solved) → IsRefused fit (a ++ b) answer → judged fit (a ++ b ++ c ++ d) ≡ answer
+refused_in_front fit a b c d answer refused =
+    rw append_assoc (judged_refused fit ((a ++ b) ++ (c ++ d)) answer (refused_at_once fit (a ++ b) (c ++ d) answer refused))
+
+pub refused_behind : (fit : Put → Bool) (a b c d : List Put) (answer : Solved) → AllFit fit (a ++ b) → IsRefused fit (c ++ d) answer → judged fit (a ++ b ++ c ++ d) ≡ answer
+refused_behind fit a b c d answer all refused =
+    rw append_assoc (judged_refused fit ((a ++ b) ++ (c ++ d)) answer (refused_later fit (a ++ b) (c ++ d) answer all refused))
+
+pub four_fit : (fit : Put → Bool) (a b c d puts : List Put) → AllFit fit (a ++ b) → AllFit fit (c ++ d) → puts ≡ (a ++ b) ++ (c ++ d) → judged fit (a ++ b ++ c ++ d) ≡ Puts puts
+four_fit fit a b c d puts all others is =
+    rw (append_assoc, is) (judged_all fit ((a ++ b) ++ (c ++ d)) (all_fit fit (a ++ b) (c ++ d) all others))

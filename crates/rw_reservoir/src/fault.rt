@@ -72,8 +72,7 @@ fn disagreement(
         (Some(storage), Some(elevation))
             if storage.number == 0
                 && elevation.number == 0
-                && !agree(table, storage.value, elevation.value) =>
-        {
+                && !agree(table, storage.value, elevation.value) => {
             Some(Solved::Conflict {
                 place: 3,
                 held: i128::from(elevation.value),

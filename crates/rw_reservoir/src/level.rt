@@ -101,7 +101,14 @@ pub(crate) fn ask_level(
             place: 2,
             value,
             number,
-        } => ask_found(view, table, puts, 3, elevation_of(table, narrow(value)), number),
+        } => ask_found(
+            view,
+            table,
+            puts,
+            3,
+            elevation_of(table, narrow(value)),
+            number,
+        ),
         _ => ask_beside_given(view, table, puts, storage, elevation),
     }
 }
