@@ -12,5 +12,9 @@ mod fault;
 mod level;
 mod release;
 mod reservoir;
+#[cfg(test)]
+mod tests;
+#[cfg(test)]
+mod worked;
 
 pub use reservoir::ReservoirMethod;
