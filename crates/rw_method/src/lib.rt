@@ -5,6 +5,7 @@
 #![tactic(auto)]
 
 mod balanced;
+mod basis;
 mod catalogue;
 mod counting;
 mod flows;
@@ -23,6 +24,7 @@ mod tests;
 mod view;
 
 pub use balanced::Balanced;
+pub use basis::Basis;
 pub use catalogue::{Catalogue, CatalogueFault};
 pub use counting::per_mille;
 pub use flows::side_flows;
