@@ -14,14 +14,6 @@ pub fit_before : (fit : Put → Bool) (xs ys : List Put) → AllFit fit xs → f
 fit_before fit [] ys h = refl
 fit_before fit (x ∷ xs) ys h = rw ((first_fits fit x xs h).0) (fit_before fit xs ys (first_fits fit x xs h).1)
 
--- one more that fits
-pub all_fit_push : (fit : Put → Bool) (xs : List Put) (p : Put) → AllFit fit xs → fit p ≡ true → AllFit fit (xs ++ p ∷ [])
-all_fit_push fit xs p h more = fit_before fit xs (p ∷ []) h ∙ rw more refl
-
--- puts that fit are the answer
-pub fit_judged : (fit : Put → Bool) (xs : List Put) → AllFit fit xs → Puts xs ≡ judged fit xs
-fit_judged fit xs h = rw h refl
-
 -- one more that doesn't fit is the answer, whatever comes after it
 pub misfit_judged : (fit : Put → Bool) (xs : List Put) (p : Put) (more : List Put) → AllFit fit xs → fit p ≡ false
     → OutOfRange p.place p.value ≡ judged fit (xs ++ p ∷ more)
