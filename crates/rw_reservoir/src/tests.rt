@@ -12,7 +12,12 @@ fn solved(view: &View, table: &Option<Rating>, evaporation: bool, most: Option<i
 // 1000 held. 100 in and 1020 wanted: 80 out. 100 in and 50 out: 1050 are stored, with the greater number of the two.
 #[test]
 fn what_flows_in_and_not_out_is_stored(rt: HostRuntime) {
-    let out = solved(&seen(1000, &[(0, 100, 0), (2, 1020, 0)]), &None, false, None);
+    let out = solved(
+        &seen(1000, &[(0, 100, 0), (2, 1020, 0)]),
+        &None,
+        false,
+        None,
+    );
     assert!(rt; are_puts(&out, &[(1, 80, 0)]));
     let stored = solved(&seen(1000, &[(0, 100, 0), (1, 50, 3)]), &None, false, None);
     assert!(rt; are_puts(&stored, &[(2, 1050, 3)]));
