@@ -1,0 +1,4 @@
+pub mod PutFacts
+pub mod LeastInflow
+pub mod GivingWay
+pub mod SolvedTerm
