@@ -35,7 +35,7 @@ pub(crate) fn can_hold(table: &Option<Rating>, storage: i64) -> bool
     }
 }
 
-// The contents by an elevation. They are 0 where the table doesn't have it, since the answer is then another.
+// The contents by an elevation. They are 0 where the table doesn't have it: the answer is then that it is out of range.
 fn contents_at(table: &Option<Rating>, elevation: Given) -> Given
     ensures { Some result ≡ contents_by table.now (Basis.Elevation elevation) }
 {

@@ -10,6 +10,7 @@ mod contents;
 mod evaporation;
 mod fault;
 mod level;
+mod puts;
 mod release;
 mod reservoir;
 #[cfg(test)]

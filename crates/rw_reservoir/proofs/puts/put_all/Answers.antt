@@ -3,7 +3,7 @@ use Rattle.rw_method.specs.View.{given}
 use Rattle.rw_method.specs.Puts.{solved_put, level_puts, evaporation_put, release_puts, held_after}
 use Rattle.rw_reservoir.specs.Asking.{can_get}
 use Rattle.rw_reservoir.proofs.Misfits.{refused_in_front, refused_behind, four_fit}
-use Rattle.rw_reservoir.proofs.reservoir.put_all.Goals as goal
+use Rattle.rw_reservoir.proofs.puts.put_all.Goals as goal
 
 pub returns-in-Err : goal.returns-in-Err
 returns-in-Err c =

@@ -2,7 +2,7 @@ use Rattle.rw_method.specs.View.{given}
 use Rattle.rw_method.specs.Puts.{solved_put, level_puts}
 use Rattle.rw_reservoir.specs.Asking.{can_get}
 use Rattle.rw_reservoir.proofs.Misfits.{refused_at_once}
-use Rattle.rw_reservoir.proofs.reservoir.ask_contents.Goals as goal
+use Rattle.rw_reservoir.proofs.puts.ask_contents.Goals as goal
 
 pub returns-in-Err-clause-refused : goal.returns-in-Err-clause-refused
 returns-in-Err-clause-refused c =
