@@ -1,8 +1,8 @@
 -- Whether puts fit, when one more is added.
-use Rattle.std.proofs.Common.{◌≡◌, ◌∙◌, refl, arith, Bool, true, false, List, [], ◌∷◌, ◌++◌}
+use Rattle.std.proofs.Common.{◌≡◌, refl, arith, Bool, true, false, List, [], ◌∷◌, ◌++◌}
 use Rattle.std.proofs.lemmas.Grind.{common_steps}
 use Rattle.rw_method.specs.declared.put.Put.{Put}
-use Rattle.rw_method.specs.declared.solved.Solved.TheVariants.{Puts, OutOfRange}
+use Rattle.rw_method.specs.declared.solved.Solved.TheVariants.{OutOfRange}
 use Rattle.rw_method.specs.Solve.{first_misfit, AllFit, judged}
 
 -- of puts of which the first fits, the others decide

@@ -11,8 +11,9 @@ use Rattle.rw_method.specs.declared.term.Term.{Term}
 use Rattle.rw_method.specs.declared.balanced.Balanced.{Balanced}
 use Rattle.rw_method.specs.declared.balanced.Balanced.TheVariants.{Idle, Holds, Solves, Conflicts}
 use Rattle.rw_method.specs.Term.{IsShare, brought, bringing, brought_by}
-use Rattle.rw_method.specs.Settling.{missing, net_of, weakest, value_from_others, solves, settled_at, settled, IsNoWeaker, IsStronger, GivesWay, IsSolved}
+use Rattle.rw_method.specs.Settling.{missing, net_of, weakest, value_from_others, solves, settled_at, settled, IsNoWeaker, IsStronger, GivesWay, IsSolved, IsGreatestBeside}
 use Rattle.rw_method.proofs.LeastInflow.{conveyed}
+use Rattle.rw_method.proofs.GreatestBeside.{is_greatest_beside}
 use Rattle.rw_method.proofs.GivingWay.{and_pass, none_pass, gives_way}
 
 -- ---- sums over terms
@@ -76,6 +77,10 @@ abbrev place_of : Balanced → ℕ
 place_of (Solves place value number) = place
 place_of balanced = 0
 
+abbrev count_of : Balanced → ℕ
+count_of (Solves place value number) = number
+count_of balanced = 0
+
 abbrev value_of : Balanced → ℤ
 value_of (Solves place value number) = value
 value_of balanced = pos 0
@@ -138,3 +143,10 @@ solved_term steady (first ∷ rest) place number value shares is =
     solved_here steady (first ∷ rest) term place value way
     (passes_between (λ (other : Term). IsShare other.share) way.before way.after term shares_there) (ap place_of solved.1)
     (ap value_of solved.1) others
+
+pub number_of_solved : (steady : ℤ) (terms : List Term) (place number : ℕ) (value : ℤ)
+    → settled (Some steady) terms ≡ Solves place value number → IsGreatestBeside place terms number
+number_of_solved steady [] place number value is = absurd (not_solved Holds place number value is refl)
+number_of_solved steady (first ∷ rest) place number value is =
+    let solved = solves_of steady first rest place number value is in
+    rw (← ap place_of solved.1, ← ap count_of solved.1) (is_greatest_beside (weakest first rest).place (first ∷ rest))

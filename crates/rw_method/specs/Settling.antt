@@ -1,5 +1,5 @@
 -- What the terms of a balance come to: which of them is solved for, and as what.
-use Rattle.std.specs.Prelude.{ℕ, ◌≡◌, ◌<◌, ◌≤◌, ◌+◌, max, ◌==◌, nat_lt, nat_le, ℤ, pos, neg_ℤ, ◌+ℤ◌, ◌-ℤ◌, if◌then◌else◌, Bool, false, List, [], ◌∷◌, ◌++◌, All, Option, None, Some, is_some, IsSome}
+use Rattle.std.specs.Prelude.{ℕ, ◌≡◌, ◌≢◌, ◌⊎◌, ◌<◌, ◌≤◌, ◌+◌, max, ◌==◌, nat_lt, nat_le, ℤ, pos, neg_ℤ, ◌+ℤ◌, ◌-ℤ◌, if◌then◌else◌, Bool, false, List, [], ◌∷◌, ◌++◌, All, Contains, Option, None, Some, is_some, IsSome}
 use Rattle.std.specs.Ordering.{int_eq}
 use Rattle.rw_method.specs.declared.given.Given.{Given}
 use Rattle.rw_method.specs.declared.term.Term.{Term}
@@ -92,3 +92,8 @@ pub record IsSolved (steady : ℤ) (terms : List Term) (place : ℕ) (value : �
   pub way : GivesWay terms term
   pub given : All (λ (other : Term). IsSome other.given) (way.before ++ way.after)
   pub balances : steady +ℤ (net_of way.before +ℤ brought term.share value +ℤ net_of way.after) ≡ pos 0
+
+-- a number that no given term in another place passes, and that one of them has, or 0
+pub record IsGreatestBeside (place : ℕ) (terms : List Term) (number : ℕ) : Type 0 where
+  pub most : All (λ (other : Term). other.place ≢ place → number_of other.given ≤ number) terms
+  pub one : (number ≡ 0) ⊎ ((other : Term) × Contains terms other × (other.place ≢ place) × (number_of other.given ≡ number))

@@ -9,7 +9,7 @@ ghost use Rattle.rw_method.specs.declared.balanced.Balanced.TheVariants as Balan
 ghost use Rattle.rw_method.specs.declared.term.Term.{Term};
 ghost use Rattle.rw_method.specs.declared.share.Share.TheVariants as Share;
 ghost use Rattle.rw_method.specs.Term.{IsShare, brought, least_inflow};
-ghost use Rattle.rw_method.specs.Settling.{weakest, settled, GivesWay, IsSolved};
+ghost use Rattle.rw_method.specs.Settling.{weakest, settled, GivesWay, IsSolved, IsGreatestBeside};
 ghost use Rattle.rw_method.specs.Puts.{put};
 ghost use Rattle.rw_method.specs.Solve.{solve_of};
 ghost use Rattle.rw_method.specs.Worked.{input, by_rule, seen, worked_rows};
@@ -23,6 +23,12 @@ pub fn term_that_gives_way()
 pub fn solved_term()
     ensures { (steady : ℤ) (terms : List Term) (place number : ℕ) (value : ℤ) → All (λ (term : Term). IsShare term.share) terms
         → settled (Some steady) terms ≡ Balanced.Solves place value number → IsSolved steady terms place value }
+{}
+
+/// A solved term has the greatest number of the others, and 0 where none of them is given.
+pub fn number_of_a_solved_term()
+    ensures { (steady : ℤ) (terms : List Term) (place number : ℕ) (value : ℤ)
+        → settled (Some steady) terms ≡ Balanced.Solves place value number → IsGreatestBeside place terms number }
 {}
 
 /// The least inflow of a canal conveys the outflow, and each lesser inflow conveys less. No outflow comes from no inflow.
