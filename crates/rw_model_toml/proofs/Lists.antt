@@ -1,0 +1,125 @@
+-- Reading the items of an array one by one.
+use Rattle.std.proofs.Common.{arith, None, ◌≢◌, ◌≡◌, ℕ, ◌+◌, ◌<◌, List, [], ◌∷◌, ◌++◌, length, drop, get_or, append_assoc, subst, Result, Ok, Err, refl, ap, sym, ◌∙◌}
+use Rattle.toml.specs.declared.value.Value.{Value}
+use Rattle.toml.specs.View.{view, items_view}
+use Rattle.toml.proofs.Views.{items_view-drop}
+use Rattle.toml.specs.Data.{no_items, Data, Items, item}
+use Rattle.rw_model_toml.specs.declared.fault.ModelFault.{ModelFault}
+use Rattle.rw_model_toml.specs.declared.fault.ModelFault.TheVariants.{NoMemory}
+use Rattle.rw_model.specs.declared.fault.BuildFault.{BuildFault}
+use Rattle.rw_model.specs.declared.fault.BuildFault.TheVariants.{DuplicateName, UnknownSlot, LinkedTwice, LinkWithinObject, LinkDimension, LinkBounds, BadParameter, TooMany, NoMemory as BuildNoMemory}
+use Rattle.rw_model.specs.Draft.{Draft}
+use Rattle.rw_base.specs.declared.number.SlotNo.{SlotNo}
+use Rattle.rw_model.specs.Kept.{numbers_of}
+use Rattle.rw_model_toml.specs.Model.{in_turn}
+use Rattle.rw_model_toml.specs.Fault.{IsWhy, Gives, refusal_of}
+use Rattle.std.specs.Result.{IsErrAnd}
+use Rattle.std.specs.Option.{ForSome}
+use Rattle.rw_model_toml.specs.Refusal.{Refusal, bad_build, ◌>>=◌}
+use Rattle.rw_model_toml.specs.Path.{element_path}
+use Rattle.rw_model_toml.specs.ListOf.{list_of}
+use Rattle.rw_model_toml.specs.Kinds.{row_in}
+
+-- what is read after what is there already
+abbrev pub after : {A : Type 0} → List A → Result (List A) Refusal → Result (List A) Refusal
+after done rest = rest >>= λ xs. Ok (done ++ xs)
+
+after-cons : {A : Type 0} (done : List A) (x : A) (rest : Result (List A) Refusal) → after (done ++ x ∷ []) rest ≡ after done (rest >>= λ xs. Ok (x ∷ xs))
+after-cons done x (Ok xs) = ap Ok (append_assoc done (x ∷ []) xs)
+after-cons done x (Err refusal) = refl
+
+-- one more item is read
+pub list_of-next : {A : Type 0} (judge : List ℕ → Data → Result A Refusal) (path : List ℕ) (number : ℕ) (value : Data) (rest : Items) (done : List A) (x : A)
+    → judge (element_path path number) value ≡ Ok x
+    → after (done ++ x ∷ []) (list_of judge path (number + 1) rest) ≡ after done (list_of judge path number (item value rest))
+list_of-next judge path number value rest done x e = after-cons done x (list_of judge path (number + 1) rest) ∙ rw e refl
+
+-- an item is refused
+pub list_of-fails : {A : Type 0} (judge : List ℕ → Data → Result A Refusal) (path : List ℕ) (number : ℕ) (value : Data) (rest : Items) (done : List A) (fault : ModelFault)
+    → IsWhy (judge (element_path path number) value) fault → IsWhy (after done (list_of judge path number (item value rest))) fault
+list_of-fails judge path number value rest done fault why = λ refusal is. rw (why refusal is) refl
+
+-- the code's loop reads one more item
+pub items-next : {A : Type 0} (judge : List ℕ → Data → Result A Refusal) (path : List ℕ) (vs : List Value) (place : ℕ) (v : Value) (at : List ℕ) (done : List A) (x : A) (new : List A) (all : Result (List A) Refusal)
+    → place < length vs → v ≡ get_or vs place v → at ≡ element_path path (place + 1)
+    → judge at (view v) ≡ Ok x → new ≡ done ++ x ∷ []
+    → after done (list_of judge path (place + 1) (items_view (drop place vs))) ≡ all
+    → after new (list_of judge path (place + 1 + 1) (items_view (drop (place + 1) vs))) ≡ all
+items-next judge path vs place v at done x new all within is where_ read added before =
+    rw added (list_of-next judge path (place + 1) (view v) (items_view (drop (place + 1) vs)) done x (ap (λ p. judge p (view v)) (sym where_) ∙ read)
+    ∙ ap (λ is_. after done (list_of judge path (place + 1) is_)) (ap (λ w. item (view w) (items_view (drop (place + 1) vs))) is ∙ sym (items_view-drop vs place v within))
+    ∙ before)
+
+-- the code's loop comes to an item that is refused
+pub items-fails : {A : Type 0} (judge : List ℕ → Data → Result A Refusal) (path : List ℕ) (vs : List Value) (place : ℕ) (v : Value) (at : List ℕ) (done : List A) (all : Result (List A) Refusal) (fault : ModelFault)
+    → place < length vs → v ≡ get_or vs place v → at ≡ element_path path (place + 1)
+    → IsWhy (judge at (view v)) fault
+    → after done (list_of judge path (place + 1) (items_view (drop place vs))) ≡ all
+    → IsWhy all fault
+items-fails judge path vs place v at done all fault within is where_ why before =
+    subst (λ r. IsWhy r fault) (ap (λ is_. after done (list_of judge path (place + 1) is_)) (ap (λ w. item (view w) (items_view (drop (place + 1) vs))) is ∙ sym (items_view-drop vs place v within)) ∙ before)
+    (list_of-fails judge path (place + 1) (view v) (items_view (drop (place + 1) vs)) done fault (subst (λ p. IsWhy (judge p (view v)) fault) where_ why))
+
+-- a fault that is handed on is why the reading is refused
+pub gives-fault : {X Y : Type 0} (seen : X → Y) (result : Result X ModelFault) (reading : Result Y Refusal) (fault : ModelFault)
+    → IsErrAnd result (λ e. e ≡ fault) → IsWhy reading fault → Gives seen result reading
+gives-fault seen (Ok x) reading fault same why = absurd same
+gives-fault seen (Err e) reading fault same why = subst (IsWhy reading) (sym same) why
+
+-- what is refused is refused, whatever would be read next
+pub stops : {A B : Type 0} (reading : Result A Refusal) (next : A → Result B Refusal) (fault : ModelFault) → IsWhy reading fault → IsWhy (reading >>= next) fault
+stops reading next fault why = λ refusal is. rw (why refusal is) refl
+
+-- an array of two values
+pub items-two : (vs : List Value) (a b : Value) → length vs ≡ 2 → a ≡ get_or vs 0 a → b ≡ get_or vs 1 b → items_view vs ≡ item (view a) (item (view b) no_items)
+items-two [] a b two first second = absurd (omega arith)
+items-two (x ∷ []) a b two first second = absurd (omega arith)
+items-two (x ∷ y ∷ []) a b two first second = cc
+items-two (x ∷ y ∷ z ∷ vs) a b two first second = absurd (omega arith)
+
+-- an array of another number of values is no row
+pub items-not-two : (vs : List Value) → length vs ≢ 2 → row_in (items_view vs) ≡ None
+items-not-two [] other = refl
+items-not-two (x ∷ []) other = refl
+items-not-two (x ∷ y ∷ []) other = absurd (other refl)
+items-not-two (x ∷ y ∷ z ∷ vs) other = refl
+
+-- what a builder's fault tells is why the model is refused
+pub told-why : {A : Type 0} (reading : Result A Refusal) (path : List ℕ) (fault : BuildFault) (result : ModelFault)
+    → (fault ≡ BuildNoMemory → result ≡ NoMemory) → (fault ≢ BuildNoMemory → ForSome (refusal_of result) (λ refusal. refusal ≡ bad_build path fault))
+    → (fault ≢ BuildNoMemory → reading ≡ Err (bad_build path fault)) → IsWhy reading result
+told-why reading path BuildNoMemory result memory other why = subst (IsWhy reading) (sym (memory refl)) (λ refusal is. cc)
+told-why reading path DuplicateName result memory other why = λ refusal is. why (λ e. cc) ∙ ap Err (sym (other (λ e. cc) refusal is))
+told-why reading path UnknownSlot result memory other why = λ refusal is. why (λ e. cc) ∙ ap Err (sym (other (λ e. cc) refusal is))
+told-why reading path LinkedTwice result memory other why = λ refusal is. why (λ e. cc) ∙ ap Err (sym (other (λ e. cc) refusal is))
+told-why reading path LinkWithinObject result memory other why = λ refusal is. why (λ e. cc) ∙ ap Err (sym (other (λ e. cc) refusal is))
+told-why reading path LinkDimension result memory other why = λ refusal is. why (λ e. cc) ∙ ap Err (sym (other (λ e. cc) refusal is))
+told-why reading path LinkBounds result memory other why = λ refusal is. why (λ e. cc) ∙ ap Err (sym (other (λ e. cc) refusal is))
+told-why reading path BadParameter result memory other why = λ refusal is. why (λ e. cc) ∙ ap Err (sym (other (λ e. cc) refusal is))
+told-why reading path (TooMany most) result memory other why = λ refusal is. why (λ e. cc) ∙ ap Err (sym (other (λ e. cc) refusal is))
+
+-- the code's loop tells one more item to the builder
+pub turn-next : (told : List ℕ → Data → Draft → Result Draft Refusal) (path : List ℕ) (vs : List Value) (place : ℕ) (v : Value) (at : List ℕ) (draft new : Draft) (all : Result Draft Refusal)
+    → place < length vs → v ≡ get_or vs place v → at ≡ element_path path (place + 1)
+    → told at (view v) draft ≡ Ok new
+    → in_turn told path (place + 1) (items_view (drop place vs)) draft ≡ all
+    → in_turn told path (place + 1 + 1) (items_view (drop (place + 1) vs)) new ≡ all
+turn-next told path vs place v at draft new all within is where_ read before =
+    sym (ap (λ r. r >>= in_turn told path (place + 1 + 1) (items_view (drop (place + 1) vs))) (ap (λ p. told p (view v) draft) (sym where_) ∙ read))
+    ∙ ap (λ is_. in_turn told path (place + 1) is_ draft) (ap (λ w. item (view w) (items_view (drop (place + 1) vs))) is ∙ sym (items_view-drop vs place v within))
+    ∙ before
+
+-- the code's loop comes to an item that the builder refuses
+pub turn-fails : (told : List ℕ → Data → Draft → Result Draft Refusal) (path : List ℕ) (vs : List Value) (place : ℕ) (v : Value) (at : List ℕ) (draft : Draft) (all : Result Draft Refusal) (fault : ModelFault)
+    → place < length vs → v ≡ get_or vs place v → at ≡ element_path path (place + 1)
+    → IsWhy (told at (view v) draft) fault
+    → in_turn told path (place + 1) (items_view (drop place vs)) draft ≡ all
+    → IsWhy all fault
+turn-fails told path vs place v at draft all fault within is where_ why before =
+    subst (λ r. IsWhy r fault) (ap (λ is_. in_turn told path (place + 1) is_ draft) (ap (λ w. item (view w) (items_view (drop (place + 1) vs))) is ∙ sym (items_view-drop vs place v within)) ∙ before)
+    (stops _ (in_turn told path (place + 1 + 1) (items_view (drop (place + 1) vs))) fault (subst (λ p. IsWhy (told p (view v) draft) fault) where_ why))
+
+-- the numbers of slots, and one more
+pub numbers-push : (slots : List SlotNo) (slot : SlotNo) → numbers_of (slots ++ slot ∷ []) ≡ numbers_of slots ++ slot.0 ∷ []
+numbers-push [] slot = refl
+numbers-push (s ∷ slots) slot = ap (λ ns. s.0 ∷ ns) (numbers-push slots slot)

@@ -1,0 +1,169 @@
+-- What the table of an object says of its kind.
+use Rattle.std.specs.Prelude.{ℕ, ◌==◌, ℤ, pos, neg_ℤ, List, [], ◌∷◌, length, false, nat_le, ◌&&◌, if◌then◌else◌, Option, Some, None, option_map, Result, Ok, Err, bytes_eq, codes}
+use Rattle.toml.specs.Data.{Data, Items, no_items, item, as_integer, array, Members}
+use Rattle.rw_base.specs.Dimension.{Dimension}
+use Rattle.rw_base.specs.Quantity.{quantity_max}
+use Rattle.rw_base.specs.Unit.{units, unit_in}
+use Rattle.rw_table.specs.declared.fault.TableFault.{TableFault}
+use Rattle.rw_table.specs.Table.{Row}
+use Rattle.rw_model.specs.declared.data_slots.DataSlot.{DataSlot}
+use Rattle.rw_model.specs.declared.kind.Kind.{Kind}
+use Rattle.rw_model.specs.declared.kind.Kind.TheVariants.{DataObject, Gage, Confluence, Bifurcation, Reach, Reservoir, WaterUser, Canal}
+use Rattle.rw_model.specs.declared.kind.Supply.{Supply}
+use Rattle.rw_model_toml.specs.declared.options.Options.{Options}
+use Rattle.rw_model_toml.specs.Refusal.{Refusal, ◌>>=◌, wrong_kind, unknown_kind, bad_table, out_of_range}
+use Rattle.rw_model_toml.specs.Path.{key_path}
+use Rattle.rw_model_toml.specs.Value.{text_of, truth_of, items_of, members_of, number_of, count_of, given_number}
+use Rattle.rw_model_toml.specs.Key.{required, optional, known_or, only_listed}
+use Rattle.rw_model_toml.specs.ListOf.{list_of}
+use Rattle.rw_model_toml.specs.Names.{name_of}
+use Rattle.rw_model_toml.specs.Rows.{table_fault}
+use Rattle.rw_model_toml.specs.Word.{supply_in}
+
+-- the keys of a kind's table: those that every object has, and its own
+abbrev pub object_keys : List (List ℕ) → List (List ℕ)
+object_keys own = codes "name" ∷ codes "kind" ∷ own
+
+-- a kind that has no keys of its own
+abbrev pub bare_of : Kind → List ℕ → Members → Result Kind Refusal
+bare_of kind at table = only_listed (object_keys []) at table >>= λ listed. Ok kind
+
+-- ---- data objects
+
+-- what a slot measures
+abbrev pub unit_of : List ℕ → Members → Result Dimension Refusal
+unit_of at table = required text_of at (codes "unit") table >>= λ word.
+    known_or (key_path at (codes "unit")) (option_map (λ unit. unit.0) (unit_in units word))
+
+-- the table of a slot
+unfoldable pub slot_of : List ℕ → Data → Result DataSlot Refusal
+slot_of at value = do
+  table ← members_of at value
+  name ← name_of at table
+  dim ← unit_of at table
+  listed ← only_listed (codes "name" ∷ codes "unit" ∷ []) at table
+  Ok (record { name = name; dim = dim })
+
+-- 1 to 8 of them
+abbrev pub few_slots : List ℕ → List DataSlot → Result (List DataSlot) Refusal
+few_slots path slots = if nat_le 1 (length slots) && nat_le (length slots) 8 then Ok slots else Err (out_of_range path)
+
+unfoldable pub data_of : List ℕ → Members → Result Kind Refusal
+data_of at table = do
+  items ← required items_of at (codes "slots") table
+  slots ← list_of slot_of (key_path at (codes "slots")) 1 items
+  few ← few_slots (key_path at (codes "slots")) slots
+  listed ← only_listed (object_keys (codes "slots" ∷ [])) at table
+  Ok (DataObject slots)
+
+-- ---- reaches and reservoirs
+
+-- the slots that a reach or a reservoir may have besides
+abbrev pub options_of : List ℕ → Members → Result Options Refusal
+options_of at table = do
+  local_inflow ← optional false truth_of at (codes "local_inflow") table
+  diversion ← optional false truth_of at (codes "diversion") table
+  return_flow ← optional false truth_of at (codes "return_flow") table
+  Ok (record { local_inflow = local_inflow; diversion = diversion; return_flow = return_flow })
+
+-- the array of past inflows, which only a reach without lag may leave out
+abbrev pub history_items_of : List ℕ → ℕ → Members → Result Items Refusal
+history_items_of at lag table =
+    if lag == 0 then optional no_items items_of at (codes "history") table else required items_of at (codes "history") table
+
+abbrev pub inflow_of : List ℕ → Data → Result ℤ Refusal
+inflow_of path value = number_of (neg_ℤ quantity_max) quantity_max path value
+
+-- one past inflow for each timestep of the lag
+abbrev pub history_of : List ℕ → ℕ → Members → Result (List ℤ) Refusal
+history_of at lag table = do
+  items ← history_items_of at lag table
+  inflows ← list_of inflow_of (key_path at (codes "history")) 1 items
+  if length inflows == lag then Ok inflows else Err (out_of_range (key_path at (codes "history")))
+
+unfoldable pub reach_of : List ℕ → Members → Result Kind Refusal
+reach_of at table = do
+  lag ← optional 0 (count_of 0 30) at (codes "lag") table
+  history ← history_of at lag table
+  options ← options_of at table
+  listed ← only_listed (object_keys (codes "lag" ∷ codes "history" ∷ codes "local_inflow" ∷ codes "diversion" ∷ codes "return_flow" ∷ [])) at table
+  Ok (Reach lag history options.local_inflow options.diversion options.return_flow)
+
+abbrev pub both_of : Option ℤ → Option ℤ → Option Row
+both_of (Some elevation) (Some volume) = Some (elevation, volume)
+both_of (Some elevation) None = None
+both_of None volume = None
+
+-- two integers, if there are no more
+abbrev pub row_in : Items → Option Row
+row_in (item elevation (item volume no_items)) = both_of (as_integer elevation) (as_integer volume)
+row_in _ = None
+
+abbrev pub row_or : List ℕ → Option Row → Result Row Refusal
+row_or path None = Err (wrong_kind path)
+row_or path (Some row) = Ok row
+
+-- an elevation and a volume
+abbrev pub row_of : List ℕ → Data → Result Row Refusal
+row_of path (array pair) = row_or path (row_in pair)
+row_of path _ = Err (wrong_kind path)
+
+-- rows with which nothing is wrong are a table
+abbrev pub rated : List ℕ → List Row → Option TableFault → Result (Option (List Row)) Refusal
+rated path rows None = Ok (Some rows)
+rated path rows (Some fault) = Err (bad_table path fault)
+
+-- the table of elevations and volumes
+abbrev pub table_of : List ℕ → Data → Result (Option (List Row)) Refusal
+table_of path value = do
+  items ← items_of path value
+  rows ← list_of row_of path 1 items
+  rated path rows (table_fault rows)
+
+-- the same, if there is one
+abbrev pub rating_of : List ℕ → Members → Result (Option (List Row)) Refusal
+rating_of at table = optional None table_of at (codes "table") table
+
+unfoldable pub reservoir_of : List ℕ → Members → Result Kind Refusal
+reservoir_of at table = do
+  initial_storage ← required (number_of (pos 0) quantity_max) at (codes "initial_storage") table
+  rows ← rating_of at table
+  options ← options_of at table
+  evaporation ← optional false truth_of at (codes "evaporation") table
+  max_release ← optional None (given_number (pos 0) quantity_max) at (codes "max_release") table
+  listed ← only_listed (object_keys (codes "initial_storage" ∷ codes "table" ∷ codes "local_inflow" ∷ codes "diversion" ∷ codes "return_flow" ∷ codes "evaporation" ∷ codes "max_release" ∷ [])) at table
+  Ok (Reservoir initial_storage rows options.local_inflow options.diversion options.return_flow evaporation max_release)
+
+-- ---- water users and canals
+
+abbrev pub supply_of : List ℕ → Members → Result Supply Refusal
+supply_of at table = optional (codes "request") text_of at (codes "supply") table >>= λ word.
+    known_or (key_path at (codes "supply")) (supply_in word)
+
+unfoldable pub water_user_of : List ℕ → Members → Result Kind Refusal
+water_user_of at table = do
+  depletion ← required (count_of 0 1000) at (codes "depletion") table
+  supply ← supply_of at table
+  listed ← only_listed (object_keys (codes "depletion" ∷ codes "supply" ∷ [])) at table
+  Ok (WaterUser depletion supply)
+
+unfoldable pub canal_of : List ℕ → Members → Result Kind Refusal
+canal_of at table = do
+  seepage ← required (count_of 0 999) at (codes "seepage") table
+  listed ← only_listed (object_keys (codes "seepage" ∷ [])) at table
+  Ok (Canal seepage)
+
+-- ---- any object
+
+-- the keys of the kind that the word names
+unfoldable pub kind_of : List ℕ → List ℕ → Members → Result Kind Refusal
+kind_of at word table =
+    if bytes_eq (codes "data") word then data_of at table
+    else (if bytes_eq (codes "gage") word then bare_of Gage at table
+    else (if bytes_eq (codes "confluence") word then bare_of Confluence at table
+    else (if bytes_eq (codes "bifurcation") word then bare_of Bifurcation at table
+    else (if bytes_eq (codes "reach") word then reach_of at table
+    else (if bytes_eq (codes "reservoir") word then reservoir_of at table
+    else (if bytes_eq (codes "water_user") word then water_user_of at table
+    else (if bytes_eq (codes "canal") word then canal_of at table
+    else Err (unknown_kind (key_path at (codes "kind"))))))))))

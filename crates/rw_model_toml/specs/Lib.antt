@@ -1,0 +1,16 @@
+pub mod Refusal
+pub mod Fault
+pub mod Path
+pub mod Value
+pub mod Key
+pub mod ListOf
+pub mod StartText
+pub mod Word
+pub mod Run
+pub mod Names
+pub mod Rows
+pub mod Kinds
+pub mod Control
+pub mod Added
+pub mod Told
+pub mod Model

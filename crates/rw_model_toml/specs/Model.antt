@@ -1,0 +1,71 @@
+-- What the bytes of a model's file are read as: a basin, or the first thing that is wrong.
+use Rattle.std.specs.Prelude.{ℕ, ◌+◌, List, [], ◌∷◌, if◌then◌else◌, Option, Some, None, Result, Ok, Err, codes}
+use Rattle.std.specs.Str.{is_utf8}
+use Rattle.toml.specs.Data.{Data, Items, no_items, item, Members}
+use Rattle.toml.specs.Parse.{parse_document}
+use Rattle.rw_model.specs.declared.control.RunControl.{RunControl}
+use Rattle.rw_model.specs.Draft.{Draft}
+use Rattle.rw_model.specs.Basin.{finish_fault}
+use Rattle.rw_model_toml.specs.Refusal.{Refusal, ◌>>=◌, not_toml}
+use Rattle.rw_model_toml.specs.Path.{element_path}
+use Rattle.rw_model_toml.specs.Value.{items_of, members_of, count_of}
+use Rattle.rw_model_toml.specs.Key.{required, optional, only_listed}
+use Rattle.rw_model_toml.specs.Run.{run_of}
+use Rattle.rw_model_toml.specs.Control.{control_of}
+use Rattle.rw_model_toml.specs.Told.{built, object_of, link_of, bound_of}
+
+-- the items of the array at a path one after another, each told to what was built by those before it, where they are
+-- numbered from the one that is given
+abbrev pub in_turn : (List ℕ → Data → Draft → Result Draft Refusal) → List ℕ → ℕ → Items → Draft → Result Draft Refusal
+in_turn told path number no_items draft = Ok draft
+in_turn told path number (item value rest) draft = told (element_path path number) value draft >>= in_turn told path (number + 1) rest
+
+-- what the file says first: its format, which is 1, and the run
+unfoldable pub control_in : Members → Result RunControl Refusal
+control_in table = do
+  format ← required (count_of 1 1) [] (codes "format") table
+  run_table ← required members_of [] (codes "run") table
+  run ← run_of run_table
+  control_of run
+
+abbrev pub empty_draft : RunControl → Draft
+empty_draft control = record { control = control; objects = []; links = []; bounds = [] }
+
+-- objects, links and bounds, in this order
+unfoldable pub filled : RunControl → Members → Result Draft Refusal
+filled control table = do
+  objects ← required items_of [] (codes "object") table
+  with_objects ← in_turn object_of (codes "object") 1 objects (empty_draft control)
+  links ← optional no_items items_of [] (codes "link") table
+  with_links ← in_turn link_of (codes "link") 1 links with_objects
+  bounds ← optional no_items items_of [] (codes "bound") table
+  in_turn bound_of (codes "bound") 1 bounds with_links
+
+-- the keys of the file
+abbrev pub file_keys : List (List ℕ)
+file_keys = codes "format" ∷ codes "run" ∷ codes "object" ∷ codes "link" ∷ codes "bound" ∷ []
+
+-- all that the file says
+unfoldable pub draft_of : Members → Result Draft Refusal
+draft_of table = do
+  control ← control_in table
+  draft ← filled control table
+  listed ← only_listed file_keys [] table
+  Ok draft
+
+-- what the bytes are as TOML, if they are that
+abbrev pub toml_of : List ℕ → Option Members
+toml_of bytes = if is_utf8 bytes then parse_document bytes else None
+
+-- the table that the bytes are
+abbrev pub table_or : Option Members → Result Members Refusal
+table_or None = Err not_toml
+table_or (Some table) = Ok table
+
+-- a basin, if what the file says makes one
+unfoldable pub basin_of : Members → Result Draft Refusal
+basin_of table = draft_of table >>= λ draft. built (codes "basin") (finish_fault draft) draft
+
+-- the basin that the bytes of a file are read as, or the first thing that is wrong
+abbrev pub model_of : List ℕ → Result Draft Refusal
+model_of bytes = table_or (toml_of bytes) >>= basin_of

@@ -1,0 +1,44 @@
+-- What the table `run` says.
+use Rattle.std.specs.Prelude.{ℕ, List, [], ◌∷◌, Result, Ok, codes}
+use Rattle.rw_calendar.specs.declared.start.Start.{Start}
+use Rattle.rw_calendar.specs.declared.step_length.StepLength.{StepLength}
+use Rattle.rw_model.specs.declared.control.AgendaOrder.{AgendaOrder}
+use Rattle.toml.specs.Data.{Members}
+use Rattle.rw_model_toml.specs.declared.run.Run.{Run}
+use Rattle.rw_model_toml.specs.Refusal.{Refusal, ◌>>=◌}
+use Rattle.rw_model_toml.specs.Value.{text_of, count_of}
+use Rattle.rw_model_toml.specs.Key.{required, optional, known_or, only_listed}
+use Rattle.rw_model_toml.specs.StartText.{start_in}
+use Rattle.rw_model_toml.specs.Word.{step_length_in, agenda_in}
+
+abbrev pub start_of : Members → Result Start Refusal
+start_of table = required text_of (codes "run") (codes "start") table >>= λ text. known_or (codes "run.start") (start_in text)
+
+abbrev pub step_length_of : Members → Result StepLength Refusal
+step_length_of table = required text_of (codes "run") (codes "step") table >>= λ word. known_or (codes "run.step") (step_length_in word)
+
+abbrev pub agenda_of : Members → Result AgendaOrder Refusal
+agenda_of table = optional (codes "321") text_of (codes "run") (codes "agenda") table >>= λ word. known_or (codes "run.agenda") (agenda_in word)
+
+abbrev pub run_keys : List (List ℕ)
+run_keys =
+    codes "start" ∷ codes "step" ∷ codes "steps" ∷ codes "agenda" ∷ codes "object_limit" ∷ codes "rule_limit" ∷ []
+
+-- the keys of `run` in their order
+unfoldable pub run_of : Members → Result Run Refusal
+run_of table = do
+  start ← start_of table
+  step_length ← step_length_of table
+  steps ← required (count_of 1 4096) (codes "run") (codes "steps") table
+  agenda ← agenda_of table
+  object_limit ← optional 50 (count_of 16 100) (codes "run") (codes "object_limit") table
+  rule_limit ← optional 20 (count_of 1 100) (codes "run") (codes "rule_limit") table
+  listed ← only_listed run_keys (codes "run") table
+  Ok (record {
+    start = start;
+    step_length = step_length;
+    steps = steps;
+    agenda = agenda;
+    object_limit = object_limit;
+    rule_limit = rule_limit;
+  })

@@ -1,0 +1,36 @@
+-- The text of a start, as `2020-01-31T06:00`.
+use Rattle.std.specs.Prelude.{ℕ, ◌+◌, ◌-◌, ◌*◌, pos, List, [], ◌∷◌, Bool, true, false, ◌==◌, nat_le, ◌&&◌, ◌||◌, if◌then◌else◌, Option, Some, None, slice_index, codes}
+use Rattle.rw_calendar.specs.declared.start.Start.{Start}
+
+abbrev pub is_digit : ℕ → Bool
+is_digit b = nat_le 48 b && nat_le b 57
+
+-- one of the letters Y, M, D and H, for which digits stand
+abbrev pub is_open : ℕ → Bool
+is_open b = (b == 89) || (b == 77) || (b == 68) || (b == 72)
+
+-- a digit where the form is open, and otherwise the form's own byte
+abbrev pub fits_byte : ℕ → ℕ → Bool
+fits_byte form b = if is_open form then is_digit b else b == form
+
+abbrev pub fits : List ℕ → List ℕ → Bool
+fits [] [] = true
+fits [] (b ∷ text) = false
+fits (form ∷ forms) [] = false
+fits (form ∷ forms) (b ∷ text) = fits_byte form b && fits forms text
+
+-- the number in two digits from this place on
+abbrev pub two_digits : List ℕ → ℕ → ℕ
+two_digits text place = (slice_index text place - 48) * 10 + (slice_index text (place + 1) - 48)
+
+-- the start that the text names, if it has the form
+abbrev pub start_in : List ℕ → Option Start
+start_in text =
+    if fits (codes "YYYY-MM-DDTHH:00") text
+    then Some (record {
+      year = pos (two_digits text 0 * 100 + two_digits text 2);
+      month = pos (two_digits text 5);
+      day = pos (two_digits text 8);
+      hour = pos (two_digits text 11);
+    })
+    else None

@@ -1,0 +1,120 @@
+ghost use Rattle.std.specs.Prelude.{◌≡◌, codes, Ok, IfOk, IfErr};
+ghost use Rattle.std.specs.Option.{ForSome};
+ghost use Rattle.rw_model.specs.Basin.{finish_fault, IsBasin};
+ghost use Rattle.rw_model_toml.specs.Refusal.{IsPlain};
+ghost use Rattle.toml.specs.View.{table_view};
+ghost use Rattle.rw_model.specs.Draft.{IsControl};
+ghost use Rattle.rw_model_toml.specs.Fault.{Gives, IsWhy, refusal_of};
+ghost use Rattle.rw_model_toml.specs.Told.{built};
+ghost use Rattle.rw_model_toml.specs.Model.{control_in, empty_draft, filled, draft_of, toml_of, table_or, basin_of, model_of};
+
+use crate::ModelFault;
+use crate::bound_table::read_bounds;
+use crate::key::{optional_items, required_count, required_items, required_table};
+use crate::link_table::read_links;
+use crate::listed::only_listed;
+use crate::object_table::read_objects;
+use crate::run::read_run;
+use crate::run_control::stamp_run;
+use crate::told::told;
+use rw_model::{Basin, BasinBuilder, RunControl};
+use std::alloc::Global;
+use toml::Table;
+
+// The keys of the file.
+const KEYS: [&str; 5] = ["format", "run", "object", "link", "bound"];
+
+#[tactic(auto, unfolding(crate::specs::Model::control_in))]
+fn read_control(alloc: Global, table: &Table) -> Result<RunControl, ModelFault>
+    ensures read { Gives (λ control. control) result (control_in (table_view table.now)) }
+    ensures in_range { IfOk result IsControl }
+{
+    required_count(alloc, "", "format", table, 1, 1)?;
+    let run_table = required_table(alloc, "", "run", table)?;
+    let run = read_run(alloc, run_table)?;
+    stamp_run(alloc, run)
+}
+
+fn begin(alloc: Global, control: RunControl) -> BasinBuilder
+    requires { IsControl control }
+    ensures { result ≡ empty_draft control }
+{
+    match BasinBuilder::begin(alloc, control) {
+        Ok(builder) => builder,
+        Err(_) => unreachable!(),
+    }
+}
+
+#[tactic(auto, unfolding(crate::specs::Model::filled))]
+fn fill(alloc: Global, control: RunControl, table: &Table) -> Result<BasinBuilder, ModelFault>
+    requires { IsControl control }
+    ensures { Gives (λ builder. builder) result (filled control (table_view table.now)) }
+{
+    let objects = required_items(alloc, "", "object", table)?;
+    let mut builder = begin(alloc, control);
+    read_objects(alloc, &mut builder, objects)?;
+    let links = optional_items(alloc, "", "link", table)?;
+    read_links(alloc, &mut builder, links)?;
+    let bounds = optional_items(alloc, "", "bound", table)?;
+    read_bounds(alloc, &mut builder, bounds)?;
+    Ok(builder)
+}
+
+#[tactic(auto, unfolding(crate::specs::Model::draft_of))]
+fn read_draft(alloc: Global, table: &Table) -> Result<BasinBuilder, ModelFault>
+    ensures { Gives (λ builder. builder) result (draft_of (table_view table.now)) }
+{
+    let control = read_control(alloc, table)?;
+    let builder = fill(alloc, control, table)?;
+    only_listed(alloc, &KEYS, "", table)?;
+    Ok(builder)
+}
+
+// The basin that the builder makes.
+fn finish(alloc: Global, builder: BasinBuilder) -> Result<Basin, ModelFault>
+    ensures read { Gives (λ basin. basin) result (built (codes "basin") (finish_fault builder) builder) }
+    ensures valid { IfOk result IsBasin }
+{
+    match builder.finish() {
+        Ok(basin) => Ok(basin),
+        Err(fault) => Err(told(alloc, "basin", fault)),
+    }
+}
+
+// The table that the bytes are.
+fn read_table(alloc: Global, text: &[u8]) -> Result<Table, ModelFault>
+    ensures { Gives (λ table. table_view table) result (table_or (toml_of text.now)) }
+{
+    match toml::table_from_slice(alloc, text) {
+        Ok(table) => Ok(table),
+        Err(error) => {
+            if error.is_memory() {
+                return Err(ModelFault::NoMemory);
+            }
+            Err(ModelFault::NotToml)
+        }
+    }
+}
+
+#[tactic(auto, unfolding(crate::specs::Model::basin_of))]
+fn read_basin(alloc: Global, table: &Table) -> Result<Basin, ModelFault>
+    ensures read { Gives (λ basin. basin) result (basin_of (table_view table.now)) }
+    ensures valid { IfOk result IsBasin }
+{
+    let builder = read_draft(alloc, table)?;
+    finish(alloc, builder)
+}
+
+/// The basin that the bytes of a model's file say.
+///
+/// A refusal is the first thing that is wrong, in the order in which the format judges, with the path of its key. Its
+/// inner fault is never a want of memory. `NoMemory` says nothing of the file.
+pub fn read_model(alloc: Global, text: &[u8]) -> Result<Basin, ModelFault>
+    ensures read { IfOk result (λ basin. model_of text.now ≡ Ok basin) }
+    ensures valid { IfOk result IsBasin }
+    ensures due { IfErr result (IsWhy (model_of text.now)) }
+    ensures plain { IfErr result (λ fault. ForSome (refusal_of fault) IsPlain) }
+{
+    let table = read_table(alloc, text)?;
+    read_basin(alloc, &table)
+}

@@ -1,0 +1,62 @@
+ghost use Rattle.std.specs.Prelude.{codes};
+ghost use Rattle.toml.specs.View.{view, items_view};
+ghost use Rattle.rw_model_toml.specs.Fault.{Gives};
+ghost use Rattle.rw_model_toml.specs.Told.{with_object, object_of};
+ghost use Rattle.rw_model_toml.specs.Model.{in_turn};
+
+use crate::ModelFault;
+use crate::key::required_text;
+use crate::name::read_name;
+use crate::object_kind::read_kind;
+use crate::path::element_path;
+use crate::told::told;
+use crate::value::table;
+use rw_model::{BasinBuilder, Kind};
+use std::alloc::Global;
+use toml::Value;
+
+fn add_object(
+    alloc: Global,
+    builder: &mut BasinBuilder,
+    at: &str,
+    name: &str,
+    kind: Kind,
+) -> Result<(), ModelFault>
+    ensures { Gives (λ _. builder.new) result (with_object at.now builder.old (record { name = name.now; kind = kind })) }
+{
+    match builder.object(name, kind) {
+        Ok(_) => Ok(()),
+        Err(fault) => Err(told(alloc, at, fault)),
+    }
+}
+
+#[tactic(auto, unfolding(crate::specs::Told::object_of))]
+fn read_object(
+    alloc: Global,
+    builder: &mut BasinBuilder,
+    at: &str,
+    value: &Value,
+) -> Result<(), ModelFault>
+    ensures { Gives (λ _. builder.new) result (object_of at.now (view value.now) builder.old) }
+{
+    let table = table(alloc, at, value)?;
+    let name = read_name(alloc, at, table)?;
+    let word = required_text(alloc, at, "kind", table)?;
+    let kind = read_kind(alloc, at, word, table)?;
+    add_object(alloc, builder, at, name, kind)
+}
+
+/// Adds the objects that the items say, one after another.
+pub fn read_objects(
+    alloc: Global,
+    builder: &mut BasinBuilder,
+    items: &[Value],
+) -> Result<(), ModelFault>
+    ensures { Gives (λ _. builder.new) result (in_turn object_of (codes "object") 1 (items_view items.now) builder.old) }
+{
+    for place in 0..items.len() {
+        let at = element_path(alloc, "object", place + 1)?;
+        read_object(alloc, builder, at.as_str(), &items[place])?;
+    }
+    Ok(())
+}

@@ -1,0 +1,101 @@
+ghost use Rattle.std.specs.Prelude.{◌≤◌, IfOk};
+ghost use Rattle.std.specs.Int.{IsInRange};
+ghost use Rattle.rw_calendar.specs.StepLength.{IsStepLength};
+ghost use Rattle.toml.specs.View.{table_view};
+ghost use Rattle.rw_model_toml.specs.Fault.{Gives};
+ghost use Rattle.rw_model_toml.specs.Run.{start_of, step_length_of, agenda_of, run_of};
+
+use crate::ModelFault;
+use crate::key::{optional_count, optional_text, required_count, required_text};
+use crate::listed::only_listed;
+use crate::path::key_path;
+use crate::start_text::start_in;
+use crate::word::{agenda_in, step_length_in};
+use rw_calendar::{Start, StepLength};
+use rw_model::{AgendaOrder, BuildFault};
+use std::alloc::Global;
+use toml::Table;
+
+/// What the table `run` says.
+#[derive(Clone, Copy, Debug, Drop)]
+pub struct Run {
+    /// The start of the run, which may be no moment.
+    pub start: Start,
+    /// How long each timestep is.
+    pub step_length: StepLength,
+    /// How many timesteps there are.
+    pub steps: u16,
+    /// In which order rules are taken.
+    pub agenda: AgendaOrder,
+    /// How often one object may be solved at one timestep.
+    pub object_limit: u8,
+    /// How often one rule may be run at one timestep.
+    pub rule_limit: u8,
+}
+
+// The keys of the table.
+const KEYS: [&str; 6] = [
+    "start",
+    "step",
+    "steps",
+    "agenda",
+    "object_limit",
+    "rule_limit",
+];
+
+fn read_start(alloc: Global, table: &Table) -> Result<Start, ModelFault>
+    ensures { Gives (λ start. start) result (start_of (table_view table.now)) }
+{
+    let text = required_text(alloc, "run", "start", table)?;
+    match start_in(text) {
+        Some(start) => Ok(start),
+        None => Err(ModelFault::Build(key_path(alloc, "run", "start")?, BuildFault::BadParameter)),
+    }
+}
+
+fn read_step_length(alloc: Global, table: &Table) -> Result<StepLength, ModelFault>
+    ensures read { Gives (λ length. length) result (step_length_of (table_view table.now)) }
+    ensures known { IfOk result IsStepLength }
+{
+    let word = required_text(alloc, "run", "step", table)?;
+    match step_length_in(word) {
+        Some(length) => Ok(length),
+        None => Err(ModelFault::Build(key_path(alloc, "run", "step")?, BuildFault::BadParameter)),
+    }
+}
+
+fn read_agenda(alloc: Global, table: &Table) -> Result<AgendaOrder, ModelFault>
+    ensures { Gives (λ agenda. agenda) result (agenda_of (table_view table.now)) }
+{
+    let word = optional_text(alloc, "run", "agenda", table, "321")?;
+    match agenda_in(word) {
+        Some(agenda) => Ok(agenda),
+        None => Err(ModelFault::Build(key_path(alloc, "run", "agenda")?, BuildFault::BadParameter)),
+    }
+}
+
+/// What the table says.
+#[tactic(auto, unfolding(crate::specs::Run::run_of))]
+pub fn read_run(alloc: Global, table: &Table) -> Result<Run, ModelFault>
+    ensures read { Gives (λ run. run) result (run_of (table_view table.now)) }
+    ensures length { IfOk result (λ run. IsStepLength run.step_length) }
+    ensures steps { IfOk result (λ run. IsInRange 1 4096 run.steps) }
+    ensures object_limit { IfOk result (λ run. IsInRange 16 100 run.object_limit) }
+    ensures rule_limit { IfOk result (λ run. IsInRange 1 100 run.rule_limit) }
+{
+    let start = read_start(alloc, table)?;
+    let step_length = read_step_length(alloc, table)?;
+    let steps = required_count(alloc, "run", "steps", table, 1, 4096)?;
+    let agenda = read_agenda(alloc, table)?;
+    let object_limit = optional_count(alloc, "run", "object_limit", table, 50, 16, 100)?;
+    let rule_limit = optional_count(alloc, "run", "rule_limit", table, 20, 1, 100)?;
+    only_listed(alloc, &KEYS, "run", table)?;
+    Ok(Run {
+        start,
+        step_length,
+        steps,
+        agenda,
+        object_limit: object_limit as u8,
+        rule_limit: rule_limit as u8,
+    })
+}

@@ -1,0 +1,38 @@
+ghost use Rattle.std.specs.Prelude.{◌≤◌, IfOk};
+ghost use Rattle.std.specs.Int.{IsInRange};
+ghost use Rattle.rw_calendar.specs.StepLength.{IsStepLength};
+ghost use Rattle.rw_model.specs.Draft.{IsControl};
+ghost use Rattle.rw_model_toml.specs.Fault.{Gives};
+ghost use Rattle.rw_model_toml.specs.Control.{control_of};
+
+use crate::ModelFault;
+use crate::run::Run;
+use rw_calendar::{CalFault, Stamps};
+use rw_model::RunControl;
+use std::alloc::Global;
+
+/// How the run goes, with its stamps.
+pub fn stamp_run(alloc: Global, run: Run) -> Result<RunControl, ModelFault>
+    requires length { IsStepLength run.step_length }
+    requires steps { IsInRange 1 4096 run.steps }
+    requires object_limit { IsInRange 16 100 run.object_limit }
+    requires rule_limit { IsInRange 1 100 run.rule_limit }
+    ensures read { Gives (λ control. control) result (control_of run) }
+    ensures in_range { IfOk result IsControl }
+{
+    let fault = match Stamps::of(alloc, run.start, run.step_length, run.steps) {
+        Ok(stamps) => {
+            return Ok(RunControl {
+                stamps,
+                agenda: run.agenda,
+                object_limit: run.object_limit,
+                rule_limit: run.rule_limit,
+            });
+        }
+        Err(fault) => fault,
+    };
+    match fault {
+        CalFault::NoMemory => Err(ModelFault::NoMemory),
+        _ => Err(ModelFault::Calendar(fault)),
+    }
+}
