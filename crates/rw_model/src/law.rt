@@ -1,15 +1,14 @@
 //! What the definitions of this crate come to in plain words. Each law is the `ensures` of a function that does
 //! nothing.
-ghost use Rattle.std.specs.Prelude.{◌≡◌, ◌<◌, ◌≤◌, ◌↔◌, ℕ, ℤ, List, [], ◌∷◌, ◌++◌, All, Contains, None, Some};
+ghost use Rattle.std.specs.Prelude.{◌≡◌, ◌<◌, ◌≤◌, ◌↔◌, ℕ, ℤ, List, [], ◌∷◌, All, Contains, None, Some};
 ghost use Rattle.rw_model.specs.declared.fault.BuildFault.{BuildFault};
 ghost use Rattle.rw_model.specs.declared.content.Content.{Content};
-ghost use Rattle.rw_model.specs.declared.control.RunControl.{RunControl};
 ghost use Rattle.rw_model.specs.declared.put.PutEnd.TheVariants as PutEnd;
 ghost use Rattle.rw_model.specs.declared.writer.Writer.TheVariants as Writer;
 ghost use Rattle.rw_model.specs.Objects.{Object};
-ghost use Rattle.rw_model.specs.Draft.{Draft, Bound, IsControl, CanAdd, IsObjectFault, CanBound, IsBoundFault, IsSlot};
+ghost use Rattle.rw_model.specs.Draft.{Draft, Bound, IsObjectFault, IsBoundFault, IsSlot};
 ghost use Rattle.rw_model.specs.Links.{link_of, link_fault, IsLinkFault, group_of, own_bounds, linked_with, bounds_in, IsBetween};
-ghost use Rattle.rw_model.specs.Basin.{IsLink, IsDraft, IsBasin, finish_fault, IsFinishFault};
+ghost use Rattle.rw_model.specs.Basin.{IsLink, IsDraft, IsFinishFault};
 ghost use Rattle.rw_model.specs.Slot.{Bounds};
 ghost use Rattle.rw_model.specs.Put.{end_of_put, IsSameObject};
 
@@ -80,18 +79,4 @@ pub fn bounds_of_a_group()
         → IsBetween (bounds_in objects links given slot) value
         ↔ (IsBetween (own_bounds objects given slot) value
         × All (λ other. IsBetween (own_bounds objects given other) value) (linked_with links slot)) }
-{}
-
-/// What a builder is told stays in order, and where nothing is wrong with it, it makes a valid basin.
-pub fn drafts_stay_in_order()
-    ensures begun { (control : RunControl)
-        → IsControl control → IsDraft (record { control = control; objects = []; links = []; bounds = [] }) }
-    ensures object { (draft : Draft) (object : Object) → IsDraft draft → CanAdd draft.objects object
-        → IsDraft (record draft { objects = draft.objects ++ object ∷ [] }) }
-    ensures link { (draft : Draft) (slots : List ℕ) → IsDraft draft
-        → link_fault draft.objects draft.links slots ≡ None → IsDraft (record draft { links = draft.links ++ slots ∷ [] }) }
-    ensures bound { (draft : Draft) (slot : ℕ) (bounds : Bounds) → IsDraft draft
-        → CanBound draft.objects draft.bounds slot bounds
-        → IsDraft (record draft { bounds = draft.bounds ++ record { slot = slot; bounds = bounds } ∷ [] }) }
-    ensures finished { (draft : Draft) → IsDraft draft → finish_fault draft ≡ None → IsBasin draft }
 {}

@@ -8,3 +8,4 @@ pub mod Plain
 pub mod Utf8
 pub mod Stamped
 pub mod Basins
+pub mod Drafts

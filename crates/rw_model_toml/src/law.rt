@@ -20,14 +20,10 @@ ghost use Rattle.rw_model_toml.specs.Control.{stamps_fault};
 ghost use Rattle.rw_model_toml.specs.Added.{object_fault, bound_fault};
 ghost use Rattle.rw_model_toml.specs.Model.{model_of};
 
-use rw_model::law::drafts_stay_in_order;
-
 /// What is read of a file is a valid basin.
 pub fn files_are_basins()
     ensures { (bytes : List ℕ) → IfOk (model_of bytes) IsBasin }
-{
-    drafts_stay_in_order();
-}
+{}
 
 /// No refusal carries a want of memory.
 pub fn refusals_are_plain()
