@@ -4,7 +4,6 @@ use Rattle.std.specs.Prelude.{slice_set}
 use Rattle.std.proofs.Math.Nat.{mul-le-mul_right}
 use Rattle.std.proofs.lemmas.Bool.Decides.{nat_tests}
 use Rattle.std.proofs.lemmas.List.{get_or-set_same, get_or-set_other, get_or_default}
-use Rattle.rw_model.specs.declared.content.Content.{Content}
 use Rattle.rw_series.specs.Cells.{is_kept, place_of, kept_at}
 
 -- such a slot and such a timestep
@@ -60,7 +59,7 @@ same_cell slot step s t same = (grind (arith, nat_tests), grind (arith, nat_test
 other_cell : (slot step s t : ℕ) → is_same slot step s t ≡ false → s ≡ slot → t ≢ step
 other_cell slot step s t other slots steps = grind (arith, nat_tests)
 
-module _ (slots steps : ℕ) (cells : List (Option Content)) (slot step : ℕ) (content : Option Content) (whole : length cells ≡ slots * steps)
+module _ (A : Type 0) (slots steps : ℕ) (cells : List (Option A)) (slot step : ℕ) (content : Option A) (whole : length cells ≡ slots * steps)
     (kept : is_kept slots steps slot step ≡ true) (s t : ℕ) where
   set-unkept : is_kept slots steps s t ≡ false → (test : Bool) → is_same slot step s t ≡ test
       → kept_at slots steps (slice_set cells (place_of steps slot step) content) s t ≡ (if test then content else kept_at slots steps cells s t)
@@ -91,14 +90,14 @@ module _ (slots steps : ℕ) (cells : List (Option Content)) (slot step : ℕ) (
   set-either false there = set-unkept there (is_same slot step s t) refl
 
 -- a cell is set, and no other changes
-pub kept_at-set : (slots steps : ℕ) (cells : List (Option Content)) (slot step : ℕ) (content : Option Content) → length cells ≡ slots * steps
+pub kept_at-set : {A : Type 0} (slots steps : ℕ) (cells : List (Option A)) (slot step : ℕ) (content : Option A) → length cells ≡ slots * steps
     → is_kept slots steps slot step ≡ true → (s t : ℕ)
     → kept_at slots steps (slice_set cells (place_of steps slot step) content) s t
     ≡ (if s == slot && t == step then content else kept_at slots steps cells s t)
-kept_at-set slots steps cells slot step content whole kept s t = set-either slots steps cells slot step content whole kept s t (is_kept slots steps s t) refl
+kept_at-set {A} slots steps cells slot step content whole kept s t = set-either A slots steps cells slot step content whole kept s t (is_kept slots steps s t) refl
 
 -- what stands in the place of a cell is kept of it
-pub kept_at-at : (slots steps : ℕ) (cells : List (Option Content)) (slot step place : ℕ) (d : Option Content) → is_kept slots steps slot step ≡ true
+pub kept_at-at : {A : Type 0} (slots steps : ℕ) (cells : List (Option A)) (slot step place : ℕ) (d : Option A) → is_kept slots steps slot step ≡ true
     → place ≡ place_of steps slot step → place < length cells
     → slice_index_or cells place d ≡ kept_at slots steps cells slot step
 kept_at-at slots steps cells slot step place d kept at near =

@@ -1,6 +1,5 @@
--- Contents kept side by side: slot by slot, and for each slot timestep by timestep.
+-- What is kept of cells, side by side: slot by slot, and for each slot timestep by timestep.
 use Rattle.std.specs.Prelude.{ℕ, ◌+◌, ◌-◌, ◌*◌, nat_le, Bool, ◌&&◌, if◌then◌else◌, List, Option, None, slice_index_or}
-use Rattle.rw_model.specs.declared.content.Content.{Content}
 
 -- there is such a slot and such a timestep
 abbrev pub is_kept : ℕ → ℕ → ℕ → ℕ → Bool
@@ -11,6 +10,6 @@ abbrev pub place_of : ℕ → ℕ → ℕ → ℕ
 place_of steps slot step = (slot - 1) * steps + (step - 1)
 
 -- what is kept of a slot at a timestep, which is nothing where there is no such cell
-abbrev pub kept_at : ℕ → ℕ → List (Option Content) → ℕ → ℕ → Option Content
+abbrev pub kept_at : {A : Type 0} → ℕ → ℕ → List (Option A) → ℕ → ℕ → Option A
 kept_at slots steps cells slot step =
     if is_kept slots steps slot step then slice_index_or cells (place_of steps slot step) None else None
