@@ -1,4 +1,4 @@
-use Rattle.std.proofs.Common.{◌≡◌, ◌≤◌, ◌-◌, ℕ, None}
+use Rattle.std.proofs.Common.{◌≡◌, ◌≤◌, ℕ, None}
 use Rattle.rw_series.specs.Cells.{kept_at}
 use Rattle.rw_inputs.proofs.values.is_free.Given as goal
 
