@@ -1,6 +1,7 @@
 -- The digits of numbers.
 use Rattle.std.proofs.lemmas.Grind.{common_steps}
 use Rattle.std.proofs.Common.{◌≡◌, ℕ, zero, suc, ◌+◌, ◌*◌, ◌<◌, ◌≤◌, ◌^◌, ◌&&◌, Bool, true, false, List, [], ◌∷◌, length, refl, arith, lit≤, slice_index_or}
+use Rattle.std.specs.Prelude.{nat_le}
 use Rattle.std.specs.List.{list_all}
 use Rattle.std.proofs.Math.Nat.{pow-le-pow_right}
 use Rattle.std.proofs.lemmas.Bool.Decides.{nat_tests}
@@ -30,5 +31,6 @@ number_digit text i d number near = digit_at text i d (both _ _ number).1 near
 
 pub number_length : (text : List ℕ) → is_number text ≡ true → (1 ≤ length text) × (length text ≤ 18)
 number_length text number =
-    let lengths = both _ _ (both _ _ number).0 in
+    let short = both (nat_le 1 (length text) && nat_le (length text) 18) (list_all is_digit text) number in
+    let lengths = both (nat_le 1 (length text)) (nat_le (length text) 18) short.0 in
     (grind (arith, nat_tests, lengths.0), grind (arith, nat_tests, lengths.1))

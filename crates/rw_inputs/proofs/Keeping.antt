@@ -25,7 +25,7 @@ module _ (basin : Draft) (given : Given) (slot step : ℕ) where
   append-behind row rows free more true here false new = refl
   append-behind row rows free more false here new is =
       subst (λ test. given_at basin (rows ++ given ∷ []) slot step ≡ (if test then Some given.value else given_at basin rows slot step)) is
-      (more (λ yes. rw here at (free yes)))
+      (more (λ passes. rw here at (free passes)))
 
   given_at-append : (rows : List Given) → (gives basin given slot step ≡ true → given_at basin rows slot step ≡ None)
       → given_at basin (rows ++ given ∷ []) slot step ≡ (if gives basin given slot step then Some given.value else given_at basin rows slot step)
@@ -36,8 +36,8 @@ module _ (basin : Draft) (given : Given) (slot step : ℕ) where
 -- ---- where rows share a cell
 
 either_true : (a b : Bool) → b ≡ true → (a || b) ≡ true
-either_true true b yes = refl
-either_true false b yes = yes
+either_true true b passes = refl
+either_true false b passes = passes
 
 not_here : {A : Type 0} (here : Bool) (x : A) (later : Option A) → (if here then Some x else later) ≡ None → later ≡ None
 not_here true x later none = absurd (cc)
@@ -47,14 +47,14 @@ module _ (basin : Draft) (given : Given) where
 
   gives-parts : (row : Given) (slot step : ℕ) → gives basin row slot step ≡ true
       → (slot ≡ kept_slot basin row.slot) × (row.first ≤ step) × (step ≤ row.last)
-  gives-parts row slot step yes = (grind (arith, nat_tests), grind (arith, nat_tests), grind (arith, nat_tests))
+  gives-parts row slot step passes = (grind (arith, nat_tests), grind (arith, nat_tests), grind (arith, nat_tests))
 
   gives-from : (row : Given) (slot step : ℕ) → slot ≡ kept_slot basin row.slot → row.first ≤ step → step ≤ row.last → gives basin row slot step ≡ true
   gives-from row slot step at from to = grind (arith, nat_tests)
 
   shares-from : (row : Given) (step : ℕ) → gives basin row (kept_slot basin given.slot) step ≡ true → given.first ≤ step → step ≤ given.last
       → shares_cell basin given row ≡ true
-  shares-from row step yes from to = let parts = gives-parts row (kept_slot basin given.slot) step yes in grind (arith, nat_tests)
+  shares-from row step passes from to = let parts = gives-parts row (kept_slot basin given.slot) step passes in grind (arith, nat_tests)
 
   taken_at : (row : Given) (rows : List Given) (step : ℕ) → given.first ≤ step → step ≤ given.last
       → (given_at basin rows (kept_slot basin given.slot) step ≢ None → list_any (shares_cell basin given) rows ≡ true)
@@ -106,8 +106,8 @@ Keeps-more basin given rows old new kept made free sets =
     let unkept : ((step : ℕ) → given.first ≤ step → step ≤ given.last → given_at basin rows (kept_slot basin given.slot) step ≡ None) =
     λ step from to. sym (kept.values (kept_slot basin given.slot) step) ∙ free step from to in
     let none : ((slot step : ℕ) → gives basin given slot step ≡ true → given_at basin rows slot step ≡ None) =
-    λ slot step yes.
-    let parts = gives-parts basin given given slot step yes in
+    λ slot step passes.
+    let parts = gives-parts basin given given slot step passes in
     ap (λ s. given_at basin rows s step) parts.0 ∙ unkept step parts.1 parts.2 in
     (free_shares basin given rows unkept, record {
       made = made;

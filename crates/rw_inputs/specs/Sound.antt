@@ -15,8 +15,8 @@ pub record IsGiven (basin : Draft) (given : Given) : Type 0 where
 pub record IsKeptSpan (slots steps slot first last : ℕ) : Type 0 where
   pub first_slot : 1 ≤ slot
   pub last_slot : slot ≤ slots
-  pub first : 1 ≤ first
-  pub last : last ≤ steps
+  pub starts : 1 ≤ first
+  pub ends : last ≤ steps
 
 -- nothing is kept of the slot from one timestep to another
 abbrev pub IsFree : ℕ → ℕ → List (Option ℤ) → ℕ → ℕ → ℕ → Type 0

@@ -26,11 +26,11 @@ fn no_header() -> InputFault
     }
 }
 
-// Whether the record names the columns.
-fn is_header(record: &ByteRecord) -> bool
-    ensures { result ≡ is_header (fields_of record.now) }
+// Whether the row names the columns.
+fn is_header(row: &ByteRecord) -> bool
+    ensures { result ≡ is_header (fields_of row.now) }
 {
-    match three_fields(record) {
+    match three_fields(row) {
         Some((slot, step, value)) => slot == b"slot".as_slice() && (step == b"step".as_slice() && value == b"value".as_slice()),
         None => false,
     }

@@ -146,13 +146,19 @@ fn read_fields(basin: &Basin, slot: &[u8], span: &[u8], value: &[u8]) -> Result<
 }
 
 /// The fields of a record of three.
-pub fn three_fields(record: &ByteRecord) -> Option<(&[u8], &[u8], &[u8])>
-    ensures { option_map (λ fields. (fields.0.now, fields.1.now, fields.2.now)) result ≡ three_fields (fields_of record.now) }
+pub fn three_fields(row: &ByteRecord) -> Option<(&[u8], &[u8], &[u8])>
+    ensures { option_map (λ fields. (fields.0.now, fields.1.now, fields.2.now)) result ≡ three_fields (fields_of row.now) }
 {
-    let first = record.get(0)?;
-    let second = record.get(1)?;
-    let third = record.get(2)?;
-    match record.get(3) {
+    let Some(first) = row.get(0) else {
+        return None;
+    };
+    let Some(second) = row.get(1) else {
+        return None;
+    };
+    let Some(third) = row.get(2) else {
+        return None;
+    };
+    match row.get(3) {
         Some(_) => None,
         None => Some((first, second, third)),
     }
