@@ -1,6 +1,6 @@
 -- What is kept where a row gives values to cells that none has.
-use Rattle.std.proofs.Common.{◌≡◌, ◌≢◌, ℕ, ◌<◌, ◌≤◌, ◌==◌, ◌&&◌, Bool, true, false, if◌then◌else◌, List, [], ◌∷◌, ◌++◌, length, Option, Some, None, refl, sym, ap, subst, ◌∙◌, arith}
-use Rattle.std.specs.Prelude.{nat_le, ℤ, max, min, ◌||◌}
+use Rattle.std.proofs.Common.{◌≡◌, ◌≢◌, ℕ, ◌≤◌, Bool, true, false, if◌then◌else◌, List, [], ◌∷◌, ◌++◌, Option, Some, None, refl, sym, ap, subst, ◌∙◌, arith}
+use Rattle.std.specs.Prelude.{max, min, ◌||◌}
 use Rattle.std.specs.List.{list_any}
 use Rattle.std.proofs.lemmas.Bool.Decides.{nat_tests}
 use Rattle.rw_model.specs.Draft.{Draft}
@@ -12,7 +12,6 @@ use Rattle.rw_inputs.specs.Sound.{IsFree, IsTaken}
 -- ---- what rows give
 
 module _ (basin : Draft) (given : Given) (slot step : ℕ) where
-
   -- the next row comes behind one that doesn't give the cell a value
   append-behind : (row : Given) (rows : List Given)
       → (gives basin given slot step ≡ true → given_at basin (row ∷ rows) slot step ≡ None)
@@ -44,7 +43,6 @@ not_here true x later none = absurd (cc)
 not_here false x later none = none
 
 module _ (basin : Draft) (given : Given) where
-
   gives-parts : (row : Given) (slot step : ℕ) → gives basin row slot step ≡ true
       → (slot ≡ kept_slot basin row.slot) × (row.first ≤ step) × (step ≤ row.last)
   gives-parts row slot step passes = (grind (arith, nat_tests), grind (arith, nat_tests), grind (arith, nat_tests))
@@ -108,14 +106,16 @@ Keeps-more basin given rows old new kept made free sets =
     let none : ((slot step : ℕ) → gives basin given slot step ≡ true → given_at basin rows slot step ≡ None) =
     λ slot step passes.
     let parts = gives-parts basin given given slot step passes in
-    ap (λ s. given_at basin rows s step) parts.0 ∙ unkept step parts.1 parts.2 in
-    (free_shares basin given rows unkept, record {
-      made = made;
-      values = λ slot step.
-          sets slot step
-          ∙ ap (λ value. if gives basin given slot step then Some given.value else value) (kept.values slot step)
-          ∙ sym (given_at-append basin given slot step rows (none slot step));
-    })
+    ap (λ s. given_at basin rows s step) parts.0 ∙ unkept step parts.1 parts.2 in (
+      free_shares basin given rows unkept,
+      record {
+        made = made;
+        values = λ slot step.
+            sets slot step
+            ∙ ap (λ value. if gives basin given slot step then Some given.value else value) (kept.values slot step)
+            ∙ sym (given_at-append basin given slot step rows (none slot step));
+      },
+    )
 
 -- a cell of a row that has a value already
 pub taken-shares : (basin : Draft) (given : Given) (rows : List Given) (old : Inputs) → Keeps basin rows old

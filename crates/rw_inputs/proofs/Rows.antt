@@ -1,6 +1,6 @@
 -- Rows that are taken one after another.
-use Rattle.std.proofs.Common.{◌≡◌, ℕ, zero, suc, ◌+◌, ◌<◌, false, List, [], ◌∷◌, ◌++◌, length, Option, Some, None, map, refl, sym, ap, ap₂, subst, ◌∙◌, append_assoc, append-nil, arith, slice_index_or}
-use Rattle.std.specs.Prelude.{take, drop, Result, Ok, Err}
+use Rattle.std.proofs.Common.{◌≡◌, ℕ, suc, ◌+◌, ◌<◌, false, List, [], ◌∷◌, ◌++◌, length, Option, Some, None, map, refl, sym, ap, ap₂, subst, ◌∙◌, append_assoc, append-nil, arith, slice_index_or}
+use Rattle.std.specs.Prelude.{take, drop, Ok}
 use Rattle.std.specs.List.{list_any}
 use Rattle.std.proofs.lemmas.List.{take_more, map-append}
 use Rattle.std.proofs.Math.Seq.{drop-cons}
@@ -79,7 +79,7 @@ rows_taken basin inputs rows place row total at near taken invariant =
     ≡ first_refusal basin ((place + 2) + 1) (so_far place rows ++ fields_of row ∷ []) (left (place + 1) rows) = rw taken.0 refl in (
       subst (λ before. Keeps basin (givens basin before) inputs) (sym here) taken.1,
       ap₂ (λ n before. first_refusal basin n before (left (place + 1) rows)) number here ∙ sym passed
-      ∙ ap (first_refusal basin (place + 2) (so_far place rows)) (sym next) ∙ invariant,
+          ∙ ap (first_refusal basin (place + 2) (so_far place rows)) (sym next) ∙ invariant,
     )
 
 pub rows_refused : (basin : Draft) (rows : List Row) (place : ℕ) (row : Row) (wrong : Wrong) (total : Option InputFault) → row ≡ slice_index_or rows place row → place < length rows

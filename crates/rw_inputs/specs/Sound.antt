@@ -16,6 +16,7 @@ pub record IsKeptSpan (slots steps slot first last : ℕ) : Type 0 where
   pub first_slot : 1 ≤ slot
   pub last_slot : slot ≤ slots
   pub starts : 1 ≤ first
+  pub order : first ≤ last
   pub ends : last ≤ steps
 
 -- nothing is kept of the slot from one timestep to another

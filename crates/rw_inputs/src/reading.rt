@@ -31,7 +31,8 @@ fn is_header(row: &ByteRecord) -> bool
     ensures { result ≡ is_header (fields_of row.now) }
 {
     match three_fields(row) {
-        Some((slot, step, value)) => slot == b"slot".as_slice() && (step == b"step".as_slice() && value == b"value".as_slice()),
+        Some((slot, step, value)) => slot == b"slot".as_slice()
+            && (step == b"step".as_slice() && value == b"value".as_slice()),
         None => false,
     }
 }
@@ -88,11 +89,7 @@ fn take_rows(inputs: &mut Inputs, basin: &Basin, rows: &[ByteRecord]) -> Result<
 }
 
 // What the records give, or the first refusal.
-fn read_records(
-    alloc: Global,
-    basin: &Basin,
-    records: &[ByteRecord],
-) -> Result<Inputs, InputFault>
+fn read_records(alloc: Global, basin: &Basin, records: &[ByteRecord]) -> Result<Inputs, InputFault>
     ensures { Answers basin.now result (read_records basin.now (map fields_of records.now)) }
 {
     let Some((header, rows)) = records.split_first() else {

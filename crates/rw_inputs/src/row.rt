@@ -8,11 +8,11 @@ ghost use Rattle.rw_inputs.specs.Number.{read_number, place_of};
 ghost use Rattle.rw_inputs.specs.Row.{slot_of_names, slot_of_text, read_slot, span_of, span_in, read_span, read_value, three_fields, row_of, read_row};
 ghost use Rattle.rw_inputs.specs.Sound.{IsGiven};
 
+use crate::InputKind;
 use crate::given::Given;
 use crate::number::{place_of, read_number, read_signed};
 use crate::span::Span;
 use crate::wrong::Wrong;
-use crate::InputKind;
 use csv::ByteRecord;
 use rw_base::{Qty, SlotNo};
 use rw_model::Basin;

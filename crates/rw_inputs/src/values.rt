@@ -21,13 +21,7 @@ fn place_of(steps: u16, slot: u16, step: u16) -> usize
 }
 
 /// What is kept of a slot at a timestep, which is nothing where there is no such cell.
-pub fn kept_at(
-    values: &[Option<Qty>],
-    slots: u16,
-    steps: u16,
-    slot: u16,
-    step: u16,
-) -> Option<Qty>
+pub fn kept_at(values: &[Option<Qty>], slots: u16, steps: u16, slot: u16, step: u16) -> Option<Qty>
     requires { length values.now ≡ slots * steps }
     ensures { result ≡ kept_at slots steps values.now slot step }
 {
@@ -60,14 +54,7 @@ pub fn is_free(
 }
 
 // Keeps a value of a slot at a timestep.
-fn keep(
-    values: &mut Vec<Option<Qty>>,
-    slots: u16,
-    steps: u16,
-    slot: u16,
-    step: u16,
-    value: Qty,
-)
+fn keep(values: &mut Vec<Option<Qty>>, slots: u16, steps: u16, slot: u16, step: u16, value: Qty)
     requires whole { vec_len values.old ≡ slots * steps }
     requires kept { IsTrue (is_kept slots steps slot step) }
     ensures values { (s t : ℕ) → kept_at slots steps values.new.items s t
