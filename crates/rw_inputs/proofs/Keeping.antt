@@ -1,13 +1,14 @@
 -- What is kept where a row gives values to cells that none has.
 use Rattle.std.proofs.Common.{◌≡◌, ◌≢◌, ℕ, ◌≤◌, Bool, true, false, if◌then◌else◌, List, [], ◌∷◌, ◌++◌, Option, Some, None, refl, sym, ap, subst, ◌∙◌, arith}
-use Rattle.std.specs.Prelude.{max, min, ◌||◌}
+use Rattle.std.specs.Prelude.{ℤ, max, min, ◌||◌}
 use Rattle.std.specs.List.{list_any}
 use Rattle.std.proofs.lemmas.Bool.Decides.{nat_tests}
 use Rattle.rw_model.specs.Draft.{Draft}
 use Rattle.rw_inputs.specs.declared.given.Given.{Given}
-use Rattle.rw_inputs.specs.Inputs.{Inputs, value_at, kept_slot, gives, given_at, IsInputsOf, Keeps}
+use Rattle.rw_inputs.specs.Inputs.{Inputs, value_at, kept_slot, gives, given_at, IsWithin, IsKeptValue, IsInputsOf, Keeps}
 use Rattle.rw_inputs.specs.Reading.{shares_cell}
-use Rattle.rw_inputs.specs.Sound.{IsFree, IsTaken}
+use Rattle.rw_inputs.specs.Sound.{IsGiven, IsFree, IsTaken}
+use Rattle.rw_inputs.proofs.Groups.{kept_slot-together, kept_slot-again, bounds-alike}
 
 -- ---- what rows give
 
@@ -94,6 +95,31 @@ module _ (basin : Draft) (given : Given) where
   free_shares (row ∷ rows) free = free_at row rows free (free_shares rows) (shares_cell basin given row) refl
 
 -- ---- what is kept
+
+-- where a row gives a value to a slot, the slot can have it
+kept_at-sound : (basin : Draft) (given : Given) (old new : Inputs) (slot step : ℕ) (value : ℤ) → IsInputsOf basin old → IsGiven basin given
+    → (here : Bool) → gives basin given slot step ≡ here → (if here then Some given.value else value_at old slot step) ≡ Some value
+    → IsKeptValue basin slot value
+kept_at-sound basin given old new slot step value made sound true here is =
+    let parts = gives-parts basin given given slot step here in
+    let same : given.value ≡ value = cc in
+    let kept : IsKeptValue basin (kept_slot basin given.slot) given.value = record {
+      least = kept_slot-again basin given.slot;
+      within = subst (λ bounds. IsWithin bounds given.value) (bounds-alike basin given.slot (kept_slot basin given.slot) (kept_slot-together basin given.slot)) sound.within;
+    } in
+    subst (IsKeptValue basin slot) same (subst (λ s. IsKeptValue basin s given.value) (sym parts.0) kept)
+kept_at-sound basin given old new slot step value made sound false here is = made.sound slot step value is
+
+pub made-more : (basin : Draft) (given : Given) (old new : Inputs) → IsInputsOf basin old → IsGiven basin given
+    → new.slots ≡ old.slots → new.steps ≡ old.steps
+    → ((s t : ℕ) → value_at new s t ≡ (if gives basin given s t then Some given.value else value_at old s t))
+    → IsInputsOf basin new
+made-more basin given old new made sound slots steps sets = record {
+  slots = slots ∙ made.slots;
+  steps = steps ∙ made.steps;
+  sound = λ slot step value is.
+      kept_at-sound basin given old new slot step value made sound (gives basin given slot step) refl (sym (sets slot step) ∙ is);
+}
 
 -- values that nothing kept yet, for the cells of a row
 pub Keeps-more : (basin : Draft) (given : Given) (rows : List Given) (old new : Inputs) → Keeps basin rows old → IsInputsOf basin new

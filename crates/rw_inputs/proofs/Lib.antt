@@ -2,3 +2,4 @@ pub mod Same
 pub mod Keeping
 pub mod Digits
 pub mod Rows
+pub mod Groups

@@ -1,8 +1,9 @@
 -- Inputs: a value for each of some cells. Slots that carry one value have one cell at a timestep, that of the least of them.
-use Rattle.std.specs.Prelude.{◌≡◌, ℕ, ◌==◌, nat_le, ℤ, Bool, ◌&&◌, if◌then◌else◌, List, [], ◌∷◌, length, Option, Some, None, slice_index_or}
+use Rattle.std.specs.Prelude.{◌≡◌, ℕ, ◌==◌, nat_le, ℤ, ◌≤ℤ◌, Bool, ◌&&◌, if◌then◌else◌, List, [], ◌∷◌, length, Option, Some, None, slice_index_or}
 use Rattle.rw_model.specs.Objects.{all_slots}
 use Rattle.rw_model.specs.Draft.{Draft}
-use Rattle.rw_model.specs.Links.{group_of}
+use Rattle.rw_model.specs.Slot.{Bounds}
+use Rattle.rw_model.specs.Links.{group_of, bounds_in}
 use Rattle.rw_series.specs.Cells.{kept_at}
 use Rattle.rw_inputs.specs.declared.given.Given.{Given}
 
@@ -29,10 +30,21 @@ abbrev pub given_at : Draft → List Given → ℕ → ℕ → Option ℤ
 given_at basin [] slot step = None
 given_at basin (given ∷ rows) slot step = if gives basin given slot step then Some given.value else given_at basin rows slot step
 
--- inputs made for the basin: they have its slots and timesteps
+-- a value within bounds
+pub record IsWithin (bounds : Bounds) (value : ℤ) : Type 0 where
+  pub low : bounds.0 ≤ℤ value
+  pub high : value ≤ℤ bounds.1
+
+-- a value that is kept of a slot: the slot is the least of those that carry one value with it, and can have the value
+pub record IsKeptValue (basin : Draft) (slot : ℕ) (value : ℤ) : Type 0 where
+  pub least : kept_slot basin slot ≡ slot
+  pub within : IsWithin (bounds_in basin.objects basin.links basin.bounds slot) value
+
+-- inputs made for the basin: they have its slots and timesteps, and keep values where and as the basin can have them
 pub record IsInputsOf (basin : Draft) (inputs : Inputs) : Type 0 where
   pub slots : inputs.slots ≡ length (all_slots basin.objects)
   pub steps : inputs.steps ≡ basin.control.stamps.count
+  pub sound : (slot step : ℕ) (value : ℤ) → value_at inputs slot step ≡ Some value → IsKeptValue basin slot value
 
 -- inputs made for the basin, which keep what the rows give, and nothing else
 pub record Keeps (basin : Draft) (rows : List Given) (inputs : Inputs) : Type 0 where

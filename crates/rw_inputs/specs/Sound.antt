@@ -1,15 +1,18 @@
 -- What holds of rows with which nothing is wrong, and of the cells that they give values to.
 use Rattle.std.specs.Prelude.{◌≡◌, ◌≢◌, ℕ, ◌≤◌, ℤ, List, Option, None}
 use Rattle.rw_model.specs.Draft.{Draft, IsSlot}
+use Rattle.rw_model.specs.Links.{bounds_in}
 use Rattle.rw_series.specs.Cells.{kept_at}
 use Rattle.rw_inputs.specs.declared.given.Given.{Given}
+use Rattle.rw_inputs.specs.Inputs.{IsWithin}
 
--- a slot of the basin, and timesteps of its run
+-- a slot of the basin, timesteps of its run, and a value that the slot can have
 pub record IsGiven (basin : Draft) (given : Given) : Type 0 where
   pub slot : IsSlot basin.objects given.slot
   pub first : 1 ≤ given.first
   pub order : given.first ≤ given.last
   pub last : given.last ≤ basin.control.stamps.count
+  pub within : IsWithin (bounds_in basin.objects basin.links basin.bounds given.slot) given.value
 
 -- one of the slots, and some of the timesteps
 pub record IsKeptSpan (slots steps slot first last : ℕ) : Type 0 where

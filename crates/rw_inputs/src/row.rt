@@ -6,7 +6,9 @@ ghost use Rattle.rw_model.specs.Draft.{IsSlot};
 ghost use Rattle.rw_model.specs.Slot.{IsInside, all_quantities};
 ghost use Rattle.rw_inputs.specs.Number.{read_number, place_of};
 ghost use Rattle.rw_inputs.specs.Row.{slot_of_names, slot_of_text, read_slot, span_of, span_in, read_span, read_value, three_fields, row_of, read_row};
+ghost use Rattle.rw_inputs.specs.Inputs.{IsWithin};
 ghost use Rattle.rw_inputs.specs.Sound.{IsGiven};
+ghost use Rattle.rw_model.specs.Links.{bounds_in};
 
 use crate::InputKind;
 use crate::given::Given;
@@ -106,7 +108,8 @@ fn read_span(basin: &Basin, text: &[u8]) -> Result<Span, Wrong>
 // The value, where it is within the bounds.
 fn within_bounds(bounds: (i64, i64), value: i64) -> Option<Qty>
     requires { IsInside bounds all_quantities }
-    ensures { result ≡ (if int_le bounds.0 value && int_le value bounds.1 then Some value else None) }
+    ensures within { ForSome result (IsWithin bounds) }
+    ensures value { result ≡ (if int_le bounds.0 value && int_le value bounds.1 then Some value else None) }
 {
     if bounds.0 <= value && value <= bounds.1 {
         Qty::of(value)
@@ -118,7 +121,8 @@ fn within_bounds(bounds: (i64, i64), value: i64) -> Option<Qty>
 // A value that the slot can have.
 fn read_value(basin: &Basin, slot: u16, text: &[u8]) -> Result<Qty, Wrong>
     requires { IsSlot basin.now.objects slot }
-    ensures { result ≡ read_value basin.now slot text.now }
+    ensures read { result ≡ read_value basin.now slot text.now }
+    ensures within { IfOk result (IsWithin (bounds_in basin.now.objects basin.now.links basin.now.bounds slot)) }
 {
     let Some(value) = read_signed(text) else {
         return Err(wrong(InputKind::NotANumber, 3));
