@@ -116,6 +116,7 @@ fn read_records(alloc: Global, basin: &Basin, records: &[ByteRecord]) -> Result<
 /// carries one value with its slot. `NoMemory` says nothing of the text.
 pub fn read_inputs(alloc: Global, basin: &Basin, text: &[u8]) -> Result<Inputs, InputFault>
     ensures read { IfOk result (Reads basin.now text.now) }
+    ensures made { IfOk result (IsInputsOf basin.now) }
     ensures refused { IfErr result (λ fault. (fault ≡ InputFault.NoMemory) ⊎ Refuses basin.now text.now fault) }
 {
     let Ok(records) = all_records(alloc, text) else {
