@@ -1,0 +1,5 @@
+pub mod PutFacts
+pub mod LeastInflow
+pub mod GivingWay
+pub mod GreatestBeside
+pub mod SolvedTerm

@@ -4,23 +4,19 @@ use Rattle.std.specs.Ordering.{int_eq}
 use Rattle.std.specs.Int.{int_max}
 use Rattle.rw_table.specs.Table.{Row}
 use Rattle.rw_table.specs.Curve.{vol_of, elev_of, first_row}
+use Rattle.rw_method.specs.declared.basis.Basis.{Basis}
+use Rattle.rw_method.specs.declared.basis.Basis.TheVariants.{Nothing, Storage, Elevation}
 use Rattle.rw_method.specs.declared.given.Given.{Given}
 use Rattle.rw_method.specs.declared.solved.Solved.{Solved}
 use Rattle.rw_method.specs.declared.solved.Solved.TheVariants.{Conflict, OutOfRange}
 
--- by what the contents are given: by nothing, by the storage, or by the elevation
-pub data Basis : Type 0 where
-  by_nothing : Basis
-  by_storage : Given → Basis
-  by_elevation : Given → Basis
-
--- of a storage and an elevation that are both given, the one of the lesser number, and in a tie the storage
+-- by what the contents are given: of a storage and an elevation that are both given, the one of the lesser number, and in a tie the storage
 abbrev pub basis_of : Option Given → Option Given → Basis
-basis_of None None = by_nothing
-basis_of (Some storage) None = by_storage storage
-basis_of None (Some elevation) = by_elevation elevation
+basis_of None None = Nothing
+basis_of (Some storage) None = Storage storage
+basis_of None (Some elevation) = Elevation elevation
 basis_of (Some storage) (Some elevation) =
-    if nat_le storage.number elevation.number then by_storage storage else by_elevation elevation
+    if nat_le storage.number elevation.number then Storage storage else Elevation elevation
 
 -- the elevation at a storage and the volume at an elevation, where there is a table that has them
 abbrev pub elevation_of : Option (List Row) → ℤ → Option ℤ
@@ -36,17 +32,17 @@ can_hold (Some rows) storage = is_some (elev_of rows storage)
 
 -- the contents that are given. An elevation that the table doesn't have counts as volume 0, since the answer is then OutOfRange
 abbrev pub contents_by : Option (List Row) → Basis → Option Given
-contents_by table by_nothing = None
-contents_by table (by_storage storage) = Some storage
-contents_by table (by_elevation elevation) =
+contents_by table Nothing = None
+contents_by table (Storage storage) = Some storage
+contents_by table (Elevation elevation) =
     Some (record { value = unwrap_or (volume_of table elevation.value) (pos 0); number = elevation.number })
 
 -- what is wrong with the slot that gives the contents
 abbrev pub fault_of_basis : Option (List Row) → Basis → Option Solved
-fault_of_basis table by_nothing = None
-fault_of_basis table (by_storage storage) =
+fault_of_basis table Nothing = None
+fault_of_basis table (Storage storage) =
     if can_hold table storage.value then None else Some (OutOfRange 2 storage.value)
-fault_of_basis table (by_elevation elevation) =
+fault_of_basis table (Elevation elevation) =
     if is_some (volume_of table elevation.value) then None else Some (OutOfRange 3 elevation.value)
 
 -- both are given with number 0

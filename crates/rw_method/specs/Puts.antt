@@ -6,6 +6,8 @@ use Rattle.rw_model.specs.declared.content.Content.{Content}
 use Rattle.rw_model.specs.declared.kind.Kind.{Kind}
 use Rattle.rw_model.specs.declared.kind.Kind.TheVariants.{Reservoir, WaterUser, Canal}
 use Rattle.rw_model.specs.Slot.{all_quantities}
+use Rattle.rw_method.specs.declared.basis.Basis.{Basis}
+use Rattle.rw_method.specs.declared.basis.Basis.TheVariants.{Nothing, Storage, Elevation}
 use Rattle.rw_method.specs.declared.given.Given.{Given}
 use Rattle.rw_method.specs.declared.put.Put.{Put}
 use Rattle.rw_method.specs.declared.balanced.Balanced.{Balanced}
@@ -13,7 +15,7 @@ use Rattle.rw_method.specs.declared.balanced.Balanced.TheVariants.{Solves}
 use Rattle.rw_method.specs.declared.view.View.{View}
 use Rattle.rw_method.specs.View.{known, given, bounds_at, is_between}
 use Rattle.rw_method.specs.Term.{per_mille}
-use Rattle.rw_method.specs.Contents.{Basis, by_nothing, by_storage, by_elevation, basis_of, elevation_of, volume_of, are_both_zero}
+use Rattle.rw_method.specs.Contents.{basis_of, elevation_of, volume_of, are_both_zero}
 use Rattle.rw_method.specs.Balance.{evaporation_of}
 
 abbrev pub put : ℕ → ℤ → ℕ → Put
@@ -46,9 +48,9 @@ put_found place (Some value) number = put place value number ∷ []
 
 -- beside the slot that gives the contents, the other of storage and elevation
 abbrev pub beside_basis : Option (List Row) → Basis → List Put
-beside_basis table by_nothing = []
-beside_basis table (by_storage storage) = put_found 3 (elevation_of table storage.value) storage.number
-beside_basis table (by_elevation elevation) = put_found 2 (volume_of table elevation.value) elevation.number
+beside_basis table Nothing = []
+beside_basis table (Storage storage) = put_found 3 (elevation_of table storage.value) storage.number
+beside_basis table (Elevation elevation) = put_found 2 (volume_of table elevation.value) elevation.number
 
 -- beside the slot that gives the contents the other one, unless both are given with number 0
 abbrev pub beside_given : Option (List Row) → Option Given → Option Given → List Put

@@ -1,11 +1,11 @@
 -- What the terms of a balance come to: which of them is solved for, and as what.
-use Rattle.std.specs.Prelude.{ℕ, ◌+◌, max, ◌==◌, nat_lt, nat_le, ℤ, pos, neg_ℤ, ◌+ℤ◌, ◌-ℤ◌, if◌then◌else◌, Bool, false, List, [], ◌∷◌, Option, None, Some, is_some}
+use Rattle.std.specs.Prelude.{ℕ, ◌≡◌, ◌≢◌, ◌⊎◌, ◌<◌, ◌≤◌, ◌+◌, max, ◌==◌, nat_lt, nat_le, ℤ, pos, neg_ℤ, ◌+ℤ◌, ◌-ℤ◌, if◌then◌else◌, Bool, false, List, [], ◌∷◌, ◌++◌, All, Contains, Option, None, Some, is_some, IsSome}
 use Rattle.std.specs.Ordering.{int_eq}
 use Rattle.rw_method.specs.declared.given.Given.{Given}
 use Rattle.rw_method.specs.declared.term.Term.{Term}
 use Rattle.rw_method.specs.declared.balanced.Balanced.{Balanced}
 use Rattle.rw_method.specs.declared.balanced.Balanced.TheVariants.{Idle, Holds, Solves, Conflicts}
-use Rattle.rw_method.specs.Term.{brought_by, bringing}
+use Rattle.rw_method.specs.Term.{brought, brought_by, bringing}
 
 -- how many of the terms aren't given
 abbrev pub missing : List Term → ℕ
@@ -63,3 +63,37 @@ settled (Some steady) [] = Holds
 settled (Some steady) (term ∷ terms) =
     if nat_le 2 (missing (term ∷ terms)) then Idle
     else settled_at steady (term ∷ terms) (weakest term terms) (weakest term terms).given
+
+-- a term is no weaker than another: the other isn't given, or this one is given with no greater a number
+abbrev pub IsNoWeaker : Option Given → Option Given → Type 0
+IsNoWeaker given None = Unit {0}
+IsNoWeaker None (Some other) = ⊥
+IsNoWeaker (Some held) (Some other) = held.number ≤ other.number
+
+-- a term is stronger than another: it is given, and the other isn't or has a greater number
+abbrev pub IsStronger : Option Given → Option Given → Type 0
+IsStronger None other = ⊥
+IsStronger (Some held) None = Unit {0}
+IsStronger (Some held) (Some other) = held.number < other.number
+
+-- of these terms none is weaker than this one, and all that come after it are stronger
+pub record GivesWay (terms : List Term) (term : Term) : Type 0 where
+  pub before : List Term
+  pub after : List Term
+  pub among : terms ≡ before ++ term ∷ after
+  pub earlier : All (λ (other : Term). IsNoWeaker other.given term.given) before
+  pub later : All (λ (other : Term). IsStronger other.given term.given) after
+
+-- of these terms the one in this place gives way, the others are all given, and with this value of it the balance is true, beside
+-- what else is brought
+pub record IsSolved (steady : ℤ) (terms : List Term) (place : ℕ) (value : ℤ) : Type 0 where
+  pub term : Term
+  pub there : term.place ≡ place
+  pub way : GivesWay terms term
+  pub given : All (λ (other : Term). IsSome other.given) (way.before ++ way.after)
+  pub balances : steady +ℤ (net_of way.before +ℤ brought term.share value +ℤ net_of way.after) ≡ pos 0
+
+-- a number that no given term in another place passes, and that one of them has, or 0
+pub record IsGreatestBeside (place : ℕ) (terms : List Term) (number : ℕ) : Type 0 where
+  pub most : All (λ (other : Term). other.place ≢ place → number_of other.given ≤ number) terms
+  pub one : (number ≡ 0) ⊎ ((other : Term) × Contains terms other × (other.place ≢ place) × (number_of other.given ≡ number))

@@ -1,5 +1,5 @@
 -- What a dispatch of an object answers, from what stands in its slots.
-use Rattle.std.specs.Prelude.{◌==◌, if◌then◌else◌, ℤ, Bool, true, not, ◌&&◌, List, [], ◌∷◌, Option, None, Some}
+use Rattle.std.specs.Prelude.{◌≡◌, ◌==◌, if◌then◌else◌, ℤ, Bool, true, not, ◌&&◌, List, [], ◌∷◌, Option, None, Some}
 use Rattle.rw_table.specs.Table.{Row}
 use Rattle.rw_model.specs.declared.kind.Kind.{Kind}
 use Rattle.rw_model.specs.declared.kind.Kind.TheVariants.{Reservoir}
@@ -45,6 +45,10 @@ fits kind view put = is_held kind put && is_bounded view put
 abbrev pub first_misfit : (Put → Bool) → List Put → Option Put
 first_misfit fit [] = None
 first_misfit fit (put ∷ puts) = if fit put then first_misfit fit puts else Some put
+
+-- every put fits
+abbrev pub AllFit : (Put → Bool) → List Put → Type 0
+AllFit fit puts = first_misfit fit puts ≡ None
 
 -- all puts, or the first that doesn't fit
 abbrev pub all_or_misfit : List Put → Option Put → Solved

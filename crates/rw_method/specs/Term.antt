@@ -1,5 +1,5 @@
 -- How a term counts in its object's balance, and what it is solved as.
-use Rattle.std.specs.Prelude.{ℕ, ◌-◌, ◌*◌, ℤ, pos, neg_ℤ, ◌+ℤ◌, ◌-ℤ◌, ◌*ℤ◌, ◌≤ℤ◌, if◌then◌else◌, Option, None, Some}
+use Rattle.std.specs.Prelude.{ℕ, ◌≤◌, ◌-◌, ◌*◌, ℤ, pos, neg_ℤ, ◌+ℤ◌, ◌-ℤ◌, ◌*ℤ◌, ◌≤ℤ◌, if◌then◌else◌, Option, None, Some}
 use Rattle.std.specs.Ordering.{int_eq}
 use Rattle.rw_base.specs.Quotient.{floor_div}
 use Rattle.rw_method.specs.declared.given.Given.{Given}
@@ -15,6 +15,12 @@ abbrev pub least_inflow : ℕ → ℤ → ℤ
 least_inflow seepage outflow =
     if int_eq outflow (pos 0) then pos 0
     else floor_div (pos 1000 *ℤ (outflow -ℤ pos 1)) (pos (1000 - seepage)) +ℤ pos 1
+
+-- at most 999 of a thousand parts seep away
+abbrev pub IsShare : Share → Type 0
+IsShare Brings = Unit {0}
+IsShare Takes = Unit {0}
+IsShare (Conveys seepage) = seepage ≤ 999
 
 -- how much a value brings to the balance
 abbrev pub brought : Share → ℤ → ℤ

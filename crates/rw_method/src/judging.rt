@@ -1,12 +1,15 @@
-ghost use Rattle.std.specs.Prelude.{◌≡◌, ◌<◌, [], ◌∷◌, ◌++◌, length, None, IsTrue, IsOk, ◌↔◌, OnOk, IfErr};
+ghost use Rattle.std.specs.Prelude.{◌≡◌, ◌<◌, Bool, List, [], ◌∷◌, ◌++◌, length, None, IsTrue, IsOk, ◌↔◌, OnOk, IfOk, IfErr};
 ghost use Rattle.rw_method.specs.declared.solved.Solved.TheVariants as Solved;
 ghost use Rattle.rw_model.specs.Slot.{all_quantities};
 ghost use Rattle.rw_method.specs.View.{bounds_at, is_between};
-ghost use Rattle.rw_method.specs.Puts.{put, is_bounded, solved_put};
-ghost use Rattle.rw_method.specs.Solve.{answer};
+ghost use Rattle.std.specs.List.{All};
+ghost use Rattle.rw_method.specs.Puts.{put, is_bounded, solved_put, held_by, held_after};
+ghost use Rattle.rw_method.specs.Solve.{AllFit, judged, answer};
+ghost use Rattle.rw_method.specs.declared.put.Put.{Put};
 
-use crate::{Balanced, Put, PutList, Solved, View};
+use crate::{Balanced, Given, Put, PutList, Solved, View};
 use rw_base::{QUANTITY_MAX, Qty};
+use rw_model::Content;
 
 fn is_between(low: i64, high: i64, value: i128) -> bool
     ensures { result ≡ is_between (low, high) value }
@@ -67,23 +70,29 @@ pub fn add_put(
     Ok(())
 }
 
-/// What an object answers that puts the solved term and nothing else.
-pub fn put_solved(view: &View, balanced: Balanced) -> Solved
-    ensures { result ≡ answer (is_bounded view.entry.now) (solved_put balanced) balanced None }
+/// The puts that an answer begins with: the solved term, if one is solved. Otherwise that is the answer: too little is
+/// known, the terms conflict, or the slot of the solved term can't have its value.
+pub fn begin_puts(view: &View, balanced: Balanced) -> Result<PutList, Solved>
+    ensures ok { IfOk result (λ puts. puts ≡ solved_put balanced) }
+    ensures fits { IsOk result → AllFit (is_bounded view.entry.now) (solved_put balanced) }
+    ensures open { IsOk result → (fit : Put → Bool) (puts : List Put) → answer fit puts balanced None ≡ judged fit puts }
+    ensures err { IfErr result (λ ended. (fit : Put → Bool) (more : List Put)
+        → All (λ put. fit put ≡ is_bounded view.entry.now put) (solved_put balanced)
+        → ended ≡ answer fit (solved_put balanced ++ more) balanced None) }
 {
     let mut puts = PutList::none();
     match balanced {
-        Balanced::Idle => return Solved::Idle,
+        Balanced::Idle => return Err(Solved::Idle),
         Balanced::Conflicts {
             place,
             held,
             solved,
         } => {
-            return Solved::Conflict {
+            return Err(Solved::Conflict {
                 place,
                 held,
                 solved,
-            };
+            });
         }
         Balanced::Holds => {}
         Balanced::Solves {
@@ -92,9 +101,52 @@ pub fn put_solved(view: &View, balanced: Balanced) -> Solved
             number,
         } => {
             if let Err(answer) = add_put(view, &mut puts, place, value, number) {
-                return answer;
+                return Err(answer);
             }
         }
     }
-    Solved::Puts(puts)
+    Ok(puts)
+}
+
+/// What an object answers that puts the solved term and nothing else.
+pub fn put_solved(view: &View, balanced: Balanced) -> Solved
+    ensures { result ≡ answer (is_bounded view.entry.now) (solved_put balanced) balanced None }
+{
+    match begin_puts(view, balanced) {
+        Ok(puts) => Solved::Puts(puts),
+        Err(answer) => answer,
+    }
+}
+
+fn held_by(content: Option<Content>) -> Given
+    ensures { result ≡ held_by content }
+{
+    match content {
+        Some(content) => Given {
+            value: content.value.get(),
+            number: content.number,
+        },
+        None => Given {
+            value: 0,
+            number: 0,
+        },
+    }
+}
+
+/// What a place holds once the balance is settled: what was just solved, or what is known, and 0 where nothing is.
+pub fn held_after(view: &View, balanced: Balanced, place: u8) -> Given
+    requires { AllFit (is_bounded view.now) (solved_put balanced) }
+    ensures { result ≡ held_after view.entry.now balanced place }
+{
+    match balanced {
+        Balanced::Solves {
+            place: solved,
+            value,
+            number,
+        } if solved == place => Given {
+            value: quantity(value).get(),
+            number,
+        },
+        _ => held_by(view.known(place)),
+    }
 }

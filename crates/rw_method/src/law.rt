@@ -1,13 +1,44 @@
 //! What the definitions of this crate come to. Each law is the `ensures` of a function that does nothing.
-ghost use Rattle.std.specs.Prelude.{◌≡◌, ℕ, ℤ, pos, neg_ℤ, List, [], ◌∷◌, Option, true, false, Some, None};
+ghost use Rattle.std.specs.Prelude.{◌≡◌, ◌≢◌, ◌≤◌, ◌<ℤ◌, ℕ, ℤ, pos, neg_ℤ, List, [], ◌∷◌, All, Option, true, false, Some, None};
 ghost use Rattle.rw_base.specs.declared.number.ObjectNo.{ObjectNo};
 ghost use Rattle.rw_base.specs.declared.number.RuleNo.{RuleNo};
 ghost use Rattle.rw_model.specs.declared.kind.Kind.TheVariants as Kind;
 ghost use Rattle.rw_model.specs.declared.kind.Supply.TheVariants as Supply;
 ghost use Rattle.rw_method.specs.declared.solved.Solved.TheVariants as Solved;
+ghost use Rattle.rw_method.specs.declared.balanced.Balanced.TheVariants as Balanced;
+ghost use Rattle.rw_method.specs.declared.term.Term.{Term};
+ghost use Rattle.rw_method.specs.declared.share.Share.TheVariants as Share;
+ghost use Rattle.rw_method.specs.Term.{IsShare, brought, least_inflow};
+ghost use Rattle.rw_method.specs.Settling.{weakest, settled, GivesWay, IsSolved, IsGreatestBeside};
 ghost use Rattle.rw_method.specs.Puts.{put};
 ghost use Rattle.rw_method.specs.Solve.{solve_of};
 ghost use Rattle.rw_method.specs.Worked.{input, by_rule, seen, worked_rows};
+
+/// The term that gives way is one that isn't given, or else one of the greatest number, and of several such the last.
+pub fn term_that_gives_way()
+    ensures { (first : Term) (rest : List Term) → GivesWay (first ∷ rest) (weakest first rest) }
+{}
+
+/// Where a term is solved, it is the one that gives way, the others are all given, and its value makes the balance true.
+pub fn solved_term()
+    ensures { (steady : ℤ) (terms : List Term) (place number : ℕ) (value : ℤ) → All (λ (term : Term). IsShare term.share) terms
+        → settled (Some steady) terms ≡ Balanced.Solves place value number → IsSolved steady terms place value }
+{}
+
+/// A solved term has the greatest number of the others, and 0 where none of them is given.
+pub fn number_of_a_solved_term()
+    ensures { (steady : ℤ) (terms : List Term) (place number : ℕ) (value : ℤ)
+        → settled (Some steady) terms ≡ Balanced.Solves place value number → IsGreatestBeside place terms number }
+{}
+
+/// The least inflow of a canal conveys the outflow, and each lesser inflow conveys less. No outflow comes from no inflow.
+pub fn least_inflow_of_a_canal()
+    ensures conveyed { (seepage : ℕ) (outflow : ℤ) → seepage ≤ 999
+        → brought (Share.Conveys seepage) (least_inflow seepage outflow) ≡ outflow }
+    ensures least { (seepage : ℕ) (outflow inflow : ℤ) → seepage ≤ 999 → outflow ≢ pos 0
+        → inflow <ℤ least_inflow seepage outflow → brought (Share.Conveys seepage) inflow <ℤ outflow }
+    ensures dry { (seepage : ℕ) → least_inflow seepage (pos 0) ≡ pos 0 }
+{}
 
 /// Worked values of a confluence with inflows of 5 and 6 m3/step and an outflow of 10, set by rules and given.
 pub fn confluence_values()

@@ -5,6 +5,7 @@
 #![tactic(auto)]
 
 mod balanced;
+mod basis;
 mod catalogue;
 mod counting;
 mod flows;
@@ -23,11 +24,12 @@ mod tests;
 mod view;
 
 pub use balanced::Balanced;
+pub use basis::Basis;
 pub use catalogue::{Catalogue, CatalogueFault};
 pub use counting::per_mille;
 pub use flows::side_flows;
 pub use given::Given;
-pub use judging::{add_put, put_solved};
+pub use judging::{add_put, begin_puts, held_after, put_solved};
 pub use method::Method;
 pub use put::Put;
 pub use put_list::PutList;

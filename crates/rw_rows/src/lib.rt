@@ -1,6 +1,19 @@
-//! Worked examples of the top call, over files and sinks in memory. There is nothing here but tests: what they
-//! compare with was worked out by hand, or by programs that know nothing of this one.
+//! Worked examples of the top call, over files and sinks in memory, and of the methods of objects, by a catalogue of all
+//! seven. There is nothing here but tests: what they compare with was worked out by hand, or by programs that know nothing
+//! of this one.
 #![tactic(auto)]
 
 #[cfg(test)]
+mod dispatch;
+#[cfg(test)]
+mod is_view;
+#[cfg(test)]
+mod methods;
+#[cfg(test)]
+mod reservoirs;
+#[cfg(test)]
+mod streams;
+#[cfg(test)]
 mod tests;
+#[cfg(test)]
+mod users;

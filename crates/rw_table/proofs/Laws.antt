@@ -99,3 +99,8 @@ elevation_after_volume rows e v table is =
     let has = elev_held rows v table (volume_inside rows e v table is) in
     let up = has.greatest.greatest e (at_most_from (vol_of rows e) v v is (omega (arith, ints))) in
     subst (λ (o : Option ℤ). IsSomeAnd o (λ back. e ≤ℤ back)) (sym has.is) up
+
+-- each elevation that is answered is one of the table's
+pub elevation_inside : (rows : List Row) (s e : ℤ) → IsTable rows → elev_of rows s ≡ Some e → IsElevationInside rows e
+elevation_inside rows s e table is =
+    (greatest_of rows s (elev_of rows s) e (elevation_is_greatest rows s table) is).inside

@@ -1,6 +1,7 @@
 ghost use Rattle.std.specs.Prelude.{◌≡◌, ◌⊎◌, Err, OnOk, IfOk, IfErr};
+ghost use Rattle.std.specs.Option.{ForSome};
 ghost use Rattle.rw_table.specs.Table.{IsTable, IsFault};
-ghost use Rattle.rw_table.specs.Curve.{vol_of, elev_of, first_row};
+ghost use Rattle.rw_table.specs.Curve.{vol_of, elev_of, first_row, IsElevationInside};
 
 use crate::fault::{TableFault, judge};
 use crate::lookup::{elevation_at, volume_at};
@@ -54,6 +55,7 @@ impl Rating {
     /// The greatest whole elevation in mm whose volume is at most s m3. `None` outside the table's volumes.
     pub fn elev(&self, s: i64) -> Option<i64>
         ensures elevation { result ≡ elev_of self.now s }
+        ensures inside { ForSome result (IsElevationInside self.now) }
         ensures table { IsTable self.now }
     {
         elevation_at(&self.rows, s)

@@ -1,0 +1,37 @@
+use Rattle.std.proofs.Common.{sym}
+use Rattle.rw_method.specs.View.{given}
+use Rattle.rw_method.specs.Puts.{solved_put, level_puts, evaporation_put, release_puts, held_after}
+use Rattle.rw_reservoir.specs.Asking.{can_get}
+use Rattle.rw_reservoir.proofs.Misfits.{refused_in_front, refused_behind, four_fit}
+use Rattle.rw_reservoir.proofs.puts.put_all.Goals as goal
+
+pub returns-in-Err : goal.returns-in-Err
+returns-in-Err c =
+    let table = c.args.table.now in
+    let view = c.args.view.now in
+    let balanced = c.args.balanced in
+    sym (refused_in_front (can_get table view) (solved_put balanced) (level_puts table (given view 2) (given view 3) balanced)
+    (evaporation_put c.args.evaporation c.args.evaporated) (release_puts c.args.max_release (held_after view balanced 1))
+    c.in-Err.answer c.in-Err.ensures.refused)
+
+pub returns-in-Ok-ask_derived : goal.returns-in-Ok-ask_derived
+returns-in-Ok-ask_derived c =
+    let table = c.args.table.now in
+    let view = c.args.view.now in
+    let balanced = c.args.balanced in
+    let outflow = c.held_after-outflow.ensures in
+    let derived = c.in-Ok-ask_derived.ensures in
+    let all = rw (c.in-Ok.ensures.added, c.none-puts.ensures) at derived.added in
+    rw (← outflow) (sym (four_fit (can_get table view) (solved_put balanced) (level_puts table (given view 2) (given view 3) balanced)
+    (evaporation_put c.args.evaporation c.args.evaporated) (release_puts c.args.max_release c.held_after-outflow.result)
+    c.ask_derived.new.puts c.in-Ok.ensures.fits derived.fits all))
+
+pub returns-in-Err-ask_derived : goal.returns-in-Err-ask_derived
+returns-in-Err-ask_derived c =
+    let table = c.args.table.now in
+    let view = c.args.view.now in
+    let balanced = c.args.balanced in
+    let outflow = c.held_after-outflow.ensures in
+    rw (← outflow) (sym (refused_behind (can_get table view) (solved_put balanced) (level_puts table (given view 2) (given view 3) balanced)
+    (evaporation_put c.args.evaporation c.args.evaporated) (release_puts c.args.max_release c.held_after-outflow.result)
+    c.in-Err-ask_derived.answer c.in-Ok.ensures.fits c.in-Err-ask_derived.ensures.refused))

@@ -1,0 +1,18 @@
+-- What becomes of the puts that a reservoir asks for.
+use Rattle.std.specs.Prelude.{◌≡◌, ◌==◌, if◌then◌else◌, Bool, true, ◌&&◌, List, Option, Some, option_map}
+use Rattle.rw_table.specs.Table.{Row}
+use Rattle.rw_method.specs.declared.put.Put.{Put}
+use Rattle.rw_method.specs.declared.solved.Solved.{Solved}
+use Rattle.rw_method.specs.declared.solved.Solved.TheVariants.{OutOfRange}
+use Rattle.rw_method.specs.declared.view.View.{View}
+use Rattle.rw_method.specs.Contents.{can_hold}
+use Rattle.rw_method.specs.Puts.{is_bounded}
+use Rattle.rw_method.specs.Solve.{first_misfit}
+
+-- a slot can get the value: a storage can be held, and each value is a quantity within its slot's bounds
+abbrev pub can_get : Option (List Row) → View → Put → Bool
+can_get table view put = (if put.place == 2 then can_hold table put.value else true) && is_bounded view put
+
+-- the answer is the first put that doesn't fit
+abbrev pub IsRefused : (Put → Bool) → List Put → Solved → Type 0
+IsRefused fit puts answer = option_map (λ (misfit : Put). OutOfRange misfit.place misfit.value) (first_misfit fit puts) ≡ Some answer

@@ -1,0 +1,105 @@
+ghost use Rattle.std.specs.Prelude.{◌≡◌};
+ghost use Rattle.rw_method.specs.Contents.{basis_of, fault_of_basis, is_this, agree, disagreement};
+ghost use Rattle.rw_method.specs.Solve.{or_else, fault_of_past};
+
+use crate::basis::basis_of;
+use crate::contents::{can_hold, elevation_of, volume_of};
+use rw_base::Qty;
+use rw_method::{Basis, Given, Solved};
+use rw_table::Rating;
+
+// Where evaporation is chosen, the storage before has to have an elevation.
+fn fault_of_past(evaporation: bool, table: &Option<Rating>, past: Option<Qty>) -> Option<Solved>
+    ensures { result ≡ fault_of_past evaporation table.now past }
+{
+    match past {
+        Some(storage) if evaporation && !can_hold(table, storage.get()) => {
+            Some(Solved::OutOfRange {
+                place: 2,
+                value: i128::from(storage.get()),
+            })
+        }
+        _ => None,
+    }
+}
+
+// What is wrong with the slot that gives the contents.
+fn fault_of_basis(table: &Option<Rating>, basis: Basis) -> Option<Solved>
+    ensures { result ≡ fault_of_basis table.now basis }
+{
+    match basis {
+        Basis::Storage(storage) if !can_hold(table, storage.value) => Some(Solved::OutOfRange {
+            place: 2,
+            value: i128::from(storage.value),
+        }),
+        Basis::Elevation(elevation) if volume_of(table, elevation.value).is_none() => {
+            Some(Solved::OutOfRange {
+                place: 3,
+                value: i128::from(elevation.value),
+            })
+        }
+        _ => None,
+    }
+}
+
+// Whether there is such a value, and it is this one.
+fn is_this(found: Option<i64>, value: i64) -> bool
+    ensures { result ≡ is_this found value }
+{
+    match found {
+        Some(found) => found == value,
+        None => false,
+    }
+}
+
+// Whether the elevation is the storage's, or the storage is the elevation's.
+fn agree(table: &Option<Rating>, storage: i64, elevation: i64) -> bool
+    ensures { result ≡ agree table.now storage elevation }
+{
+    is_this(elevation_of(table, storage), elevation)
+        || is_this(volume_of(table, elevation), storage)
+}
+
+// A storage and an elevation that are both given with number 0, and don't agree.
+fn disagreement(
+    table: &Option<Rating>,
+    storage: Option<Given>,
+    elevation: Option<Given>,
+) -> Option<Solved>
+    ensures { result ≡ disagreement table.now storage elevation }
+{
+    match (storage, elevation) {
+        (Some(storage), Some(elevation))
+            if storage.number == 0
+                && elevation.number == 0
+                && !agree(table, storage.value, elevation.value) => {
+            Some(Solved::Conflict {
+                place: 3,
+                held: i128::from(elevation.value),
+                solved: i128::from(elevation_of(table, storage.value).unwrap_or(0)),
+            })
+        }
+        _ => None,
+    }
+}
+
+/// What is wrong with what the reservoir holds, before its balance is looked at: with the storage before, with the slot
+/// that gives the contents, or with storage and elevation together, in this order.
+pub(crate) fn fault_of_contents(
+    table: &Option<Rating>,
+    evaporation: bool,
+    past: Option<Qty>,
+    storage: Option<Given>,
+    elevation: Option<Given>,
+) -> Option<Solved>
+    ensures { result ≡ or_else (fault_of_past evaporation table.now past)
+        (or_else (fault_of_basis table.now (basis_of storage elevation)) (disagreement table.now storage elevation)) }
+{
+    if let Some(fault) = fault_of_past(evaporation, table, past) {
+        return Some(fault);
+    }
+    if let Some(fault) = fault_of_basis(table, basis_of(storage, elevation)) {
+        return Some(fault);
+    }
+    disagreement(table, storage, elevation)
+}

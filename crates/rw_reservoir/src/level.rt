@@ -1,0 +1,114 @@
+ghost use Rattle.std.specs.Prelude.{◌≡◌, ◌<◌, ◌+◌, ◌≤◌, ◌++◌, length, OnOk, IfErr};
+ghost use Rattle.rw_method.specs.Contents.{basis_of};
+ghost use Rattle.rw_method.specs.Puts.{solved_put, put_found, beside_basis, beside_given, level_puts};
+ghost use Rattle.rw_method.specs.Solve.{AllFit};
+ghost use Rattle.rw_reservoir.specs.Asking.{can_get, IsRefused};
+
+use crate::asking::{ask, narrow};
+use crate::basis::{are_both_zero, basis_of};
+use crate::contents::{elevation_of, volume_of};
+use rw_method::{Balanced, Basis, Given, PutList, Solved, View};
+use rw_table::Rating;
+
+// Puts the value that the table has, if it has one.
+fn ask_found(
+    view: &View,
+    table: &Option<Rating>,
+    puts: &mut PutList,
+    place: u8,
+    found: Option<i64>,
+    number: u16,
+) -> Result<(), Solved>
+    requires { length puts.old < 8 }
+    ensures added { OnOk result (puts.new ≡ puts.old ++ put_found place found number) }
+    ensures fits { OnOk result (AllFit (can_get table.now view.entry.now) (put_found place found number)) }
+    ensures refused { IfErr result (IsRefused (can_get table.now view.entry.now) (put_found place found number)) }
+    ensures room { OnOk result (length puts.new ≤ length puts.old + 1) }
+{
+    match found {
+        Some(value) => ask(view, table, puts, place, i128::from(value), number),
+        None => Ok(()),
+    }
+}
+
+// Beside the slot that gives the contents puts the other one of storage and elevation.
+fn ask_beside(
+    view: &View,
+    table: &Option<Rating>,
+    puts: &mut PutList,
+    basis: Basis,
+) -> Result<(), Solved>
+    requires { length puts.old < 8 }
+    ensures added { OnOk result (puts.new ≡ puts.old ++ beside_basis table.now basis) }
+    ensures fits { OnOk result (AllFit (can_get table.now view.entry.now) (beside_basis table.now basis)) }
+    ensures refused { IfErr result (IsRefused (can_get table.now view.entry.now) (beside_basis table.now basis)) }
+    ensures room { OnOk result (length puts.new ≤ length puts.old + 1) }
+{
+    match basis {
+        Basis::Nothing => Ok(()),
+        Basis::Storage(storage) => {
+            let found = elevation_of(table, storage.value);
+            ask_found(view, table, puts, 3, found, storage.number)
+        }
+        Basis::Elevation(elevation) => {
+            let found = volume_of(table, elevation.value);
+            ask_found(view, table, puts, 2, found, elevation.number)
+        }
+    }
+}
+
+// Beside the slot that gives the contents puts the other one, unless both are given with number 0.
+fn ask_beside_given(
+    view: &View,
+    table: &Option<Rating>,
+    puts: &mut PutList,
+    storage: Option<Given>,
+    elevation: Option<Given>,
+) -> Result<(), Solved>
+    requires { length puts.old < 8 }
+    ensures added { OnOk result (puts.new ≡ puts.old ++ beside_given table.now storage elevation) }
+    ensures fits { OnOk result (AllFit (can_get table.now view.entry.now) (beside_given table.now storage elevation)) }
+    ensures refused { IfErr result
+        (IsRefused (can_get table.now view.entry.now) (beside_given table.now storage elevation)) }
+    ensures room { OnOk result (length puts.new ≤ length puts.old + 1) }
+{
+    if are_both_zero(storage, elevation) {
+        return Ok(());
+    }
+    ask_beside(view, table, puts, basis_of(storage, elevation))
+}
+
+/// Puts the elevation of a solved storage, or what stands beside given contents.
+pub(crate) fn ask_level(
+    view: &View,
+    table: &Option<Rating>,
+    puts: &mut PutList,
+    storage: Option<Given>,
+    elevation: Option<Given>,
+    balanced: Balanced,
+) -> Result<(), Solved>
+    requires room { length puts.old < 8 }
+    requires fits { AllFit (can_get table.now view.now) (solved_put balanced) }
+    ensures added { OnOk result (puts.new ≡ puts.old ++ level_puts table.now storage elevation balanced) }
+    ensures fits { OnOk result
+        (AllFit (can_get table.now view.entry.now) (level_puts table.now storage elevation balanced)) }
+    ensures refused { IfErr result
+        (IsRefused (can_get table.now view.entry.now) (level_puts table.now storage elevation balanced)) }
+    ensures room { OnOk result (length puts.new ≤ length puts.old + 1) }
+{
+    match balanced {
+        Balanced::Solves {
+            place: 2,
+            value,
+            number,
+        } => ask_found(
+            view,
+            table,
+            puts,
+            3,
+            elevation_of(table, narrow(value)),
+            number,
+        ),
+        _ => ask_beside_given(view, table, puts, storage, elevation),
+    }
+}

@@ -1,0 +1,115 @@
+ghost use Rattle.std.specs.Prelude.{◌≡◌, ◌<◌, ◌+◌, ◌≤◌, ◌++◌, length, OnOk, IfErr};
+ghost use Rattle.rw_method.specs.View.{given};
+ghost use Rattle.rw_method.specs.Puts.{solved_put, level_puts, evaporation_put, release_puts, held_after, is_bounded};
+ghost use Rattle.rw_method.specs.Solve.{AllFit, judged};
+ghost use Rattle.rw_reservoir.specs.Asking.{can_get, IsRefused};
+
+use crate::asking::ask;
+use crate::level::ask_level;
+use crate::release::{ask_evaporation, ask_release};
+use rw_method::{Balanced, Given, PutList, Solved, View, held_after};
+use rw_table::Rating;
+
+// Puts the term that was solved.
+fn ask_solved(
+    view: &View,
+    table: &Option<Rating>,
+    puts: &mut PutList,
+    balanced: Balanced,
+) -> Result<(), Solved>
+    requires { length puts.old < 8 }
+    ensures added { OnOk result (puts.new ≡ puts.old ++ solved_put balanced) }
+    ensures fits { OnOk result (AllFit (can_get table.now view.entry.now) (solved_put balanced)) }
+    ensures bounded { OnOk result (AllFit (is_bounded view.entry.now) (solved_put balanced)) }
+    ensures refused { IfErr result (IsRefused (can_get table.now view.entry.now) (solved_put balanced)) }
+    ensures room { OnOk result (length puts.new ≤ length puts.old + 1) }
+{
+    match balanced {
+        Balanced::Solves {
+            place,
+            value,
+            number,
+        } => ask(view, table, puts, place, value, number),
+        _ => Ok(()),
+    }
+}
+
+// Puts the term that was solved, and what is known of the contents by it.
+fn ask_contents(
+    view: &View,
+    table: &Option<Rating>,
+    puts: &mut PutList,
+    balanced: Balanced,
+) -> Result<(), Solved>
+    requires { length puts.old < 7 }
+    ensures added { OnOk result (puts.new ≡ puts.old ++ (solved_put balanced
+        ++ level_puts table.now (given view.entry.now 2) (given view.entry.now 3) balanced)) }
+    ensures fits { OnOk result (AllFit (can_get table.now view.entry.now) (solved_put balanced
+        ++ level_puts table.now (given view.entry.now 2) (given view.entry.now 3) balanced)) }
+    ensures bounded { OnOk result (AllFit (is_bounded view.entry.now) (solved_put balanced)) }
+    ensures refused { IfErr result (IsRefused (can_get table.now view.entry.now) (solved_put balanced
+        ++ level_puts table.now (given view.entry.now 2) (given view.entry.now 3) balanced)) }
+    ensures room { OnOk result (length puts.new ≤ length puts.old + 2) }
+{
+    match ask_solved(view, table, puts, balanced) {
+        Ok(()) => ask_level(view, table, puts, view.given(2), view.given(3), balanced),
+        Err(answer) => Err(answer),
+    }
+}
+
+// Puts how much evaporates, and the parts of the outflow.
+fn ask_derived(
+    view: &View,
+    table: &Option<Rating>,
+    puts: &mut PutList,
+    evaporation: bool,
+    evaporated: Option<i128>,
+    max_release: Option<i64>,
+    outflow: Given,
+) -> Result<(), Solved>
+    requires { length puts.old < 6 }
+    ensures added { OnOk result (puts.new
+        ≡ puts.old ++ (evaporation_put evaporation evaporated ++ release_puts max_release outflow)) }
+    ensures fits { OnOk result (AllFit (can_get table.now view.entry.now)
+        (evaporation_put evaporation evaporated ++ release_puts max_release outflow)) }
+    ensures refused { IfErr result (IsRefused (can_get table.now view.entry.now)
+        (evaporation_put evaporation evaporated ++ release_puts max_release outflow)) }
+{
+    match ask_evaporation(view, table, puts, evaporation, evaporated) {
+        Ok(()) => ask_release(view, table, puts, max_release, outflow),
+        Err(answer) => Err(answer),
+    }
+}
+
+/// What is answered once the balance is settled: all that is put, or the first put that its slot can't get.
+pub(crate) fn put_all(
+    view: &View,
+    table: &Option<Rating>,
+    evaporation: bool,
+    evaporated: Option<i128>,
+    max_release: Option<i64>,
+    balanced: Balanced,
+) -> Solved
+    ensures { result ≡ judged (can_get table.now view.entry.now) (solved_put balanced
+        ++ level_puts table.now (given view.entry.now 2) (given view.entry.now 3) balanced
+        ++ evaporation_put evaporation evaporated ++ release_puts max_release (held_after view.entry.now balanced 1)) }
+{
+    let mut puts = PutList::none();
+    match ask_contents(view, table, &mut puts, balanced) {
+        Ok(()) => {}
+        Err(answer) => return answer,
+    }
+    let outflow = held_after(view, balanced, 1);
+    match ask_derived(
+        view,
+        table,
+        &mut puts,
+        evaporation,
+        evaporated,
+        max_release,
+        outflow,
+    ) {
+        Ok(()) => Solved::Puts(puts),
+        Err(answer) => answer,
+    }
+}

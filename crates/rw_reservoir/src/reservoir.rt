@@ -1,0 +1,112 @@
+ghost use Rattle.std.specs.Prelude.{◌≡◌, ◌++◌, ℤ, Bool};
+ghost use Rattle.std.specs.Option.{ForSome};
+ghost use Rattle.rw_model.specs.declared.kind.Kind.TheVariants as Kind;
+ghost use Rattle.rw_method.specs.View.{given};
+ghost use Rattle.rw_method.specs.Term.{IsWithin};
+ghost use Rattle.rw_method.specs.Balance.{side_flows};
+ghost use Rattle.rw_method.specs.Puts.{solved_put, level_puts, evaporation_put, release_puts, held_after};
+ghost use Rattle.rw_method.specs.Solve.{answer, solve_of};
+ghost use Rattle.rw_reservoir.specs.Asking.{can_get};
+
+use crate::balance::balance;
+use crate::evaporation::evaporation_of;
+use crate::fault::fault_of_contents;
+use crate::puts::put_all;
+use rw_method::{Balanced, Method, Solved, View, side_flows};
+use rw_model::Kind;
+use rw_table::Rating;
+
+/// The method of a reservoir: what flows in and doesn't flow out is stored.
+#[derive(Debug, Drop)]
+pub struct ReservoirMethod;
+
+// What is answered, by what the balance comes to and what is wrong with the contents.
+fn answer_by(
+    view: &View,
+    table: &Option<Rating>,
+    evaporation: bool,
+    evaporated: Option<i128>,
+    max_release: Option<i64>,
+    balanced: Balanced,
+    fault: Option<Solved>,
+) -> Solved
+    ensures { result ≡ answer (can_get table.now view.entry.now) (solved_put balanced
+        ++ level_puts table.now (given view.entry.now 2) (given view.entry.now 3) balanced
+        ++ evaporation_put evaporation evaporated ++ release_puts max_release (held_after view.entry.now balanced 1))
+        balanced fault }
+{
+    match (balanced, fault) {
+        (Balanced::Idle, _) => Solved::Idle,
+        (_, Some(fault)) => fault,
+        (
+            Balanced::Conflicts {
+                place,
+                held,
+                solved,
+            },
+            None,
+        ) => Solved::Conflict {
+            place,
+            held,
+            solved,
+        },
+        (Balanced::Holds | Balanced::Solves { .. }, None) => {
+            put_all(view, table, evaporation, evaporated, max_release, balanced)
+        }
+    }
+}
+
+// What a dispatch of a reservoir answers, beside what flows by the side.
+pub(crate) fn solve_reservoir(
+    view: &View,
+    table: &Option<Rating>,
+    side: Option<i128>,
+    evaporation: bool,
+    max_release: Option<i64>,
+) -> Solved
+    requires { ForSome side (IsWithin 3) }
+    ensures { (initial_storage : ℤ) (local_inflow diversion return_flow : Bool)
+        → side ≡ side_flows view.entry.now 4 local_inflow diversion return_flow
+        → result ≡ solve_of (Kind.Reservoir initial_storage table.now local_inflow diversion return_flow evaporation
+        max_release) view.entry.now }
+{
+    let evaporated = evaporation_of(evaporation, table, view);
+    let balanced = balance(view, table, side, evaporated);
+    let (storage, elevation) = (view.given(2), view.given(3));
+    let fault = fault_of_contents(table, evaporation, view.past, storage, elevation);
+    answer_by(
+        view,
+        table,
+        evaporation,
+        evaporated,
+        max_release,
+        balanced,
+        fault,
+    )
+}
+
+impl Method for ReservoirMethod {
+    ghost code = { λ _. 5 };
+
+    fn code(&self) -> u8 {
+        5
+    }
+
+    fn solve(&self, kind: &Kind, view: &View) -> Solved {
+        match kind {
+            Kind::Reservoir {
+                table,
+                local_inflow,
+                diversion,
+                return_flow,
+                evaporation,
+                max_release,
+                ..
+            } => {
+                let side = side_flows(view, 4, *local_inflow, *diversion, *return_flow);
+                solve_reservoir(view, table, side, *evaporation, *max_release)
+            }
+            _ => unreachable!(),
+        }
+    }
+}

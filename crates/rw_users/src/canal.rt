@@ -1,0 +1,63 @@
+ghost use Rattle.std.specs.Prelude.{◌≡◌, ◌≤◌, ◌-ℤ◌, ◌++◌, None};
+ghost use Rattle.rw_model.specs.declared.kind.Kind.TheVariants as Kind;
+ghost use Rattle.rw_method.specs.Puts.{is_bounded, solved_put, seepage_put, held_after};
+ghost use Rattle.rw_method.specs.Solve.{answer, solve_of};
+
+use rw_method::{
+    Balanced, Given, Method, Seepage, Share, Solved, View, add_put, begin_puts, held_after, settle,
+};
+use rw_model::Kind;
+
+/// The method of a canal: a part of what flows in seeps away.
+#[derive(Debug, Drop)]
+pub struct CanalMethod;
+
+fn seeping(inflow: Given, outflow: Given) -> i128
+    ensures { result ≡ inflow.value -ℤ outflow.value }
+{
+    i128::from(inflow.value) - i128::from(outflow.value)
+}
+
+// What it answers that puts its solved flow, if one is solved, and what seeps away.
+fn put_seepage(view: &View, balanced: Balanced) -> Solved
+    ensures { result ≡ answer (is_bounded view.entry.now)
+        (solved_put balanced ++ seepage_put (held_after view.entry.now balanced 0) (held_after view.entry.now balanced 1)) balanced None }
+{
+    let mut puts = match begin_puts(view, balanced) {
+        Ok(puts) => puts,
+        Err(answer) => return answer,
+    };
+    let inflow = held_after(view, balanced, 0);
+    let outflow = held_after(view, balanced, 1);
+    let seeping = seeping(inflow, outflow);
+    if let Err(answer) = add_put(view, &mut puts, 2, seeping, inflow.number) {
+        return answer;
+    }
+    Solved::Puts(puts)
+}
+
+pub(crate) fn solve_canal(view: &View, seepage: u16) -> Solved
+    requires { seepage ≤ 999 }
+    ensures { result ≡ solve_of (Kind.Canal seepage) view.entry.now }
+{
+    let terms = [
+        view.term(Share::Conveys(Seepage::of(seepage)), 0),
+        view.term(Share::Takes, 1),
+    ];
+    put_seepage(view, settle(Some(0), &terms))
+}
+
+impl Method for CanalMethod {
+    ghost code = { λ _. 7 };
+
+    fn code(&self) -> u8 {
+        7
+    }
+
+    fn solve(&self, kind: &Kind, view: &View) -> Solved {
+        match kind {
+            Kind::Canal { seepage } => solve_canal(view, *seepage),
+            _ => unreachable!(),
+        }
+    }
+}
