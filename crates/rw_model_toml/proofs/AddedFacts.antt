@@ -1,5 +1,5 @@
 -- The tests of an object and of bounds find the faults that a builder answers.
-use Rattle.std.proofs.Common.{◌≡◌, ◌≢◌, ◌∙◌, ◌≤◌, ℕ, nat_lt, ℤ, pos, ◌≤ℤ◌, Bool, true, false, ◌||◌, not, if◌then◌else◌, IsTrue, List, [], ◌∷◌, ◌++◌, length, Option, None, Some, refl, sym, ap, subst, ◌-ℤ◌, Ok, Err, arith}
+use Rattle.std.proofs.Common.{nat_le, ◌≡◌, ◌≢◌, ◌∙◌, ◌≤◌, ℕ, nat_lt, ℤ, pos, ◌≤ℤ◌, Bool, true, false, ◌||◌, not, if◌then◌else◌, IsTrue, List, [], ◌∷◌, ◌++◌, length, Option, None, Some, refl, sym, ap, subst, ◌-ℤ◌, Ok, Err, arith}
 use Rattle.std.specs.Prelude.{is_some, IsSome}
 use mathlib.Core.Logic.{⊎_elim}
 use Rattle.std.specs.Bool.{Decides}
@@ -28,7 +28,7 @@ use Rattle.rw_model_toml.specs.Names.{is_name}
 use Rattle.rw_model_toml.specs.Control.{is_from_to}
 use Rattle.rw_model_toml.specs.Added.{is_data_slots, is_lagged, is_inside, is_release, is_stored, is_kind, is_sound, is_fresh, object_fault, is_allowed, bound_fault}
 use Rattle.rw_model_toml.proofs.NameFacts.{Decides-le, Decides-name}
-use Rattle.rw_model_toml.proofs.Tests.{Decides-int_le, unless, where-true, same-Some}
+use Rattle.rw_model_toml.proofs.Deciding.{Decides-int_le, unless, where-true, same-Some}
 
 Decides-from_to : (low high z : ℤ) → Decides (is_from_to low high z) ((low ≤ℤ z) × (z ≤ℤ high))
 Decides-from_to low high z = Decides-and _ _ (Decides-int_le low z) (Decides-int_le z high)

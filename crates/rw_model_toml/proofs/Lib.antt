@@ -1,7 +1,7 @@
 pub mod Forms
 pub mod Lists
 pub mod NameFacts
-pub mod Tests
+pub mod Deciding
 pub mod RowFacts
 pub mod AddedFacts
 pub mod Plain

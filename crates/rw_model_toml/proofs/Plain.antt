@@ -15,6 +15,8 @@ use Rattle.rw_model.specs.Basin.{cell_count, has_crossed_bounds, finish_fault}
 use Rattle.rw_model.specs.Slot.{Bounds}
 use Rattle.rw_model.specs.Objects.{Object, all_slots, slot_at}
 use Rattle.rw_model.specs.Draft.{Draft, Bound, bound_of}
+use Rattle.rw_model_toml.specs.declared.fault.ModelFault.{ModelFault}
+use Rattle.rw_model_toml.specs.Fault.{Gives, refusal_of}
 use Rattle.rw_model_toml.specs.Refusal.{Refusal, IsPlain, ◌>>=◌, missing}
 use Rattle.rw_model_toml.specs.Value.{integer_of, text_of, truth_of, items_of, members_of, within, number_of, count_of, given_number}
 use Rattle.rw_model_toml.specs.Key.{judged_or, required, optional, known_or, is_listed, only_listed}
@@ -37,7 +39,7 @@ use Rattle.rw_model_toml.specs.Names.{is_name, name_of}
 use Rattle.rw_model_toml.specs.Rows.{is_within_bounds, is_rising, row_fault, rows_fault, table_fault}
 use Rattle.rw_model_toml.specs.Kinds.{object_keys, bare_of, unit_of, slot_of, few_slots, data_of, options_of, history_items_of, inflow_of, history_of, reach_of, row_or, row_in, row_of, rated, table_of, rating_of, reservoir_of, supply_of, water_user_of, canal_of, kind_of}
 use Rattle.rw_model_toml.specs.Added.{is_sound, is_fresh, object_fault, is_allowed, bound_fault}
-use Rattle.rw_model_toml.proofs.Tests.{same-Some}
+use Rattle.rw_model_toml.proofs.Deciding.{same-Some}
 
 -- where it is refused, no want of memory is told
 abbrev pub Plain : {A : Type 0} → Result A Refusal → Type 0
@@ -419,7 +421,7 @@ unfolding draft_of
 draft-plain ms = chain (control_in ms) _ (in-plain ms) (λ control. chain (filled control ms) _ (filled-plain control ms)
     (λ draft. chain-listed file_keys [] ms _ (λ listed. tt)))
 
-basin-plain : (ms : Members) → Plain (basin_of ms)
+pub basin-plain : (ms : Members) → Plain (basin_of ms)
 unfolding basin_of
 basin-plain ms = chain (draft_of ms) _ (draft-plain ms) (λ draft. built-plain (codes "basin") (finish_fault draft) draft (finish-fault-plain draft))
 
@@ -429,3 +431,9 @@ table_or-plain (Some ms) = tt
 
 pub model-plain : (bytes : List ℕ) → Plain (model_of bytes)
 model-plain bytes = chain (table_or (toml_of bytes)) basin_of (table_or-plain (toml_of bytes)) basin-plain
+
+-- a fault that tells of a plain reading carries no want of memory
+pub plain-told : {X Y : Type 0} (seen : X → Y) (result : Result X ModelFault) (reading : Result Y Refusal) → Gives seen result reading → Plain reading
+    → IfErr result (λ fault. ForSome (refusal_of fault) IsPlain)
+plain-told seen (Ok x) reading given plain = tt
+plain-told seen (Err fault) reading why plain = λ refusal is. subst Plain (why refusal is) plain

@@ -9,7 +9,7 @@ use Rattle.rw_table.specs.declared.fault.TableFault.{TableFault}
 use Rattle.rw_table.specs.declared.fault.TableFault.TheVariants.{TooFewRows, TooManyRows, OutOfBounds, NotRising}
 use Rattle.rw_table.specs.Table.{Row, row_at, IsWithinBounds, IsAbove, IsRisingAt, IsGoodRow, IsTable, IsFault}
 use Rattle.rw_model_toml.specs.Rows.{is_within_bounds, is_rising, rows_fault, table_fault}
-use Rattle.rw_model_toml.proofs.Tests.{Decides-int_le, Decides-int_lt}
+use Rattle.rw_model_toml.proofs.Deciding.{Decides-int_le, Decides-int_lt}
 
 Decides-bounds : (row : Row) → Decides (is_within_bounds row) (IsWithinBounds row)
 Decides-bounds row = Decides-like (is_within_bounds row)

@@ -14,7 +14,6 @@ use Rattle.rw_model_toml.specs.Run.{run_of}
 use Rattle.rw_model_toml.specs.Control.{control_of}
 use Rattle.rw_model_toml.specs.Told.{built, object_of, link_of, bound_of}
 
-
 -- the items of the array at a path one after another, each told to what was built by those before it, where they are
 -- numbered from the one that is given
 abbrev pub in_turn : (List ℕ → Data → Draft → Result Draft Refusal) → List ℕ → ℕ → Items → Draft → Result Draft Refusal

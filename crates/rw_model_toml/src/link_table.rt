@@ -1,4 +1,4 @@
-ghost use Rattle.std.specs.Prelude.{◌≤◌, codes, length};
+ghost use Rattle.std.specs.Prelude.{string_bytes, ◌≤◌, codes, length};
 ghost use Rattle.toml.specs.View.{view, items_view};
 ghost use Rattle.rw_model.specs.Kept.{numbers_of};
 ghost use Rattle.rw_model_toml.specs.Fault.{Gives};

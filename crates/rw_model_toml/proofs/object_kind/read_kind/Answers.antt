@@ -1,6 +1,6 @@
 use Rattle.std.proofs.Common.{◌∙◌, codes}
 use Rattle.rw_model_toml.specs.Kinds.{kind_of}
-use Rattle.rw_model_toml.proofs.Tests.{other-word, unless}
+use Rattle.rw_model_toml.proofs.Deciding.{other-word, unless}
 use Rattle.rw_model_toml.proofs.object_kind.read_kind.Goals as goal
 
 pub returns-in_ok-key_path-in_default : goal.returns-in_ok-key_path-in_default
