@@ -1,0 +1,79 @@
+-- Cells that share their value.
+use Rattle.std.proofs.Common.{◌≡◌, ℕ, ◌+◌, ◌-◌, ◌<◌, ◌==◌, ◌&&◌, Bool, true, false, if◌then◌else◌, List, length, Option, Some, None, refl, sym, ap, ap₂, ◌∙◌, arith}
+use Rattle.std.proofs.lemmas.Cmp.{nat_eq_equiv}
+use Rattle.std.proofs.lemmas.Bool.Decides.{nat_tests}
+use Rattle.std.proofs.lemmas.Map.Views.{any-filter_same}
+use Rattle.rw_base.specs.declared.number.Cell.{Cell}
+use Rattle.rw_model.specs.declared.content.Content.{Content}
+use Rattle.rw_model.specs.Objects.{Object, all_slots}
+use Rattle.rw_model.specs.Draft.{Draft, IsSlot}
+use Rattle.rw_model.specs.Links.{link_of, is_same_link, is_together, is_among, slot_numbers, group_of}
+use Rattle.rw_model.proofs.Bounding.{some_crossed}
+use Rattle.rw_series.specs.Series.{Series, IsCell, is_shared, IsSeriesOf, Sets}
+
+both : (a b : Bool) → (a && b) ≡ true → (a ≡ true) × (b ≡ true)
+both true true p = (refl, refl)
+both true false p = absurd (cc)
+both false b p = absurd (cc)
+
+-- ---- a slot in a group
+
+known_number : (objects : List Object) (slot : ℕ) → IsSlot objects slot → is_among slot (slot_numbers objects) ≡ true
+known_number objects slot known =
+    let near : slot - 1 < length (all_slots objects) = omega (arith, known.first, known.last) in
+    let at : (slot - 1) + 1 ≡ slot = omega (arith, known.first) in
+    some_crossed (λ other. slot == other) (length (all_slots objects)) (slot - 1) near (ap (λ other. slot == other) at ∙ nat_eq_equiv.refl slot)
+
+among_group : (objects : List Object) (links : List (List ℕ)) (slot other : ℕ)
+    → is_among other (group_of objects links slot) ≡ (is_together links slot other && is_among other (slot_numbers objects))
+among_group objects links slot other =
+    any-filter_same (λ k. other == k) (is_together links slot) (is_together links slot other)
+    (λ k same. ap (is_together links slot) (let at : k ≡ other = grind (arith, nat_tests, same) in at)) (slot_numbers objects)
+
+-- ---- slots that are together are together with the same ones
+
+linked_alike : (one other : Option ℕ) → is_same_link one other ≡ true → (place : ℕ) × ((one ≡ Some place) × (other ≡ Some place))
+linked_alike None other same = absurd (cc)
+linked_alike (Some p) None same = absurd (cc)
+linked_alike (Some p) (Some q) same = let at : q ≡ p = grind (arith, nat_tests, same) in (p, (refl, ap Some at))
+
+in_link : (links : List (List ℕ)) (slot other place : ℕ) → link_of links other ≡ Some place → (test : Bool) → (slot == other) ≡ test
+    → is_together links slot other ≡ is_same_link (link_of links slot) (Some place)
+in_link links slot other place linked true same =
+    let at : slot ≡ other = grind (arith, nat_tests, same) in
+    let here : link_of links slot ≡ Some place = ap (link_of links) at ∙ linked in
+    rw (same, here) (sym (nat_eq_equiv.refl place))
+in_link links slot other place linked false apart = rw (apart, linked) refl
+
+together_alike : (links : List (List ℕ)) (slot one other : ℕ) → (test : Bool) → (one == other) ≡ test → is_together links one other ≡ true
+    → is_together links slot one ≡ is_together links slot other
+together_alike links slot one other true same together =
+    let at : one ≡ other = grind (arith, nat_tests, same) in ap (is_together links slot) at
+together_alike links slot one other false apart together =
+    let linked = linked_alike (link_of links one) (link_of links other) (rw apart at together) in
+    in_link links slot one linked.0 linked.1.0 (slot == one) refl ∙ sym (in_link links slot other linked.0 linked.1.1 (slot == other) refl)
+
+-- ---- cells
+
+shared_alike : (basin : Draft) (cell one other : Cell) → IsCell basin one → is_shared basin one other ≡ true → is_shared basin cell one ≡ is_shared basin cell other
+shared_alike basin cell one other known shared =
+    let parts = both _ _ shared in
+    let in_group = both _ _ (sym (among_group basin.objects basin.links one.slot.0 other.slot.0) ∙ parts.0) in
+    let step : other.step.0 ≡ one.step.0 = grind (arith, nat_tests, parts.1) in
+    ap₂ (λ a b. a && b)
+    (among_group basin.objects basin.links cell.slot.0 one.slot.0
+    ∙ ap₂ (λ a b. a && b) (together_alike basin.links cell.slot.0 one.slot.0 other.slot.0 (one.slot.0 == other.slot.0) refl in_group.0)
+    (known_number basin.objects one.slot.0 known.slot ∙ sym in_group.1)
+    ∙ sym (among_group basin.objects basin.links cell.slot.0 other.slot.0))
+    (ap (λ step. step == cell.step.0) (sym step))
+
+pub Sets-made : (basin : Draft) (cell : Cell) (content : Option Content) (old new : Series) → IsSeriesOf basin old → Sets basin cell content old new
+    → new.slots ≡ old.slots → new.steps ≡ old.steps → IsSeriesOf basin new
+Sets-made basin cell content old new made sets slots steps = record {
+  slots = slots ∙ made.slots;
+  steps = steps ∙ made.steps;
+  shared = λ one other known shared.
+      sets one
+      ∙ ap₂ (λ test there. if test then content else there) (shared_alike basin cell one other known shared) (made.shared one other known shared)
+      ∙ sym (sets other);
+}

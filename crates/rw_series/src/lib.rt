@@ -1,0 +1,14 @@
+//! The values of a run, cell by cell. `Series` keeps what each slot of a basin holds at each timestep, and `put` takes a
+//! new content by the put rules: a cell is written together with every cell that a link joins to it, or nothing changes.
+//! `restore` takes a put back. `Look` says what was seen at a cell. Only `sized` and `copy` take memory.
+#![tactic(auto)]
+
+mod cells;
+mod look;
+mod series;
+#[cfg(test)]
+mod tests;
+
+pub use look::Look;
+pub use rw_model::{Content, PutEnd, Writer};
+pub use series::Series;

@@ -1,0 +1,116 @@
+ghost use Rattle.std.specs.Prelude.{◌≡◌, ◌≢◌, IfOk};
+ghost use Rattle.rw_base.specs.declared.number.Cell.{Cell};
+ghost use Rattle.rw_model.specs.declared.put.PutEnd.TheVariants as PutEnd;
+ghost use Rattle.std.specs.Prelude.{None, Some};
+ghost use Rattle.rw_model.specs.Put.{end_of_put};
+ghost use Rattle.rw_series.specs.Series.{held, IsCell, IsSeriesOf, Sets};
+
+use crate::cells::{hold_all, kept_at};
+use rw_base::{Cell, NoMemory};
+use rw_model::{Basin, Content, PutEnd, put_end};
+use std::alloc::Global;
+use std::marker::Model;
+
+/// What the cells of a basin hold, seen as a list of contents that `held` reads.
+#[derive(Drop)]
+pub struct Series {
+    slots: u16,
+    steps: u16,
+    cells: Vec<Option<Content>>,
+}
+
+impl Model for Series {
+    ghost use Rattle.std.specs.Prelude.{◌≡◌, ◌*◌, length};
+    ghost use Rattle.rw_series.specs.Series as specs;
+
+    ghost Value = { specs.Series };
+
+    ghost view = { λ s. record { slots = s.slots; steps = s.steps; cells = s.cells.items } };
+
+    ghost invariant = { λ s. length s.cells.items ≡ s.slots * s.steps };
+}
+
+// What becomes of a put of the content to a cell that holds this.
+fn end_of(held: Option<Content>, new: &Content) -> PutEnd
+    ensures { result ≡ end_of_put held new.now }
+{
+    put_end(held, *new)
+}
+
+impl Series {
+    /// A series for the slots and timesteps of a basin, in which every cell is unknown.
+    pub fn sized(alloc: Global, basin: &Basin) -> Result<Series, NoMemory>
+        ensures made { IfOk result (IsSeriesOf basin.now) }
+        ensures unknown { IfOk result (λ series. (cell : Cell) → held series cell ≡ None) }
+    {
+        let slots = basin.slot_count();
+        let steps = basin.control().stamps.count();
+        let mut cells = Vec::new(alloc);
+        cells.resize(usize::from(slots) * usize::from(steps), None)?;
+        Ok(Series {
+            slots,
+            steps,
+            cells,
+        })
+    }
+
+    /// What a cell holds. `None` exactly where it is unknown, or where the series has no such cell.
+    pub fn get(&self, c: Cell) -> Option<Content>
+        ensures { result ≡ held self.now c }
+    {
+        kept_at(
+            self.cells.as_slice(),
+            self.slots,
+            self.steps,
+            c.slot.0,
+            c.step.0,
+        )
+    }
+
+    /// Puts a content to a cell. What becomes of that is as the put rules say of what the cell holds. Where it is
+    /// `Written`, the cell holds the content, and so does each cell of a slot that a link joins to its slot, at the same
+    /// timestep. Where it is `Kept` or `Denied`, nothing changes.
+    pub fn put(&mut self, basin: &Basin, c: Cell, new: Content) -> PutEnd
+        requires made { IsSeriesOf basin.now self.old }
+        requires cell { IsCell basin.now c }
+        ensures end { result ≡ end_of_put (held self.old c) new }
+        ensures written { result ≡ PutEnd.Written → Sets basin.now c (Some new) self.old self.new }
+        ensures unchanged { result ≢ PutEnd.Written → self.new ≡ self.old }
+        ensures made { IsSeriesOf basin.now self.new }
+    {
+        let end = end_of(self.get(c), &new);
+        if end == PutEnd::Written {
+            self.restore(basin, c, Some(new));
+        }
+        end
+    }
+
+    /// Makes a cell hold a content, or be unknown, whatever it holds, and so each cell of a slot that a link joins to its
+    /// slot, at the same timestep.
+    pub fn restore(&mut self, basin: &Basin, c: Cell, held: Option<Content>)
+        requires made { IsSeriesOf basin.now self.old }
+        requires cell { IsCell basin.now c }
+        ensures cells { Sets basin.now c held self.old self.new }
+        ensures made { IsSeriesOf basin.now self.new }
+    {
+        hold_all(
+            &mut self.cells,
+            self.slots,
+            self.steps,
+            basin.group(c.slot),
+            c.step.0,
+            &held,
+        );
+    }
+
+    /// The same series again.
+    pub fn copy(&self, alloc: Global) -> Result<Series, NoMemory>
+        ensures { IfOk result (λ copy. copy ≡ self.now) }
+    {
+        Ok(Series {
+            slots: self.slots,
+            steps: self.steps,
+            cells: self.cells.as_slice().to_vec(alloc)?,
+        })
+    }
+}
