@@ -31,7 +31,7 @@ fn is_header(record: &ByteRecord) -> bool
     ensures { result ≡ is_header (fields_of record.now) }
 {
     match three_fields(record) {
-        Some((slot, step, value)) => slot == b"slot" && (step == b"step" && value == b"value"),
+        Some((slot, step, value)) => slot == b"slot".as_slice() && (step == b"step".as_slice() && value == b"value".as_slice()),
         None => false,
     }
 }

@@ -2,7 +2,6 @@
 use Rattle.std.proofs.Common.{◌≡◌, inl, inr, ℕ, ◌+◌, ◌<◌, ◌≤◌, ℤ, List, length, refl, sym, ap, ◌∙◌, subst, arith, None, Some, Ok, Err, IfSome, ◌⊎◌}
 use Rattle.std.specs.Prelude.{Option, IsSome}
 use Rattle.rw_io.specs.Causes.{Rose}
-use Rattle.rw_base.specs.declared.number.Cell.{Cell}
 use Rattle.rw_model.specs.Draft.{Draft}
 use Rattle.rw_model_toml.specs.Model.{model_of}
 use Rattle.rw_model_toml.specs.Refusal.{Refusal as Why}
@@ -58,7 +57,7 @@ inputs_clash words holds why b i told told' r h =
     refuses_clash b h.text i why h.are there
 
 -- inputs are read as one thing
-one_given : (words : List (List ℕ)) (holds : List ℕ → Option (List ℕ)) (b c : Draft) (i j : Given) → IsSome (holds (model_path words)) → IsSome (holds (inputs_path words)) → ReadsBoth words holds b i → ReadsBoth words holds c j → (b ≡ c) × ((cell : Cell) → value_at i cell ≡ value_at j cell)
+one_given : (words : List (List ℕ)) (holds : List ℕ → Option (List ℕ)) (b c : Draft) (i j : Given) → IsSome (holds (model_path words)) → IsSome (holds (inputs_path words)) → ReadsBoth words holds b i → ReadsBoth words holds c j → (b ≡ c) × ((slot step : ℕ) → value_at i slot step ≡ value_at j slot step)
 one_given words holds b c i j told told' h k =
     let basin = one_basin words holds b c told h.model k.model in
     let text = same_text holds (inputs_path words) h.text k.text told' h.read k.read in

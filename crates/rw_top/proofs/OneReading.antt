@@ -2,12 +2,11 @@
 use Rattle.std.proofs.Common.{◌≡◌, ◌≢◌, ℕ, ◌+◌, ◌<◌, List, [], ◌∷◌, Option, Some, None, Ok, Err, refl, sym, ap, subst, ◌∙◌, ℤ}
 use Rattle.csv.specs.Reading.{Config, Read, Reached, AreRecords, next_record}
 use Rattle.csv.specs.declared.parser.State.{State}
-use Rattle.rw_base.specs.declared.number.Cell.{Cell}
 use Rattle.rw_model.specs.Draft.{Draft}
 use Rattle.rw_inputs.specs.declared.fault.InputFault.{InputFault}
 use Rattle.rw_inputs.specs.Inputs.{Inputs, value_at, given_at}
 use Rattle.rw_inputs.specs.Reading.{Reads, Refuses, read_records}
-use Rattle.rw_top.specs.FirstForm.{cell as cell_of, IsColumn, IsFirstFlows}
+use Rattle.rw_top.specs.FirstForm.{IsColumn, IsFirstFlows}
 
 no_more : (cfg : Config) (s s2 : State) (xs ys : List ℕ) (p : Read) → s ≡ s2 → xs ≡ ys → next_record cfg s2 [] [] ys ≡ None → next_record cfg s [] [] xs ≡ Some p → ⊥
 no_more cfg s s2 xs ys p same there none some =
@@ -38,19 +37,19 @@ refuses_clash basin text inputs fault h k =
     cc
 
 -- and what is read is one thing: the same value for each cell
-pub same_values : (basin : Draft) (text : List ℕ) (inputs others : Inputs) → Reads basin text inputs → Reads basin text others → (cell : Cell) → value_at inputs cell ≡ value_at others cell
-same_values basin text inputs others h k cell =
+pub same_values : (basin : Draft) (text : List ℕ) (inputs others : Inputs) → Reads basin text inputs → Reads basin text others → (slot step : ℕ) → value_at inputs slot step ≡ value_at others slot step
+same_values basin text inputs others h k slot step =
     let same = one_records _ _ _ h.records k.records h.are k.are in
     let both : Ok h.rows ≡ Ok k.rows = sym h.read ∙ ap (read_records basin) same ∙ k.read in
     let rows : h.rows ≡ k.rows = cc in
-    h.kept.values cell ∙ ap (λ rs. given_at basin rs cell) rows ∙ sym (k.kept.values cell)
+    h.kept.values slot step ∙ ap (λ rs. given_at basin rs slot step) rows ∙ sym (k.kept.values slot step)
 
-same_column : (inputs others : Inputs) (slot steps : ℕ) (values : List ℤ) → ((cell : Cell) → value_at inputs cell ≡ value_at others cell) → IsColumn inputs slot steps values → IsColumn others slot steps values
-same_column inputs others slot steps values same h = record { count = h.count; each = λ t lt. sym (same (cell_of slot (t + 1))) ∙ h.each t lt }
+same_column : (inputs others : Inputs) (slot steps : ℕ) (values : List ℤ) → ((slot step : ℕ) → value_at inputs slot step ≡ value_at others slot step) → IsColumn inputs slot steps values → IsColumn others slot steps values
+same_column inputs others slot steps values same h = record { count = h.count; each = λ t lt. sym (same slot (t + 1)) ∙ h.each t lt }
 
-pub same_flows : (inputs others : Inputs) (steps : ℕ) (ins outs : List ℤ) → ((cell : Cell) → value_at inputs cell ≡ value_at others cell) → IsFirstFlows inputs steps ins outs → IsFirstFlows others steps ins outs
+pub same_flows : (inputs others : Inputs) (steps : ℕ) (ins outs : List ℤ) → ((slot step : ℕ) → value_at inputs slot step ≡ value_at others slot step) → IsFirstFlows inputs steps ins outs → IsFirstFlows others steps ins outs
 same_flows inputs others steps ins outs same h = record {
   inflow = same_column inputs others 1 steps ins same h.inflow;
   outflow = same_column inputs others 2 steps outs same h.outflow;
-  storage = λ t lt. sym (same (cell_of 3 (t + 1))) ∙ h.storage t lt;
+  storage = λ t lt. sym (same 3 (t + 1)) ∙ h.storage t lt;
 }

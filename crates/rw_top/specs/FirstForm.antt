@@ -5,7 +5,6 @@ use Rattle.rw_model.specs.declared.kind.Kind.TheVariants.{Reservoir}
 use Rattle.rw_model.specs.Slot.{from_zero}
 use Rattle.rw_model.specs.Objects.{Object}
 use Rattle.rw_model.specs.Draft.{Draft}
-use Rattle.rw_base.specs.declared.number.Cell.{Cell}
 use Rattle.rw_model.specs.Links.{bounds_in}
 use Rattle.rw_inputs.specs.Inputs.{Inputs, value_at}
 
@@ -31,17 +30,13 @@ pub record IsFirstForm (draft : Draft) (model : FirstModel) : Type 0 where
   pub usual : HasUsualBounds draft
   pub run : draft.control.stamps ≡ model.run
 
--- the cell of a slot and a timestep
-abbrev pub cell : ℕ → ℕ → Cell
-cell slot step = record { slot = record { 0 = slot }; step = record { 0 = step } }
-
 -- the values of a slot, one for each of so many timesteps
 pub record IsColumn (inputs : Inputs) (slot steps : ℕ) (values : List ℤ) : Type 0 where
   pub count : length values ≡ steps
-  pub each : (t : ℕ) → t < steps → value_at inputs (cell slot (t + 1)) ≡ Some (slice_index_or values t (pos 0))
+  pub each : (t : ℕ) → t < steps → value_at inputs slot (t + 1) ≡ Some (slice_index_or values t (pos 0))
 
 -- an inflow and an outflow for each timestep, and no storage
 pub record IsFirstFlows (inputs : Inputs) (steps : ℕ) (inflows outflows : List ℤ) : Type 0 where
   pub inflow : IsColumn inputs 1 steps inflows
   pub outflow : IsColumn inputs 2 steps outflows
-  pub storage : (t : ℕ) → t < steps → value_at inputs (cell 3 (t + 1)) ≡ None
+  pub storage : (t : ℕ) → t < steps → value_at inputs 3 (t + 1) ≡ None

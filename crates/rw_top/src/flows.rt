@@ -1,7 +1,7 @@
 ghost use Rattle.std.specs.Prelude.{◌≡◌, ◌≢◌, ◌↔◌, ℕ, ℤ, pos, ◌≤ℤ◌, ◌+◌, ◌<◌, List, length, All, None, Some, IsTrue, IfOk, IfSome, MatchOption};
 ghost use Rattle.std.specs.List.{slice_index_or};
 ghost use Rattle.rw_inputs.specs.Inputs.{value_at};
-ghost use Rattle.rw_top.specs.FirstForm.{cell, IsColumn, IsFirstFlows};
+ghost use Rattle.rw_top.specs.FirstForm.{IsColumn, IsFirstFlows};
 
 use rw_base::{Cell, NoMemory, Qty, SlotNo, StepNo};
 use rw_inputs::Inputs;
@@ -16,7 +16,7 @@ pub(crate) struct Flows {
 
 // The value that is given to a slot at a timestep.
 fn value_of(inputs: &Inputs, slot: u16, step: u16) -> Option<Qty>
-    ensures { result ≡ value_at inputs.now (cell slot step) }
+    ensures { result ≡ value_at inputs.now slot step }
 {
     inputs.value(Cell {
         slot: SlotNo(slot),
@@ -33,7 +33,7 @@ fn column(
 ) -> Result<Option<Vec<Qty>>, NoMemory>
     requires { steps ≤ 4096 }
     ensures { IfOk result (λ o. MatchOption o
-        ((t : ℕ) × (t < steps) × (value_at inputs.now (cell slot (t + 1)) ≡ None))
+        ((t : ℕ) × (t < steps) × (value_at inputs.now slot (t + 1) ≡ None))
         (λ values. IsColumn inputs.now slot steps values.items)) }
 {
     let mut values = Vec::new(alloc);
@@ -49,7 +49,7 @@ fn column(
 // Whether no timestep has a value of the slot.
 fn is_free(inputs: &Inputs, slot: u16, steps: u16) -> bool
     requires { steps ≤ 4096 }
-    ensures { IsTrue result ↔ ((t : ℕ) → t < steps → value_at inputs.now (cell slot (t + 1)) ≡ None) }
+    ensures { IsTrue result ↔ ((t : ℕ) → t < steps → value_at inputs.now slot (t + 1) ≡ None) }
 {
     for step in 0..steps {
         if value_of(inputs, slot, step + 1).is_some() {

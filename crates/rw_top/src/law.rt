@@ -1,6 +1,5 @@
 //! What the definitions of this crate speak of is one thing. Each law is the `ensures` of a function that does nothing.
 ghost use Rattle.std.specs.Prelude.{◌≡◌, ℕ, ℤ, List, Option};
-ghost use Rattle.rw_base.specs.declared.number.Cell.{Cell};
 ghost use Rattle.rw_model.specs.Draft.{Draft};
 ghost use Rattle.rw_inputs.specs.declared.fault.InputFault.{InputFault};
 ghost use Rattle.rw_inputs.specs.Inputs.{Inputs, value_at};
@@ -16,7 +15,7 @@ pub fn one_model()
 /// A text is read as inputs in one way, and isn't refused where it is read.
 pub fn one_inputs()
     ensures values { (basin : Draft) (text : List ℕ) (inputs others : Inputs) → Reads basin text inputs → Reads basin text others
-        → (cell : Cell) → value_at inputs cell ≡ value_at others cell }
+        → (slot step : ℕ) → value_at inputs slot step ≡ value_at others slot step }
     ensures either { (basin : Draft) (text : List ℕ) (inputs : Inputs) (fault : InputFault)
         → Reads basin text inputs → ¬ Refuses basin text fault }
 {}
