@@ -1,5 +1,5 @@
 -- A basin of one object.
-use Rattle.std.proofs.Common.{◌≡◌, ℕ, List, [], ◌∷◌, length, Some, refl, ap, ◌∙◌, arith, ℤ}
+use Rattle.std.proofs.Common.{◌≡◌, ℕ, ◌+◌, List, [], ◌∷◌, length, Option, Some, None, refl, ap, sym, ◌∙◌, arith, ℤ}
 use Rattle.std.specs.Prelude.{option_map}
 use Rattle.rw_model.specs.declared.kind.Kind.{Kind}
 use Rattle.rw_model.specs.Objects.{Object, object_at, all_slots}
@@ -29,11 +29,11 @@ pub named_too : (objects : List Object) (kind : Kind) → option_map (λ (object
 named_too [] kind is = absurd (cc)
 named_too (object ∷ objects) kind is = (object.name, refl)
 
-name_in : List Object → List ℕ
+abbrev name_in : List Object → List ℕ
 name_in [] = []
 name_in (object ∷ objects) = object.name
 
-initial_of : Kind → Option ℤ
+abbrev initial_of : Kind → Option ℤ
 initial_of (DataObject slots) = None
 initial_of Gage = None
 initial_of Confluence = None
@@ -43,7 +43,7 @@ initial_of (Reservoir initial_storage table local_inflow diversion return_flow e
 initial_of (WaterUser depletion supply) = None
 initial_of (Canal seepage) = None
 
-storage_in : List Object → Option ℤ
+abbrev storage_in : List Object → Option ℤ
 storage_in [] = None
 storage_in (object ∷ objects) = initial_of object.kind
 

@@ -1,3 +1,4 @@
+pub mod CauseLemmas
 pub mod DueLemmas
 pub mod FormLemmas
 pub mod OneReading

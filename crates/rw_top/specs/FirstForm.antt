@@ -1,5 +1,6 @@
 -- The models and inputs that are run so far: one reservoir whose inflow and outflow are given.
-use Rattle.std.specs.Prelude.{◌≡◌, ℕ, ℤ, List, [], ◌∷◌, None, false}
+use Rattle.std.specs.Prelude.{◌≡◌, ℕ, ◌+◌, ◌<◌, ℤ, pos, List, [], ◌∷◌, length, Some, None, false}
+use Rattle.std.specs.List.{slice_index_or}
 use Rattle.rw_calendar.specs.Stamps.{Timesteps}
 use Rattle.rw_model.specs.declared.kind.Kind.TheVariants.{Reservoir}
 use Rattle.rw_model.specs.Slot.{from_zero}

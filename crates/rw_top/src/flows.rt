@@ -1,5 +1,4 @@
-ghost use Rattle.std.specs.Prelude.{◌≡◌, ◌≢◌, ◌↔◌, ℕ, ℤ, pos, ◌≤ℤ◌, ◌+◌, ◌<◌, List, length, All, None, Some, IsTrue, IfOk, IfSome, MatchOption};
-ghost use Rattle.std.specs.List.{slice_index_or};
+ghost use Rattle.std.specs.Prelude.{◌≡◌, ◌↔◌, ℕ, ℤ, ◌+◌, ◌<◌, ◌≤◌, List, None, IsTrue, IfOk, MatchOption};
 ghost use Rattle.rw_inputs.specs.Inputs.{value_at};
 ghost use Rattle.rw_top.specs.FirstForm.{IsColumn, IsFirstFlows};
 

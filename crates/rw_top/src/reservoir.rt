@@ -1,6 +1,6 @@
 ghost use Rattle.std.specs.Prelude.{◌≡◌, ℕ, ℤ, pos, ◌+ℤ◌, ◌-ℤ◌, ◌≤ℤ◌, ◌+◌, ◌<◌, length, ◌^◌, neg_ℤ, All, Some, IfErr, IfOk, MatchResult};
 ghost use Rattle.std.specs.List.{slice_index_or};
-ghost use Rattle.rw_top.specs.Reservoir.{IsSmall, IsStorage, IsRun, storage_at};
+ghost use Rattle.rw_top.specs.Reservoir.{IsWithin, IsStorage, IsRun, storage_at};
 
 use rw_base::{NoMemory, QUANTITY_MAX, Qty};
 use std::alloc::Global;
@@ -14,22 +14,22 @@ pub(crate) struct Run {
 
 fn sum_of(a: Qty, b: Qty) -> i128
     ensures sum { result ≡ a +ℤ b }
-    ensures small { IsSmall result }
+    ensures small { IsWithin 2 result }
 {
     i128::from(a.get()) + i128::from(b.get())
 }
 
 fn less(a: i128, b: Qty) -> i128
-    requires { IsSmall a }
+    requires { IsWithin 2 a }
     ensures difference { result ≡ a -ℤ b }
-    ensures small { IsSmall result }
+    ensures small { IsWithin 3 result }
 {
     a - i128::from(b.get())
 }
 
 // The quantity of this value, if a storage can have it.
 fn storage_of(value: i128) -> Result<Qty, i128>
-    requires { IsSmall value }
+    requires { IsWithin 3 value }
     ensures storage { MatchResult result (λ storage. IsStorage storage × (storage ≡ value)) (λ beyond. ¬ IsStorage beyond × (beyond ≡ value)) }
 {
     if value < 0 || value > i128::from(QUANTITY_MAX) {
@@ -46,7 +46,7 @@ fn next_storage(storage: Qty, inflow: Qty, outflow: Qty) -> Result<Qty, i128>
     ensures next { MatchResult result
         (λ next. IsStorage next × (next ≡ (storage +ℤ inflow) -ℤ outflow))
         (λ value. ¬ IsStorage value × (value ≡ (storage +ℤ inflow) -ℤ outflow)) }
-    ensures small { IfErr result IsSmall }
+    ensures small { IfErr result (IsWithin 3) }
 {
     storage_of(less(sum_of(storage, inflow), outflow))
 }

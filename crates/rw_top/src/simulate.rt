@@ -1,6 +1,7 @@
-ghost use Rattle.std.specs.Prelude.{◌≡◌, ℕ, ℤ, List, Option, Ok, length, string_bytes, is_some, IfErr, IfMatchResult};
+ghost use Rattle.std.specs.Prelude.{◌≡◌, ℕ, ℤ, ◌≤◌, List, Option, Ok, length, string_bytes, is_some, IfErr, IfOk, MatchResult};
 ghost use Rattle.rw_inputs.specs.Reading.{Reads};
 ghost use Rattle.rw_io.specs.Causes.{NoneFell};
+ghost use Rattle.rw_model_toml.specs.Fault.{IsWhy};
 ghost use Rattle.rw_model_toml.specs.Model.{model_of};
 ghost use Rattle.rw_top.specs.Command.{IsCommand, texts_of, model_path, inputs_path};
 ghost use Rattle.rw_top.specs.Reservoir.{IsStorage};
@@ -28,13 +29,22 @@ struct Files {
     inputs: Inputs,
 }
 
+fn refusal_of_model(_text: &[u8], fault: ModelFault) -> Refusal
+    requires { IsWhy (model_of _text.now) fault }
+    ensures { IsModelRefusal _text.now result }
+{
+    match fault {
+        ModelFault::NoMemory => Refusal::NoMemory,
+        _ => Refusal::Model(fault),
+    }
+}
+
 fn judge_model(alloc: Global, text: &[u8]) -> Result<Basin, Refusal>
     ensures { MatchResult result (λ basin. model_of text.now ≡ Ok basin) (IsModelRefusal text.now) }
 {
     match read_model(alloc, text) {
         Ok(basin) => Ok(basin),
-        Err(ModelFault::NoMemory) => Err(Refusal::NoMemory),
-        Err(fault) => Err(Refusal::Model(fault)),
+        Err(fault) => Err(refusal_of_model(text, fault)),
     }
 }
 
@@ -113,6 +123,7 @@ fn reservoir_text(
     model: &FirstModel<'_>,
     flows: &Flows,
 ) -> Result<(String, Option<i128>), NoMemory>
+    requires few { model.now.stamps.now.count ≤ 4096 }
     requires initial { IsStorage model.now.initial }
     requires inflows { length flows.now.inflows.items ≡ model.now.stamps.now.count }
     requires outflows { length flows.now.outflows.items ≡ model.now.stamps.now.count }

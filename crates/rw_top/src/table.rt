@@ -73,6 +73,7 @@ fn push_rows(
     flows: &Flows,
     run: &Run,
 ) -> Result<(), NoMemory>
+    requires short { length run.now.storages.items ≤ 4096 }
     requires few { length run.now.storages.items ≤ model.now.stamps.now.count }
     requires inflows { length run.now.storages.items ≤ length flows.now.inflows.items }
     requires outflows { length run.now.storages.items ≤ length flows.now.outflows.items }
@@ -98,6 +99,7 @@ pub(crate) fn table(
     flows: &Flows,
     run: &Run,
 ) -> Result<String, NoMemory>
+    requires short { length run.now.storages.items ≤ 4096 }
     requires few { length run.now.storages.items ≤ model.now.stamps.now.count }
     requires inflows { length run.now.storages.items ≤ length flows.now.inflows.items }
     requires outflows { length run.now.storages.items ≤ length flows.now.outflows.items }

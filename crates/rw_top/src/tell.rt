@@ -1,4 +1,5 @@
-ghost use Rattle.std.specs.Prelude.{◌≡◌, ◌≤◌, ◌++◌, map, codes, MatchBool};
+ghost use Rattle.std.specs.Prelude.{◌≡◌, ◌≤◌, [], ◌∷◌, ◌++◌, map, codes, MatchBool};
+ghost use Rattle.std.specs.Fmt.{decimal};
 ghost use Rattle.std.specs.List.{concat};
 ghost use Rattle.rw_io.specs.Causes.{Rose};
 ghost use Rattle.rw_io.specs.Known.{GrowsBy, PrefixGrew};
@@ -42,37 +43,37 @@ fn tell_line<E: Sink>(err: &mut E, parts: &[&str])
     ensures { Tells (E.contents err.old) (E.contents err.new) (E.faults err.old) (E.faults err.new)
         (concat (map (λ part. part.now) parts.now) ++ codes "\n") }
 {
-    for part in parts {
-        if !tell_part(err, part) {
-            return;
-        }
+    let Some((first, rest)) = parts.split_first() else {
+        let _ = tell_part(err, "\n");
+        return;
+    };
+    if tell_part(err, first) {
+        tell_line(err, rest);
     }
-    let _ = tell_part(err, "\n");
 }
 
 fn tell_model<E: Sink>(err: &mut E, fault: &ModelFault)
     ensures { Tells (E.contents err.old) (E.contents err.new) (E.faults err.old) (E.faults err.new)
         (concat (codes "basin: model: " ∷ model_parts fault.now) ++ codes "\n") }
 {
-    let model = "basin: model: ";
     match fault {
-        ModelFault::NotToml => tell_line(err, &[model, "not TOML"]),
-        ModelFault::Missing(path) => tell_line(err, &[model, "missing ", path.as_str()]),
-        ModelFault::WrongKind(path) => tell_line(err, &[model, "wrong kind ", path.as_str()]),
-        ModelFault::UnknownKey(path) => tell_line(err, &[model, "unknown key ", path.as_str()]),
-        ModelFault::UnknownKind(path) => tell_line(err, &[model, "unknown kind ", path.as_str()]),
+        ModelFault::NotToml => tell_line(err, &["basin: model: ", "not TOML"]),
+        ModelFault::Missing(path) => tell_line(err, &["basin: model: ", "missing ", path.as_str()]),
+        ModelFault::WrongKind(path) => tell_line(err, &["basin: model: ", "wrong kind ", path.as_str()]),
+        ModelFault::UnknownKey(path) => tell_line(err, &["basin: model: ", "unknown key ", path.as_str()]),
+        ModelFault::UnknownKind(path) => tell_line(err, &["basin: model: ", "unknown kind ", path.as_str()]),
         ModelFault::Build(path, fault) => tell_line(
             err,
-            &[model, "build ", path.as_str(), ": ", build_words(*fault)],
+            &["basin: model: ", "build ", path.as_str(), ": ", build_words(*fault)],
         ),
         ModelFault::Table(path, fault) => tell_line(
             err,
-            &[model, "table ", path.as_str(), ": ", table_words(*fault)],
+            &["basin: model: ", "table ", path.as_str(), ": ", table_words(*fault)],
         ),
         ModelFault::Calendar(fault) => {
-            tell_line(err, &[model, "calendar: ", calendar_words(*fault)])
+            tell_line(err, &["basin: model: ", "calendar: ", calendar_words(*fault)])
         }
-        ModelFault::NoMemory => tell_line(err, &[model, "no memory"]),
+        ModelFault::NoMemory => tell_line(err, &["basin: model: ", "no memory"]),
     }
 }
 

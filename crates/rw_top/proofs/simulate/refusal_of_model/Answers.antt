@@ -1,0 +1,5 @@
+use Rattle.rw_top.proofs.CauseLemmas.{tells_why}
+use Rattle.rw_top.proofs.simulate.refusal_of_model.Goals as goal
+
+pub returns-in_default : goal.returns-in_default
+returns-in_default c = ?told
