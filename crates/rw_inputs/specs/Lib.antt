@@ -1,5 +1,0 @@
-pub mod Number
-pub mod Row
-pub mod Inputs
-pub mod Sound
-pub mod Reading
