@@ -1,12 +1,13 @@
 -- The tests of an object and of bounds find the faults that a builder answers.
-use Rattle.std.proofs.Common.{nat_le, ◌≡◌, ◌≢◌, ◌∙◌, ◌≤◌, ℕ, nat_lt, ℤ, pos, ◌≤ℤ◌, Bool, true, false, ◌||◌, not, if◌then◌else◌, IsTrue, List, [], ◌∷◌, ◌++◌, length, Option, None, Some, refl, sym, ap, subst, ◌-ℤ◌, Ok, Err, arith}
+use Rattle.std.specs.Prelude.{MatchOption}
+use Rattle.std.proofs.Common.{inl, inr, nat_le, ◌≡◌, ◌≢◌, ◌∙◌, ◌≤◌, ℕ, nat_lt, ℤ, pos, ◌≤ℤ◌, Bool, true, false, ◌||◌, not, if◌then◌else◌, IsTrue, List, [], ◌∷◌, ◌++◌, length, Option, None, Some, refl, sym, ap, subst, ◌-ℤ◌, Ok, Err, arith}
 use Rattle.std.specs.Prelude.{is_some, IsSome}
 use mathlib.Core.Logic.{⊎_elim}
 use Rattle.std.specs.Bool.{Decides}
 use Rattle.std.specs.List.{list_all}
 use Rattle.std.specs.Option.{ForSome}
 use Rattle.std.proofs.lemmas.Bool.{both_ways}
-use Rattle.std.proofs.lemmas.Bool.Decides.{Decides-and, Decides-eqb, Decides-ltb, Decides-like, Decides-by_and}
+use Rattle.std.proofs.lemmas.Bool.Decides.{nat_tests, Decides-and, Decides-eqb, Decides-ltb, Decides-like, Decides-by_and}
 use Rattle.rw_base.specs.Quantity.{quantity_max, IsQuantity}
 use Rattle.rw_table.specs.Table.{Row}
 use Rattle.rw_table.specs.Curve.{IsVolumeInside}
@@ -237,3 +238,58 @@ pub basin-refused : (path : List ℕ) (draft : Draft) (fault : BuildFault) → I
     → built path (finish_fault draft) draft ≡ Err (bad_build path fault)
 basin-refused path draft fault h other =
     ⊎_elim (λ is. ap (λ f. built path f draft) is) (λ want. absurd (other want.0)) h
+
+-- ---- what the tests find is what is wrong
+
+not-many : (most n : ℕ) → nat_lt most n ≡ false → n ≤ most
+not-many most n e = grind (arith, nat_tests)
+
+denied : {P : Type 0} (b : Bool) → Decides b P → b ≡ false → ¬ P
+denied b d e = λ p. both_ways b e (d.1 p)
+
+sorted-object : (P : Type 0) (F : BuildFault → Type 0) (s f a b : Bool)
+    → (s ≡ true → f ≡ true → a ≡ false → b ≡ false → P)
+    → (s ≡ true → f ≡ true → a ≡ true → F (TooMany 500))
+    → (s ≡ true → f ≡ true → a ≡ false → b ≡ true → F (TooMany 4000))
+    → (s ≡ true → f ≡ false → F DuplicateName) → (s ≡ false → F BadParameter)
+    → MatchOption (if s then (if f then (if a then Some (TooMany 500) else (if b then Some (TooMany 4000) else None)) else Some DuplicateName) else Some BadParameter) P F
+sorted-object P F true true true b p q r t u = q refl refl refl
+sorted-object P F true true false true p q r t u = r refl refl refl refl
+sorted-object P F true true false false p q r t u = p refl refl refl refl
+sorted-object P F true false a b p q r t u = t refl refl
+sorted-object P F false f a b p q r t u = u refl
+
+pub object-judged : (objects : List Object) (object : Object) → MatchOption (object_fault objects object) (CanAdd objects object) (IsObjectFault objects object)
+object-judged objects object =
+    sorted-object (CanAdd objects object) (IsObjectFault objects object) (is_sound object) (is_fresh objects object)
+    (nat_lt 500 (length (objects ++ object ∷ []))) (nat_lt 4000 (length (all_slots (objects ++ object ∷ []))))
+    (λ s f a b. record { sound = (Decides-sound object).0 s; fresh = (Decides-fresh objects object).0 f; few_objects = not-many _ _ a; few_slots = not-many _ _ b })
+    (λ s f a. ((Decides-sound object).0 s, (Decides-fresh objects object).0 f, inl (refl, (Decides-ltb 500 (length (objects ++ object ∷ []))).0 a)))
+    (λ s f a b. ((Decides-sound object).0 s, (Decides-fresh objects object).0 f, inr (refl, not-many _ _ a, (Decides-ltb 4000 (length (all_slots (objects ++ object ∷ [])))).0 b)))
+    (λ s f. ((Decides-sound object).0 s, denied (is_fresh objects object) (Decides-fresh objects object) f))
+    (λ s. denied (is_sound object) (Decides-sound object) s)
+
+sorted-bound : (P : Type 0) (F : BuildFault → Type 0) (k t w : Bool)
+    → (k ≡ true → t ≡ false → w ≡ true → P) → (k ≡ true → t ≡ true → F DuplicateName) → (k ≡ true → t ≡ false → w ≡ false → F BadParameter) → (k ≡ false → F UnknownSlot)
+    → MatchOption (if k then (if t then Some DuplicateName else (if w then None else Some BadParameter)) else Some UnknownSlot) P F
+sorted-bound P F true true w p q r u = q refl refl
+sorted-bound P F true false true p q r u = p refl refl refl
+sorted-bound P F true false false p q r u = r refl refl refl
+sorted-bound P F false t w p q r u = u refl
+
+none-there : {A : Type 0} (o : Option A) → is_some o ≡ false → o ≡ None
+none-there None e = refl
+none-there (Some x) e = absurd (both_ways true e refl)
+
+some-there : {A : Type 0} (o : Option A) → is_some o ≡ true → o ≢ None
+some-there None e = absurd (both_ways false refl e)
+some-there (Some x) e = λ none. cc
+
+pub bound-judged : (objects : List Object) (given : List Bound) (slot : ℕ) (bounds : Bounds)
+    → MatchOption (bound_fault objects given slot bounds) (CanBound objects given slot bounds) (IsBoundFault objects given slot bounds)
+bound-judged objects given slot bounds =
+    sorted-bound (CanBound objects given slot bounds) (IsBoundFault objects given slot bounds) (is_slot objects slot) (is_some (bound_of given slot)) (is_allowed (slot_at objects slot) bounds)
+    (λ k t w. record { known = (Decides-slot objects slot).0 k; free = none-there (bound_of given slot) t; within = (Decides-allowed (slot_at objects slot) bounds).0 w })
+    (λ k t. ((Decides-slot objects slot).0 k, some-there (bound_of given slot) t))
+    (λ k t w. ((Decides-slot objects slot).0 k, none-there (bound_of given slot) t, denied (is_allowed (slot_at objects slot) bounds) (Decides-allowed (slot_at objects slot) bounds) w))
+    (λ k. denied (is_slot objects slot) (Decides-slot objects slot) k)

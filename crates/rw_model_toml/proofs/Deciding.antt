@@ -49,3 +49,7 @@ where-true false x y e = absurd (both_ways false refl e)
 -- what is in two options that are the same
 pub same-Some : {A : Type 0} {x y : A} → Some x ≡ Some y → x ≡ y
 same-Some e = cc
+
+-- a number that isn't below another
+pub not-below : (a b : ℤ) → int_lt a b ≡ false → b ≤ℤ a
+not-below a b e = ⊎_elim (λ h. absurd (both_ways (int_lt a b) e (lt-passes a b h))) (λ h. h) (below-or-not a b)

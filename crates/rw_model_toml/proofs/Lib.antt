@@ -6,3 +6,6 @@ pub mod RowFacts
 pub mod AddedFacts
 pub mod Plain
 pub mod Utf8
+pub mod Stamped
+pub mod Basins
+pub mod Drafts

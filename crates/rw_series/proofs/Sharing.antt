@@ -32,7 +32,7 @@ among_group objects links slot other =
 
 -- ---- slots that are together are together with the same ones
 
-linked_alike : (one other : Option ℕ) → is_same_link one other ≡ true → (place : ℕ) × ((one ≡ Some place) × (other ≡ Some place))
+pub linked_alike : (one other : Option ℕ) → is_same_link one other ≡ true → (place : ℕ) × ((one ≡ Some place) × (other ≡ Some place))
 linked_alike None other same = absurd (cc)
 linked_alike (Some p) None same = absurd (cc)
 linked_alike (Some p) (Some q) same = let at : q ≡ p = grind (arith, nat_tests, same) in (p, (refl, ap Some at))
@@ -45,7 +45,7 @@ in_link links slot other place linked true same =
     rw (same, here) (sym (nat_eq_equiv.refl place))
 in_link links slot other place linked false apart = rw (apart, linked) refl
 
-together_alike : (links : List (List ℕ)) (slot one other : ℕ) → (test : Bool) → (one == other) ≡ test → is_together links one other ≡ true
+pub together_alike : (links : List (List ℕ)) (slot one other : ℕ) → (test : Bool) → (one == other) ≡ test → is_together links one other ≡ true
     → is_together links slot one ≡ is_together links slot other
 together_alike links slot one other true same together =
     let at : one ≡ other = grind (arith, nat_tests, same) in ap (is_together links slot) at

@@ -3,38 +3,38 @@ use rw_base::{ObjectNo, Qty, SlotNo};
 use rw_model::{AgendaOrder, Basin};
 use std::process::Abort;
 
-const WHOLE: &str = "
+const WHOLE: &str = r#"
 format = 1
 [run]
-start = \"2020-01-31T06:00\"
-step = \"6h\"
+start = "2020-01-31T06:00"
+step = "6h"
 steps = 7
-agenda = \"123\"
+agenda = "123"
 object_limit = 16
 rule_limit = 100
 [[object]]
-name = \"Upper\"
-kind = \"gage\"
+name = "Upper"
+kind = "gage"
 [[object]]
-name = \"Meeting\"
-kind = \"confluence\"
+name = "Meeting"
+kind = "confluence"
 [[object]]
-name = \"Fork\"
-kind = \"bifurcation\"
+name = "Fork"
+kind = "bifurcation"
 [[object]]
-name = \"River\"
-kind = \"reach\"
+name = "River"
+kind = "reach"
 lag = 2
 history = [-3, 4]
 local_inflow = true
 diversion = true
 return_flow = true
 [[object]]
-name = \"Brook\"
-kind = \"reach\"
+name = "Brook"
+kind = "reach"
 [[object]]
-name = \"Dam\"
-kind = \"reservoir\"
+name = "Dam"
+kind = "reservoir"
 initial_storage = 250
 table = [[0, 0], [1000, 500]]
 local_inflow = true
@@ -43,33 +43,33 @@ return_flow = true
 evaporation = true
 max_release = 9
 [[object]]
-name = \"Pond\"
-kind = \"reservoir\"
+name = "Pond"
+kind = "reservoir"
 initial_storage = 0
 [[object]]
-name = \"Fields\"
-kind = \"water_user\"
+name = "Fields"
+kind = "water_user"
 depletion = 700
-supply = \"rule\"
+supply = "rule"
 [[object]]
-name = \"Town\"
-kind = \"water_user\"
+name = "Town"
+kind = "water_user"
 depletion = 1
 [[object]]
-name = \"Ditch\"
-kind = \"canal\"
+name = "Ditch"
+kind = "canal"
 seepage = 20
 [[object]]
-name = \"Targets\"
-kind = \"data\"
-slots = [{ name = \"Volume\", unit = \"Mm3\" }, { name = \"Least\", unit = \"m3/step\" }]
+name = "Targets"
+kind = "data"
+slots = [{ name = "Volume", unit = "Mm3" }, { name = "Least", unit = "m3/step" }]
 [[link]]
-slots = [\"Dam.Outflow\", \"Brook.Inflow\"]
+slots = ["Dam.Outflow", "Brook.Inflow"]
 [[bound]]
-slot = \"Dam.Storage\"
+slot = "Dam.Storage"
 min = 100
 max = 400
-";
+"#;
 
 // The number of a slot.
 fn slot(rt: &impl Abort, basin: &Basin, object: &str, slot: &str) -> u16 {

@@ -1,0 +1,5 @@
+pub mod Same
+pub mod Keeping
+pub mod Digits
+pub mod Rows
+pub mod Groups

@@ -1,0 +1,45 @@
+-- Rows that are taken one after another.
+use Rattle.std.proofs.Common.{◌≡◌, ℕ, false, List, [], ◌∷◌, ◌++◌, Option, Some, None, refl, sym, ap, subst, ◌∙◌, append_assoc, append-nil}
+use Rattle.std.specs.Prelude.{Ok}
+use Rattle.std.specs.List.{list_any}
+use Rattle.csv.specs.Records.{field_at}
+use Rattle.rw_model.specs.Draft.{Draft}
+use Rattle.rw_inputs.specs.declared.given.Given.{Given}
+use Rattle.rw_inputs.specs.Row.{three_fields, read_row}
+use Rattle.rw_inputs.specs.Inputs.{Inputs, Keeps}
+use Rattle.rw_inputs.specs.Reading.{Fields, good, givens, shares_cell, wrong_behind}
+
+-- ---- three fields
+
+-- the four fields that show whether there are three
+abbrev pub three_from : Option (List ℕ) → Option (List ℕ) → Option (List ℕ) → Option (List ℕ) → Option (List ℕ × List ℕ × List ℕ)
+three_from (Some a) (Some b) (Some c) None = Some (a, b, c)
+three_from (Some a) (Some b) (Some c) (Some d) = None
+three_from (Some a) (Some b) None d = None
+three_from (Some a) None c d = None
+three_from None b c d = None
+
+pub three-by_place : (fields : Fields) → three_fields fields ≡ three_from (field_at fields 0) (field_at fields 1) (field_at fields 2) (field_at fields 3)
+unfolding field_at
+three-by_place [] = refl
+three-by_place (a ∷ []) = refl
+three-by_place (a ∷ b ∷ []) = refl
+three-by_place (a ∷ b ∷ c ∷ []) = refl
+three-by_place (a ∷ b ∷ c ∷ d ∷ fields) = refl
+
+-- ---- what rows give
+
+givens-append : (basin : Draft) (before : List Fields) (row : Fields) → givens basin (before ++ row ∷ []) ≡ givens basin before ++ good (read_row basin row)
+givens-append basin [] row = append-nil (good (read_row basin row))
+givens-append basin (first ∷ before) row =
+    ap (λ rows. good (read_row basin first) ++ rows) (givens-append basin before row)
+    ∙ sym (append_assoc (good (read_row basin first)) (givens basin before) (good (read_row basin row)))
+
+-- a row with which nothing is wrong is taken
+pub row_taken : (basin : Draft) (before : List Fields) (row : Fields) (given : Given) (inputs : Inputs) → read_row basin row ≡ Ok given
+    → (list_any (shares_cell basin given) (givens basin before) ≡ false) × Keeps basin (givens basin before ++ given ∷ []) inputs
+    → (wrong_behind basin before (read_row basin row) ≡ None) × Keeps basin (givens basin (before ++ row ∷ [])) inputs
+row_taken basin before row given inputs is taken = (
+  ap (wrong_behind basin before) is ∙ rw taken.0 refl,
+  subst (λ rows. Keeps basin rows inputs) (sym (givens-append basin before row ∙ ap (λ read. givens basin before ++ good read) is)) taken.1,
+)

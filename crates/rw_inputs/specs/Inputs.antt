@@ -1,0 +1,52 @@
+-- Inputs: a value for each of some cells. Slots that carry one value have one cell at a timestep, that of the least of them.
+use Rattle.std.specs.Prelude.{◌≡◌, ℕ, ◌==◌, nat_le, ℤ, ◌≤ℤ◌, Bool, ◌&&◌, if◌then◌else◌, List, [], ◌∷◌, length, Option, Some, None, slice_index_or}
+use Rattle.rw_model.specs.Objects.{all_slots}
+use Rattle.rw_model.specs.Draft.{Draft}
+use Rattle.rw_model.specs.Slot.{Bounds}
+use Rattle.rw_model.specs.Links.{group_of, bounds_in}
+use Rattle.rw_series.specs.Cells.{kept_at}
+use Rattle.rw_inputs.specs.declared.given.Given.{Given}
+
+-- values for so many slots at so many timesteps
+pub record Inputs : Type 0 where
+  pub slots : ℕ
+  pub steps : ℕ
+  pub values : List (Option ℤ)
+
+-- what is kept of a slot at a timestep
+abbrev pub value_at : Inputs → ℕ → ℕ → Option ℤ
+value_at inputs slot step = kept_at inputs.slots inputs.steps inputs.values slot step
+
+-- the slot at which a slot's values are kept: the least of those that carry one value with it
+abbrev pub kept_slot : Draft → ℕ → ℕ
+kept_slot basin slot = slice_index_or (group_of basin.objects basin.links slot) 0 slot
+
+-- the row gives a value to a slot at a timestep, as it is kept
+abbrev pub gives : Draft → Given → ℕ → ℕ → Bool
+gives basin given slot step = slot == kept_slot basin given.slot && (nat_le given.first step && nat_le step given.last)
+
+-- the value that one of the rows gives to a slot at a timestep
+abbrev pub given_at : Draft → List Given → ℕ → ℕ → Option ℤ
+given_at basin [] slot step = None
+given_at basin (given ∷ rows) slot step = if gives basin given slot step then Some given.value else given_at basin rows slot step
+
+-- a value within bounds
+pub record IsWithin (bounds : Bounds) (value : ℤ) : Type 0 where
+  pub low : bounds.0 ≤ℤ value
+  pub high : value ≤ℤ bounds.1
+
+-- a value that is kept of a slot: the slot is the least of those that carry one value with it, and can have the value
+pub record IsKeptValue (basin : Draft) (slot : ℕ) (value : ℤ) : Type 0 where
+  pub least : kept_slot basin slot ≡ slot
+  pub within : IsWithin (bounds_in basin.objects basin.links basin.bounds slot) value
+
+-- inputs made for the basin: they have its slots and timesteps, and keep values where and as the basin can have them
+pub record IsInputsOf (basin : Draft) (inputs : Inputs) : Type 0 where
+  pub slots : inputs.slots ≡ length (all_slots basin.objects)
+  pub steps : inputs.steps ≡ basin.control.stamps.count
+  pub sound : (slot step : ℕ) (value : ℤ) → value_at inputs slot step ≡ Some value → IsKeptValue basin slot value
+
+-- inputs made for the basin, which keep what the rows give, and nothing else
+pub record Keeps (basin : Draft) (rows : List Given) (inputs : Inputs) : Type 0 where
+  pub made : IsInputsOf basin inputs
+  pub values : (slot step : ℕ) → value_at inputs slot step ≡ given_at basin rows slot step

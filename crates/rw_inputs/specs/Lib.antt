@@ -1,0 +1,5 @@
+pub mod Number
+pub mod Row
+pub mod Inputs
+pub mod Sound
+pub mod Reading

@@ -1,0 +1,23 @@
+//! Inputs of a run: the values that are given to cells before it. `read_inputs` reads a text of rows, each with a slot, a
+//! timestep or a range of timesteps, and a value, and answers what they give or the first refusal with its row and column;
+//! what that is, `specs/Reading.antt` says of the records that `csv` states for the text. `Inputs::value` answers what is
+//! kept at a cell: slots that carry one value have one cell at a timestep, that of the least of them.
+#![tactic(auto)]
+
+mod fault;
+mod given;
+mod inputs;
+pub mod law;
+mod number;
+mod reading;
+mod records;
+mod row;
+mod span;
+#[cfg(test)]
+mod tests;
+mod values;
+mod wrong;
+
+pub use fault::{InputFault, InputKind};
+pub use inputs::Inputs;
+pub use reading::read_inputs;

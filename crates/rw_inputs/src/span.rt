@@ -1,0 +1,8 @@
+/// Some timesteps, one after another.
+#[derive(Clone, Copy, Debug)]
+pub struct Span {
+    /// The first one.
+    pub first: u16,
+    /// The last one.
+    pub last: u16,
+}

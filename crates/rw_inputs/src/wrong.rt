@@ -1,0 +1,10 @@
+use crate::InputKind;
+
+/// What is wrong with a row, and in which column.
+#[derive(Clone, Copy, Debug, PartialEq, Eq)]
+pub struct Wrong {
+    /// What is wrong.
+    pub kind: InputKind,
+    /// In which column, counted from 1; 0 is the whole row.
+    pub column: u8,
+}

@@ -1,0 +1,188 @@
+-- What a file is read as is a valid basin.
+use Rattle.std.proofs.Common.{◌≡◌, ℕ, ◌+◌, ◌≤◌, ℤ, pos, ◌≤ℤ◌, int_lt, unsigned_abs, Bool, true, false, ◌||◌, if◌then◌else◌, List, [], ◌∷◌, ◌++◌, Option, None, Some, Result, Ok, Err, codes, refl, arith}
+use Rattle.std.specs.Prelude.{IfOk, MatchOption}
+use Rattle.toml.specs.Data.{Data, string, integer, float, boolean, datetime, array, table, Items, no_items, item, Members, get_member}
+use Rattle.rw_model.specs.declared.control.RunControl.{RunControl}
+use Rattle.rw_model.specs.declared.fault.BuildFault.{BuildFault}
+use Rattle.rw_model.specs.Slot.{Bounds}
+use Rattle.rw_model.specs.Objects.{Object}
+use Rattle.rw_model.specs.Links.{link_fault}
+use Rattle.rw_model.specs.Draft.{Draft, IsControl, CanAdd, IsObjectFault, CanBound, IsBoundFault}
+use Rattle.rw_model.specs.Basin.{IsDraft, IsBasin, finish_fault}
+use Rattle.rw_model_toml.specs.declared.run.Run.{Run}
+use Rattle.rw_model_toml.specs.Refusal.{Refusal, ◌>>=◌, out_of_range}
+use Rattle.rw_model_toml.specs.Path.{key_path, element_path}
+use Rattle.rw_model_toml.specs.Value.{integer_of, text_of, items_of, members_of, within, count_of}
+use Rattle.rw_model_toml.specs.Key.{judged_or, required, optional, only_listed}
+use Rattle.rw_model_toml.specs.ListOf.{list_of}
+use Rattle.rw_model_toml.specs.Run.{start_of, step_length_of, agenda_of, run_keys, run_of}
+use Rattle.rw_model_toml.specs.Control.{stamps_fault, stamped, control_of}
+use Rattle.rw_model_toml.specs.Names.{name_of}
+use Rattle.rw_model_toml.specs.Kinds.{kind_of}
+use Rattle.rw_model_toml.specs.Added.{object_fault, bound_fault}
+use Rattle.rw_model_toml.specs.Told as told
+use Rattle.rw_model_toml.specs.Told.{built, object_of, link_of, slot_in, few_linked, slot_number}
+use Rattle.rw_model_toml.specs.Model.{in_turn, control_in, empty_draft, filled, file_keys, draft_of, basin_of, toml_of, table_or, model_of}
+use Rattle.rw_model_toml.proofs.AddedFacts.{object-judged, bound-judged}
+use Rattle.rw_model_toml.proofs.Deciding.{not-below}
+use Rattle.std.proofs.lemmas.Int.{ints}
+use Rattle.std.proofs.lemmas.Bool.{both_ways}
+use Rattle.rw_calendar.specs.declared.fault.CalFault.{CalFault}
+
+-- what is read next, whatever was read before it
+next : {A B : Type 0} (P : B → Type 0) (reading : Result A Refusal) (then_ : A → Result B Refusal) → ((x : A) → IfOk (then_ x) P) → IfOk (reading >>= then_) P
+next P (Ok x) then_ h = h x
+next P (Err refusal) then_ h = tt
+
+-- what is read next, by what was read before it
+next-by : {A B : Type 0} (Q : A → Type 0) (P : B → Type 0) (reading : Result A Refusal) (then_ : A → Result B Refusal) → IfOk reading Q → ((x : A) → Q x → IfOk (then_ x) P) → IfOk (reading >>= then_) P
+next-by Q P (Ok x) then_ q h = h x q
+next-by Q P (Err refusal) then_ q h = tt
+
+built-by : {A : Type 0} (P : A → Type 0) (path : List ℕ) (fault : Option BuildFault) (x : A) → (fault ≡ None → P x) → IfOk (built path fault x) P
+built-by P path None x h = h refl
+built-by P path (Some fault) x h = tt
+
+-- ---- the limits of a run
+
+abbrev IsFromTo : ℕ → ℕ → ℕ → Type 0
+IsFromTo low high n = (low ≤ n) × (n ≤ high)
+
+neither : (x y : Bool) → (x || y) ≡ false → (x ≡ false) × (y ≡ false)
+neither true y e = absurd (both_ways true e refl)
+neither false y e = (refl, e)
+
+by-test : (low high : ℕ) (refusal : Refusal) (z : ℤ) (b : Bool) → (b ≡ false → IsFromTo low high (unsigned_abs z))
+    → IfOk ((if b then Err refusal else Ok z) >>= λ y. Ok (unsigned_abs y)) (IsFromTo low high)
+by-test low high refusal z true h = tt
+by-test low high refusal z false h = h refl
+
+inside-is : (low high : ℕ) (path : List ℕ) (z : ℤ) → IfOk (within (pos low) (pos high) path z >>= λ y. Ok (unsigned_abs y)) (IsFromTo low high)
+inside-is low high path z = by-test low high (out_of_range path) z (int_lt z (pos low) || int_lt (pos high) z)
+    (λ e.
+    let parts = neither (int_lt z (pos low)) (int_lt (pos high) z) e in
+    let least : (pos low) ≤ℤ z = not-below z (pos low) parts.0 in
+    let most : z ≤ℤ (pos high) = not-below (pos high) z parts.1 in
+    (omega (arith, ints), omega (arith, ints)))
+
+count-inside : (low high : ℕ) (path : List ℕ) (d : Data) → IfOk (count_of low high path d) (IsFromTo low high)
+count-inside low high path (string s) = tt
+count-inside low high path (integer z) = inside-is low high path z
+count-inside low high path (float x) = tt
+count-inside low high path (boolean b) = tt
+count-inside low high path (datetime dt) = tt
+count-inside low high path (array ds) = tt
+count-inside low high path (table ms) = tt
+
+judged-inside : {A : Type 0} (Q : A → Type 0) (absent : Result A Refusal) (judge : Data → Result A Refusal) (found : Option Data)
+    → IfOk absent Q → ((d : Data) → IfOk (judge d) Q) → IfOk (judged_or absent judge found) Q
+judged-inside Q absent judge None p q = p
+judged-inside Q absent judge (Some d) p q = q d
+
+abbrev InLimits : Run → Type 0
+InLimits run = IsFromTo 16 100 run.object_limit × IsFromTo 1 100 run.rule_limit
+
+limit-inside : (default low high : ℕ) (key : List ℕ) (ms : Members) → IsFromTo low high default
+    → IfOk (optional default (count_of low high) (codes "run") key ms) (IsFromTo low high)
+limit-inside default low high key ms within_ =
+    judged-inside (IsFromTo low high) (Ok default) (count_of low high (key_path (codes "run") key)) (get_member key ms) within_ (count-inside low high (key_path (codes "run") key))
+
+run-inside : (ms : Members) → IfOk (run_of ms) InLimits
+unfolding run_of
+run-inside ms = next InLimits (start_of ms) _ (λ start. next InLimits (step_length_of ms) _
+    (λ length. next InLimits (required (count_of 1 4096) (codes "run") (codes "steps") ms) _
+    (λ steps. next InLimits (agenda_of ms) _
+    (λ agenda. next-by (IsFromTo 16 100) InLimits (optional 50 (count_of 16 100) (codes "run") (codes "object_limit") ms) _ (limit-inside 50 16 100 (codes "object_limit") ms (omega arith, omega arith))
+    (λ objects p. next-by (IsFromTo 1 100) InLimits (optional 20 (count_of 1 100) (codes "run") (codes "rule_limit") ms) _ (limit-inside 20 1 100 (codes "rule_limit") ms (omega arith, omega arith))
+    (λ rules q. next InLimits (only_listed run_keys (codes "run") ms) _ (λ listed. (p, q))))))))
+
+stamped-by : (found : Option CalFault) (control : RunControl) → IsControl control → IfOk (stamped found control) IsControl
+stamped-by None control is = is
+stamped-by (Some fault) control is = tt
+
+control-inside : (run : Run) → InLimits run → IfOk (control_of run) IsControl
+control-inside run p = stamped-by (stamps_fault run.start run.step_length run.steps) _
+    (record { least_object = p.0.0; most_object = p.0.1; least_rule = p.1.0; most_rule = p.1.1 })
+
+in-control : (ms : Members) → IfOk (control_in ms) IsControl
+unfolding control_in
+in-control ms = next IsControl (required (count_of 1 1) [] (codes "format") ms) _
+    (λ format. next IsControl (required members_of [] (codes "run") ms) _
+    (λ run_table. next-by InLimits IsControl (run_of run_table) _ (run-inside run_table) control-inside))
+
+-- ---- what a builder is told
+
+judged-free : (P : Type 0) (F : BuildFault → Type 0) (found : Option BuildFault) → MatchOption found P F → found ≡ None → P
+judged-free P F None h e = h
+judged-free P F (Some fault) h e = cc
+
+-- what a builder was told stays in order
+abbrev pub GrowsByObject : Type 0
+GrowsByObject = (draft : Draft) (object : Object) → IsDraft draft → CanAdd draft.objects object → IsDraft (record draft { objects = draft.objects ++ object ∷ [] })
+
+abbrev pub GrowsByLink : Type 0
+GrowsByLink = (draft : Draft) (slots : List ℕ) → IsDraft draft → link_fault draft.objects draft.links slots ≡ None → IsDraft (record draft { links = draft.links ++ slots ∷ [] })
+
+abbrev pub GrowsByBound : Type 0
+GrowsByBound = (draft : Draft) (slot : ℕ) (bounds : Bounds) → IsDraft draft → CanBound draft.objects draft.bounds slot bounds
+    → IsDraft (record draft { bounds = draft.bounds ++ record { slot = slot; bounds = bounds } ∷ [] })
+
+-- each table keeps what was told in order
+abbrev Keeps : (List ℕ → Data → Draft → Result Draft Refusal) → Type 0
+Keeps step = (at : List ℕ) (d : Data) (draft : Draft) → IsDraft draft → IfOk (step at d draft) IsDraft
+
+object-keeps : GrowsByObject → Keeps object_of
+unfolding object_of
+object-keeps grows at d draft is = next IsDraft (members_of at d) _ (λ ms. next IsDraft (name_of at ms) _
+    (λ name. next IsDraft (required text_of at (codes "kind") ms) _ (λ word. next IsDraft (kind_of at word ms) _
+    (λ kind. built-by IsDraft at (object_fault draft.objects (record { name = name; kind = kind })) (record draft { objects = draft.objects ++ record { name = name; kind = kind } ∷ [] })
+    (λ free. grows draft (record { name = name; kind = kind }) is
+    (judged-free (CanAdd draft.objects (record { name = name; kind = kind })) (IsObjectFault draft.objects (record { name = name; kind = kind })) _ (object-judged draft.objects (record { name = name; kind = kind })) free))))))
+
+link-keeps : GrowsByLink → Keeps link_of
+unfolding link_of
+link-keeps grows at d draft is = next IsDraft (members_of at d) _ (λ ms. next IsDraft (required items_of at (codes "slots") ms) _
+    (λ ds. next IsDraft (list_of (slot_in draft.objects) (key_path at (codes "slots")) 1 ds) _
+    (λ slots. next IsDraft (few_linked (key_path at (codes "slots")) slots) _
+    (λ few. next IsDraft (only_listed (codes "slots" ∷ []) at ms) _
+    (λ listed. built-by IsDraft at (link_fault draft.objects draft.links slots) (record draft { links = draft.links ++ slots ∷ [] }) (grows draft slots is))))))
+
+bound-keeps : GrowsByBound → Keeps told.bound_of
+unfolding told.bound_of
+bound-keeps grows at d draft is = next IsDraft (members_of at d) _ (λ ms. next IsDraft (required text_of at (codes "slot") ms) _
+    (λ text. next IsDraft (required integer_of at (codes "min") ms) _ (λ min. next IsDraft (required integer_of at (codes "max") ms) _
+    (λ max. next IsDraft (only_listed (codes "slot" ∷ codes "min" ∷ codes "max" ∷ []) at ms) _
+    (λ listed. built-by IsDraft at (bound_fault draft.objects draft.bounds (slot_number draft.objects text) (min, max))
+    (record draft { bounds = draft.bounds ++ record { slot = slot_number draft.objects text; bounds = (min, max) } ∷ [] })
+    (λ free. grows draft (slot_number draft.objects text) (min, max) is
+    (judged-free (CanBound draft.objects draft.bounds (slot_number draft.objects text) (min, max)) (IsBoundFault draft.objects draft.bounds (slot_number draft.objects text) (min, max)) _
+    (bound-judged draft.objects draft.bounds (slot_number draft.objects text) (min, max)) free)))))))
+
+turn-keeps : (step : List ℕ → Data → Draft → Result Draft Refusal) (path : List ℕ) (number : ℕ) (ds : Items) (draft : Draft) → Keeps step → IsDraft draft
+    → IfOk (in_turn step path number ds draft) IsDraft
+turn-keeps step path number no_items draft keeps is = is
+turn-keeps step path number (item d ds) draft keeps is =
+    next-by IsDraft IsDraft (step (element_path path number) d draft) (in_turn step path (number + 1) ds) (keeps (element_path path number) d draft is)
+    (λ more more_is. turn-keeps step path (number + 1) ds more keeps more_is)
+
+-- ---- the file
+
+filled-keeps : GrowsByObject → GrowsByLink → GrowsByBound → (control : RunControl) (ms : Members) → IsDraft (empty_draft control) → IfOk (filled control ms) IsDraft
+unfolding filled
+filled-keeps by_object by_link by_bound control ms is = next IsDraft (required items_of [] (codes "object") ms) _
+    (λ objects. next-by IsDraft IsDraft (in_turn object_of (codes "object") 1 objects (empty_draft control)) _ (turn-keeps object_of (codes "object") 1 objects (empty_draft control) (object-keeps by_object) is)
+    (λ draft told_is. next IsDraft (optional no_items items_of [] (codes "link") ms) _
+    (λ links. next-by IsDraft IsDraft (in_turn link_of (codes "link") 1 links draft) _ (turn-keeps link_of (codes "link") 1 links draft (link-keeps by_link) told_is)
+    (λ linked linked_is. next IsDraft (optional no_items items_of [] (codes "bound") ms) _
+    (λ bounds. turn-keeps told.bound_of (codes "bound") 1 bounds linked (bound-keeps by_bound) linked_is)))))
+
+-- what a file says is a valid basin, where a builder keeps what it was told in order
+pub model-valid : ((control : RunControl) → IsControl control → IsDraft (empty_draft control)) → GrowsByObject → GrowsByLink → GrowsByBound
+    → ((draft : Draft) → IsDraft draft → finish_fault draft ≡ None → IsBasin draft) → (bytes : List ℕ) → IfOk (model_of bytes) IsBasin
+unfolding basin_of draft_of
+model-valid begun by_object by_link by_bound finished bytes = next IsBasin (table_or (toml_of bytes)) basin_of
+    (λ ms. next-by IsDraft IsBasin (draft_of ms) _
+    (next-by IsControl IsDraft (control_in ms) _ (in-control ms)
+    (λ control limits. next-by IsDraft IsDraft (filled control ms) _ (filled-keeps by_object by_link by_bound control ms (begun control limits))
+    (λ draft is. next IsDraft (only_listed file_keys [] ms) _ (λ listed. is))))
+    (λ draft is. built-by IsBasin (codes "basin") (finish_fault draft) draft (finished draft is)))
