@@ -1,13 +1,13 @@
 -- Causes that stay causes when they are seen from earlier on, and faults that tell why.
-use Rattle.std.proofs.Common.{◌≡◌, ◌≢◌, ℕ, ◌≤◌, List, refl, arith, Some, None}
-use Rattle.std.specs.Prelude.{Option}
-use Rattle.rw_io.specs.Causes.{Rose, NoneFell}
+use Rattle.std.proofs.Common.{◌≡◌, ◌≢◌, ℕ, List, ℤ, refl, arith, subst, Some, None, true}
+use Rattle.std.specs.Prelude.{Option, is_some}
+use Rattle.rw_io.specs.Causes.{NoneFell}
 use Rattle.rw_model_toml.specs.declared.fault.ModelFault.{ModelFault}
 use Rattle.rw_model_toml.specs.declared.fault.ModelFault.TheVariants.{NotToml, Missing, WrongKind, UnknownKey, UnknownKind, Build, Table, Calendar, NoMemory as NoMemoryForModel}
 use Rattle.rw_model_toml.specs.Fault.{refusal_of}
 use Rattle.rw_model_toml.specs.Refusal.{Refusal as Why}
 use Rattle.rw_top.specs.Reading.{path_of}
-use Rattle.rw_top.specs.Refusal.{ReadCause}
+use Rattle.rw_top.specs.Refusal.{ReadCause, WritesAll}
 use Rattle.rw_top.specs.declared.refusal.Refusal.{Refusal}
 use Rattle.rw_top.specs.declared.refusal.Refusal.TheVariants.{Words, CannotRead, CannotWrite, NoMemory, Model, NotFirstModel, Inputs, NotFirstInputs, TooLong}
 
@@ -37,3 +37,16 @@ cause_earlier words holds first before now given NotFirstModel later cause = cau
 cause_earlier words holds first before now given (Inputs kind row column) later cause = cause
 cause_earlier words holds first before now given NotFirstInputs later cause = cause
 cause_earlier words holds first before now given (TooLong file) later cause = cause
+
+-- and of a shelf that holds the same
+pub cause_held : (words : List (List ℕ)) (held holds : List ℕ → Option (List ℕ)) (before now : List ℕ → ℕ) (given : ℕ) (r : Refusal)
+    → ((p : List ℕ) → held p ≡ holds p) → ReadCause words held before now given r → ReadCause words holds before now given r
+cause_held words held holds before now given r same cause =
+    let one : held ≡ holds = λ i p. same p i in
+    subst (λ h. ReadCause words h before now given r) one cause
+
+-- a run that ended in a fault has its value
+pub with_fault : (words : List (List ℕ)) (holds : List ℕ → Option (List ℕ)) (old new : Option (List ℕ)) (fault : Option ℤ) → is_some fault ≡ true
+    → WritesAll words holds old new fault → (value : ℤ) × WritesAll words holds old new (Some value)
+with_fault words holds old new None some written = absurd (cc)
+with_fault words holds old new (Some value) some written = (value, written)

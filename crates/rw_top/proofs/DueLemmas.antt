@@ -1,5 +1,5 @@
 -- What is found of an honest shelf is one thing: so a refusal that is due is given.
-use Rattle.std.proofs.Common.{◌≡◌, inl, inr, ℕ, ◌+◌, ◌<◌, ◌≤◌, ℤ, List, length, refl, sym, ap, ◌∙◌, subst, arith, None, Some, Ok, Err, IfSome, ◌⊎◌}
+use Rattle.std.proofs.Common.{◌≡◌, inl, inr, ℕ, ◌<◌, ◌≤◌, ℤ, List, length, refl, sym, ap, ◌∙◌, subst, arith, None, Some, Ok, Err, IfSome}
 use Rattle.std.specs.Prelude.{Option, IsSome}
 use Rattle.rw_io.specs.Causes.{Rose}
 use Rattle.rw_model.specs.Draft.{Draft}
@@ -31,7 +31,7 @@ not_long None a told long h short = cc
 not_long (Some f) a told long h short = let longer : 16777216 < length a = rw h long in omega arith
 
 -- a path that was read isn't too long
-long_clash : (holds : List ℕ → Option (List ℕ)) (path a : List ℕ) → IsSome (holds path) → IsTooLong holds path → WasRead holds path a → ⊥
+pub long_clash : (holds : List ℕ → Option (List ℕ)) (path a : List ℕ) → IsSome (holds path) → IsTooLong holds path → WasRead holds path a → ⊥
 long_clash holds path a told long h = not_long (holds path) a told long h.told h.short
 
 -- a model is read as one basin

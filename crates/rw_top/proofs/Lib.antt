@@ -4,5 +4,6 @@ pub mod FormLemmas
 pub mod OneReading
 pub mod OneText
 pub mod RunLemmas
+pub mod TableLemmas
 pub mod TellLemmas
 pub mod WordsLemmas

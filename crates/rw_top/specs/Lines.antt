@@ -1,6 +1,5 @@
--- The lines on the error stream, as parts that stand one after another.
-use Rattle.std.specs.Prelude.{ℕ, List, [], ◌∷◌, ◌++◌, codes, string_bytes}
-use Rattle.std.specs.List.{concat}
+-- The lines on the error stream.
+use Rattle.std.specs.Prelude.{ℕ, List, ◌++◌, codes, string_bytes}
 use Rattle.std.specs.Fmt.{decimal}
 use Rattle.rw_calendar.specs.declared.fault.CalFault.{CalFault}
 use Rattle.rw_calendar.specs.declared.fault.CalFault.TheVariants.{BadStart, NotFirstOfMonth, BeyondYears, NoMemory as NoMemoryForStamps}
@@ -54,31 +53,31 @@ input_words StepOutside = codes "step outside"
 input_words Twice = codes "twice"
 input_words Ragged = codes "ragged"
 
--- why a model is refused
-abbrev pub model_parts : ModelFault → List (List ℕ)
-model_parts NotToml = codes "not TOML" ∷ []
-model_parts (Missing path) = codes "missing " ∷ string_bytes path ∷ []
-model_parts (WrongKind path) = codes "wrong kind " ∷ string_bytes path ∷ []
-model_parts (UnknownKey path) = codes "unknown key " ∷ string_bytes path ∷ []
-model_parts (UnknownKind path) = codes "unknown kind " ∷ string_bytes path ∷ []
-model_parts (Build path fault) = codes "build " ∷ string_bytes path ∷ codes ": " ∷ build_words fault ∷ []
-model_parts (Table path fault) = codes "table " ∷ string_bytes path ∷ codes ": " ∷ table_words fault ∷ []
-model_parts (Calendar fault) = codes "calendar: " ∷ calendar_words fault ∷ []
-model_parts NoMemoryForModel = codes "no memory" ∷ []
+-- the line on a model that is refused
+abbrev pub model_line : ModelFault → List ℕ
+model_line NotToml = codes "basin: model: not TOML\n"
+model_line (Missing path) = (codes "basin: model: missing " ++ string_bytes path) ++ codes "\n"
+model_line (WrongKind path) = (codes "basin: model: wrong kind " ++ string_bytes path) ++ codes "\n"
+model_line (UnknownKey path) = (codes "basin: model: unknown key " ++ string_bytes path) ++ codes "\n"
+model_line (UnknownKind path) = (codes "basin: model: unknown kind " ++ string_bytes path) ++ codes "\n"
+model_line (Build path fault) = (codes "basin: model: build " ++ string_bytes path) ++ ((codes ": " ++ build_words fault) ++ codes "\n")
+model_line (Table path fault) = (codes "basin: model: table " ++ string_bytes path) ++ ((codes ": " ++ table_words fault) ++ codes "\n")
+model_line (Calendar fault) = (codes "basin: model: calendar: " ++ calendar_words fault) ++ codes "\n"
+model_line NoMemoryForModel = codes "basin: model: no memory\n"
 
--- the parts of the line of a refusal, but for the end of the line
-abbrev pub parts_of : List (List ℕ) → Refusal → List (List ℕ)
-parts_of words Words = codes "basin: words refused" ∷ []
-parts_of words (CannotRead file) = codes "basin: cannot read " ∷ path_of words file ∷ []
-parts_of words CannotWrite = codes "basin: cannot write" ∷ []
-parts_of words NoMemory = codes "basin: want of memory" ∷ []
-parts_of words (Model fault) = codes "basin: model: " ∷ model_parts fault
-parts_of words NotFirstModel = codes "basin: model: not the first form" ∷ []
-parts_of words (Inputs kind row column) =
-    codes "basin: inputs: row " ∷ decimal row ∷ codes " column " ∷ decimal column ∷ codes ": " ∷ input_words kind ∷ []
-parts_of words NotFirstInputs = codes "basin: inputs: not the first form" ∷ []
-parts_of words (TooLong file) = codes "basin: too long " ∷ path_of words file ∷ []
+-- the line on inputs that are refused
+abbrev pub inputs_line : InputKind → ℕ → ℕ → List ℕ
+inputs_line kind row column =
+    (codes "basin: inputs: row " ++ decimal row) ++ ((codes " column " ++ decimal column) ++ ((codes ": " ++ input_words kind) ++ codes "\n"))
 
--- the line that says so
+-- the line that says why nothing more was written
 abbrev pub line_of : List (List ℕ) → Refusal → List ℕ
-line_of words refusal = concat (parts_of words refusal) ++ codes "\n"
+line_of words Words = codes "basin: words refused\n"
+line_of words (CannotRead file) = (codes "basin: cannot read " ++ path_of words file) ++ codes "\n"
+line_of words CannotWrite = codes "basin: cannot write\n"
+line_of words NoMemory = codes "basin: want of memory\n"
+line_of words (Model fault) = model_line fault
+line_of words NotFirstModel = codes "basin: model: not the first form\n"
+line_of words (Inputs kind row column) = inputs_line kind row column
+line_of words NotFirstInputs = codes "basin: inputs: not the first form\n"
+line_of words (TooLong file) = (codes "basin: too long " ++ path_of words file) ++ codes "\n"

@@ -1,9 +1,7 @@
 -- What the words and the files that they name are found to be.
-use Rattle.std.specs.Prelude.{◌≡◌, ℕ, ◌<◌, ◌≤◌, ℤ, List, Option, Ok, Err, Some, length, IfSome, IsSome}
+use Rattle.std.specs.Prelude.{◌≡◌, ℕ, ◌<◌, ◌≤◌, ℤ, List, Option, Ok, Err, length, IfSome, IsSome}
 use Rattle.rw_io.specs.Causes.{Rose}
 use Rattle.rw_model.specs.Draft.{Draft}
-use Rattle.rw_model_toml.specs.declared.fault.ModelFault.{ModelFault}
-use Rattle.rw_model_toml.specs.Fault.{refusal_of}
 use Rattle.rw_model_toml.specs.Model.{model_of}
 use Rattle.rw_model_toml.specs.Refusal.{Refusal}
 use Rattle.rw_inputs.specs.declared.fault.InputFault.{InputFault}

@@ -30,7 +30,7 @@ rows model inflows outflows zero = []
 rows model inflows outflows (suc t) =
     rows model inflows outflows t
     ++ row (suc t) (stamp_text (end_of model.run (suc t))) (slice_index_or inflows t (pos 0)) (slice_index_or outflows t (pos 0))
-        (storage_at model.initial inflows outflows (suc t))
+    (storage_at model.initial inflows outflows (suc t))
 
 -- the text of the run of this model with these flows, which ends in this fault or settles
 pub record IsRunText (model : FirstModel) (inflows outflows : List ℤ) (fault : Option ℤ) (text : List ℕ) : Type 0 where

@@ -12,12 +12,7 @@ use rw_base::{NoMemory, Qty};
 use std::alloc::Global;
 use std::fmt::Write;
 
-fn fault_heading(
-    alloc: Global,
-    name: &str,
-    closed: usize,
-    value: i128,
-) -> Result<String, NoMemory>
+fn fault_heading(alloc: Global, name: &str, closed: usize, value: i128) -> Result<String, NoMemory>
     requires { closed ≤ 4096 }
     ensures { IfOk result (λ s. string_bytes s ≡ heading_of name.now closed (Some value)) }
 {
@@ -45,7 +40,10 @@ fn heading(
 fn push_columns(text: &mut String, name: &str) -> Result<(), NoMemory>
     ensures { OnOk result (string_bytes text.new ≡ string_bytes text.old ++ columns name.now) }
 {
-    writeln!(text, "step,stamp,{name}.Inflow,{name}.Outflow,{name}.Storage")?;
+    writeln!(
+        text,
+        "step,stamp,{name}.Inflow,{name}.Outflow,{name}.Storage"
+    )?;
     Ok(())
 }
 

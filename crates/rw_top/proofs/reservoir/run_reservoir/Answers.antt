@@ -14,5 +14,5 @@ returns-in-Err-clause-run c =
     let found = c.in-Err.ensures.next in
     let fits : FitsSigned w128 c.in-Err.value = omega (arith, ints, c.in-Err.ensures.small.low, c.in-Err.ensures.small.high) in
     let run = run_ended c.args.initial_storage c.args.inflows.now c.args.outflows.now c.loop-step.step c.loop-step.storage c.in-Err.value _ _ c.loop-step.storages.items
-        c.loop-step-test.true c.requires.same c.loop-step.invariant c.index-inflows-step.is c.index-outflows-step.is found.1 found.0 in
+    c.loop-step-test.true c.requires.same c.loop-step.invariant c.index-inflows-step.is c.index-outflows-step.is found.1 found.0 in
     rw (c.ended.ensures.storages, c.ended.ensures.fault, to_z-of_z w128 c.in-Err.value fits) run
