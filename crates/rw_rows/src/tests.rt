@@ -145,19 +145,49 @@ fn refusals_have_their_status_and_line(rt: HostRuntime) -> Result<(), Fail> {
     assert_eq!(rt; done.status, 6);
     assert_eq!(rt;
         done.err.as_slice(),
-        b"basin: model: not the first form\n".as_slice()
+        b"basin: model: build run.steps: bad parameter\n".as_slice()
     );
     assert!(rt; done.out.is_empty());
 
-    let ranges =
-        "slot,step,value\nDam.Inflow,1-3,100\nDam.Outflow,1,50\nDam.Outflow,2,150\nDam.Outflow,3,100\n";
-    let done = simulate(alloc, MODEL_OF_THREE, ranges, NONE_FAILS)?;
+    let unknown = "slot,step,value\nDam.Inflow,1-3,100\nDam.Level,1,50\n";
+    let done = simulate(alloc, MODEL_OF_THREE, unknown, NONE_FAILS)?;
+    assert_eq!(rt; done.status, 8);
+    assert_eq!(rt;
+        done.err.as_slice(),
+        b"basin: inputs: row 3 column 1: unknown slot\n".as_slice()
+    );
+    assert!(rt; done.out.is_empty());
+    Ok(())
+}
+
+#[test]
+fn other_forms_are_refused_so_far(rt: HostRuntime) -> Result<(), Fail> {
+    let alloc = rt.alloc();
+    let gage =
+        "format = 1\nrun = { start = \"2020-01-01T00:00\", step = \"24h\", steps = 1 }\nobject = [{ name = \"G\", kind = \"gage\" }]\n";
+    let done = simulate(alloc, gage, "slot,step,value\n", NONE_FAILS)?;
+    assert_eq!(rt; done.status, 6);
+    assert_eq!(rt;
+        done.err.as_slice(),
+        b"basin: model: not the first form\n".as_slice()
+    );
+    let done = simulate(alloc, MODEL_OF_ONE, "slot,step,value\n", NONE_FAILS)?;
     assert_eq!(rt; done.status, 8);
     assert_eq!(rt;
         done.err.as_slice(),
         b"basin: inputs: not the first form\n".as_slice()
     );
     assert!(rt; done.out.is_empty());
+    Ok(())
+}
+
+#[test]
+fn a_range_of_timesteps_is_given_at_once(rt: HostRuntime) -> Result<(), Fail> {
+    let ranges =
+        "slot,step,value\nDam.Inflow,1-3,100\nDam.Outflow,1,50\nDam.Outflow,2,150\nDam.Outflow,3,100\n";
+    let done = simulate(rt.alloc(), MODEL_OF_THREE, ranges, NONE_FAILS)?;
+    assert_eq!(rt; done.status, 0);
+    assert_eq!(rt; done.out.as_slice(), TABLE_OF_THREE.as_bytes());
     Ok(())
 }
 
@@ -208,27 +238,27 @@ fn a_failing_error_stream_changes_no_status(rt: HostRuntime) -> Result<(), Fail>
         };
         let done = simulate(rt.alloc(), MODEL_OF_NONE, INPUTS_OF_THREE, failing)?;
         assert_eq!(rt; done.status, 6);
-        assert!(rt; b"basin: model: not the first form\n".starts_with(&done.err));
+        assert!(rt; b"basin: model: build run.steps: bad parameter\n".starts_with(&done.err));
         assert!(rt; done.out.is_empty());
     }
     Ok(())
 }
 
-// As many line feeds, which are in no form. The contract says nothing of them, so that no proof unfolds the list.
-fn line_feeds(alloc: Global, count: usize) -> Result<Vec<u8>, NoMemory> {
-    Ok(vec![in alloc; b'\n'; count]?)
+// As many equal signs, which are no TOML. The contract says nothing of them, so that no proof unfolds the list.
+fn equal_signs(alloc: Global, count: usize) -> Result<Vec<u8>, NoMemory> {
+    Ok(vec![in alloc; b'='; count]?)
 }
 
 #[test]
 fn a_file_is_too_long_past_its_greatest_length(rt: HostRuntime) -> Result<(), Fail> {
     let alloc = rt.alloc();
     let words = owned(alloc, &SIMULATE)?;
-    let given = files(alloc, &line_feeds(alloc, 16_777_216)?, b"")?;
+    let given = files(alloc, &equal_signs(alloc, 16_777_216)?, b"")?;
     let done = call(alloc, words, given, NONE_FAILS)?;
     assert_eq!(rt; done.status, 6);
 
     let words = owned(alloc, &SIMULATE)?;
-    let given = files(alloc, &line_feeds(alloc, 16_777_217)?, b"")?;
+    let given = files(alloc, &equal_signs(alloc, 16_777_217)?, b"")?;
     let done = call(alloc, words, given, NONE_FAILS)?;
     assert_eq!(rt; done.status, 10);
     assert_eq!(rt; done.err.as_slice(), b"basin: too long m.toml\n".as_slice());
@@ -237,7 +267,7 @@ fn a_file_is_too_long_past_its_greatest_length(rt: HostRuntime) -> Result<(), Fa
     let given = files(
         alloc,
         MODEL_OF_ONE.as_bytes(),
-        &line_feeds(alloc, 16_777_217)?,
+        &equal_signs(alloc, 16_777_217)?,
     )?;
     let done = call(alloc, words, given, NONE_FAILS)?;
     assert_eq!(rt; done.status, 10);

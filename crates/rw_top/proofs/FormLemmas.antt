@@ -1,62 +1,60 @@
--- What a text in the first form is at each place of the reading.
-use Rattle.std.proofs.Common.{◌≡◌, ℕ, List, [], ◌∷◌, ◌++◌, sym, ◌∙◌, subst}
-use Rattle.std.proofs.lemmas.List.{append_cancel_left}
-use Rattle.rw_top.specs.Numeral.{IsNumeral, IsPlainNumeral, IsCut}
-use Rattle.rw_top.specs.FirstModel.{IsFirstModel, model_head, model_middle}
-use Rattle.rw_top.specs.FirstInputs.{IsLine}
-use Rattle.rw_top.proofs.Numerals.{same_plain, same_numeral}
+-- A basin of one object.
+use Rattle.std.proofs.Common.{◌≡◌, ℕ, List, [], ◌∷◌, length, Option, Some, None, refl, ap, sym, ◌∙◌, arith, ℤ}
+use Rattle.std.specs.Prelude.{option_map}
+use Rattle.rw_model.specs.declared.kind.Kind.{Kind}
+use Rattle.rw_model.specs.Objects.{Object, object_at, all_slots}
+use Rattle.rw_model.specs.declared.kind.Kind.TheVariants.{DataObject, Gage, Confluence, Bifurcation, Reach, Reservoir, WaterUser, Canal}
+use Rattle.rw_model.specs.Draft.{Draft}
+use Rattle.rw_top.specs.FirstForm.{plain_reservoir, FirstModel, IsFirstForm}
 
-pub at_steps : (text rest : List ℕ) (s i : ℕ) (m : IsFirstModel text s i) → text ≡ model_head ++ rest → IsCut IsPlainNumeral rest s m.from_middle
-at_steps text rest s i m e =
-    let P : List ℕ → Type 0 = λ t. IsCut IsPlainNumeral t s m.from_middle in
-    subst P (append_cancel_left model_head m.from_steps rest (sym m.head ∙ e)) m.steps_at
+-- it is the one of that name and kind
+pub one_object : (objects : List Object) (name : List ℕ) (kind : Kind) → length objects ≡ 1
+    → option_map (λ (object : Object). object.name) (object_at objects 1) ≡ Some name
+    → option_map (λ (object : Object). object.kind) (object_at objects 1) ≡ Some kind
+    → objects ≡ record { name = name; kind = kind } ∷ []
+one_object [] name kind one named is = absurd (omega (arith, one))
+one_object (object ∷ []) name kind one named is =
+    let called : object.name ≡ name = cc in
+    let kind_is : object.kind ≡ kind = cc in
+    ap (λ n. record { name = n; kind = object.kind } ∷ []) called ∙ ap (λ k. record { name = name; kind = k } ∷ []) kind_is
+one_object (object ∷ other ∷ objects) name kind one named is = absurd (omega (arith, one))
 
-pub at_middle : (text rest mid : List ℕ) (s i v : ℕ) (m : IsFirstModel text s i) → text ≡ model_head ++ rest → IsCut IsPlainNumeral rest v mid → (v ≡ s) × (mid ≡ model_middle ++ m.from_initial)
-at_middle text rest mid s i v m e cut =
-    let same = same_plain rest v s mid m.from_middle cut (at_steps text rest s i m e) in
-    (same.0, same.1 ∙ m.middle)
+-- and if that is a reservoir in the first form, it has three slots
+pub three_slots : (objects : List Object) (name : List ℕ) (initial : ℤ) → objects ≡ plain_reservoir name initial ∷ [] → length (all_slots objects) ≡ 3
+three_slots objects name initial alone = ap (λ os. length (all_slots os)) alone
 
-pub at_initial : (text rest mid last : List ℕ) (s i v : ℕ) (m : IsFirstModel text s i) → text ≡ model_head ++ rest → IsCut IsPlainNumeral rest v mid → mid ≡ model_middle ++ last → IsCut IsPlainNumeral last i (10 ∷ [])
-at_initial text rest mid last s i v m e cut f =
-    let P : List ℕ → Type 0 = λ t. IsCut IsPlainNumeral t i (10 ∷ []) in
-    subst P (append_cancel_left model_middle m.from_initial last (sym (at_middle text rest mid s i v m e cut).1 ∙ f)) m.initial_at
+-- an object that has a kind has a name
+pub named_too : (objects : List Object) (kind : Kind) → option_map (λ (object : Object). object.kind) (object_at objects 1) ≡ Some kind
+    → (name : List ℕ) × (option_map (λ (object : Object). object.name) (object_at objects 1) ≡ Some name)
+named_too [] kind is = absurd (cc)
+named_too (object ∷ objects) kind is = (object.name, refl)
 
-pub at_end : (text rest mid last end : List ℕ) (s i v w : ℕ) (m : IsFirstModel text s i) → text ≡ model_head ++ rest → IsCut IsPlainNumeral rest v mid → mid ≡ model_middle ++ last → IsCut IsPlainNumeral last w end → (w ≡ i) × (end ≡ 10 ∷ [])
-at_end text rest mid last end s i v w m e cut f last_cut = same_plain last w i end (10 ∷ []) last_cut (at_initial text rest mid last s i v m e cut f)
+abbrev name_in : List Object → List ℕ
+name_in [] = []
+name_in (object ∷ objects) = object.name
 
--- a text is a model in one way
-pub same_model : (text : List ℕ) (s t i j : ℕ) → IsFirstModel text s i → IsFirstModel text t j → (s ≡ t) × (i ≡ j)
-same_model text s t i j h g =
-    let first = at_middle text h.from_steps h.from_middle t j s g h.head h.steps_at in
-    let second = at_end text h.from_steps h.from_middle h.from_initial (10 ∷ []) t j s i g h.head h.steps_at h.middle h.initial_at in
-    (first.0, second.0)
+abbrev initial_of : Kind → Option ℤ
+initial_of (DataObject slots) = None
+initial_of Gage = None
+initial_of Confluence = None
+initial_of Bifurcation = None
+initial_of (Reach lag history local_inflow diversion return_flow) = None
+initial_of (Reservoir initial_storage table local_inflow diversion return_flow evaporation max_release) = Some initial_storage
+initial_of (WaterUser depletion supply) = None
+initial_of (Canal seepage) = None
 
--- a line is read in one way: what stands at each of its places
-pub line_step : (slot text rest : List ℕ) (k v : ℕ) (r : List ℕ) (h : IsLine slot k text v r) → text ≡ slot ++ rest → IsCut IsPlainNumeral rest k h.from_comma
-line_step slot text rest k v r h e =
-    let P : List ℕ → Type 0 = λ t. IsCut IsPlainNumeral t k h.from_comma in
-    subst P (append_cancel_left slot h.from_step rest (sym h.slot_at ∙ e)) h.step_at
+abbrev storage_in : List Object → Option ℤ
+storage_in [] = None
+storage_in (object ∷ objects) = initial_of object.kind
 
-pub line_comma : (slot text rest comma : List ℕ) (k found v : ℕ) (r : List ℕ) (h : IsLine slot k text v r) → text ≡ slot ++ rest → IsCut IsPlainNumeral rest found comma → (found ≡ k) × (comma ≡ 44 ∷ h.from_value)
-line_comma slot text rest comma k found v r h e cut =
-    let same = same_plain rest found k comma h.from_comma cut (line_step slot text rest k v r h e) in
-    (same.0, same.1 ∙ h.comma)
-
-pub line_value : (slot text rest comma value : List ℕ) (k found v : ℕ) (r : List ℕ) (h : IsLine slot k text v r) → text ≡ slot ++ rest → IsCut IsPlainNumeral rest found comma → comma ≡ 44 ∷ value → IsCut IsNumeral value v h.from_end
-line_value slot text rest comma value k found v r h e cut f =
-    let P : List ℕ → Type 0 = λ t. IsCut IsNumeral t v h.from_end in
-    let both = sym (line_comma slot text rest comma k found v r h e cut).1 ∙ f in
-    let same : h.from_value ≡ value = cc in
-    subst P same h.value_at
-
-pub line_end : (slot text rest comma value end : List ℕ) (k found v w : ℕ) (r : List ℕ) (h : IsLine slot k text v r) → text ≡ slot ++ rest → IsCut IsPlainNumeral rest found comma → comma ≡ 44 ∷ value → IsCut IsNumeral value w end → (w ≡ v) × (end ≡ 10 ∷ r)
-line_end slot text rest comma value end k found v w r h e cut f last =
-    let same = same_numeral value w v end h.from_end last (line_value slot text rest comma value k found v r h e cut f) in
-    (same.0, same.1 ∙ h.end)
-
-pub same_line : (slot text : List ℕ) (k v w : ℕ) (x y : List ℕ) → IsLine slot k text v x → IsLine slot k text w y → (v ≡ w) × (x ≡ y)
-same_line slot text k v w x y h g =
-    let ends = line_end slot text h.from_step h.from_comma h.from_value h.from_end k k w v y g h.slot_at h.step_at h.comma h.value_at in
-    let both = sym ends.1 ∙ h.end in
-    let same : x ≡ y = cc in
-    (ends.0, same)
+-- a basin is in the first form in one way
+pub one_model : (basin : Draft) (model other : FirstModel) → IsFirstForm basin model → IsFirstForm basin other → model ≡ other
+one_model basin model other h k =
+    let same : plain_reservoir model.name model.initial ∷ [] ≡ plain_reservoir other.name other.initial ∷ [] = sym h.alone ∙ k.alone in
+    let name : model.name ≡ other.name = ap name_in same in
+    let some : Some model.initial ≡ Some other.initial = ap storage_in same in
+    let initial : model.initial ≡ other.initial = cc in
+    let run : model.run ≡ other.run = sym h.run ∙ k.run in
+    ap (λ n. record { name = n; initial = model.initial; run = model.run }) name
+    ∙ ap (λ i. record { name = other.name; initial = i; run = model.run }) initial
+    ∙ ap (λ r. record { name = other.name; initial = other.initial; run = r }) run

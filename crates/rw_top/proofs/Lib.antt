@@ -1,10 +1,9 @@
+pub mod CauseLemmas
 pub mod DueLemmas
 pub mod FormLemmas
-pub mod LinesLemmas
-pub mod Numerals
+pub mod OneReading
 pub mod OneText
 pub mod RunLemmas
-pub mod StampLemmas
 pub mod TableLemmas
 pub mod TellLemmas
 pub mod WordsLemmas

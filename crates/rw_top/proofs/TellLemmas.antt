@@ -24,3 +24,9 @@ tells_last a b m n xs true h =
     let P : List ℕ → Type 0 = λ t. GrowsBy a b t in
     record { front = (length xs, subst P (sym (take_all (length xs) xs (omega arith))) h); whole = inr h }
 tells_last a b m n xs false h = record { front = h.0; whole = inl h.1 }
+
+-- a second part behind one that was taken whole
+pub told_then : (a b c : Option (List ℕ)) (m k n : ℕ) (xs ys : List ℕ) (all : Bool) → m ≤ k → GrowsBy a b xs
+    → MatchBool all (GrowsBy b c ys) (PrefixGrew b c ys × Rose k n) → MatchBool all (GrowsBy a c (xs ++ ys)) (PrefixGrew a c (xs ++ ys) × Rose m n)
+told_then a b c m k n xs ys true le h told = GrowsBy-trans a b c xs ys h told
+told_then a b c m k n xs ys false le h told = (PrefixGrew-right a b c xs ys h told.0, omega (arith, le, told.1))

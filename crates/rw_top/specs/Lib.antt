@@ -1,9 +1,7 @@
 pub mod Command
-pub mod Numeral
-pub mod FirstModel
-pub mod FirstInputs
+pub mod FirstForm
 pub mod Reservoir
-pub mod Stamp
 pub mod Table
 pub mod Reading
 pub mod Refusal
+pub mod Lines

@@ -1,9 +1,14 @@
 -- What the words and the files that they name are found to be.
-use Rattle.std.specs.Prelude.{◌≡◌, ℕ, ◌<◌, ◌≤◌, List, Option, length, IfSome, IsSome}
+use Rattle.std.specs.Prelude.{◌≡◌, ℕ, ◌<◌, ◌≤◌, ℤ, List, Option, Ok, Err, length, IfSome, IsSome}
 use Rattle.rw_io.specs.Causes.{Rose}
+use Rattle.rw_model.specs.Draft.{Draft}
+use Rattle.rw_model_toml.specs.Model.{model_of}
+use Rattle.rw_model_toml.specs.Refusal.{Refusal}
+use Rattle.rw_inputs.specs.declared.fault.InputFault.{InputFault}
+use Rattle.rw_inputs.specs.Inputs.{Inputs as Given}
+use Rattle.rw_inputs.specs.Reading.{Reads, Refuses}
 use Rattle.rw_top.specs.Command.{IsCommand, inputs_path, model_path}
-use Rattle.rw_top.specs.FirstInputs.{IsFirstInputs}
-use Rattle.rw_top.specs.FirstModel.{IsFirstModel}
+use Rattle.rw_top.specs.FirstForm.{FirstModel, IsFirstForm, IsFirstFlows}
 use Rattle.rw_top.specs.declared.refusal.File.{File}
 use Rattle.rw_top.specs.declared.refusal.File.TheVariants.{Model, Inputs}
 
@@ -16,40 +21,63 @@ pub record WasRead (holds : List ℕ → Option (List ℕ)) (path text : List �
 abbrev pub IsTooLong : (List ℕ → Option (List ℕ)) → List ℕ → Type 0
 IsTooLong holds path = IfSome (holds path) (λ file. 16777216 < length file)
 
--- the words name a model in the first form
-pub record ReadsModel (words : List (List ℕ)) (holds : List ℕ → Option (List ℕ)) (steps initial : ℕ) : Type 0 where
+-- the words name a model of this basin
+pub record ReadsModel (words : List (List ℕ)) (holds : List ℕ → Option (List ℕ)) (basin : Draft) : Type 0 where
   pub command : IsCommand words
   pub text : List ℕ
   pub read : WasRead holds (model_path words) text
-  pub form : IsFirstModel text steps initial
+  pub is : model_of text ≡ Ok basin
 
--- the words name a model and its inputs, both in the first form
-pub record ReadsBoth (words : List (List ℕ)) (holds : List ℕ → Option (List ℕ)) (steps initial : ℕ) (inflows outflows : List ℕ) : Type 0 where
-  pub model : ReadsModel words holds steps initial
+-- the words name a model of this basin, and these inputs for it
+pub record ReadsBoth (words : List (List ℕ)) (holds : List ℕ → Option (List ℕ)) (basin : Draft) (inputs : Given) : Type 0 where
+  pub model : ReadsModel words holds basin
   pub text : List ℕ
   pub read : WasRead holds (inputs_path words) text
-  pub form : IsFirstInputs text steps inflows outflows
+  pub are : Reads basin text inputs
 
--- the words name a model that isn't in the first form
-pub record RefusesModel (words : List (List ℕ)) (holds : List ℕ → Option (List ℕ)) : Type 0 where
+-- both are read, and both are in the first form: a reservoir with its inflows and outflows
+pub record ReadsFirst (words : List (List ℕ)) (holds : List ℕ → Option (List ℕ)) (model : FirstModel) (inflows outflows : List ℤ) : Type 0 where
+  pub basin : Draft
+  pub inputs : Given
+  pub both : ReadsBoth words holds basin inputs
+  pub form : IsFirstForm basin model
+  pub flows : IsFirstFlows inputs model.run.count inflows outflows
+
+-- the words name a model that is refused for this
+pub record RefusesModel (words : List (List ℕ)) (holds : List ℕ → Option (List ℕ)) (why : Refusal) : Type 0 where
   pub command : IsCommand words
   pub text : List ℕ
   pub read : WasRead holds (model_path words) text
-  pub other : (steps initial : ℕ) → ¬ IsFirstModel text steps initial
+  pub is : model_of text ≡ Err why
 
--- the words name a model, and inputs that aren't in the first form for it
-pub record RefusesInputs (words : List (List ℕ)) (holds : List ℕ → Option (List ℕ)) : Type 0 where
-  pub steps : ℕ
-  pub initial : ℕ
-  pub model : ReadsModel words holds steps initial
+-- the words name a model, and inputs that are refused for this
+pub record RefusesInputs (words : List (List ℕ)) (holds : List ℕ → Option (List ℕ)) (why : InputFault) : Type 0 where
+  pub basin : Draft
+  pub model : ReadsModel words holds basin
   pub text : List ℕ
   pub read : WasRead holds (inputs_path words) text
-  pub other : (inflows outflows : List ℕ) → ¬ IsFirstInputs text steps inflows outflows
+  pub are : Refuses basin text why
+
+-- model and inputs are read, and the model isn't in the first form
+pub record ReadsOtherModel (words : List (List ℕ)) (holds : List ℕ → Option (List ℕ)) : Type 0 where
+  pub basin : Draft
+  pub inputs : Given
+  pub both : ReadsBoth words holds basin inputs
+  pub other : (model : FirstModel) → ¬ IsFirstForm basin model
+
+-- model and inputs are read, and of the two the inputs aren't in the first form
+pub record ReadsOtherInputs (words : List (List ℕ)) (holds : List ℕ → Option (List ℕ)) : Type 0 where
+  pub basin : Draft
+  pub inputs : Given
+  pub both : ReadsBoth words holds basin inputs
+  pub model : FirstModel
+  pub form : IsFirstForm basin model
+  pub other : (inflows outflows : List ℤ) → ¬ IsFirstFlows inputs model.run.count inflows outflows
 
 -- the words name a file that is read once what stands before it is accepted
 abbrev pub Reaches : List (List ℕ) → (List ℕ → Option (List ℕ)) → File → Type 0
 Reaches words holds Model = IsCommand words
-Reaches words holds Inputs = (steps : ℕ) × (initial : ℕ) × ReadsModel words holds steps initial
+Reaches words holds Inputs = (basin : Draft) × ReadsModel words holds basin
 
 -- the path of a file
 abbrev pub path_of : List (List ℕ) → File → List ℕ

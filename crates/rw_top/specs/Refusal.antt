@@ -1,38 +1,38 @@
 -- Why the top call refuses, with which status, and in which line it says so.
-use Rattle.std.specs.Prelude.{◌≡◌, ◌⊎◌, ℕ, ◌<◌, ℤ, List, ◌++◌, Option, codes, ⊤}
+use Rattle.std.specs.Prelude.{◌≡◌, ◌⊎◌, ℕ, ◌<◌, ℤ, List, Option, Some, Err, ⊤}
 use Rattle.rw_io.specs.Causes.{Rose}
 use Rattle.rw_io.specs.Known.{GrowsBy, PrefixGrew}
 use Rattle.rw_io.specs.declared.whole_file.ReadEnd.{ReadEnd}
 use Rattle.rw_io.specs.declared.whole_file.ReadEnd.TheVariants.{ReadFault, TooLong as EndTooLong, NoMemory as EndNoMemory}
 use Rattle.rw_top.specs.Command.{IsCommand}
-use Rattle.rw_top.specs.Reading.{IsTooLong, Reaches, ReadsBoth, RefusesInputs, RefusesModel, path_of}
+use Rattle.rw_model.specs.Draft.{Draft}
+use Rattle.rw_model_toml.specs.Model.{model_of}
+use Rattle.rw_inputs.specs.Inputs.{Inputs as Given}
+use Rattle.rw_inputs.specs.Reading.{Refuses}
+use Rattle.rw_model_toml.specs.Fault.{refusal_of}
+use Rattle.rw_model_toml.specs.Refusal.{Refusal as Why}
+use Rattle.rw_inputs.specs.declared.fault.InputFault.TheVariants.{Refused}
+use Rattle.rw_top.specs.FirstForm.{FirstModel, IsFirstForm, IsFirstFlows}
+use Rattle.rw_top.specs.Reading.{IsTooLong, Reaches, ReadsFirst, ReadsOtherModel, ReadsOtherInputs, RefusesInputs, RefusesModel, path_of}
 use Rattle.rw_top.specs.Table.{IsRunText}
 use Rattle.rw_top.specs.declared.refusal.File.{File}
 use Rattle.rw_top.specs.declared.refusal.Refusal.{Refusal}
-use Rattle.rw_top.specs.declared.refusal.Refusal.TheVariants.{Words, CannotRead, CannotWrite, NoMemory, Model, Inputs, TooLong}
+use Rattle.rw_top.specs.declared.refusal.Refusal.TheVariants.{Words, CannotRead, CannotWrite, NoMemory, Model, NotFirstModel, Inputs, NotFirstInputs, TooLong}
 
 abbrev pub status_of : Refusal → ℕ
 status_of Words = 2
 status_of (CannotRead file) = 3
 status_of CannotWrite = 4
 status_of NoMemory = 5
-status_of Model = 6
-status_of Inputs = 8
+status_of (Model fault) = 6
+status_of NotFirstModel = 6
+status_of (Inputs kind row column) = 8
+status_of NotFirstInputs = 8
 status_of (TooLong file) = 10
 
 -- the call ends with this status, or with that of want of memory, which may always come
 abbrev pub EndsWith : ℕ → ℕ → Type 0
 EndsWith status result = (result ≡ status) ⊎ (result ≡ 5)
-
--- the line that says so
-abbrev pub line_of : List (List ℕ) → Refusal → List ℕ
-line_of words Words = codes "basin: words refused\n"
-line_of words (CannotRead file) = codes "basin: cannot read " ++ (path_of words file ++ codes "\n")
-line_of words CannotWrite = codes "basin: cannot write\n"
-line_of words NoMemory = codes "basin: want of memory\n"
-line_of words Model = codes "basin: model: not the first form\n"
-line_of words Inputs = codes "basin: inputs: not the first form\n"
-line_of words (TooLong file) = codes "basin: too long " ++ (path_of words file ++ codes "\n")
 
 -- the refusal where a file isn't read whole
 abbrev pub refusal_after : ReadEnd → File → Refusal
@@ -60,20 +60,21 @@ abbrev pub ReadCause : List (List ℕ) → (List ℕ → Option (List ℕ)) → 
 ReadCause words holds before now given Words = ¬ IsCommand words
 ReadCause words holds before now given (CannotRead file) = FailsToRead words holds before now file
 ReadCause words holds before now given (TooLong file) = FindsTooLong words holds given file
-ReadCause words holds before now given Model = RefusesModel words holds
-ReadCause words holds before now given Inputs = RefusesInputs words holds
+ReadCause words holds before now given (Model fault) = (why : Why) × (refusal_of fault ≡ Some why) × RefusesModel words holds why
+ReadCause words holds before now given NotFirstModel = ReadsOtherModel words holds
+ReadCause words holds before now given (Inputs kind row column) = RefusesInputs words holds (Refused kind row column)
+ReadCause words holds before now given NotFirstInputs = ReadsOtherInputs words holds
 ReadCause words holds before now given NoMemory = ⊤
 ReadCause words holds before now given CannotWrite = ⊥
 
 -- both files were read, and the text of their run was written: all of it, or what `Grew` says
 pub record Writes (Grew : List ℕ → Type 0) (words : List (List ℕ)) (holds : List ℕ → Option (List ℕ)) (fault : Option ℤ) : Type 0 where
-  pub steps : ℕ
-  pub initial : ℕ
-  pub inflows : List ℕ
-  pub outflows : List ℕ
-  pub read : ReadsBoth words holds steps initial inflows outflows
+  pub model : FirstModel
+  pub inflows : List ℤ
+  pub outflows : List ℤ
+  pub read : ReadsFirst words holds model inflows outflows
   pub text : List ℕ
-  pub run_text : IsRunText steps initial inflows outflows fault text
+  pub run_text : IsRunText model inflows outflows fault text
   pub grew : Grew text
 
 -- the whole text of the run was appended to what the sink held
@@ -93,3 +94,49 @@ Cause words holds before now given old new sink_before sink_now refusal = ReadCa
 pub record Tells (old new : Option (List ℕ)) (before now : ℕ) (line : List ℕ) : Type 0 where
   pub front : PrefixGrew old new line
   pub whole : Rose before now ⊎ GrowsBy old new line
+
+-- the text that a basin and its inputs give where both are in the first form
+pub record FirstText (basin : Draft) (inputs : Given) (fault : Option ℤ) (text : List ℕ) : Type 0 where
+  pub model : FirstModel
+  pub inflows : List ℤ
+  pub outflows : List ℤ
+  pub form : IsFirstForm basin model
+  pub flows : IsFirstFlows inputs model.run.count inflows outflows
+  pub run_text : IsRunText model inflows outflows fault text
+
+-- why the bytes of a model's file give no basin
+abbrev pub IsModelRefusal : List ℕ → Refusal → Type 0
+IsModelRefusal text (Model fault) = (why : Why) × (refusal_of fault ≡ Some why) × (model_of text ≡ Err why)
+IsModelRefusal text NoMemory = ⊤
+IsModelRefusal text Words = ⊥
+IsModelRefusal text (CannotRead file) = ⊥
+IsModelRefusal text CannotWrite = ⊥
+IsModelRefusal text NotFirstModel = ⊥
+IsModelRefusal text (Inputs kind row column) = ⊥
+IsModelRefusal text NotFirstInputs = ⊥
+IsModelRefusal text (TooLong file) = ⊥
+
+-- why the bytes of an inputs file give no inputs for the basin
+abbrev pub IsInputRefusal : Draft → List ℕ → Refusal → Type 0
+IsInputRefusal basin text (Inputs kind row column) = Refuses basin text (Refused kind row column)
+IsInputRefusal basin text NoMemory = ⊤
+IsInputRefusal basin text Words = ⊥
+IsInputRefusal basin text (CannotRead file) = ⊥
+IsInputRefusal basin text CannotWrite = ⊥
+IsInputRefusal basin text (Model fault) = ⊥
+IsInputRefusal basin text NotFirstModel = ⊥
+IsInputRefusal basin text NotFirstInputs = ⊥
+IsInputRefusal basin text (TooLong file) = ⊥
+
+-- why a basin and its inputs aren't run
+abbrev pub IsFormRefusal : Draft → Given → Refusal → Type 0
+IsFormRefusal basin inputs NotFirstModel = (model : FirstModel) → ¬ IsFirstForm basin model
+IsFormRefusal basin inputs NotFirstInputs =
+    (model : FirstModel) × IsFirstForm basin model × ((inflows outflows : List ℤ) → ¬ IsFirstFlows inputs model.run.count inflows outflows)
+IsFormRefusal basin inputs NoMemory = ⊤
+IsFormRefusal basin inputs Words = ⊥
+IsFormRefusal basin inputs (CannotRead file) = ⊥
+IsFormRefusal basin inputs CannotWrite = ⊥
+IsFormRefusal basin inputs (Model fault) = ⊥
+IsFormRefusal basin inputs (Inputs kind row column) = ⊥
+IsFormRefusal basin inputs (TooLong file) = ⊥

@@ -2,14 +2,13 @@
 //! the text that the definitions give for these files; every other status has its cause, and one line that says so.
 #![tactic(auto)]
 
-mod first_inputs;
-mod first_model;
+mod first_form;
+mod flows;
 pub mod law;
-mod numeral;
+mod phrase;
 mod refusal;
 mod reservoir;
 mod simulate;
-mod stamp;
 mod table;
 mod tell;
 mod top;

@@ -1,6 +1,8 @@
 ghost use Rattle.std.specs.Prelude.{◌≡◌};
 
+use rw_inputs::InputKind;
 use rw_io::ReadEnd;
+use rw_model_toml::ModelFault;
 
 /// A file that the words name.
 #[derive(Clone, Copy, Debug, PartialEq, Eq)]
@@ -10,7 +12,7 @@ pub enum File {
 }
 
 /// Why the table isn't written, or not wholly.
-#[derive(Clone, Copy, Debug, PartialEq, Eq)]
+#[derive(Debug, Drop)]
 pub enum Refusal {
     /// The words are no command.
     Words,
@@ -20,10 +22,14 @@ pub enum Refusal {
     CannotWrite,
     /// There was no memory.
     NoMemory,
+    /// The model is refused.
+    Model(ModelFault),
     /// The model isn't in the first form.
-    Model,
+    NotFirstModel,
+    /// The inputs are refused: what is wrong, in which row and column.
+    Inputs(InputKind, u32, u8),
     /// The inputs aren't in the first form for that model.
-    Inputs,
+    NotFirstInputs,
     /// More bytes were given of that file than a file may hold.
     TooLong(File),
 }
@@ -32,16 +38,16 @@ impl Refusal {
     ghost use Rattle.rw_top.specs.Refusal.{refusal_after, status_of};
 
     /// The status with which a program ends.
-    pub fn status(self) -> u8
-        ensures { result ≡ status_of self }
+    pub fn status(&self) -> u8
+        ensures { result ≡ status_of self.now }
     {
         match self {
             Refusal::Words => 2,
             Refusal::CannotRead(_) => 3,
             Refusal::CannotWrite => 4,
             Refusal::NoMemory => 5,
-            Refusal::Model => 6,
-            Refusal::Inputs => 8,
+            Refusal::Model(_) | Refusal::NotFirstModel => 6,
+            Refusal::Inputs(_, _, _) | Refusal::NotFirstInputs => 8,
             Refusal::TooLong(_) => 10,
         }
     }

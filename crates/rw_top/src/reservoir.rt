@@ -1,8 +1,8 @@
-ghost use Rattle.std.specs.Prelude.{◌≡◌, ℕ, ℤ, pos, ◌+ℤ◌, ◌-ℤ◌, ◌+◌, ◌^◌, ◌<◌, length, All, IfOk, MatchResult};
+ghost use Rattle.std.specs.Prelude.{◌≡◌, ℕ, ℤ, pos, ◌+ℤ◌, ◌-ℤ◌, ◌≤ℤ◌, ◌+◌, ◌<◌, length, ◌^◌, neg_ℤ, All, Some, IfErr, IfOk, MatchResult};
 ghost use Rattle.std.specs.List.{slice_index_or};
-ghost use Rattle.rw_top.specs.Reservoir.{IsStorage, IsRun, storage_at};
+ghost use Rattle.rw_top.specs.Reservoir.{IsWithin, IsStorage, IsRun, storage_at};
 
-use rw_base::{ArithFault, NoMemory, Qty};
+use rw_base::{NoMemory, QUANTITY_MAX, Qty};
 use std::alloc::Global;
 
 /// The storages of the closed timesteps, in m3, and the value out of range that ended the run, if one did.
@@ -12,71 +12,75 @@ pub(crate) struct Run {
     pub(crate) fault: Option<i128>,
 }
 
-// What storage gains in a timestep.
-fn net_inflow(inflow: u64, outflow: u64) -> Qty
-    requires inflow { inflow < 10 ^ 17 }
-    requires outflow { outflow < 10 ^ 17 }
-    ensures { result ≡ pos inflow -ℤ pos outflow }
+fn sum_of(a: Qty, b: Qty) -> i128
+    ensures sum { result ≡ a +ℤ b }
+    ensures small { IsWithin 2 result }
 {
-    match Qty::of(inflow as i64 - outflow as i64) {
-        Some(net) => net,
+    i128::from(a.get()) + i128::from(b.get())
+}
+
+fn less(a: i128, b: Qty) -> i128
+    requires { IsWithin 2 a }
+    ensures difference { result ≡ a -ℤ b }
+    ensures small { IsWithin 3 result }
+{
+    a - i128::from(b.get())
+}
+
+// The quantity of this value, if a storage can have it.
+fn storage_of(value: i128) -> Result<Qty, i128>
+    requires { IsWithin 3 value }
+    ensures storage { MatchResult result (λ storage. IsStorage storage × (storage ≡ value)) (λ beyond. ¬ IsStorage beyond × (beyond ≡ value)) }
+{
+    if value < 0 || value > i128::from(QUANTITY_MAX) {
+        return Err(value);
+    }
+    match Qty::of(value as i64) {
+        Some(storage) => Ok(storage),
         None => unreachable!(),
     }
 }
 
 // The storage at the end of a timestep, or its value out of range.
-fn next_storage(storage: Qty, inflow: u64, outflow: u64) -> Result<Qty, i128>
-    requires inflow { inflow < 10 ^ 17 }
-    requires outflow { outflow < 10 ^ 17 }
-    ensures { MatchResult result
-        (λ next. IsStorage next × (next ≡ storage +ℤ pos inflow -ℤ pos outflow))
-        (λ value. ¬ IsStorage value × (value ≡ storage +ℤ pos inflow -ℤ pos outflow)) }
+fn next_storage(storage: Qty, inflow: Qty, outflow: Qty) -> Result<Qty, i128>
+    ensures next { MatchResult result
+        (λ next. IsStorage next × (next ≡ (storage +ℤ inflow) -ℤ outflow))
+        (λ value. ¬ IsStorage value × (value ≡ (storage +ℤ inflow) -ℤ outflow)) }
+    ensures small { IfErr result (IsWithin 3) }
 {
-    match storage.add(net_inflow(inflow, outflow)) {
-        Ok(next) if next.get() >= 0 => Ok(next),
-        Ok(next) => Err(i128::from(next.get())),
-        Err(ArithFault::OutOfRange(value)) => Err(value),
-        Err(ArithFault::ZeroDivisor) => unreachable!(),
-    }
+    storage_of(less(sum_of(storage, inflow), outflow))
 }
 
-// An initial storage.
-fn initial_quantity(initial_storage: u64) -> Qty
-    requires { initial_storage < 10 ^ 17 }
-    ensures { result ≡ pos initial_storage }
+// A run that a storage out of range ended.
+fn ended(storages: Vec<Qty>, value: i128) -> Run
+    ensures storages { result.storages ≡ storages }
+    ensures fault { result.fault ≡ Some value }
 {
-    match Qty::of(initial_storage as i64) {
-        Some(storage) => storage,
-        None => unreachable!(),
+    Run {
+        storages,
+        fault: Some(value),
     }
 }
 
 /// Runs a reservoir until a storage is out of range.
 pub(crate) fn run_reservoir(
     alloc: Global,
-    initial_storage: u64,
-    inflows: &[u64],
-    outflows: &[u64],
+    initial_storage: Qty,
+    inflows: &[Qty],
+    outflows: &[Qty],
 ) -> Result<Run, NoMemory>
     requires same { length outflows.now ≡ length inflows.now }
-    requires initial { initial_storage < 10 ^ 17 }
-    requires inflows { All (λ v. v < 10 ^ 17) inflows.now }
-    requires outflows { All (λ v. v < 10 ^ 17) outflows.now }
+    requires initial { IsStorage initial_storage }
     ensures run { IfOk result (λ r. IsRun (length inflows.now) initial_storage inflows.now outflows.now (length r.storages.items) r.fault) }
     ensures storages { IfOk result (λ r. (t : ℕ) (d : ℤ) → t < length r.storages.items →
         slice_index_or r.storages.items t d ≡ storage_at initial_storage inflows.now outflows.now (t + 1)) }
 {
     let mut storages = Vec::new(alloc);
-    let mut storage = initial_quantity(initial_storage);
+    let mut storage = initial_storage;
     for (step, inflow) in inflows.iter().enumerate() {
         match next_storage(storage, *inflow, outflows[step]) {
             Ok(next) => storage = next,
-            Err(value) => {
-                return Ok(Run {
-                    storages,
-                    fault: Some(value),
-                });
-            }
+            Err(value) => return Ok(ended(storages, value)),
         }
         storages.push(storage)?;
     }

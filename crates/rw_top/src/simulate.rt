@@ -1,72 +1,157 @@
-ghost use Rattle.std.specs.Prelude.{◌≡◌, ℕ, List, ◌<◌, ◌≤◌, ◌^◌, All, Option, ℤ, string_bytes, is_some, length, IfErr, IfOk, MatchResult};
-ghost use Rattle.rw_top.specs.Command.{texts_of};
-ghost use Rattle.rw_top.specs.Reading.{ReadsBoth};
-ghost use Rattle.rw_top.specs.Refusal.{Cause, ReadCause, WritesAll};
+ghost use Rattle.std.specs.Prelude.{◌≡◌, ℕ, ℤ, ◌≤◌, List, Option, Ok, length, string_bytes, is_some, IfErr, IfOk, MatchResult};
+ghost use Rattle.rw_inputs.specs.Reading.{Reads};
+ghost use Rattle.rw_io.specs.Causes.{NoneFell};
+ghost use Rattle.rw_model_toml.specs.Fault.{IsWhy};
+ghost use Rattle.rw_model_toml.specs.Model.{model_of};
+ghost use Rattle.rw_top.specs.Command.{IsCommand, texts_of, model_path, inputs_path};
+ghost use Rattle.rw_top.specs.Reservoir.{IsStorage};
+ghost use Rattle.rw_top.specs.Reading.{ReadsModel, ReadsBoth};
+ghost use Rattle.rw_top.specs.Refusal.{Cause, FirstText, IsModelRefusal, IsInputRefusal, IsFormRefusal, ReadCause, WritesAll};
 ghost use Rattle.rw_top.specs.Table.{IsRunText};
 
-use crate::first_inputs::{FirstInputs, read_first_inputs};
-use crate::first_model::{FirstModel, read_first_model};
+use crate::first_form::{FirstModel, first_model};
+use crate::flows::{Flows, first_flows};
 use crate::reservoir::run_reservoir;
 use crate::table::table;
 use crate::words::read_words;
 use crate::{File, Refusal};
 use rw_base::NoMemory;
+use rw_inputs::{InputFault, Inputs, read_inputs};
 use rw_io::{Shelf, Sink, WriteFault, read_all, write_all};
+use rw_model::Basin;
+use rw_model_toml::{ModelFault, read_model};
 use std::alloc::Global;
 
 // What was read.
 #[derive(Drop)]
-struct Given {
-    model: FirstModel,
-    inputs: FirstInputs,
+struct Files {
+    basin: Basin,
+    inputs: Inputs,
+}
+
+fn refusal_of_model(_text: &[u8], fault: ModelFault) -> Refusal
+    requires { IsWhy (model_of _text.now) fault }
+    ensures { IsModelRefusal _text.now result }
+{
+    match fault {
+        ModelFault::NoMemory => Refusal::NoMemory,
+        _ => Refusal::Model(fault),
+    }
+}
+
+fn judge_model(alloc: Global, text: &[u8]) -> Result<Basin, Refusal>
+    ensures { MatchResult result (λ basin. model_of text.now ≡ Ok basin) (IsModelRefusal text.now) }
+{
+    match read_model(alloc, text) {
+        Ok(basin) => Ok(basin),
+        Err(fault) => Err(refusal_of_model(text, fault)),
+    }
+}
+
+fn judge_inputs(alloc: Global, basin: &Basin, text: &[u8]) -> Result<Inputs, Refusal>
+    ensures { MatchResult result (Reads basin.now text.now) (IsInputRefusal basin.now text.now) }
+{
+    match read_inputs(alloc, basin, text) {
+        Ok(inputs) => Ok(inputs),
+        Err(InputFault::NoMemory) => Err(Refusal::NoMemory),
+        Err(InputFault::Refused { kind, row, column }) => Err(Refusal::Inputs(kind, row, column)),
+    }
+}
+
+// Reads and judges the model that the words name.
+fn read_basin<S: Shelf>(
+    alloc: Global,
+    words: &[String],
+    path: &str,
+    shelf: &mut S,
+) -> Result<Basin, Refusal>
+    requires command { IsCommand (texts_of words.now) }
+    requires path { path.now ≡ model_path (texts_of words.now) }
+    ensures read { MatchResult result (ReadsModel (texts_of words.now) (S.holds shelf.old))
+        (ReadCause (texts_of words.now) (S.holds shelf.old) (S.faults shelf.old) (S.faults shelf.new) (S.given shelf.new)) }
+    ensures held { (p : List ℕ) → S.holds shelf.new p ≡ S.holds shelf.old p }
+    ensures later { NoneFell (S.faults shelf.old) (S.faults shelf.new) }
+{
+    match read_all(alloc, shelf, path) {
+        Ok(text) => judge_model(alloc, &text),
+        Err(end) => Err(Refusal::after(end, File::Model)),
+    }
+}
+
+// Reads and judges the inputs that the words name, for the basin that they name.
+fn read_given<S: Shelf>(
+    alloc: Global,
+    words: &[String],
+    basin: &Basin,
+    path: &str,
+    shelf: &mut S,
+) -> Result<Inputs, Refusal>
+    requires model { ReadsModel (texts_of words.now) (S.holds shelf.old) basin.now }
+    requires path { path.now ≡ inputs_path (texts_of words.now) }
+    ensures read { MatchResult result (ReadsBoth (texts_of words.now) (S.holds shelf.old) basin.now)
+        (ReadCause (texts_of words.now) (S.holds shelf.old) (S.faults shelf.old) (S.faults shelf.new) (S.given shelf.new)) }
+    ensures held { (p : List ℕ) → S.holds shelf.new p ≡ S.holds shelf.old p }
+{
+    match read_all(alloc, shelf, path) {
+        Ok(text) => judge_inputs(alloc, basin, &text),
+        Err(end) => Err(Refusal::after(end, File::Inputs)),
+    }
 }
 
 // Reads and judges the files that the words name, each before the next.
-fn read_both<S: Shelf>(alloc: Global, words: &[String], shelf: &mut S) -> Result<Given, Refusal>
-    ensures read { MatchResult result
-        (λ given. ReadsBoth (texts_of words.now) (S.holds shelf.old) given.model.steps given.model.initial_storage given.inputs.inflows.items given.inputs.outflows.items)
+fn read_files<S: Shelf>(alloc: Global, words: &[String], shelf: &mut S) -> Result<Files, Refusal>
+    ensures read { MatchResult result (λ files. ReadsBoth (texts_of words.now) (S.holds shelf.old) files.basin files.inputs)
         (ReadCause (texts_of words.now) (S.holds shelf.old) (S.faults shelf.old) (S.faults shelf.new) (S.given shelf.new)) }
     ensures held { (p : List ℕ) → S.holds shelf.new p ≡ S.holds shelf.old p }
-    ensures initial { IfOk result (λ given. given.model.initial_storage < 10 ^ 17) }
-    ensures inflows { IfOk result (λ given. All (λ v. v < 10 ^ 17) given.inputs.inflows.items) }
-    ensures outflows { IfOk result (λ given. All (λ v. v < 10 ^ 17) given.inputs.outflows.items) }
 {
     let Some(command) = read_words(words) else {
         return Err(Refusal::Words);
     };
-    let text = match read_all(alloc, shelf, command.model) {
-        Ok(text) => text,
-        Err(end) => return Err(Refusal::after(end, File::Model)),
+    let basin = match read_basin(alloc, words, command.model, shelf) {
+        Ok(basin) => basin,
+        Err(refusal) => return Err(refusal),
     };
-    let Some(model) = read_first_model(&text) else {
-        return Err(Refusal::Model);
-    };
-    let text = match read_all(alloc, shelf, command.inputs) {
-        Ok(text) => text,
-        Err(end) => return Err(Refusal::after(end, File::Inputs)),
-    };
-    match read_first_inputs(alloc, &text, model.steps) {
-        Ok(Some(inputs)) => Ok(Given { model, inputs }),
-        Ok(None) => Err(Refusal::Inputs),
-        Err(NoMemory) => Err(Refusal::NoMemory),
+    match read_given(alloc, words, &basin, command.inputs, shelf) {
+        Ok(inputs) => Ok(Files { basin, inputs }),
+        Err(refusal) => Err(refusal),
     }
 }
 
-// The text of the run, and the value that ended it, if one did.
-fn run_text(alloc: Global, given: &Given) -> Result<(String, Option<i128>), NoMemory>
-    requires inflow_count { length given.now.inputs.inflows.items ≡ given.now.model.steps }
-    requires outflow_count { length given.now.inputs.outflows.items ≡ given.now.model.steps }
-    requires few { given.now.model.steps ≤ 4096 }
-    requires initial { given.now.model.initial_storage < 10 ^ 17 }
-    requires inflows { All (λ v. v < 10 ^ 17) given.now.inputs.inflows.items }
-    requires outflows { All (λ v. v < 10 ^ 17) given.now.inputs.outflows.items }
-    ensures { IfOk result (λ p. IsRunText given.now.model.steps given.now.model.initial_storage given.now.inputs.inflows.items given.now.inputs.outflows.items p.1 (string_bytes p.0)) }
+// The text of a run of the reservoir, and the value that ended it, if one did.
+fn reservoir_text(
+    alloc: Global,
+    model: &FirstModel<'_>,
+    flows: &Flows,
+) -> Result<(String, Option<i128>), NoMemory>
+    requires few { model.now.stamps.now.count ≤ 4096 }
+    requires initial { IsStorage model.now.initial }
+    requires inflows { length flows.now.inflows.items ≡ model.now.stamps.now.count }
+    requires outflows { length flows.now.outflows.items ≡ model.now.stamps.now.count }
+    ensures { IfOk result (λ p. IsRunText (record { name = model.now.name.now; initial = model.now.initial; run = model.now.stamps.now })
+        flows.now.inflows.items flows.now.outflows.items p.1 (string_bytes p.0)) }
 {
-    let inputs = &given.inputs;
-    let initial = given.model.initial_storage;
-    let run = run_reservoir(alloc, initial, &inputs.inflows, &inputs.outflows)?;
-    let text = table(alloc, initial, inputs, &run)?;
+    let run = run_reservoir(alloc, model.initial, &flows.inflows, &flows.outflows)?;
+    let text = table(alloc, model, flows, &run)?;
     Ok((text, run.fault))
+}
+
+// The same, of the basin and the inputs that were read.
+fn run_text(alloc: Global, files: &Files) -> Result<(String, Option<i128>), Refusal>
+    ensures { MatchResult result (λ p. FirstText files.now.basin files.now.inputs p.1 (string_bytes p.0))
+        (IsFormRefusal files.now.basin files.now.inputs) }
+{
+    let Some(model) = first_model(&files.basin) else {
+        return Err(Refusal::NotFirstModel);
+    };
+    let flows = match first_flows(alloc, &files.inputs, model.stamps.count()) {
+        Ok(Some(flows)) => flows,
+        Ok(None) => return Err(Refusal::NotFirstInputs),
+        Err(NoMemory) => return Err(Refusal::NoMemory),
+    };
+    match reservoir_text(alloc, &model, &flows) {
+        Ok(pair) => Ok(pair),
+        Err(NoMemory) => Err(Refusal::NoMemory),
+    }
 }
 
 /// Writes the text of the run that the words ask for, and says whether it ended in a fault.
@@ -82,12 +167,13 @@ pub(crate) fn simulate<S: Shelf, K: Sink>(
         (K.contents out.old) (K.contents out.new) (K.faults out.old) (K.faults out.new)) }
     ensures held { (p : List ℕ) → S.holds shelf.new p ≡ S.holds shelf.old p }
 {
-    let given = match read_both(alloc, words, shelf) {
-        Ok(given) => given,
+    let files = match read_files(alloc, words, shelf) {
+        Ok(files) => files,
         Err(refusal) => return Err(refusal),
     };
-    let Ok((text, fault)) = run_text(alloc, &given) else {
-        return Err(Refusal::NoMemory);
+    let (text, fault) = match run_text(alloc, &files) {
+        Ok(pair) => pair,
+        Err(refusal) => return Err(refusal),
     };
     match write_all(out, text.as_bytes()) {
         Ok(()) => Ok(fault.is_some()),

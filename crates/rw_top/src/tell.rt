@@ -3,10 +3,15 @@ ghost use Rattle.rw_io.specs.Causes.{Rose};
 ghost use Rattle.rw_io.specs.Known.{GrowsBy, PrefixGrew};
 ghost use Rattle.rw_top.specs.Command.{texts_of};
 ghost use Rattle.rw_top.specs.Reading.{path_of};
-ghost use Rattle.rw_top.specs.Refusal.{Tells, line_of};
+ghost use Rattle.rw_top.specs.Refusal.{Tells};
+ghost use Rattle.rw_top.specs.Lines.{inputs_line, line_of, model_line};
 
+use crate::phrase::{build_words, calendar_words, input_words, table_words};
 use crate::{File, Refusal};
+use itoa::Buffer;
+use rw_inputs::InputKind;
 use rw_io::{Sink, write_all};
+use rw_model_toml::ModelFault;
 
 // The path of a file, as the words give it.
 fn path_in(words: &[String], file: File) -> &str
@@ -31,30 +36,106 @@ fn tell_part<E: Sink>(err: &mut E, part: &str) -> bool
     write_all(err, part.as_bytes()).is_ok()
 }
 
+// The same, of two parts one after the other.
+fn tell_two<E: Sink>(err: &mut E, first: &str, second: &str) -> bool
+    ensures later { E.faults err.old ≤ E.faults err.new }
+    ensures told { MatchBool result (GrowsBy (E.contents err.old) (E.contents err.new) (first.now ++ second.now))
+        (PrefixGrew (E.contents err.old) (E.contents err.new) (first.now ++ second.now) × Rose (E.faults err.old) (E.faults err.new)) }
+{
+    if tell_part(err, first) {
+        tell_part(err, second)
+    } else {
+        false
+    }
+}
+
 // Writes a line of two parts, as far as the sink takes it.
 fn tell_line<E: Sink>(err: &mut E, first: &str, second: &str)
-    ensures { Tells (E.contents err.old) (E.contents err.new) (E.faults err.old) (E.faults err.new) (first.now ++ (second.now ++ codes "\n")) }
+    ensures { Tells (E.contents err.old) (E.contents err.new) (E.faults err.old) (E.faults err.new) ((first.now ++ second.now) ++ codes "\n") }
 {
-    if !tell_part(err, first) {
-        return;
-    }
-    if !tell_part(err, second) {
+    if !tell_two(err, first, second) {
         return;
     }
     let _ = tell_part(err, "\n");
 }
 
+// Writes a line of a path and what is wrong there.
+fn tell_wrong<E: Sink>(err: &mut E, first: &str, path: &str, wrong: &str)
+    ensures { Tells (E.contents err.old) (E.contents err.new) (E.faults err.old) (E.faults err.new)
+        ((first.now ++ path.now) ++ ((codes ": " ++ wrong.now) ++ codes "\n")) }
+{
+    if tell_two(err, first, path) {
+        tell_line(err, ": ", wrong);
+    }
+}
+
+fn tell_model<E: Sink>(err: &mut E, fault: &ModelFault)
+    ensures { Tells (E.contents err.old) (E.contents err.new) (E.faults err.old) (E.faults err.new) (model_line fault.now) }
+{
+    match fault {
+        ModelFault::NotToml => tell_line(err, "basin: model: not TOML", ""),
+        ModelFault::Missing(path) => tell_line(err, "basin: model: missing ", path.as_str()),
+        ModelFault::WrongKind(path) => tell_line(err, "basin: model: wrong kind ", path.as_str()),
+        ModelFault::UnknownKey(path) => tell_line(err, "basin: model: unknown key ", path.as_str()),
+        ModelFault::UnknownKind(path) => {
+            tell_line(err, "basin: model: unknown kind ", path.as_str())
+        }
+        ModelFault::Build(path, fault) => {
+            tell_wrong(
+                err,
+                "basin: model: build ",
+                path.as_str(),
+                build_words(*fault),
+            )
+        }
+        ModelFault::Table(path, fault) => {
+            tell_wrong(
+                err,
+                "basin: model: table ",
+                path.as_str(),
+                table_words(*fault),
+            )
+        }
+        ModelFault::Calendar(fault) => {
+            tell_line(err, "basin: model: calendar: ", calendar_words(*fault))
+        }
+        ModelFault::NoMemory => tell_line(err, "basin: model: no memory", ""),
+    }
+}
+
+// Writes a line of a row, a column and what is wrong there.
+fn tell_place<E: Sink>(err: &mut E, row: &str, column: &str, wrong: &str)
+    ensures { Tells (E.contents err.old) (E.contents err.new) (E.faults err.old) (E.faults err.new)
+        ((codes "basin: inputs: row " ++ row.now) ++ ((codes " column " ++ column.now) ++ ((codes ": " ++ wrong.now) ++ codes "\n"))) }
+{
+    if tell_two(err, "basin: inputs: row ", row) {
+        tell_wrong(err, " column ", column, wrong);
+    }
+}
+
+fn tell_inputs<E: Sink>(err: &mut E, kind: InputKind, row: u32, column: u8)
+    ensures { Tells (E.contents err.old) (E.contents err.new) (E.faults err.old) (E.faults err.new) (inputs_line kind row column) }
+{
+    let mut row_buffer = Buffer::new();
+    let mut column_buffer = Buffer::new();
+    let row = row_buffer.format(row);
+    let column = column_buffer.format(column);
+    tell_place(err, row, column, input_words(kind));
+}
+
 /// Writes the line on a refusal, as far as the sink takes it. It takes no memory.
-pub(crate) fn tell<E: Sink>(err: &mut E, words: &[String], refusal: Refusal)
-    ensures { Tells (E.contents err.old) (E.contents err.new) (E.faults err.old) (E.faults err.new) (line_of (texts_of words.now) refusal) }
+pub(crate) fn tell<E: Sink>(err: &mut E, words: &[String], refusal: &Refusal)
+    ensures { Tells (E.contents err.old) (E.contents err.new) (E.faults err.old) (E.faults err.new) (line_of (texts_of words.now) refusal.now) }
 {
     match refusal {
         Refusal::Words => tell_line(err, "basin: words refused", ""),
-        Refusal::CannotRead(file) => tell_line(err, "basin: cannot read ", path_in(words, file)),
+        Refusal::CannotRead(file) => tell_line(err, "basin: cannot read ", path_in(words, *file)),
         Refusal::CannotWrite => tell_line(err, "basin: cannot write", ""),
         Refusal::NoMemory => tell_line(err, "basin: want of memory", ""),
-        Refusal::Model => tell_line(err, "basin: model: not the first form", ""),
-        Refusal::Inputs => tell_line(err, "basin: inputs: not the first form", ""),
-        Refusal::TooLong(file) => tell_line(err, "basin: too long ", path_in(words, file)),
+        Refusal::Model(fault) => tell_model(err, fault),
+        Refusal::NotFirstModel => tell_line(err, "basin: model: not the first form", ""),
+        Refusal::Inputs(kind, row, column) => tell_inputs(err, *kind, *row, *column),
+        Refusal::NotFirstInputs => tell_line(err, "basin: inputs: not the first form", ""),
+        Refusal::TooLong(file) => tell_line(err, "basin: too long ", path_in(words, *file)),
     }
 }

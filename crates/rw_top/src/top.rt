@@ -1,8 +1,12 @@
 ghost use Rattle.std.specs.Prelude.{◌≡◌, ◌≢◌, ◌⊎◌, ◌<◌, ◌≤◌, ℕ, ℤ, List, None, Some};
 ghost use Rattle.rw_io.specs.Causes.{Rose};
 ghost use Rattle.rw_top.specs.Command.{IsCommand, texts_of};
-ghost use Rattle.rw_top.specs.Reading.{IsHonestOfBoth, IsHonestOfModel, ReadsBoth, RefusesInputs, RefusesModel};
-ghost use Rattle.rw_top.specs.Refusal.{Cause, EndsWith, FailsToRead, FindsTooLong, HoldsTooLong, Tells, WritesAll, WritesFront, line_of, status_of};
+ghost use Rattle.rw_top.specs.FirstForm.{FirstModel};
+ghost use Rattle.rw_model_toml.specs.Refusal.{Refusal as Why};
+ghost use Rattle.rw_inputs.specs.declared.fault.InputFault.{InputFault};
+ghost use Rattle.rw_top.specs.Lines.{line_of};
+ghost use Rattle.rw_top.specs.Reading.{IsHonestOfBoth, IsHonestOfModel, ReadsFirst, ReadsOtherModel, ReadsOtherInputs, RefusesInputs, RefusesModel};
+ghost use Rattle.rw_top.specs.Refusal.{Cause, EndsWith, FailsToRead, FindsTooLong, HoldsTooLong, Tells, WritesAll, WritesFront, status_of};
 ghost use Rattle.rw_top.specs.declared.refusal.File.{File};
 ghost use Rattle.rw_top.specs.declared.refusal.Refusal.{Refusal};
 
@@ -16,7 +20,8 @@ use std::alloc::Global;
 /// Does what the words ask for, and answers the status with which a program ends. The words don't include the
 /// program's own name.
 ///
-/// `simulate MODEL INPUTS` reads both files from the shelf, runs the reservoir and writes its table to `out`. The
+/// `simulate MODEL INPUTS` reads both files from the shelf, runs the reservoir that they describe and writes its table to
+/// `out`. Models of other objects, and inputs that don't give inflow and outflow alone, are refused so far. The
 /// status is 0 where the run settled and 1 where it ended in a fault. With each other status one line on `err` says
 /// why: 2 the words, 3 a file that can't be read, 4 an output that can't be written, 5 want of memory, 6 the model,
 /// 8 the inputs, 10 a file of more than 16,777,216 bytes. A failure of `err` changes no status.
@@ -37,11 +42,15 @@ pub fn basin_main<S: Shelf, K: Sink, E: Sink, L: Ledger>(
     // 2, 6 and 8 come exactly where the words, the model, the inputs are refused, of a shelf that is honest of them.
     ensures words { result ≡ 2 → ¬ IsCommand (texts_of words.now) }
     ensures words_due { ¬ IsCommand (texts_of words.now) → EndsWith 2 result }
-    ensures model { result ≡ 6 → RefusesModel (texts_of words.now) (S.holds shelf.old) }
-    ensures model_due { RefusesModel (texts_of words.now) (S.holds shelf.old)
+    ensures model { result ≡ 6 → ((why : Why) × RefusesModel (texts_of words.now) (S.holds shelf.old) why) ⊎ ReadsOtherModel (texts_of words.now) (S.holds shelf.old) }
+    ensures model_due { (why : Why) → RefusesModel (texts_of words.now) (S.holds shelf.old) why
         → IsHonestOfModel (texts_of words.now) (S.holds shelf.old) (S.faults shelf.old) (S.faults shelf.new) → EndsWith 6 result }
-    ensures inputs { result ≡ 8 → RefusesInputs (texts_of words.now) (S.holds shelf.old) }
-    ensures inputs_due { RefusesInputs (texts_of words.now) (S.holds shelf.old)
+    ensures other_model_due { ReadsOtherModel (texts_of words.now) (S.holds shelf.old)
+        → IsHonestOfBoth (texts_of words.now) (S.holds shelf.old) (S.faults shelf.old) (S.faults shelf.new) → EndsWith 6 result }
+    ensures inputs { result ≡ 8 → ((why : InputFault) × RefusesInputs (texts_of words.now) (S.holds shelf.old) why) ⊎ ReadsOtherInputs (texts_of words.now) (S.holds shelf.old) }
+    ensures inputs_due { (why : InputFault) → RefusesInputs (texts_of words.now) (S.holds shelf.old) why
+        → IsHonestOfBoth (texts_of words.now) (S.holds shelf.old) (S.faults shelf.old) (S.faults shelf.new) → EndsWith 8 result }
+    ensures other_inputs_due { ReadsOtherInputs (texts_of words.now) (S.holds shelf.old)
         → IsHonestOfBoth (texts_of words.now) (S.holds shelf.old) (S.faults shelf.old) (S.faults shelf.new) → EndsWith 8 result }
 
     // 3 and 4 come only where a count rose, and 10 where too many bytes were given: exactly so of an honest shelf.
@@ -63,8 +72,8 @@ pub fn basin_main<S: Shelf, K: Sink, E: Sink, L: Ledger>(
     ensures held { (p : List ℕ) → S.holds shelf.new p ≡ S.holds shelf.old p }
 
     // Where all is accepted and no count rises, only memory can be wanting.
-    ensures complete { (steps initial : ℕ) (inflows outflows : List ℕ)
-        → ReadsBoth (texts_of words.now) (S.holds shelf.old) steps initial inflows outflows
+    ensures complete { (model : FirstModel) (inflows outflows : List ℤ)
+        → ReadsFirst (texts_of words.now) (S.holds shelf.old) model inflows outflows
         → IsHonestOfBoth (texts_of words.now) (S.holds shelf.old) (S.faults shelf.old) (S.faults shelf.new)
         → ¬ Rose (K.faults out.old) (K.faults out.new) → (result ≤ 1) ⊎ (result ≡ 5) }
 {
@@ -72,7 +81,7 @@ pub fn basin_main<S: Shelf, K: Sink, E: Sink, L: Ledger>(
         Ok(false) => 0,
         Ok(true) => 1,
         Err(refusal) => {
-            tell(err, words, refusal);
+            tell(err, words, &refusal);
             refusal.status()
         }
     }

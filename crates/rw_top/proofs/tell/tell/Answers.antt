@@ -3,17 +3,20 @@ use Rattle.rw_top.proofs.tell.tell.Goals as goal
 pub returns-in-CannotRead : goal.returns-in-CannotRead
 returns-in-CannotRead g c = rw c.in-CannotRead.is (rw c.path_in.ensures at c.tell_line-in-CannotRead.ensures)
 
+pub returns-in-TooLong : goal.returns-in-TooLong
+returns-in-TooLong g c = rw c.in-TooLong.is (rw c.path_in-in-TooLong.ensures at c.tell_line-in-TooLong.ensures)
+
 pub returns-in-CannotWrite : goal.returns-in-CannotWrite
 returns-in-CannotWrite g c = rw c.in-CannotWrite.is c.tell_line-in-CannotWrite.ensures
 
 pub returns-in-NoMemory : goal.returns-in-NoMemory
 returns-in-NoMemory g c = rw c.in-NoMemory.is c.tell_line-in-NoMemory.ensures
 
-pub returns-in-Model : goal.returns-in-Model
-returns-in-Model g c = rw c.in-Model.is c.tell_line-in-Model.ensures
+pub returns-in-NotFirstModel : goal.returns-in-NotFirstModel
+returns-in-NotFirstModel g c = rw c.in-NotFirstModel.is c.tell_line-in-NotFirstModel.ensures
+
+pub returns-in-NotFirstInputs : goal.returns-in-NotFirstInputs
+returns-in-NotFirstInputs g c = rw c.in-NotFirstInputs.is c.tell_line-in-NotFirstInputs.ensures
 
 pub returns-in-Inputs : goal.returns-in-Inputs
-returns-in-Inputs g c = rw c.in-Inputs.is c.tell_line-in-Inputs.ensures
-
-pub returns-in-TooLong : goal.returns-in-TooLong
-returns-in-TooLong g c = rw c.in-TooLong.is (rw c.path_in-in-TooLong.ensures at c.tell_line-in-TooLong.ensures)
+returns-in-Inputs g c = rw c.in-Inputs.is c.tell_inputs.ensures

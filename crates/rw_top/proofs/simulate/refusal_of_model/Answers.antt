@@ -1,0 +1,7 @@
+use Rattle.rw_top.proofs.CauseLemmas.{tells_why}
+use Rattle.rw_top.proofs.simulate.refusal_of_model.Goals as goal
+
+pub returns-in_default : goal.returns-in_default
+returns-in_default c =
+    let told = tells_why c.args.fault c.in_default.not-NoMemory in
+    (told.0, told.1, c.requires told.0 told.1)

@@ -1,0 +1,83 @@
+-- The lines on the error stream.
+use Rattle.std.specs.Prelude.{ℕ, List, ◌++◌, codes, string_bytes}
+use Rattle.std.specs.Fmt.{decimal}
+use Rattle.rw_calendar.specs.declared.fault.CalFault.{CalFault}
+use Rattle.rw_calendar.specs.declared.fault.CalFault.TheVariants.{BadStart, NotFirstOfMonth, BeyondYears, NoMemory as NoMemoryForStamps}
+use Rattle.rw_table.specs.declared.fault.TableFault.{TableFault}
+use Rattle.rw_table.specs.declared.fault.TableFault.TheVariants.{TooFewRows, TooManyRows, OutOfBounds as RowOutOfBounds, NotRising, NoMemory as NoMemoryForRows}
+use Rattle.rw_model.specs.declared.fault.BuildFault.{BuildFault}
+use Rattle.rw_model.specs.declared.fault.BuildFault.TheVariants.{DuplicateName, UnknownSlot as NoSuchSlot, LinkedTwice, LinkWithinObject, LinkDimension, LinkBounds, BadParameter, TooMany, NoMemory as NoMemoryToBuild}
+use Rattle.rw_model_toml.specs.declared.fault.ModelFault.{ModelFault}
+use Rattle.rw_model_toml.specs.declared.fault.ModelFault.TheVariants.{NotToml, Missing, WrongKind, UnknownKey, UnknownKind, Build, Table, Calendar, NoMemory as NoMemoryForModel}
+use Rattle.rw_inputs.specs.declared.fault.InputKind.{InputKind}
+use Rattle.rw_inputs.specs.declared.fault.InputKind.TheVariants.{Header, UnknownSlot, NotSettable, NotANumber, OutOfBounds, StepOutside, Twice, Ragged}
+use Rattle.rw_top.specs.Reading.{path_of}
+use Rattle.rw_top.specs.declared.refusal.Refusal.{Refusal}
+use Rattle.rw_top.specs.declared.refusal.Refusal.TheVariants.{Words, CannotRead, CannotWrite, NoMemory, Model, NotFirstModel, Inputs, NotFirstInputs, TooLong}
+
+-- what is wrong with what the basin is built of
+abbrev pub build_words : BuildFault → List ℕ
+build_words DuplicateName = codes "duplicate name"
+build_words NoSuchSlot = codes "unknown slot"
+build_words LinkedTwice = codes "linked twice"
+build_words LinkWithinObject = codes "link within object"
+build_words LinkDimension = codes "link dimension"
+build_words LinkBounds = codes "link bounds"
+build_words BadParameter = codes "bad parameter"
+build_words (TooMany most) = codes "too many"
+build_words NoMemoryToBuild = codes "no memory"
+
+-- with rows of a table
+abbrev pub table_words : TableFault → List ℕ
+table_words TooFewRows = codes "too few rows"
+table_words TooManyRows = codes "too many rows"
+table_words (RowOutOfBounds row) = codes "out of bounds"
+table_words (NotRising row) = codes "not rising"
+table_words NoMemoryForRows = codes "no memory"
+
+-- with the timesteps of a run
+abbrev pub calendar_words : CalFault → List ℕ
+calendar_words BadStart = codes "bad start"
+calendar_words NotFirstOfMonth = codes "not first of month"
+calendar_words BeyondYears = codes "beyond years"
+calendar_words NoMemoryForStamps = codes "no memory"
+
+-- with a row of inputs
+abbrev pub input_words : InputKind → List ℕ
+input_words Header = codes "header"
+input_words UnknownSlot = codes "unknown slot"
+input_words NotSettable = codes "not settable"
+input_words NotANumber = codes "not a number"
+input_words OutOfBounds = codes "out of bounds"
+input_words StepOutside = codes "step outside"
+input_words Twice = codes "twice"
+input_words Ragged = codes "ragged"
+
+-- the line on a model that is refused
+abbrev pub model_line : ModelFault → List ℕ
+model_line NotToml = codes "basin: model: not TOML\n"
+model_line (Missing path) = (codes "basin: model: missing " ++ string_bytes path) ++ codes "\n"
+model_line (WrongKind path) = (codes "basin: model: wrong kind " ++ string_bytes path) ++ codes "\n"
+model_line (UnknownKey path) = (codes "basin: model: unknown key " ++ string_bytes path) ++ codes "\n"
+model_line (UnknownKind path) = (codes "basin: model: unknown kind " ++ string_bytes path) ++ codes "\n"
+model_line (Build path fault) = (codes "basin: model: build " ++ string_bytes path) ++ ((codes ": " ++ build_words fault) ++ codes "\n")
+model_line (Table path fault) = (codes "basin: model: table " ++ string_bytes path) ++ ((codes ": " ++ table_words fault) ++ codes "\n")
+model_line (Calendar fault) = (codes "basin: model: calendar: " ++ calendar_words fault) ++ codes "\n"
+model_line NoMemoryForModel = codes "basin: model: no memory\n"
+
+-- the line on inputs that are refused
+abbrev pub inputs_line : InputKind → ℕ → ℕ → List ℕ
+inputs_line kind row column =
+    (codes "basin: inputs: row " ++ decimal row) ++ ((codes " column " ++ decimal column) ++ ((codes ": " ++ input_words kind) ++ codes "\n"))
+
+-- the line that says why nothing more was written
+abbrev pub line_of : List (List ℕ) → Refusal → List ℕ
+line_of words Words = codes "basin: words refused\n"
+line_of words (CannotRead file) = (codes "basin: cannot read " ++ path_of words file) ++ codes "\n"
+line_of words CannotWrite = codes "basin: cannot write\n"
+line_of words NoMemory = codes "basin: want of memory\n"
+line_of words (Model fault) = model_line fault
+line_of words NotFirstModel = codes "basin: model: not the first form\n"
+line_of words (Inputs kind row column) = inputs_line kind row column
+line_of words NotFirstInputs = codes "basin: inputs: not the first form\n"
+line_of words (TooLong file) = (codes "basin: too long " ++ path_of words file) ++ codes "\n"

@@ -1,0 +1,61 @@
+ghost use Rattle.std.specs.Prelude.{◌≡◌};
+ghost use Rattle.rw_top.specs.Lines.{build_words as words_of_build, table_words as words_of_table, calendar_words as words_of_calendar, input_words as words_of_input};
+
+use rw_calendar::CalFault;
+use rw_inputs::InputKind;
+use rw_model::BuildFault;
+use rw_table::TableFault;
+
+pub(crate) fn build_words(fault: BuildFault) -> &'static str
+    ensures { result.now ≡ words_of_build fault }
+{
+    match fault {
+        BuildFault::DuplicateName => "duplicate name",
+        BuildFault::UnknownSlot => "unknown slot",
+        BuildFault::LinkedTwice => "linked twice",
+        BuildFault::LinkWithinObject => "link within object",
+        BuildFault::LinkDimension => "link dimension",
+        BuildFault::LinkBounds => "link bounds",
+        BuildFault::BadParameter => "bad parameter",
+        BuildFault::TooMany(_) => "too many",
+        BuildFault::NoMemory => "no memory",
+    }
+}
+
+pub(crate) fn table_words(fault: TableFault) -> &'static str
+    ensures { result.now ≡ words_of_table fault }
+{
+    match fault {
+        TableFault::TooFewRows => "too few rows",
+        TableFault::TooManyRows => "too many rows",
+        TableFault::OutOfBounds(_) => "out of bounds",
+        TableFault::NotRising(_) => "not rising",
+        TableFault::NoMemory => "no memory",
+    }
+}
+
+pub(crate) fn calendar_words(fault: CalFault) -> &'static str
+    ensures { result.now ≡ words_of_calendar fault }
+{
+    match fault {
+        CalFault::BadStart => "bad start",
+        CalFault::NotFirstOfMonth => "not first of month",
+        CalFault::BeyondYears => "beyond years",
+        CalFault::NoMemory => "no memory",
+    }
+}
+
+pub(crate) fn input_words(kind: InputKind) -> &'static str
+    ensures { result.now ≡ words_of_input kind }
+{
+    match kind {
+        InputKind::Header => "header",
+        InputKind::UnknownSlot => "unknown slot",
+        InputKind::NotSettable => "not settable",
+        InputKind::NotANumber => "not a number",
+        InputKind::OutOfBounds => "out of bounds",
+        InputKind::StepOutside => "step outside",
+        InputKind::Twice => "twice",
+        InputKind::Ragged => "ragged",
+    }
+}
