@@ -1,0 +1,160 @@
+-- The one event that follows in an open timestep.
+use Rattle.std.specs.Prelude.{ℕ, ◌+◌, ◌==◌, nat_le, ℤ, Bool, true, false, ◌&&◌, not, List, [], ◌∷◌, Option, Some, None, reverse, if◌then◌else◌}
+use Rattle.std.specs.List.{list_any, find}
+use Rattle.std.specs.Ordering.{int_eq}
+use Rattle.rw_base.specs.declared.number.Cell.{Cell}
+use Rattle.rw_model.specs.declared.control.AgendaOrder.{AgendaOrder}
+use Rattle.rw_model.specs.declared.control.AgendaOrder.TheVariants.{HighFirst, LowFirst}
+use Rattle.rw_model.specs.Draft.{Draft}
+use Rattle.rw_series.specs.Series.{is_shared}
+use Rattle.rw_series.specs.declared.look.Look.{Look}
+use Rattle.rw_log.specs.declared.fault.RunFault.TheVariants.{ZeroDivisor, RuleOutOfRange, ObjectLimit, RuleLimit}
+use Rattle.rw_log.specs.Log.{Asked, Cells, Event, given, opened, closed, idle, solved, fired, fault, Log, cells_of, value_in}
+use Rattle.rw_log.specs.Waiting.{numbers, first_waiting}
+use Rattle.rw_log.specs.Dispatch.{dispatched, puts_written}
+
+-- how a firing ends
+pub data FireEnd : Type 0 where
+  is_done : FireEnd
+  is_unknown : FireEnd
+  by_zero : FireEnd
+  is_outside : ℤ → FireEnd
+
+-- what a firing does: how it ends, what it looked at, the puts that were executed, and how much it counts
+pub record Fire : Type 0 where
+  pub end : FireEnd
+  pub looked : List Look
+  pub puts : List Asked
+  pub count : ℕ
+
+-- so many rules, and what each does at a timestep, from the values of the cells
+pub record Policy : Type 0 where
+  pub rules : ℕ
+  pub fire : ℕ → ℕ → (Cell → Option ℤ) → Fire
+
+-- no rule
+abbrev pub no_rules : Policy
+no_rules = record { rules = 0; fire = λ rule step values. record { end = is_unknown; looked = []; puts = []; count = 0 } }
+
+-- the rules in the order of the agenda
+abbrev pub agenda_of : AgendaOrder → ℕ → List ℕ
+agenda_of HighFirst rules = numbers rules
+agenda_of LowFirst rules = reverse (numbers rules)
+
+-- ---- counts and looks since the opening of the timestep
+
+abbrev pub count_if : Bool → ℕ → ℕ
+count_if test count = if test then count + 1 else count
+
+-- how often the object was dispatched
+abbrev pub dispatches : Log → ℕ → ℕ
+dispatches [] object = 0
+dispatches (given cell value ∷ log) object = dispatches log object
+dispatches (opened step ∷ log) object = 0
+dispatches (closed step ∷ log) object = dispatches log object
+dispatches (idle other step looked ∷ log) object = count_if (other == object) (dispatches log object)
+dispatches (solved dispatch ∷ log) object = count_if (dispatch.object == object) (dispatches log object)
+dispatches (fired firing ∷ log) object = dispatches log object
+dispatches (fault why ∷ log) object = dispatches log object
+
+-- how often the rule fired
+abbrev pub firings : Log → ℕ → ℕ
+firings [] rule = 0
+firings (given cell value ∷ log) rule = firings log rule
+firings (opened step ∷ log) rule = 0
+firings (closed step ∷ log) rule = firings log rule
+firings (idle object step looked ∷ log) rule = firings log rule
+firings (solved dispatch ∷ log) rule = firings log rule
+firings (fired firing ∷ log) rule = count_if (firing.rule == rule) (firings log rule)
+firings (fault why ∷ log) rule = firings log rule
+
+-- what the last firing of the rule looked at, if it fired
+abbrev pub last_looks : Log → ℕ → Option (List Look)
+last_looks [] rule = None
+last_looks (given cell value ∷ log) rule = last_looks log rule
+last_looks (opened step ∷ log) rule = None
+last_looks (closed step ∷ log) rule = last_looks log rule
+last_looks (idle object step looked ∷ log) rule = last_looks log rule
+last_looks (solved dispatch ∷ log) rule = last_looks log rule
+last_looks (fired firing ∷ log) rule = if firing.rule == rule then Some firing.looked else last_looks log rule
+last_looks (fault why ∷ log) rule = last_looks log rule
+
+-- ---- which rule is due
+
+abbrev pub is_same_value : Option ℤ → Option ℤ → Bool
+is_same_value None None = true
+is_same_value None (Some value) = false
+is_same_value (Some value) None = false
+is_same_value (Some value) (Some other) = int_eq value other
+
+-- the rule hasn't fired, or one of the cells that it looked at now holds another value than was seen; unknown counts as one
+abbrev pub is_changed : Cells → Option (List Look) → Bool
+is_changed cells None = true
+is_changed cells (Some looks) = list_any (λ (look : Look). not (is_same_value look.seen (value_in cells look.cell))) looks
+
+abbrev pub is_due : Cells → Log → ℕ → Bool
+is_due cells log rule = is_changed cells (last_looks log rule)
+
+-- the first rule of the agenda that is due
+abbrev pub first_due : Draft → Policy → Cells → Log → Option ℕ
+first_due basin policy cells log = find (is_due cells log) (agenda_of basin.control.agenda policy.rules)
+
+-- ---- what a rule does
+
+-- a later put is to the same group at the same timestep
+abbrev pub is_put_again : Draft → Asked → List Asked → Bool
+is_put_again basin put puts = list_any (λ (later : Asked). is_shared basin put.cell later.cell) puts
+
+-- without those that are put again later
+abbrev pub last_ones : Draft → List Asked → List Asked
+last_ones basin [] = []
+last_ones basin (put ∷ puts) = if is_put_again basin put puts then last_ones basin puts else put ∷ last_ones basin puts
+
+abbrev pub ended : Draft → Cells → ℕ → ℕ → Fire → FireEnd → Event
+ended basin cells rule step fire by_zero = fault (ZeroDivisor (record { 0 = rule }) (record { 0 = step }))
+ended basin cells rule step fire (is_outside value) = fault (RuleOutOfRange (record { 0 = rule }) (record { 0 = step }) value)
+ended basin cells rule step fire is_unknown = fired (record {
+  rule = rule;
+  step = step;
+  is_done = false;
+  looked = fire.looked;
+  asked = [];
+  written = [];
+  count = fire.count;
+})
+ended basin cells rule step fire is_done = fired (record {
+  rule = rule;
+  step = step;
+  is_done = true;
+  looked = fire.looked;
+  asked = fire.puts;
+  written = puts_written cells (last_ones basin fire.puts);
+  count = fire.count;
+})
+
+-- the event that a firing of the rule is
+abbrev pub firing_of : Draft → Policy → Cells → ℕ → ℕ → Event
+firing_of basin policy cells rule step =
+    ended basin cells rule step (policy.fire rule step (value_in cells)) (policy.fire rule step (value_in cells)).end
+
+-- ---- what follows
+
+-- where no object waits, the first rule that is due fires; where none is due, the timestep is closed
+abbrev pub after_objects : Draft → Policy → Cells → Log → ℕ → Option ℕ → Event
+after_objects basin policy cells log step None = closed step
+after_objects basin policy cells log step (Some rule) =
+    if nat_le basin.control.rule_limit (firings log rule)
+    then fault (RuleLimit (record { 0 = rule }) (record { 0 = step }) (firings log rule))
+    else firing_of basin policy cells rule step
+
+-- the first object that waits is dispatched
+abbrev pub next_of : Draft → Policy → Cells → Log → ℕ → Option ℕ → Event
+next_of basin policy cells log step None = after_objects basin policy cells log step (first_due basin policy cells log)
+next_of basin policy cells log step (Some object) =
+    if nat_le basin.control.object_limit (dispatches log object)
+    then fault (ObjectLimit (record { 0 = object }) (record { 0 = step }) (dispatches log object))
+    else dispatched basin cells object step
+
+-- the event that follows a log in an open timestep
+abbrev pub next : Draft → Policy → ℕ → Log → Event
+next basin policy step log = next_of basin policy (cells_of basin log) log step (first_waiting basin log)

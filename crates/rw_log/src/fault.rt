@@ -1,0 +1,64 @@
+use rw_base::{ObjectNo, RuleNo, SlotNo, StepNo};
+
+/// Why a run ended before its last timestep.
+#[derive(Clone, Copy, Debug, PartialEq, Eq)]
+pub enum RunFault {
+    /// Two values that should be one aren't: what an object's slot holds, and what its other slots give for it.
+    Conflict {
+        /// The object that was dispatched.
+        object: ObjectNo,
+        /// Its slot.
+        slot: SlotNo,
+        /// The timestep.
+        step: StepNo,
+        /// The value that is there, in the base units of the slot's dimension.
+        held: i128,
+        /// The value that the object solved.
+        solved: i128,
+    },
+    /// A rule divided by 0.
+    ZeroDivisor {
+        /// The rule.
+        rule: RuleNo,
+        /// The timestep.
+        step: StepNo,
+    },
+    /// An object has a value that its slot can't have.
+    ObjectOutOfRange {
+        /// The object that was dispatched.
+        object: ObjectNo,
+        /// Its slot.
+        slot: SlotNo,
+        /// The timestep.
+        step: StepNo,
+        /// The value, in the base units of the slot's dimension.
+        value: i128,
+    },
+    /// A rule came to a value that is no quantity, or that its slot can't have.
+    RuleOutOfRange {
+        /// The rule.
+        rule: RuleNo,
+        /// The timestep.
+        step: StepNo,
+        /// The value.
+        value: i128,
+    },
+    /// An object was dispatched as often as it may be in a timestep, and would have been again.
+    ObjectLimit {
+        /// The object.
+        object: ObjectNo,
+        /// The timestep.
+        step: StepNo,
+        /// How often it was dispatched.
+        count: u8,
+    },
+    /// A rule fired as often as it may in a timestep, and would have again.
+    RuleLimit {
+        /// The rule.
+        rule: RuleNo,
+        /// The timestep.
+        step: StepNo,
+        /// How often it fired.
+        count: u8,
+    },
+}
