@@ -1,5 +1,5 @@
 -- What a dispatch puts stands in slots of the object.
-use Rattle.std.proofs.Common.{◌≡◌, ℕ, zero, suc, ◌+◌, ◌-◌, ◌==◌, ◌<◌, ◌≤◌, ℤ, pos, ◌+ℤ◌, Bool, true, false, not, ◌&&◌, if◌then◌else◌, List, [], ◌∷◌, ◌++◌, length, All, Option, None, Some, is_some, IsSome, nat_le, slice_index_or, slice_get, option_map, option_and_then, unwrap_or, refl, sym, ap, ap₂, subst, ◌∙◌, arith}
+use Rattle.std.proofs.Common.{◌≡◌, ℕ, zero, suc, ◌+◌, ◌-◌, ◌==◌, ◌<◌, ◌≤◌, ℤ, pos, ◌+ℤ◌, Bool, true, false, not, ◌&&◌, if◌then◌else◌, List, [], ◌∷◌, ◌++◌, length, All, Option, None, Some, is_some, IsSome, nat_le, slice_index_or, option_map, unwrap_or, refl, sym, ap, ap₂, subst, ◌∙◌, arith}
 use Rattle.std.specs.Prelude.{take}
 use Rattle.std.specs.Ordering.{int_eq}
 use Rattle.std.proofs.lemmas.List.{length-append}
@@ -11,7 +11,7 @@ use Rattle.rw_model.specs.declared.kind.Kind.TheVariants.{DataObject, Gage, Conf
 use Rattle.rw_model.specs.declared.kind.Supply.TheVariants.{Request, Rule}
 use Rattle.rw_model.specs.Draft.{Draft}
 use Rattle.rw_model.specs.Kind.{IsKind, IsStored}
-use Rattle.rw_model.specs.Objects.{Object, Placed, placed_from, first_from, object_at, slots_from, slot_in_place, is_in_place}
+use Rattle.rw_model.specs.Objects.{Object, placed_from, first_from, object_at, slots_from, slot_in_place, is_in_place}
 use Rattle.rw_model.specs.Slot.{Slot}
 use Rattle.rw_model.specs.Slots.{where_chosen, slots_of, slot_in}
 use Rattle.rw_model.proofs.Numbering.{first_from-own, IsOfOwner-is_in_place}
@@ -29,7 +29,7 @@ use Rattle.rw_method.specs.Balance.{balance_of, evaporation_of}
 use Rattle.rw_method.specs.Contents.{basis_of, fault_of_basis, disagreement, can_hold, elevation_of, volume_of, are_both_zero, agree}
 use Rattle.rw_method.specs.Puts.{puts_of, put_found, solved_put, beside_basis, beside_given, level_puts, evaporation_put, release_puts, user_puts, seepage_put, held_after, is_bounded}
 use Rattle.rw_method.specs.Settling.{missing, net_of, gives_way_before, weakest, value_from_others, solves, settled_at, settled}
-use Rattle.rw_method.specs.Solve.{or_else, fault_of_past, fault_of_contents, is_held, fits, first_misfit, AllFit, all_or_misfit, answer, balanced_of, solve_of}
+use Rattle.rw_method.specs.Solve.{or_else, fault_of_past, fault_of_contents, fits, first_misfit, AllFit, all_or_misfit, answer, balanced_of, solve_of}
 use Rattle.rw_method.specs.View.{given}
 use Rattle.rw_method.proofs.PutFacts.{first_fits}
 use Rattle.rw_log.specs.Log.{Cells}
@@ -382,9 +382,11 @@ pub solved-puts : (basin : Draft) (cells : Cells) (object step : ℕ) (found : O
 solved-puts basin cells object step found puts first at is e =
     let view : View = view_of basin cells object step in
     let same = ap (λ (x : Option Object). unwrap_or (option_map (λ (f : Object). solve_of f.kind (view_of basin cells object step)) x) IdleAnswer) at in
-    let all = solve-puts found.kind view puts is (sym same ∙ e) in
-    (λ k d lt. record {
-      few = (all.0 k d lt).own.few;
-      slot = slot-in-place basin.objects object _ found first at (all.0 k d lt).own.slot;
-      bounded = (all.0 k d lt).bounded;
-    }, all.1)
+    let all = solve-puts found.kind view puts is (sym same ∙ e) in (
+      λ k d lt. record {
+        few = (all.0 k d lt).own.few;
+        slot = slot-in-place basin.objects object _ found first at (all.0 k d lt).own.slot;
+        bounded = (all.0 k d lt).bounded;
+      },
+      all.1,
+    )
