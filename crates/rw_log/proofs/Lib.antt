@@ -1,3 +1,5 @@
 pub mod Lists
 pub mod Waits
 pub mod SolvedPuts
+mod OneRun
+mod Sinces

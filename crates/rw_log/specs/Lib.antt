@@ -4,3 +4,4 @@ pub mod Dispatch
 pub mod Next
 pub mod Runs
 pub mod RunOf
+pub mod Since
