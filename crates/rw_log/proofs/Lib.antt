@@ -3,3 +3,5 @@ pub mod Waits
 pub mod SolvedPuts
 mod OneRun
 mod Sinces
+mod Frames
+mod Reuses

@@ -15,6 +15,7 @@ use Rattle.rw_log.specs.declared.fault.RunFault.{RunFault}
 use Rattle.rw_log.specs.Log.{Asked, Cells, Log, Event, Dispatch, Firing, given, opened, closed, idle, solved, fired, fault}
 use Rattle.rw_log.specs.Waiting.{numbers, is_data, ends_wait, wakes, since, is_place, is_since, waiting_below, waiting, is_at, is_put_at, is_owner, woken, slots_at, all_waiting, queued_after}
 use Rattle.rw_log.specs.Dispatch.{asked_by, end_in, denied_by, or_fault, judged, dispatch_of, answered, looks_at, looked_cells, solved_by, dispatched}
+use Rattle.rw_log.specs.Frame.{IsFault}
 use Rattle.rw_log.proofs.Lists.{times, filter-same, filter-filter, times-append, times-filter, times-numbers, without, none-kept, all-kept, filter-within, any-times}
 
 -- ---- the places since which an object waits
@@ -222,15 +223,6 @@ fires basin log f =
         (sym (same_all (is_data basin a) (is_some (since basin log a)) (is_put_at basin a f.step f.written)))
 
 -- ---- the event that a dispatch is
-
-abbrev pub IsFault : Event → Type 0
-IsFault (given cell value) = ⊥
-IsFault (opened step) = ⊥
-IsFault (closed step) = ⊥
-IsFault (idle object step looked) = ⊥
-IsFault (solved dispatch) = ⊥
-IsFault (fired firing) = ⊥
-IsFault (fault why) = Unit {0}
 
 -- the event is of a dispatch of this object that ends in no fault
 abbrev pub IsDone : ℕ → Event → Type 0

@@ -5,3 +5,5 @@ pub mod Next
 pub mod Runs
 pub mod RunOf
 pub mod Since
+pub mod Frame
+pub mod Index
