@@ -203,9 +203,11 @@ answered_same basin f g cells object step (Puts puts) a fine =
     let all : AreAlike f g (cells_looked (looks_at f cells) ++ cells_asked asked) =
     subst (λ e. AreAlike f g (looked_by e)) (final_if_fine f object asked (dispatch_of f (looks_at f cells) object step asked) fine) a in
     let l : AreAlike f g cells = subst (AreAlike f g) (cells_of_looks f cells) (alike_left f g _ (cells_asked asked) all) in
-    let q : AreAlike f g (cells_asked asked) = alike_right f g (cells_looked (looks_at f cells)) _ all in
-    (l, ap₂ (λ z w. judged f object asked (solved (record { object = object; step = step; looked = z; asked = asked; written = w })))
-    (looks_at_same f g cells l) (written_same f g asked q) ∙ judged_same f g object asked (dispatch_of g (looks_at g cells) object step asked) q)
+    let q : AreAlike f g (cells_asked asked) = alike_right f g (cells_looked (looks_at f cells)) _ all in (
+      l,
+      ap₂ (λ z w. judged f object asked (solved (record { object = object; step = step; looked = z; asked = asked; written = w })))
+          (looks_at_same f g cells l) (written_same f g asked q) ∙ judged_same f g object asked (dispatch_of g (looks_at g cells) object step asked) q,
+    )
 
 seen_first : (f g : Cells) (found : Option Cell) (rest : List Cell) → AreAlike f g (cons_option found rest)
     → (option_and_then f found ≡ option_and_then g found) × AreAlike f g rest
@@ -265,10 +267,11 @@ ended_same basin f g rule step fire by_zero a fine = absurd (fine tt)
 ended_same basin f g rule step fire (is_outside value) a fine = absurd (fine tt)
 ended_same basin f g rule step fire is_unknown a fine = (alike_left f g (cells_looked fire.looked) [] a, refl)
 ended_same basin f g rule step fire is_done a fine =
-    let asked : AreAlike f g (cells_asked fire.puts) = alike_right f g (cells_looked fire.looked) (cells_asked fire.puts) a in
-    (alike_left f g (cells_looked fire.looked) (cells_asked fire.puts) a,
-    ap (λ w. fired (record { rule = rule; step = step; is_done = true; looked = fire.looked; asked = fire.puts; written = w; count = fire.count }))
-    (written_same f g (last_ones basin fire.puts) (last_alike basin f g fire.puts asked)))
+    let asked : AreAlike f g (cells_asked fire.puts) = alike_right f g (cells_looked fire.looked) (cells_asked fire.puts) a in (
+      alike_left f g (cells_looked fire.looked) (cells_asked fire.puts) a,
+      ap (λ w. fired (record { rule = rule; step = step; is_done = true; looked = fire.looked; asked = fire.puts; written = w; count = fire.count }))
+          (written_same f g (last_ones basin fire.puts) (last_alike basin f g fire.puts asked)),
+    )
 
 firing_same : (basin : Draft) (policy : Policy) (f g : Cells) (rule step : ℕ) → IsFramed policy → AreAlike f g (looked_by (firing_of basin policy f rule step))
     → ¬ IsFault (firing_of basin policy f rule step) → firing_of basin policy f rule step ≡ firing_of basin policy g rule step

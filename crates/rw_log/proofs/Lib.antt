@@ -5,3 +5,4 @@ mod OneRun
 mod Sinces
 mod Frames
 mod Reuses
+mod Lasts

@@ -55,9 +55,11 @@ to_goes : (basin : Draft) (policy : Policy) (step : ℕ) (old : Log) (event : Ev
     → IsStepFrom step event events → Leads basin policy old (event ∷ events) end → Goes basin policy step old (event ∷ events)
 to_goes basin policy step old event [] end s i l =
     (same_Some _ _ (sym (inside_next basin policy old step s) ∙ l.0), closes_fine step event i, tt)
-to_goes basin policy step old event (later ∷ events) end s i l =
-    (same_Some _ _ (sym (inside_next basin policy old step s) ∙ l.0), no_fault event step i.0,
-    to_goes basin policy step (event ∷ old) later events end (stands_by event old ∙ i.0) i.1 l.1)
+to_goes basin policy step old event (later ∷ events) end s i l = (
+  same_Some _ _ (sym (inside_next basin policy old step s) ∙ l.0),
+  no_fault event step i.0,
+  to_goes basin policy step (event ∷ old) later events end (stands_by event old ∙ i.0) i.1 l.1,
+)
 
 from_goes : (basin : Draft) (policy : Policy) (step : ℕ) (old : Log) (event : Event) (events : List Event) → standing old ≡ inside step
     → IsStepFrom step event events → Goes basin policy step old (event ∷ events) → Leads basin policy old (event ∷ events) (log_after (event ∷ events) old)

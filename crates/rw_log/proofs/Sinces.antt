@@ -80,6 +80,7 @@ waits basin (x ∷ log) object place e =
     by_bits basin x log object place (ends_wait x object) (wakes basin x object) (since basin log object) refl refl refl (waits basin log object place) e
 
 pub since-is : (basin : Draft) (log : Log) (object place : ℕ) → (since basin log object ≡ Some place) ↔ WaitsSince basin log object place
-since-is basin log object place =
-    (waits basin log object place,
-    λ r. ap (λ z. since basin z object) r.whole ∙ found basin r.newer r.event r.before object r.wakes_it r.none_ends r.is_first ∙ ap Some r.at_place)
+since-is basin log object place = (
+  waits basin log object place,
+  λ r. ap (λ z. since basin z object) r.whole ∙ found basin r.newer r.event r.before object r.wakes_it r.none_ends r.is_first ∙ ap Some r.at_place,
+)

@@ -7,6 +7,7 @@ use Rattle.std.proofs.lemmas.Bool.Decides.{nat_tests}
 use Rattle.std.proofs.lemmas.List.{append-nil}
 use Rattle.std.proofs.lemmas.List.Elements.{filter-append}
 use Rattle.std.proofs.lemmas.Option.{same_Some, none-some}
+use Rattle.rw_base.specs.declared.number.Cell.{Cell}
 use Rattle.rw_model.specs.Draft.{Draft}
 use Rattle.rw_series.specs.declared.look.Look.{Look}
 use Rattle.rw_method.specs.declared.solved.Solved.{Solved}
@@ -151,6 +152,12 @@ opens basin log step =
 pub closes : (basin : Draft) (log : Log) (step : ℕ) → waiting basin (closed step ∷ log) ≡ waiting basin log
 closes basin log step =
     waiting-more basin (closed step) log
+    ∙ ap₂ (λ xs ys. xs ++ ys) (all-kept (waiting basin log)) (none-kept (numbers (length basin.objects)))
+    ∙ append-nil (waiting basin log)
+
+pub gives : (basin : Draft) (log : Log) (cell : Cell) (value : ℤ) → waiting basin (given cell value ∷ log) ≡ waiting basin log
+gives basin log cell value =
+    waiting-more basin (given cell value) log
     ∙ ap₂ (λ xs ys. xs ++ ys) (all-kept (waiting basin log)) (none-kept (numbers (length basin.objects)))
     ∙ append-nil (waiting basin log)
 
