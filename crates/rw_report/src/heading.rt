@@ -43,7 +43,12 @@ fn push_conflict(
     Ok(())
 }
 
-fn push_zero_divisor(text: &mut String, basin: &Basin, rule: RuleNo, step: StepNo) -> Result<(), NoMemory>
+fn push_zero_divisor(
+    text: &mut String,
+    basin: &Basin,
+    rule: RuleNo,
+    step: StepNo,
+) -> Result<(), NoMemory>
     ensures { OnOk result (string_bytes text.new ≡ string_bytes text.old ++ fault_words basin.now (RunFault.ZeroDivisor rule step)) }
 {
     let (rule, step) = (rule.0, step.0);

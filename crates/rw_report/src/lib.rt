@@ -6,6 +6,8 @@
 mod heading;
 mod names;
 mod table;
+#[cfg(test)]
+mod tests;
 mod whole;
 
 pub use whole::section;

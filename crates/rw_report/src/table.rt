@@ -78,12 +78,7 @@ fn push_values(
 }
 
 // Appends the number of a timestep, a comma and its stamp.
-fn push_stamp(
-    alloc: Global,
-    text: &mut String,
-    basin: &Basin,
-    step: u16,
-) -> Result<(), NoMemory>
+fn push_stamp(alloc: Global, text: &mut String, basin: &Basin, step: u16) -> Result<(), NoMemory>
     requires first { 1 ≤ step }
     requires last { step ≤ basin.now.control.stamps.count }
     ensures { OnOk result (string_bytes text.new ≡ string_bytes text.old

@@ -12,12 +12,7 @@ use std::alloc::Global;
 /// names, and a line for each closed timestep with its number, the moment at which it ends and the values of all slots,
 /// in the base units of their dimensions and in the order of their numbers. Every line ends in a line feed, and an
 /// unknown value is nothing. A fault's numbers that the basin doesn't have are written as nothing.
-pub fn section(
-    alloc: Global,
-    basin: &Basin,
-    batch: u32,
-    run: &Run,
-) -> Result<Vec<u8>, NoMemory>
+pub fn section(alloc: Global, basin: &Basin, batch: u32, run: &Run) -> Result<Vec<u8>, NoMemory>
     requires closed { run.now.closed ≤ basin.now.control.stamps.count }
     ensures text { IfOk result (λ text. text.items
         ≡ section_of basin.now batch run.now.end run.now.closed (values_of run.now.series)) }
