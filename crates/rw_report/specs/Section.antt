@@ -33,20 +33,20 @@ slot_words basin slot =
 
 -- ---- the first line
 
--- where an object met a fault
-abbrev pub place_words : Draft → ℕ → ℕ → ℕ → List ℕ
-place_words basin object slot step =
-    codes " object " ++ (object_words basin object ++ (codes " slot " ++ (slot_words basin slot ++ (codes " step " ++ decimal step))))
+-- what an object met, and where
+abbrev pub place_words : Draft → (what : List ℕ) → (object slot step : ℕ) → List ℕ
+place_words basin what object slot step =
+    what ++ (codes " object " ++ (object_words basin object ++ (codes " slot " ++ (slot_words basin slot ++ (codes " step " ++ decimal step)))))
 
 -- what happened
 abbrev pub fault_words : Draft → RunFault → List ℕ
 fault_words basin (Conflict object slot step held solved) =
-    codes "conflict" ++ (place_words basin object.0 slot.0 step.0
-    ++ (codes " held " ++ (signed_decimal held ++ (codes " solved " ++ signed_decimal solved))))
+    place_words basin (codes "conflict") object.0 slot.0 step.0
+    ++ (codes " held " ++ (signed_decimal held ++ (codes " solved " ++ signed_decimal solved)))
 fault_words basin (ZeroDivisor rule step) =
     codes "division by zero rule " ++ (decimal rule.0 ++ (codes " step " ++ decimal step.0))
 fault_words basin (ObjectOutOfRange object slot step value) =
-    codes "out of range" ++ (place_words basin object.0 slot.0 step.0 ++ (codes " value " ++ signed_decimal value))
+    place_words basin (codes "out of range") object.0 slot.0 step.0 ++ (codes " value " ++ signed_decimal value)
 fault_words basin (RuleOutOfRange rule step value) =
     codes "out of range rule " ++ (decimal rule.0 ++ (codes " step " ++ (decimal step.0 ++ (codes " value " ++ signed_decimal value))))
 fault_words basin (ObjectLimit object step count) =

@@ -8,18 +8,19 @@ use rw_log::{RunEnd, RunFault};
 use rw_model::Basin;
 use std::fmt::Write;
 
-// Appends where an object met a fault.
+// Appends what an object met, and where.
 fn push_place(
     text: &mut String,
     basin: &Basin,
+    what: &str,
     object: ObjectNo,
     slot: SlotNo,
     step: StepNo,
 ) -> Result<(), NoMemory>
-    ensures { OnOk result (string_bytes text.new ≡ string_bytes text.old ++ place_words basin.now object.0 slot.0 step.0) }
+    ensures { OnOk result (string_bytes text.new ≡ string_bytes text.old ++ place_words basin.now what.now object.0 slot.0 step.0) }
 {
     let (object, step) = (object_words(basin, object), step.0);
-    write!(text, " object {object} slot ")?;
+    write!(text, "{what} object {object} slot ")?;
     push_slot(text, basin, slot)?;
     write!(text, " step {step}")?;
     Ok(())
@@ -37,8 +38,7 @@ fn push_conflict(
     ensures { OnOk result (string_bytes text.new
         ≡ string_bytes text.old ++ fault_words basin.now (RunFault.Conflict object slot step held solved)) }
 {
-    text.push_str("conflict")?;
-    push_place(text, basin, object, slot, step)?;
+    push_place(text, basin, "conflict", object, slot, step)?;
     write!(text, " held {held} solved {solved}")?;
     Ok(())
 }
@@ -67,8 +67,7 @@ fn push_object_value(
     ensures { OnOk result (string_bytes text.new
         ≡ string_bytes text.old ++ fault_words basin.now (RunFault.ObjectOutOfRange object slot step value)) }
 {
-    text.push_str("out of range")?;
-    push_place(text, basin, object, slot, step)?;
+    push_place(text, basin, "out of range", object, slot, step)?;
     write!(text, " value {value}")?;
     Ok(())
 }
