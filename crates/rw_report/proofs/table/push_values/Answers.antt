@@ -1,4 +1,4 @@
-use Rattle.std.proofs.Common.{◌≡◌, ◌++◌, string_bytes, codes, option_map, ap, ◌∙◌}
+use Rattle.std.proofs.Common.{◌++◌, string_bytes, codes, option_map, ap, ◌∙◌}
 use Rattle.rw_model.specs.declared.content.Content.{Content}
 use Rattle.rw_report.specs.Section.{value_words, values_of}
 use Rattle.rw_report.proofs.Growing.{next}
