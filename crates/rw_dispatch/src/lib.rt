@@ -1,0 +1,9 @@
+//! The dispatch of objects. `Queue` holds the objects that wait, in the order in which they are to be dispatched.
+//! `dispatch` lets one of them solve what it can from what its slots hold, and leaves the cells and the queue as the event
+//! of that dispatch says. Only making a queue takes memory.
+#![tactic(auto)]
+
+mod owners;
+mod queue;
+
+pub use queue::Queue;
