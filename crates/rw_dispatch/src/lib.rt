@@ -4,6 +4,9 @@
 #![tactic(auto)]
 
 mod owners;
+mod past;
 mod queue;
+mod seeing;
 
+pub use past::past_cell;
 pub use queue::Queue;
