@@ -1,3 +1,4 @@
 pub mod Times
 pub mod Queues
 pub mod Filling
+pub mod Viewed

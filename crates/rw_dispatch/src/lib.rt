@@ -3,10 +3,12 @@
 //! of that dispatch says. Only making a queue takes memory.
 #![tactic(auto)]
 
+mod dispatched;
 mod owners;
 mod past;
 mod queue;
 mod seeing;
 
+pub use dispatched::Dispatched;
 pub use past::past_cell;
 pub use queue::Queue;
