@@ -2,3 +2,7 @@ pub mod Times
 pub mod Queues
 pub mod Filling
 pub mod Viewed
+pub mod Judgement
+pub mod CanPuts
+pub mod Together
+pub mod Makes

@@ -4,11 +4,16 @@
 #![tactic(auto)]
 
 mod dispatched;
+mod dispatching;
+mod judging;
+mod making;
 mod owners;
 mod past;
 mod queue;
 mod seeing;
+mod solving;
 
+pub use dispatching::dispatch;
 pub use dispatched::Dispatched;
 pub use past::past_cell;
 pub use queue::Queue;
