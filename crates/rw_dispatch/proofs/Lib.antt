@@ -6,3 +6,4 @@ pub mod Judgement
 pub mod CanPuts
 pub mod Together
 pub mod Makes
+pub mod Owning

@@ -1,5 +1,5 @@
 -- A queue with one object more or less.
-use Rattle.std.proofs.Common.{◌≡◌, ◌≤◌, ◌<◌, ◌+◌, ◌-◌, ◌==◌, ℕ, zero, suc, Bool, true, false, not, ◌&&◌, cond, List, [], ◌∷◌, ◌++◌, length, get_or, set, nat_eq, nat_lt, refl, sym, ap, ap₂, subst, ◌∙◌, arith, add-one, append_assoc, Option}
+use Rattle.std.proofs.Common.{◌≡◌, ◌≤◌, ◌<◌, ◌+◌, ◌-◌, ◌==◌, ℕ, zero, suc, Bool, true, false, not, ◌&&◌, cond, List, [], ◌∷◌, ◌++◌, length, get_or, set, nat_eq, nat_lt, refl, sym, ap, ap₂, subst, ◌∙◌, arith, add-one, append_assoc, append-nil, Option}
 use Rattle.std.specs.List.{list_any, filter}
 use Rattle.std.proofs.lemmas.List.Elements.{filter-append}
 use Rattle.std.proofs.Math.ListN.{length-replicate, replicate, length-append, length-set}
@@ -114,9 +114,9 @@ more_passed p n old now next t e h f =
     ∙ ap (λ xs. old ++ xs) (sym (more_numbers p n))
 
 -- whether an object is woken doesn't depend on those appended before it
-pub woken-later : (b : Draft) (but : Option ℕ) (p : ℕ → Bool) (old slots : List ℕ) (n : ℕ)
-    → is_woken b but (old ++ filter p (numbers n)) slots (n + 1) ≡ is_woken b but old slots (n + 1)
-woken-later b but p old slots n = rw (any-later p old (n + 1) n (omega arith)) refl
+pub woken-later : (b : Draft) (but : Option ℕ) (p : ℕ → Bool) (old slots : List ℕ) (a n : ℕ) → n < a
+    → is_woken b but (old ++ filter p (numbers n)) slots a ≡ is_woken b but old slots a
+woken-later b but p old slots a n l = rw (any-later p old a n l) refl
 
 woken_free : (d e r o t : Bool) → t ≡ not d && (not e && (not r && o)) → t ≡ true → r ≡ false
 woken_free d e r o t h k = grind (arith, nat_tests)
@@ -124,6 +124,43 @@ woken_free d e r o t h k = grind (arith, nat_tests)
 -- an object that is woken doesn't wait yet
 pub woken-free : (b : Draft) (but : Option ℕ) (queue slots : List ℕ) (a : ℕ) (t : Bool) → t ≡ is_woken b but queue slots a → t ≡ true → times a queue ≡ 0
 woken-free b but queue slots a t h k = free a queue (woken_free (is_data b a) (is_but but a) (list_any (λ x. a == x) queue) (is_owner b slots a) t h k)
+
+unowned_test : (d e r o : Bool) → o ≡ false → (not d && (not e && (not r && o))) ≡ false
+unowned_test d e r o h = grind (arith, h)
+
+-- who owns none of the slots isn't woken
+pub woken-unowned : (b : Draft) (but : Option ℕ) (queue slots : List ℕ) (a : ℕ) → is_owner b slots a ≡ false → is_woken b but queue slots a ≡ false
+woken-unowned b but queue slots a h = unowned_test (is_data b a) (is_but but a) (list_any (λ x. a == x) queue) (is_owner b slots a) h
+
+-- none of these passes
+skipped : (p : ℕ → Bool) (from count : ℕ) → ((a : ℕ) → from < a → a ≤ from + count → p a ≡ false) → filter p (numbers (from + count)) ≡ filter p (numbers from)
+skipped p from zero none = let same : from + 0 ≡ from = omega arith in ap (λ n. filter p (numbers n)) same
+skipped p from (suc count) none =
+    let more : from + suc count ≡ (from + count) + 1 = omega arith in
+    let fails : p ((from + count) + 1) ≡ false = none ((from + count) + 1) (omega arith) (omega arith) in
+    ap (λ n. filter p (numbers n)) more
+    ∙ more_numbers p (from + count)
+    ∙ ap (λ t. filter p (numbers (from + count)) ++ cond t (((from + count) + 1) ∷ []) []) fails
+    ∙ append-nil (filter p (numbers (from + count)))
+    ∙ skipped p from count (λ a low high. none a low (omega (arith, high)))
+
+-- none that is left passes
+pub none_left : (p : ℕ → Bool) (from to : ℕ) (old now : List ℕ) → from ≤ to → ((a : ℕ) → from < a → p a ≡ false) → now ≡ old ++ filter p (numbers from)
+    → now ≡ old ++ filter p (numbers to)
+none_left p from to old now l none is =
+    let same : from + (to - from) ≡ to = omega (arith, l) in
+    is ∙ ap (λ xs. old ++ xs) (sym (skipped p from (to - from) (λ a low high. none a low)) ∙ ap (λ n. filter p (numbers n)) same)
+
+-- one turn of a loop over those that may pass
+pub next_passed : (p : ℕ → Bool) (from to : ℕ) (old now next : List ℕ) (t : Bool) → from < to → ((a : ℕ) → from < a → a < to → p a ≡ false)
+    → now ≡ old ++ filter p (numbers from) → t ≡ p to → next ≡ now ++ cond t (to ∷ []) [] → next ≡ old ++ filter p (numbers to)
+next_passed p from to old now next t l none is tested appended =
+    let before : from + (to - 1 - from) ≡ to - 1 = omega (arith, l) in
+    let same : (to - 1) + 1 ≡ to = omega (arith, l) in
+    let reached : now ≡ old ++ filter p (numbers (to - 1)) =
+    is ∙ ap (λ xs. old ++ xs) (sym (skipped p from (to - 1 - from) (λ a low high. none a low (omega (arith, high, l)))) ∙ ap (λ n. filter p (numbers n)) before) in
+    more_passed p (to - 1) old now next t reached (tested ∙ ap p (sym same)) (appended ∙ ap (λ n. now ++ cond t (n ∷ []) []) (sym same))
+    ∙ ap (λ n. old ++ filter p (numbers n)) same
 
 pub later-free : (p : ℕ → Bool) (n : ℕ) (now : List ℕ) → now ≡ filter p (numbers n) → times (n + 1) now ≡ 0
 later-free p n now e = ap (times (n + 1)) e ∙ later p (n + 1) n (omega arith)

@@ -1,11 +1,11 @@
-ghost use Rattle.std.specs.Prelude.{true, cond, ◌==◌, ◌≡◌, ◌≤◌, ◌++◌, ◌∷◌, [], MatchOption, IfSome, IfOk, All, option_map};
+ghost use Rattle.std.specs.Prelude.{ℕ, List, true, cond, ◌==◌, ◌≡◌, ◌≤◌, ◌++◌, ◌∷◌, [], MatchOption, IfSome, IfOk, All, option_map};
 ghost use Rattle.std.specs.List.{list_any};
 ghost use Rattle.rw_model.specs.Draft.{IsObject, IsSlot};
 ghost use Rattle.rw_model.specs.Kept.{numbers_of};
-ghost use Rattle.rw_log.specs.Waiting.{all_waiting, is_but, is_woken, woken};
+ghost use Rattle.rw_log.specs.Waiting.{all_waiting, is_but, is_owner, is_woken, woken};
 ghost use Rattle.rw_dispatch.specs.Queue.{IsQueueOf, times};
 
-use crate::owners::{is_data, is_owner};
+use crate::owners::{is_data, next_owner};
 use rw_base::{NoMemory, ObjectNo, SlotNo};
 use rw_model::Basin;
 use std::alloc::Global;
@@ -77,9 +77,11 @@ impl Queue {
         ensures made { IsQueueOf basin.now self.new }
         ensures woken { self.new.waiting ≡ self.old.waiting ++ woken basin.now (option_map (λ object. object.0) but) self.old.waiting (numbers_of slots.now) }
     {
-        for place in 0..basin.object_count() {
-            let woken = self.is_woken(basin, slots, but, place + 1);
-            self.append_if(woken, place + 1);
+        let mut last = 0;
+        while let Some(owner) = next_owner(basin, slots, last) {
+            let woken = self.is_woken(basin, but, owner);
+            self.append_if(woken, owner);
+            last = owner;
         }
     }
 
@@ -108,23 +110,14 @@ impl Queue {
         }
     }
 
-    // Whether puts to these slots wake this object.
-    fn is_woken(
-        &self,
-        basin: &Basin,
-        slots: &[SlotNo],
-        but: Option<ObjectNo>,
-        object: u16,
-    ) -> bool
+    // Whether puts wake an owner of a slot that they reach.
+    fn is_woken(&self, basin: &Basin, but: Option<ObjectNo>, owner: u16) -> bool
         requires made { IsQueueOf basin.now self.now }
-        requires slots { All (λ (slot : SlotNo). IsSlot basin.now.objects slot.0) slots.now }
-        requires known { IsObject basin.now.objects object }
-        ensures { result ≡ is_woken basin.now (option_map (λ other. other.0) but) self.now.waiting (numbers_of slots.now) object }
+        requires known { IsObject basin.now.objects owner }
+        ensures { (slots : List ℕ) → is_owner basin.now slots owner ≡ true
+            → result ≡ is_woken basin.now (option_map (λ other. other.0) but) self.now.waiting slots owner }
     {
-        !is_data(basin, ObjectNo(object))
-            && !is_but(but, object)
-            && !self.waits(object)
-            && is_owner(basin, slots, object)
+        !is_data(basin, ObjectNo(owner)) && !is_but(but, owner) && !self.waits(owner)
     }
 
     // Whether an object waits.
