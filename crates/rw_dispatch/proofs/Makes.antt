@@ -66,8 +66,18 @@ held_between basin put cell content held between before true shared is =
     (subst (λ bounds. IsBetween bounds put.content.value) (bounds-shared basin put.cell cell shared) between)
 held_between basin put cell content held between before false apart is = before is
 
+-- what is put within bounds leaves what is held within bounds
+pub AreBounded-put : (basin : Draft) (put : Asked) (old new : Series) → IsBetween (bounds_in basin.objects basin.links basin.bounds put.cell.slot.0) put.content.value
+    → AreBounded basin (held old) → Sets basin put.cell (Some put.content) old new → AreBounded basin (held new)
+AreBounded-put basin put old new between bounded sets = λ cell content known is.
+    held_between basin put cell content (held old cell) between
+    (bounded cell content known) (is_shared basin put.cell cell) refl (sym (sets cell) ∙ is)
+
 pub AreBounded-set : (basin : Draft) (object step : ℕ) (put : Put) (old new : Series) → CanPut basin object put → AreBounded basin (held old)
     → Sets basin (asked_by basin object step put).cell (Some (asked_by basin object step put).content) old new → AreBounded basin (held new)
-AreBounded-set basin object step put old new can bounded sets = λ cell content known is.
-    held_between basin (asked_by basin object step put) cell content (held old cell) (put_between basin object step put can)
-    (bounded cell content known) (is_shared basin (asked_by basin object step put).cell cell) refl (sym (sets cell) ∙ is)
+AreBounded-set basin object step put old new can bounded sets =
+    AreBounded-put basin (asked_by basin object step put) old new (put_between basin object step put can) bounded sets
+
+-- where nothing is known, all that is known is within bounds
+pub AreBounded-unknown : (basin : Draft) (series : Series) → ((cell : Cell) → held series cell ≡ None) → AreBounded basin (held series)
+AreBounded-unknown basin series unknown = λ cell content known is. let none = unknown cell in absurd (cc)

@@ -12,6 +12,8 @@ mod past;
 mod queue;
 mod seeing;
 mod solving;
+#[cfg(test)]
+mod tests;
 
 pub use dispatching::dispatch;
 pub use dispatched::Dispatched;
