@@ -1,0 +1,12 @@
+use Rattle.std.proofs.Common.{◌++◌, string_bytes, ap, ◌∙◌}
+use Rattle.std.specs.Prelude.{codes}
+use Rattle.std.specs.Fmt.{decimal}
+use Rattle.rw_calendar.specs.Stamps.{end_of, stamp_text}
+use Rattle.rw_model.specs.declared.control.RunControl.{RunControl}
+use Rattle.rw_report.proofs.table.push_stamp.Goals as goal
+
+pub returns : goal.returns
+returns c =
+    c.in_ok-write.ensures.bytes
+    ∙ ap (λ stamp. string_bytes c.args.text.now ++ (decimal c.args.step ++ (codes "," ++ stamp)))
+    (c.in_ok-stamp.ensures ∙ ap (λ (control : RunControl). stamp_text (end_of control.stamps c.args.step)) c.control.ensures)

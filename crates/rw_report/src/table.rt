@@ -1,0 +1,125 @@
+ghost use Rattle.std.specs.Prelude.{◌≡◌, ◌≤◌, ◌++◌, OnOk, string_bytes, codes, option_map, length};
+ghost use Rattle.std.specs.Fmt.{decimal, signed_decimal};
+ghost use Rattle.rw_calendar.specs.Stamps.{end_of, stamp_text};
+ghost use Rattle.rw_model.specs.declared.content.Content.{Content};
+ghost use Rattle.rw_report.specs.Section.{columns, for_slots, row, rows, slot_words, value_words, values_of};
+
+use crate::names::push_slot;
+use itoa::Buffer;
+use rw_base::{Cell, NoMemory, SlotNo, StepNo};
+use rw_model::{Basin, Content};
+use rw_series::Series;
+use std::alloc::Global;
+use std::fmt::Write;
+
+// Appends a comma and the name of a slot.
+fn push_name(text: &mut String, basin: &Basin, slot: SlotNo) -> Result<(), NoMemory>
+    ensures { OnOk result (string_bytes text.new ≡ string_bytes text.old ++ (codes "," ++ slot_words basin.now slot.0)) }
+{
+    text.push_str(",")?;
+    push_slot(text, basin, slot)
+}
+
+// Appends a comma and the name of each slot.
+fn push_names(text: &mut String, basin: &Basin) -> Result<(), NoMemory>
+    ensures { OnOk result (string_bytes text.new ≡ string_bytes text.old ++ for_slots basin.now (λ slot. codes "," ++ slot_words basin.now slot)) }
+{
+    for before in 0..basin.slot_count() {
+        push_name(text, basin, SlotNo(before + 1))?;
+    }
+    Ok(())
+}
+
+/// Appends the line of names.
+pub(crate) fn push_columns(text: &mut String, basin: &Basin) -> Result<(), NoMemory>
+    ensures { OnOk result (string_bytes text.new ≡ string_bytes text.old ++ columns basin.now) }
+{
+    text.push_str("step,stamp")?;
+    push_names(text, basin)?;
+    text.push_str("\n")?;
+    Ok(())
+}
+
+fn push_number(text: &mut String, number: i64) -> Result<(), NoMemory>
+    ensures { OnOk result (string_bytes text.new ≡ string_bytes text.old ++ signed_decimal number) }
+{
+    let mut buffer = Buffer::new();
+    text.push_str(buffer.format(number))?;
+    Ok(())
+}
+
+// Appends a comma and the value that a cell holds, which is nothing where it is unknown.
+fn push_value(text: &mut String, content: Option<Content>) -> Result<(), NoMemory>
+    ensures { OnOk result (string_bytes text.new ≡ string_bytes text.old
+        ++ (codes "," ++ value_words (option_map (λ (content : Content). content.value) content))) }
+{
+    text.push_str(",")?;
+    match content {
+        Some(content) => push_number(text, content.value.get()),
+        None => Ok(()),
+    }
+}
+
+// Appends a comma and the value of each slot at a timestep.
+fn push_values(
+    text: &mut String,
+    basin: &Basin,
+    series: &Series,
+    step: StepNo,
+) -> Result<(), NoMemory>
+    ensures { OnOk result (string_bytes text.new ≡ string_bytes text.old
+        ++ for_slots basin.now (λ slot. codes "," ++ value_words (values_of series.now slot step.0))) }
+{
+    for before in 0..basin.slot_count() {
+        let slot = SlotNo(before + 1);
+        push_value(text, series.get(Cell { slot, step }))?;
+    }
+    Ok(())
+}
+
+// Appends the number of a timestep, a comma and its stamp.
+fn push_stamp(alloc: Global, text: &mut String, basin: &Basin, step: u16) -> Result<(), NoMemory>
+    requires first { 1 ≤ step }
+    requires last { step ≤ basin.now.control.stamps.count }
+    ensures { OnOk result (string_bytes text.new ≡ string_bytes text.old
+        ++ (decimal step ++ (codes "," ++ stamp_text (end_of basin.now.control.stamps step)))) }
+{
+    let stamp = basin.control().stamps.text(alloc, step)?;
+    write!(text, "{step},{stamp}")?;
+    Ok(())
+}
+
+// Appends the line of a timestep.
+fn push_row(
+    alloc: Global,
+    text: &mut String,
+    basin: &Basin,
+    series: &Series,
+    step: u16,
+) -> Result<(), NoMemory>
+    requires first { 1 ≤ step }
+    requires last { step ≤ basin.now.control.stamps.count }
+    ensures { OnOk result (string_bytes text.new ≡ string_bytes text.old ++ row basin.now (values_of series.now) step) }
+{
+    push_stamp(alloc, text, basin, step)?;
+    push_values(text, basin, series, StepNo(step))?;
+    text.push_str("\n")?;
+    Ok(())
+}
+
+/// Appends the lines of the first timesteps, so many of them.
+pub(crate) fn push_rows(
+    alloc: Global,
+    text: &mut String,
+    basin: &Basin,
+    series: &Series,
+    closed: u16,
+) -> Result<(), NoMemory>
+    requires closed { closed ≤ basin.now.control.stamps.count }
+    ensures { OnOk result (string_bytes text.new ≡ string_bytes text.old ++ rows basin.now (values_of series.now) closed) }
+{
+    for before in 0..closed {
+        push_row(alloc, text, basin, series, before + 1)?;
+    }
+    Ok(())
+}
