@@ -4,3 +4,6 @@ pub mod Dispatch
 pub mod Next
 pub mod Runs
 pub mod RunOf
+pub mod Since
+pub mod Frame
+pub mod Index

@@ -1,5 +1,5 @@
 -- The one event that follows in an open timestep.
-use Rattle.std.specs.Prelude.{ℕ, ◌+◌, ◌==◌, nat_le, ℤ, Bool, true, false, ◌&&◌, not, List, [], ◌∷◌, Option, Some, None, reverse, if◌then◌else◌}
+use Rattle.std.specs.Prelude.{ℕ, ◌+◌, ◌==◌, nat_le, ℤ, Bool, true, false, not, List, [], ◌∷◌, Option, Some, None, reverse, if◌then◌else◌}
 use Rattle.std.specs.List.{list_any, find}
 use Rattle.std.specs.Ordering.{int_eq}
 use Rattle.rw_base.specs.declared.number.Cell.{Cell}

@@ -7,6 +7,8 @@
 mod fault;
 pub mod law;
 mod run;
+#[cfg(test)]
+mod tests;
 mod trace;
 
 pub use fault::RunFault;

@@ -1,0 +1,392 @@
+-- What a dispatch puts stands in slots of the object.
+use Rattle.std.proofs.Common.{◌≡◌, ℕ, zero, suc, ◌+◌, ◌-◌, ◌==◌, ◌<◌, ◌≤◌, ℤ, pos, ◌+ℤ◌, Bool, true, false, not, ◌&&◌, if◌then◌else◌, List, [], ◌∷◌, ◌++◌, length, All, Option, None, Some, is_some, IsSome, nat_le, slice_index_or, option_map, unwrap_or, refl, sym, ap, ap₂, subst, ◌∙◌, arith}
+use Rattle.std.specs.Prelude.{take}
+use Rattle.std.specs.Ordering.{int_eq}
+use Rattle.std.proofs.lemmas.List.{length-append}
+use Rattle.std.proofs.lemmas.List.Elements.{All-append, All-push}
+use Rattle.std.proofs.lemmas.Option.{same_Some, none-some}
+use Rattle.rw_table.specs.Table.{Row}
+use Rattle.rw_model.specs.declared.kind.Kind.{Kind}
+use Rattle.rw_model.specs.declared.kind.Kind.TheVariants.{DataObject, Gage, Confluence, Bifurcation, Reach, Reservoir, WaterUser, Canal}
+use Rattle.rw_model.specs.declared.kind.Supply.TheVariants.{Request, Rule}
+use Rattle.rw_model.specs.Draft.{Draft}
+use Rattle.rw_model.specs.Kind.{IsKind, IsStored}
+use Rattle.rw_model.specs.Objects.{Object, placed_from, first_from, object_at, slots_from, slot_in_place, is_in_place}
+use Rattle.rw_model.specs.Slot.{Slot}
+use Rattle.rw_model.specs.Slots.{where_chosen, slots_of, slot_in}
+use Rattle.rw_model.proofs.Numbering.{first_from-own, IsOfOwner-is_in_place}
+use Rattle.rw_method.specs.declared.balanced.Balanced.{Balanced}
+use Rattle.rw_method.specs.declared.balanced.Balanced.TheVariants.{Idle, Holds, Solves, Conflicts}
+use Rattle.rw_method.specs.declared.basis.Basis.{Basis}
+use Rattle.rw_method.specs.declared.basis.Basis.TheVariants.{Nothing, Storage, Elevation}
+use Rattle.rw_method.specs.declared.given.Given.{Given}
+use Rattle.rw_method.specs.declared.put.Put.{Put}
+use Rattle.rw_method.specs.declared.solved.Solved.{Solved}
+use Rattle.rw_method.specs.declared.solved.Solved.TheVariants.{Idle as IdleAnswer, Puts, Conflict, OutOfRange}
+use Rattle.rw_method.specs.declared.term.Term.{Term}
+use Rattle.rw_method.specs.declared.view.View.{View}
+use Rattle.rw_method.specs.Balance.{balance_of, evaporation_of}
+use Rattle.rw_method.specs.Contents.{basis_of, fault_of_basis, disagreement, can_hold, elevation_of, volume_of, are_both_zero, agree}
+use Rattle.rw_method.specs.Puts.{puts_of, put_found, solved_put, beside_basis, beside_given, level_puts, evaporation_put, release_puts, user_puts, seepage_put, held_after, is_bounded}
+use Rattle.rw_method.specs.Settling.{missing, net_of, gives_way_before, weakest, value_from_others, solves, settled_at, settled}
+use Rattle.rw_method.specs.Solve.{or_else, fault_of_past, fault_of_contents, fits, first_misfit, AllFit, all_or_misfit, answer, balanced_of, solve_of}
+use Rattle.rw_method.specs.View.{given}
+use Rattle.rw_method.proofs.PutFacts.{first_fits}
+use Rattle.rw_log.specs.Log.{Cells}
+use Rattle.rw_log.specs.Dispatch.{view_of, solved_by}
+
+-- ---- a kind has a slot in each place at which it puts
+
+pub record IsOwn (kind : Kind) (place : ℕ) : Type 0 where
+  pub few : place < 12
+  pub slot : IsSome (slot_in kind place)
+
+-- so many puts at most, each in a place of the kind
+record AreOwn (kind : Kind) (most : ℕ) (puts : List Put) : Type 0 where
+  own : All (λ (put : Put). IsOwn kind put.place) puts
+  few : length puts ≤ most
+
+none_own : (kind : Kind) (most : ℕ) → AreOwn kind most []
+none_own kind most = record { own = λ k d lt. absurd (omega (arith, lt)); few = omega arith }
+
+one_own : (kind : Kind) (put : Put) → IsOwn kind put.place → AreOwn kind 1 (put ∷ [])
+one_own kind put own =
+    record { own = All-push (λ (p : Put). IsOwn kind p.place) [] put (none_own kind 0).own own; few = omega arith }
+
+both_own : (kind : Kind) (m n : ℕ) (xs ys : List Put) → AreOwn kind m xs → AreOwn kind n ys → AreOwn kind (m + n) (xs ++ ys)
+both_own kind m n xs ys x y = record {
+  own = All-append (λ (p : Put). IsOwn kind p.place) xs ys x.own y.own;
+  few = omega (arith, x.few, y.few, length-append xs ys);
+}
+
+if_own : (kind : Kind) (most : ℕ) (test : Bool) (xs ys : List Put) → (test ≡ true → AreOwn kind most xs) → AreOwn kind most ys
+    → AreOwn kind most (if test then xs else ys)
+if_own kind most true xs ys x y = x refl
+if_own kind most false xs ys x y = y
+
+found_own : (kind : Kind) (place : ℕ) (value : Option ℤ) (number : ℕ) → (is_some value ≡ true → IsOwn kind place)
+    → AreOwn kind 1 (put_found place value number)
+found_own kind place None number own = none_own kind 1
+found_own kind place (Some value) number own = one_own kind _ (own refl)
+
+-- ---- the solved term is one of the balance
+
+-- what is solved stands in a place of the kind
+abbrev SolvesOwn : Kind → Balanced → Type 0
+SolvesOwn kind Idle = Unit {0}
+SolvesOwn kind Holds = Unit {0}
+SolvesOwn kind (Solves place value number) = IsOwn kind place
+SolvesOwn kind (Conflicts place held solved) = Unit {0}
+
+-- each term stands in a place of the kind
+abbrev TermsOwn : Kind → List Term → Type 0
+TermsOwn kind [] = Unit {0}
+TermsOwn kind (term ∷ terms) = IsOwn kind term.place × TermsOwn kind terms
+
+weaker_own : (kind : Kind) (test : Bool) (a b : Term) → IsOwn kind a.place → IsOwn kind b.place → IsOwn kind (if test then a else b).place
+weaker_own kind true a b x y = x
+weaker_own kind false a b x y = y
+
+weakest_own : (kind : Kind) (term : Term) (terms : List Term) → IsOwn kind term.place → TermsOwn kind terms
+    → IsOwn kind (weakest term terms).place
+weakest_own kind term [] own rest = own
+weakest_own kind term (next ∷ terms) own rest =
+    weakest_own kind (if gives_way_before term.given next.given then term else next) terms
+    (weaker_own kind (gives_way_before term.given next.given) term next own rest.0) rest.1
+
+if_solves : (kind : Kind) (test : Bool) (a b : Balanced) → SolvesOwn kind a → SolvesOwn kind b → SolvesOwn kind (if test then a else b)
+if_solves kind true a b x y = x
+if_solves kind false a b x y = y
+
+settled_at_own : (kind : Kind) (steady : ℤ) (terms : List Term) (term : Term) (given : Option Given) → IsOwn kind term.place
+    → SolvesOwn kind (settled_at steady terms term given)
+settled_at_own kind steady terms term None own = own
+settled_at_own kind steady terms term (Some held) own =
+    if_solves kind (int_eq (steady +ℤ net_of terms) (pos 0)) _ _ tt
+    (if_solves kind (held.number == 0) (Conflicts term.place held.value (value_from_others steady terms term)) (solves steady terms term) tt own)
+
+settled_own : (kind : Kind) (steady : Option ℤ) (terms : List Term) → TermsOwn kind terms → SolvesOwn kind (settled steady terms)
+settled_own kind None terms own = tt
+settled_own kind (Some steady) [] own = tt
+settled_own kind (Some steady) (term ∷ terms) own =
+    if_solves kind (nat_le 2 (missing (term ∷ terms))) _ _ tt
+    (settled_at_own kind steady (term ∷ terms) (weakest term terms) (weakest term terms).given (weakest_own kind term terms own.0 own.1))
+
+solved_put_own : (kind : Kind) (balanced : Balanced) → SolvesOwn kind balanced → AreOwn kind 1 (solved_put balanced)
+solved_put_own kind Idle own = none_own kind 1
+solved_put_own kind Holds own = none_own kind 1
+solved_put_own kind (Solves place value number) own = one_own kind _ own
+solved_put_own kind (Conflicts place held solved) own = none_own kind 1
+
+-- ---- the other puts of a reservoir, a water user and a canal
+
+beside_basis_own : (kind : Kind) (table : Option (List Row)) (basis : Basis) → IsOwn kind 2 → (is_some table ≡ true → IsOwn kind 3)
+    → AreOwn kind 1 (beside_basis table basis)
+beside_basis_own kind table Nothing storage elevation = none_own kind 1
+beside_basis_own kind None (Storage held) storage elevation = none_own kind 1
+beside_basis_own kind (Some rows) (Storage held) storage elevation =
+    found_own kind 3 (elevation_of (Some rows) held.value) held.number (λ e. elevation refl)
+beside_basis_own kind table (Elevation held) storage elevation =
+    found_own kind 2 (volume_of table held.value) held.number (λ e. storage)
+
+beside_given_own : (kind : Kind) (table : Option (List Row)) (storage elevation : Option Given) → IsOwn kind 2 → (is_some table ≡ true → IsOwn kind 3)
+    → AreOwn kind 1 (beside_given table storage elevation)
+beside_given_own kind table storage elevation own_storage own_elevation =
+    if_own kind 1 (are_both_zero storage elevation) [] (beside_basis table (basis_of storage elevation)) (λ e. none_own kind 1)
+    (beside_basis_own kind table (basis_of storage elevation) own_storage own_elevation)
+
+elevation_own : (kind : Kind) (table : Option (List Row)) (value : ℤ) (number : ℕ) → (is_some table ≡ true → IsOwn kind 3)
+    → AreOwn kind 1 (put_found 3 (elevation_of table value) number)
+elevation_own kind None value number elevation = none_own kind 1
+elevation_own kind (Some rows) value number elevation =
+    found_own kind 3 (elevation_of (Some rows) value) number (λ e. elevation refl)
+
+level_own : (kind : Kind) (table : Option (List Row)) (storage elevation : Option Given) (balanced : Balanced) → IsOwn kind 2
+    → (is_some table ≡ true → IsOwn kind 3) → AreOwn kind 1 (level_puts table storage elevation balanced)
+level_own kind table storage elevation Idle two three = beside_given_own kind table storage elevation two three
+level_own kind table storage elevation Holds two three = beside_given_own kind table storage elevation two three
+level_own kind table storage elevation (Conflicts place held solved) two three = beside_given_own kind table storage elevation two three
+level_own kind table storage elevation (Solves place value number) two three =
+    if_own kind 1 (place == 2) (put_found 3 (elevation_of table value) number) (beside_given table storage elevation)
+    (λ e. elevation_own kind table value number three)
+    (beside_given_own kind table storage elevation two three)
+
+release_own : (kind : Kind) (most : Option ℤ) (outflow : Given) → (is_some most ≡ true → IsOwn kind 9 × IsOwn kind 10)
+    → AreOwn kind 2 (release_puts most outflow)
+release_own kind None outflow own = none_own kind 2
+release_own kind (Some most) outflow own = both_own kind 1 1 (_ ∷ []) (_ ∷ []) (one_own kind _ (own refl).0) (one_own kind _ (own refl).1)
+
+-- ---- all that a kind puts
+
+own_at : (kind : Kind) (place : ℕ) (slot : Slot) → place < 12 → slot_in kind place ≡ Some slot → IsOwn kind place
+own_at kind place slot few there = record { few = few; slot = ap is_some there }
+
+more_room : (kind : Kind) (m n : ℕ) (puts : List Put) → m ≤ n → AreOwn kind m puts → AreOwn kind n puts
+more_room kind m n puts le own = record { own = own.own; few = omega (arith, own.few, le) }
+
+abbrev PutsOwn : Kind → View → Type 0
+PutsOwn kind view = AreOwn kind 8 (puts_of kind view (balanced_of kind view))
+
+-- the solved term
+solved_alone : (kind : Kind) (view : View) → TermsOwn kind (balance_of kind view).terms → AreOwn kind 1 (solved_put (balanced_of kind view))
+solved_alone kind view own =
+    solved_put_own kind (balanced_of kind view) (settled_own kind (balance_of kind view).steady (balance_of kind view).terms own)
+
+-- a kind that puts nothing else
+nothing_beside : (kind : Kind) (view : View) → TermsOwn kind (balance_of kind view).terms → AreOwn kind 8 (solved_put (balanced_of kind view))
+nothing_beside kind view own = more_room kind 1 8 _ (omega arith) (solved_alone kind view own)
+
+-- a kind that puts others beside it
+solved_beside : (kind : Kind) (view : View) (others : List Put) → TermsOwn kind (balance_of kind view).terms → AreOwn kind 7 others
+    → AreOwn kind 8 (solved_put (balanced_of kind view) ++ others)
+solved_beside kind view others own beside =
+    both_own kind 1 7 (solved_put (balanced_of kind view)) others (solved_alone kind view own) beside
+
+chosen_at : (kind : Kind) (place : ℕ) (test : Bool) (slot : Slot) → place < 12 → slot_in kind place ≡ where_chosen test slot → test ≡ true
+    → IsOwn kind place
+chosen_at kind place test slot few there chosen = own_at kind place slot few (there ∙ ap (λ t. where_chosen t slot) chosen)
+
+reservoir_own : (initial_storage : ℤ) (table : Option (List Row)) (local_inflow diversion return_flow evaporation : Bool) (max_release : Option ℤ) (view : View)
+    → IsStored initial_storage table evaporation max_release
+    → PutsOwn (Reservoir initial_storage table local_inflow diversion return_flow evaporation max_release) view
+reservoir_own initial_storage table local_inflow diversion return_flow evaporation max_release view is =
+    let kind : Kind = Reservoir initial_storage table local_inflow diversion return_flow evaporation max_release in
+    let two : IsOwn kind 2 = own_at kind 2 _ (omega arith) refl in
+    let level : AreOwn kind 1 (level_puts table (given view 2) (given view 3) (balanced_of kind view)) =
+    level_own kind table (given view 2) (given view 3) (balanced_of kind view) two (λ e. chosen_at kind 3 (is_some table) _ (omega arith) refl e) in
+    let lost : AreOwn kind 1 (evaporation_put evaporation (evaporation_of evaporation table view)) =
+    if_own kind 1 evaporation (_ ∷ []) []
+    (λ e. one_own kind _ (chosen_at kind 8 (evaporation && is_some table) _ (omega arith) refl (ap₂ (λ a b. a && b) e (is.evaporates e)))) (none_own kind 1) in
+    let released : AreOwn kind 2 (release_puts max_release (held_after view (balanced_of kind view) 1)) =
+    release_own kind max_release (held_after view (balanced_of kind view) 1)
+    (λ e. (chosen_at kind 9 (is_some max_release) _ (omega arith) refl e, chosen_at kind 10 (is_some max_release) _ (omega arith) refl e)) in
+    let solved : AreOwn kind 1 (solved_put (balanced_of kind view)) =
+    solved_alone kind view (own_at kind 0 _ (omega arith) refl, (own_at kind 1 _ (omega arith) refl, (two, tt))) in
+    more_room kind 5 8 _ (omega arith) (both_own kind 3 2 _ _ (both_own kind 2 1 _ _ (both_own kind 1 1 _ _ solved level) lost) released)
+
+puts_own : (kind : Kind) (view : View) → IsKind kind → PutsOwn kind view
+puts_own (DataObject slots) view is = none_own (DataObject slots) 8
+puts_own Gage view is =
+    nothing_beside Gage view (own_at _ 0 _ (omega arith) refl, (own_at _ 1 _ (omega arith) refl, tt))
+puts_own Confluence view is =
+    nothing_beside Confluence view (own_at _ 0 _ (omega arith) refl, (own_at _ 1 _ (omega arith) refl, (own_at _ 2 _ (omega arith) refl, tt)))
+puts_own Bifurcation view is =
+    nothing_beside Bifurcation view (own_at _ 0 _ (omega arith) refl, (own_at _ 1 _ (omega arith) refl, (own_at _ 2 _ (omega arith) refl, tt)))
+puts_own (Reach zero history local_inflow diversion return_flow) view is =
+    nothing_beside (Reach zero history local_inflow diversion return_flow) view (own_at _ 0 _ (omega arith) refl, (own_at _ 1 _ (omega arith) refl, tt))
+puts_own (Reach (suc lag) history local_inflow diversion return_flow) view is =
+    nothing_beside (Reach (suc lag) history local_inflow diversion return_flow) view (own_at _ 1 _ (omega arith) refl, tt)
+puts_own (Reservoir initial_storage table local_inflow diversion return_flow evaporation max_release) view is =
+    reservoir_own initial_storage table local_inflow diversion return_flow evaporation max_release view is
+puts_own (WaterUser depletion Request) view is =
+    let kind : Kind = WaterUser depletion Request in
+    let used : AreOwn kind 2 (user_puts depletion (held_after view (balanced_of kind view) 1)) =
+    both_own kind 1 1 (_ ∷ []) (_ ∷ []) (one_own kind _ (own_at _ 2 _ (omega arith) refl)) (one_own kind _ (own_at _ 3 _ (omega arith) refl)) in
+    solved_beside kind view _ (own_at _ 1 _ (omega arith) refl, tt) (more_room kind 2 7 _ (omega arith) used)
+puts_own (WaterUser depletion Rule) view is =
+    let kind : Kind = WaterUser depletion Rule in
+    let used : AreOwn kind 2 (user_puts depletion (held_after view (balanced_of kind view) 1)) =
+    both_own kind 1 1 (_ ∷ []) (_ ∷ []) (one_own kind _ (own_at _ 2 _ (omega arith) refl)) (one_own kind _ (own_at _ 3 _ (omega arith) refl)) in
+    solved_beside kind view _ tt (more_room kind 2 7 _ (omega arith) used)
+puts_own (Canal seepage) view is =
+    let kind : Kind = Canal seepage in
+    let seeps : AreOwn kind 1 (seepage_put (held_after view (balanced_of kind view) 0) (held_after view (balanced_of kind view) 1)) =
+    one_own kind _ (own_at _ 2 _ (omega arith) refl) in
+    solved_beside kind view _ (own_at _ 0 _ (omega arith) refl, (own_at _ 1 _ (omega arith) refl, tt)) (more_room kind 1 7 _ (omega arith) seeps)
+
+-- ---- what is answered
+
+-- none of what is wrong with contents is puts
+abbrev puts_in : Solved → Option (List Put)
+puts_in IdleAnswer = None
+puts_in (Puts puts) = Some puts
+puts_in (Conflict place held solves) = None
+puts_in (OutOfRange place value) = None
+
+abbrev NoPuts : Option Solved → Type 0
+NoPuts None = Unit {0}
+NoPuts (Some answer) = puts_in answer ≡ None
+
+if_no_puts : (test : Bool) (a b : Option Solved) → NoPuts a → NoPuts b → NoPuts (if test then a else b)
+if_no_puts true a b x y = x
+if_no_puts false a b x y = y
+
+or_no_puts : (a b : Option Solved) → NoPuts a → NoPuts b → NoPuts (or_else a b)
+or_no_puts None b x y = y
+or_no_puts (Some answer) b x y = x
+
+past_no_puts : (evaporation : Bool) (table : Option (List Row)) (past : Option ℤ) → NoPuts (fault_of_past evaporation table past)
+past_no_puts evaporation table None = tt
+past_no_puts evaporation table (Some storage) = if_no_puts (evaporation && not (can_hold table storage)) (Some (OutOfRange 2 storage)) None refl tt
+
+basis_no_puts : (table : Option (List Row)) (basis : Basis) → NoPuts (fault_of_basis table basis)
+basis_no_puts table Nothing = tt
+basis_no_puts table (Storage storage) = if_no_puts (can_hold table storage.value) None (Some (OutOfRange 2 storage.value)) tt refl
+basis_no_puts table (Elevation elevation) =
+    if_no_puts (is_some (volume_of table elevation.value)) None (Some (OutOfRange 3 elevation.value)) tt refl
+
+disagreement_no_puts : (table : Option (List Row)) (storage elevation : Option Given) → NoPuts (disagreement table storage elevation)
+disagreement_no_puts table None elevation = tt
+disagreement_no_puts table (Some storage) None = tt
+disagreement_no_puts table (Some storage) (Some elevation) =
+    if_no_puts (storage.number == 0 && elevation.number == 0 && not (agree table storage.value elevation.value)) (Some (Conflict 3 elevation.value _)) None refl tt
+
+contents_no_puts : (kind : Kind) (view : View) → NoPuts (fault_of_contents kind view)
+contents_no_puts (DataObject slots) view = tt
+contents_no_puts Gage view = tt
+contents_no_puts Confluence view = tt
+contents_no_puts Bifurcation view = tt
+contents_no_puts (Reach lag history local_inflow diversion return_flow) view = tt
+contents_no_puts (Reservoir initial_storage table local_inflow diversion return_flow evaporation max_release) view =
+    or_no_puts (fault_of_past evaporation table view.past) _ (past_no_puts evaporation table view.past)
+    (or_no_puts (fault_of_basis table (basis_of (given view 2) (given view 3))) _ (basis_no_puts table (basis_of (given view 2) (given view 3)))
+    (disagreement_no_puts table (given view 2) (given view 3)))
+contents_no_puts (WaterUser depletion supply) view = tt
+contents_no_puts (Canal seepage) view = tt
+
+-- where puts are answered, they are those that were judged, and all of them fit
+record AreJudged (fit : Put → Bool) (judging puts : List Put) : Type 0 where
+  same : judging ≡ puts
+  fit_all : AllFit fit judging
+
+all_or_misfit_puts : (fit : Put → Bool) (judging puts : List Put) (misfit : Option Put) → first_misfit fit judging ≡ misfit
+    → all_or_misfit judging misfit ≡ Puts puts → AreJudged fit judging puts
+all_or_misfit_puts fit judging puts None is e = record { same = same_Some _ _ (ap puts_in e); fit_all = is }
+all_or_misfit_puts fit judging puts (Some put) is e = absurd (none-some _ (ap puts_in e))
+
+answer_puts : (fit : Put → Bool) (judging puts : List Put) (balanced : Balanced) (fault : Option Solved) → NoPuts fault
+    → answer fit judging balanced fault ≡ Puts puts → AreJudged fit judging puts
+answer_puts fit judging puts Idle fault fine e = absurd (none-some _ (ap puts_in e))
+answer_puts fit judging puts Holds (Some found) fine e = absurd (none-some _ (sym fine ∙ ap puts_in e))
+answer_puts fit judging puts (Solves place value number) (Some found) fine e = absurd (none-some _ (sym fine ∙ ap puts_in e))
+answer_puts fit judging puts (Conflicts place held solved) (Some found) fine e = absurd (none-some _ (sym fine ∙ ap puts_in e))
+answer_puts fit judging puts Holds None fine e = all_or_misfit_puts fit judging puts (first_misfit fit judging) refl e
+answer_puts fit judging puts (Solves place value number) None fine e = all_or_misfit_puts fit judging puts (first_misfit fit judging) refl e
+answer_puts fit judging puts (Conflicts place held solved) None fine e = absurd (none-some _ (ap puts_in e))
+
+all_fit : (fit : Put → Bool) (puts : List Put) → AllFit fit puts → All (λ (put : Put). fit put ≡ true) puts
+all_fit fit [] h = λ k d lt. absurd (omega (arith, lt))
+all_fit fit (put ∷ puts) h =
+    let first = first_fits fit put puts h in
+    All-append (λ (p : Put). fit p ≡ true) (put ∷ []) puts
+    (All-push (λ (p : Put). fit p ≡ true) [] put (λ k d lt. absurd (omega (arith, lt))) first.0) (all_fit fit puts first.1)
+
+and_second : (a b : Bool) → a && b ≡ true → b ≡ true
+and_second true b e = e
+and_second false b e = absurd (cc)
+
+-- ---- a put of a kind
+
+-- it stands in a slot of the kind, and is a quantity within the slot's bounds
+pub record IsPutOf (kind : Kind) (view : View) (put : Put) : Type 0 where
+  pub own : IsOwn kind put.place
+  pub bounded : is_bounded view put ≡ true
+
+pub solve-puts : (kind : Kind) (view : View) (puts : List Put) → IsKind kind → solve_of kind view ≡ Puts puts
+    → All (IsPutOf kind view) puts × (length puts ≤ 8)
+solve-puts kind view puts is e =
+    let judging = answer_puts (fits kind view) (puts_of kind view (balanced_of kind view)) puts (balanced_of kind view) (fault_of_contents kind view) (contents_no_puts kind view) e in
+    let own : AreOwn kind 8 puts = subst (AreOwn kind 8) judging.same (puts_own kind view is) in
+    let fit : All (λ (put : Put). fits kind view put ≡ true) puts = all_fit (fits kind view) puts (subst (AllFit (fits kind view)) judging.same judging.fit_all) in
+    (λ k d lt. record { own = own.own k d lt; bounded = and_second _ _ (fit k d lt) }, own.few)
+
+-- ---- a put of an object
+
+found_here : (test : Bool) (n : ℕ) (rest : Option ℕ) → test ≡ true → is_some (if test then Some n else rest) ≡ true
+found_here test n rest e = rw e refl
+
+found_later : (test : Bool) (n : ℕ) (rest : Option ℕ) → is_some rest ≡ true → is_some (if test then Some n else rest) ≡ true
+found_later true n rest e = refl
+found_later false n rest e = e
+
+-- of the slots that stand from a place on, the one in a later place is found if it is there
+own_slot : (number owner place : ℕ) (slots : List (Option Slot)) (j : ℕ) → is_some (slice_index_or slots j None) ≡ true
+    → is_some (first_from number (is_in_place owner (place + j)) (placed_from owner place slots)) ≡ true
+own_slot number owner place [] zero there = absurd (cc)
+own_slot number owner place [] (suc j) there = absurd (cc)
+own_slot number owner place (None ∷ slots) zero there = absurd (cc)
+own_slot number owner place (Some slot ∷ slots) zero there =
+    let same : place + 0 ≡ place = omega arith in
+    found_here ((owner == owner) && (place == place + 0)) number _ (rw same (grind arith))
+own_slot number owner place (None ∷ slots) (suc j) there =
+    let same : (place + 1) + j ≡ place + suc j = omega arith in
+    ap (λ q. is_some (first_from number (is_in_place owner q) (placed_from owner (place + 1) slots))) (sym same)
+    ∙ own_slot number owner (place + 1) slots j there
+own_slot number owner place (Some slot ∷ slots) (suc j) there =
+    let same : (place + 1) + j ≡ place + suc j = omega arith in
+    found_later ((owner == owner) && (place == place + suc j)) number _
+    (ap (λ q. is_some (first_from (number + 1) (is_in_place owner q) (placed_from owner (place + 1) slots))) (sym same)
+    ∙ own_slot (number + 1) owner (place + 1) slots j there)
+
+-- an object has a slot in each place of its kind
+pub slot-in-place : (objects : List Object) (owner place : ℕ) (object : Object) → 1 ≤ owner → object_at objects owner ≡ Some object
+    → IsSome (slot_in object.kind place) → IsSome (slot_in_place objects owner place)
+slot-in-place objects owner place object first found there =
+    let at : owner ≡ 1 + (owner - 1) = omega (arith, first) in
+    let start : 0 + place ≡ place = omega arith in
+    let before : ℕ = 1 + length (slots_from 1 (take (owner - 1) objects)) in
+    ap is_some (first_from-own 1 (is_in_place owner place) owner 1 objects (owner - 1) object (IsOfOwner-is_in_place owner place) at found)
+    ∙ ap (λ q. is_some (first_from before (is_in_place owner q) (placed_from owner 0 (slots_of object.kind)))) (sym start)
+    ∙ own_slot before owner 0 (slots_of object.kind) place there
+
+-- it stands in a slot of the object, and is a quantity within the slot's bounds
+pub record IsOwnPut (basin : Draft) (cells : Cells) (object step : ℕ) (put : Put) : Type 0 where
+  pub few : put.place < 12
+  pub slot : IsSome (slot_in_place basin.objects object put.place)
+  pub bounded : is_bounded (view_of basin cells object step) put ≡ true
+
+-- what a dispatch of an object puts
+pub solved-puts : (basin : Draft) (cells : Cells) (object step : ℕ) (found : Object) (puts : List Put) → 1 ≤ object
+    → object_at basin.objects object ≡ Some found → IsKind found.kind → solved_by basin cells object step ≡ Puts puts
+    → All (IsOwnPut basin cells object step) puts × (length puts ≤ 8)
+solved-puts basin cells object step found puts first at is e =
+    let view : View = view_of basin cells object step in
+    let same = ap (λ (x : Option Object). unwrap_or (option_map (λ (f : Object). solve_of f.kind (view_of basin cells object step)) x) IdleAnswer) at in
+    let all = solve-puts found.kind view puts is (sym same ∙ e) in (
+      λ k d lt. record {
+        few = (all.0 k d lt).own.few;
+        slot = slot-in-place basin.objects object _ found first at (all.0 k d lt).own.slot;
+        bounded = (all.0 k d lt).bounded;
+      },
+      all.1,
+    )

@@ -1,0 +1,64 @@
+-- In what a timestep's events depend on the cells: in what they look at.
+use Rattle.std.specs.Prelude.{◌≡◌, ℕ, ℤ, List, [], ◌∷◌, ◌++◌, map, Option}
+use Rattle.rw_base.specs.declared.number.Cell.{Cell}
+use Rattle.rw_model.specs.Draft.{Draft}
+use Rattle.rw_series.specs.declared.look.Look.{Look}
+use Rattle.rw_log.specs.Log.{Asked, Event, given, opened, closed, idle, solved, fired, fault, Log}
+use Rattle.rw_log.specs.Next.{Policy, next}
+use Rattle.rw_log.specs.Runs.{standing, inside}
+
+-- the run ends with this event
+abbrev pub IsFault : Event → Type 0
+IsFault (given cell value) = ⊥
+IsFault (opened step) = ⊥
+IsFault (closed step) = ⊥
+IsFault (idle object step looked) = ⊥
+IsFault (solved dispatch) = ⊥
+IsFault (fired firing) = ⊥
+IsFault (fault why) = Unit {0}
+
+abbrev pub cells_looked : List Look → List Cell
+cells_looked looks = map (λ (look : Look). look.cell) looks
+
+abbrev pub cells_asked : List Asked → List Cell
+cells_asked puts = map (λ (put : Asked). put.cell) puts
+
+-- the cells at which an event looked, and those of the puts that it asked for
+abbrev pub looked_by : Event → List Cell
+looked_by (given cell value) = []
+looked_by (opened step) = []
+looked_by (closed step) = []
+looked_by (idle object step looked) = cells_looked looked
+looked_by (solved dispatch) = cells_looked dispatch.looked ++ cells_asked dispatch.asked
+looked_by (fired firing) = cells_looked firing.looked ++ cells_asked firing.asked
+looked_by (fault why) = []
+
+abbrev pub looked_in : List Event → List Cell
+looked_in [] = []
+looked_in (event ∷ events) = looked_by event ++ looked_in events
+
+-- each of these cells is alike in both
+abbrev pub AreAlike : {A : Type 0} → (Cell → A) → (Cell → A) → List Cell → Type 0
+AreAlike one other [] = Unit {0}
+AreAlike one other (cell ∷ cells) = (one cell ≡ other cell) × AreAlike one other cells
+
+-- these events follow in the timestep, none of them a fault
+abbrev pub Goes : Draft → Policy → ℕ → Log → List Event → Type 0
+Goes basin policy step old [] = Unit {0}
+Goes basin policy step old (event ∷ events) =
+    (next basin policy step old ≡ event) × (¬ IsFault event) × Goes basin policy step (event ∷ old) events
+
+-- a firing depends on the cells alone at which it looks
+abbrev pub IsFramed : Policy → Type 0
+IsFramed policy = (rule step : ℕ) (one other : Cell → Option ℤ)
+    → AreAlike one other (cells_looked (policy.fire rule step one).looked) → policy.fire rule step one ≡ policy.fire rule step other
+
+-- events of the timestep, of which the last closes it
+abbrev pub IsStepFrom : ℕ → Event → List Event → Type 0
+IsStepFrom step event [] = event ≡ closed step
+IsStepFrom step event (next ∷ events) = (standing (event ∷ []) ≡ inside step) × IsStepFrom step next events
+
+-- the log after these events, the first of them first
+abbrev pub log_after : List Event → Log → Log
+log_after [] log = log
+log_after (event ∷ events) log = log_after events (event ∷ log)
