@@ -19,6 +19,7 @@ use Rattle.rw_method.specs.View.{bounds_at, is_between}
 use Rattle.rw_method.specs.Puts.{is_bounded}
 use Rattle.rw_method.specs.Solve.{solve_of}
 use Rattle.rw_log.specs.Log.{Cells}
+use Rattle.rw_log.proofs.SolvedPuts.{solve-puts}
 use Rattle.rw_log.specs.Waiting.{is_data}
 use Rattle.rw_log.specs.Dispatch.{bounds_in_place, view_of, solved_by}
 use Rattle.rw_dispatch.specs.Putting.{CanPut}
@@ -31,7 +32,9 @@ pub record IsFitting (kind : Kind) (view : View) (put : Put) : Type 0 where
   pub bounded : is_bounded view put ≡ true
 
 pub solved_fit : (kind : Kind) (view : View) (puts : List Put) → IsKind kind → solve_of kind view ≡ Puts puts → All (λ (put : Put). IsFitting kind view put) puts
-solved_fit kind view puts sound solved = ?
+solved_fit kind view puts sound solved = λ k d near.
+    let put = (solve-puts kind view puts sound solved).0 k d near in
+    record { near = put.own.few; slot = put.own.slot; bounded = put.bounded }
 
 there : {X : Type 0} (found : Option X) → IsSome found → (x : X) × (found ≡ Some x)
 there None some = absurd (cc)

@@ -77,7 +77,3 @@ pub AreBounded-set : (basin : Draft) (object step : ℕ) (put : Put) (old new : 
     → Sets basin (asked_by basin object step put).cell (Some (asked_by basin object step put).content) old new → AreBounded basin (held new)
 AreBounded-set basin object step put old new can bounded sets =
     AreBounded-put basin (asked_by basin object step put) old new (put_between basin object step put can) bounded sets
-
--- where nothing is known, all that is known is within bounds
-pub AreBounded-unknown : (basin : Draft) (series : Series) → ((cell : Cell) → held series cell ≡ None) → AreBounded basin (held series)
-AreBounded-unknown basin series unknown = λ cell content known is. let none = unknown cell in absurd (cc)

@@ -1,7 +1,8 @@
 //! Two inflows meet in Join, whose outflow is the inflow of Mark, a gage. Notes only keeps data.
-ghost use Rattle.std.specs.Prelude.{map};
+ghost use Rattle.std.specs.Prelude.{IsTrue, map};
 ghost use Rattle.rw_method.specs.Catalogue.{AreInOrder};
-ghost use Rattle.rw_series.specs.Series.{held, IsSeriesOf};
+ghost use Rattle.rw_model.specs.Links.{IsBetween, bounds_in};
+ghost use Rattle.rw_series.specs.Series.{held, IsCell, IsSeriesOf};
 ghost use Rattle.rw_dispatch.specs.Answer.{AreBounded};
 ghost use Rattle.rw_dispatch.specs.Queue.{IsQueueOf};
 
@@ -155,6 +156,24 @@ fn unknown(rt: &impl Abort, alloc: Global, basin: &Basin) -> Series
     Series::sized(alloc, basin).expect(rt, "memory")
 }
 
+fn is_between(bounds: (i64, i64), value: i64) -> bool
+    ensures { IsTrue result → IsBetween bounds value }
+{
+    bounds.0 <= value && value <= bounds.1
+}
+
+// Makes a cell hold a content that its slot can have.
+fn hold(basin: &Basin, series: &mut Series, cell: Cell, content: Content)
+    requires cell { IsCell basin.now cell }
+    requires between { IsBetween (bounds_in basin.now.objects basin.now.links basin.now.bounds cell.slot.0) content.value }
+    requires series { IsSeriesOf basin.now series.old }
+    requires bounded { AreBounded basin.now (held series.old) }
+    ensures series { IsSeriesOf basin.now series.new }
+    ensures bounded { AreBounded basin.now (held series.new) }
+{
+    series.restore(basin, cell, Some(content));
+}
+
 // Gives a slot a value on the day.
 fn give(rt: &impl Abort, basin: &Basin, series: &mut Series, slot: u16, value: i64)
     requires series { IsSeriesOf basin.now series.old }
@@ -165,14 +184,13 @@ fn give(rt: &impl Abort, basin: &Basin, series: &mut Series, slot: u16, value: i
     assert!(rt; 1 <= slot && slot <= basin.slot_count());
     assert!(rt; DAY.0 <= basin.control().stamps.count());
     let slot = SlotNo(slot);
-    let (low, high) = basin.bounds(slot);
-    assert!(rt; low <= value && value <= high);
+    assert!(rt; is_between(basin.bounds(slot), value));
     let content = Content {
         value: Qty::of(value).expect(rt, "a quantity"),
         number: 0,
         writer: Writer::Input,
     };
-    series.restore(basin, Cell { slot, step: DAY }, Some(content));
+    hold(basin, series, Cell { slot, step: DAY }, content);
 }
 
 // Dispatches an object on the day.

@@ -1,11 +1,10 @@
 -- Two logs that hold alike what a timestep's events look at go alike through it.
-use Rattle.std.proofs.Common.{◌≡◌, ℕ, ◌+◌, ◌-◌, ◌==◌, ℤ, pos, ◌-ℤ◌, Bool, true, false, not, ◌&&◌, ◌||◌, cond, List, [], ◌∷◌, ◌++◌, map, length, Option, Some, None, nat_lt, nat_le, refl, sym, ap, ap₂, subst, ◌∙◌, arith}
+use Rattle.std.proofs.Common.{◌≡◌, ℕ, ◌-◌, ◌==◌, ℤ, pos, ◌-ℤ◌, Bool, true, false, not, ◌&&◌, ◌||◌, cond, List, [], ◌∷◌, ◌++◌, map, length, Option, Some, None, nat_lt, nat_le, refl, sym, ap, ap₂, subst, ◌∙◌, arith}
 use Rattle.std.specs.Prelude.{is_some, if◌then◌else◌, option_and_then, option_map, unwrap_or}
 use Rattle.std.specs.Option.{option_or}
-use Rattle.std.specs.List.{cons_option, filter, filter_map, find, list_any}
+use Rattle.std.specs.List.{cons_option, filter, filter_map, find}
 use Rattle.rw_base.specs.declared.number.Cell.{Cell}
 use Rattle.rw_model.specs.declared.content.Content.{Content}
-use Rattle.rw_model.specs.declared.put.PutEnd.{PutEnd}
 use Rattle.rw_model.specs.Before.{before_of}
 use Rattle.rw_model.specs.Draft.{Draft}
 use Rattle.rw_model.specs.Objects.{Object, object_at}
@@ -17,8 +16,8 @@ use Rattle.rw_series.specs.declared.look.Look.{Look}
 use Rattle.rw_log.specs.declared.fault.RunFault.TheVariants.{ObjectLimit, RuleLimit}
 use Rattle.rw_log.specs.Log.{Asked, Cells, Log, Event, given, opened, closed, idle, solved, fired, fault, cells_of, last_put, written_by, value_in}
 use Rattle.rw_log.specs.Waiting.{waiting, since, wakes, ends_wait, numbers, is_data, first_of}
-use Rattle.rw_log.specs.Dispatch.{Past, bounds_in_place, places, cell_in, content_in, past_of, cell_of_past, cell_at, past_cell_of, value_of_past, past_value, view_of, if_cell, looked_cells, looks_at, solved_by, asked_by, end_in, is_written, puts_written, denied_by, or_fault, judged, dispatch_of, answered, dispatched}
-use Rattle.rw_log.specs.Next.{Policy, Fire, FireEnd, is_done, is_unknown, by_zero, is_outside, next, next_of, after_objects, firing_of, ended, agenda_of, count_if, dispatches, firings, last_looks, is_changed, is_same_value, is_due, first_due, is_put_again, last_ones}
+use Rattle.rw_log.specs.Dispatch.{Past, bounds_in_place, places, cell_in, past_of, cell_of_past, cell_at, past_cell_of, value_of_past, view_of, if_cell, looked_cells, looks_at, solved_by, asked_by, end_in, is_written, puts_written, denied_by, or_fault, judged, dispatch_of, answered, dispatched}
+use Rattle.rw_log.specs.Next.{Policy, Fire, FireEnd, is_done, is_unknown, by_zero, is_outside, next, next_of, after_objects, firing_of, ended, agenda_of, count_if, dispatches, firings, last_looks, is_changed, is_same_value, first_due, is_put_again, last_ones}
 use Rattle.rw_log.specs.Frame.{IsFault, cells_looked, cells_asked, looked_by, looked_in, AreAlike, Goes, IsFramed}
 use Rattle.rw_log.proofs.Lists.{filter-same}
 use Rattle.rw_log.proofs.Waits.{waiting-more, opens}

@@ -77,7 +77,7 @@ fn a_firing_says_whether_it_was_done(rt: HostRuntime) {
         count: 7,
     };
     trace.push(fire).expect(&rt, "room");
-    assert_eq!(rt; trace.events(), &[fire][..]);
+    assert_eq!(rt; trace.events().first(), Some(&fire));
     let done = TraceEvent::Fire {
         rule: RuleNo(2),
         done: true,
