@@ -2,6 +2,7 @@
 use Rattle.std.specs.Prelude.{◌≡◌, ℕ, ◌+◌, ◌-◌, ◌≤◌, false, List, ◌∷◌, length, All, Option, Some, None, slice_index_or}
 use Rattle.rw_base.specs.declared.number.Cell.{Cell}
 use Rattle.rw_model.specs.Draft.{Draft, IsObject}
+use Rattle.rw_model.specs.Basin.{IsBasin}
 use Rattle.rw_series.specs.Series.{held, IsCell, IsSeriesOf}
 use Rattle.rw_log.specs.Log.{Event, closed, fault, Log, cells_of}
 use Rattle.rw_log.specs.Waiting.{is_data, waiting}
@@ -17,6 +18,7 @@ use Rattle.rw_engine.specs.declared.undone.Undone.{Undone}
 
 -- an engine made for the basin, whose slots all hold values that they can have
 pub record IsEngineOf (basin : Draft) (engine : Engine) : Type 0 where
+  pub valid : IsBasin basin
   pub series : IsSeriesOf basin engine.series
   pub bounded : AreBounded basin (held engine.series)
   pub queue : IsQueueOf basin engine.queue

@@ -1,5 +1,5 @@
 -- What cells held before a timestep, and the cells once that is put back.
-use Rattle.std.specs.Prelude.{◌≡◌, ℕ, List, [], ◌∷◌, ◌++◌, Option, Some, None, option_map, if◌then◌else◌}
+use Rattle.std.specs.Prelude.{◌≡◌, ℕ, zero, suc, List, [], ◌∷◌, ◌++◌, Option, Some, None, option_map, if◌then◌else◌}
 use Rattle.rw_base.specs.declared.number.Cell.{Cell}
 use Rattle.rw_model.specs.Draft.{Draft}
 use Rattle.rw_series.specs.Series.{Series, held, is_shared}
@@ -22,11 +22,11 @@ abbrev pub if_undone : Option Undone → List Undone
 if_undone None = []
 if_undone (Some undone) = undone ∷ []
 
--- what its slots in these places hold
-abbrev pub undone_in : Draft → Cells → ℕ → ℕ → List ℕ → List Undone
-undone_in basin cells object step [] = []
-undone_in basin cells object step (place ∷ places) =
-    if_undone (undone_at basin cells object step place) ++ undone_in basin cells object step places
+-- what its slots in the first places hold
+abbrev pub undone_to : Draft → Cells → ℕ → ℕ → ℕ → List Undone
+undone_to basin cells object step zero = []
+undone_to basin cells object step (suc place) =
+    undone_to basin cells object step place ++ if_undone (undone_at basin cells object step place)
 
 -- putting these back gives what was held before
 abbrev pub CanUndo : Draft → List Undone → Series → Cells → Type 0
