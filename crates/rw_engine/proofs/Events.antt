@@ -1,0 +1,137 @@
+-- One event of the engine, over the log that it holds.
+use Rattle.std.proofs.Common.{◌≡◌, ◌≤◌, ◌<◌, ◌+◌, ◌-◌, ◌==◌, ℕ, zero, suc, Bool, true, false, List, [], ◌∷◌, ◌++◌, length, map, get_or, set, Option, Some, None, nat_le, refl, sym, ap, ap₂, subst, ◌∙◌, arith}
+use Rattle.std.specs.Prelude.{if◌then◌else◌}
+use Rattle.std.proofs.lemmas.Bool.Decides.{nat_tests}
+use Rattle.std.proofs.lemmas.List.{map-map}
+use Rattle.rw_base.specs.declared.number.Cell.{Cell}
+use Rattle.rw_model.specs.declared.control.AgendaOrder.{AgendaOrder}
+use Rattle.rw_model.specs.declared.control.AgendaOrder.TheVariants.{HighFirst, LowFirst}
+use Rattle.rw_model.specs.Draft.{Draft, IsObject}
+use Rattle.rw_method.specs.declared.put.Put.{Put}
+use Rattle.rw_series.specs.Series.{held}
+use Rattle.rw_log.specs.declared.fault.RunFault.{RunFault}
+use Rattle.rw_log.specs.declared.fault.RunFault.TheVariants.{Conflict, ZeroDivisor, ObjectOutOfRange, RuleOutOfRange, ObjectLimit, RuleLimit}
+use Rattle.rw_log.specs.declared.run.RunEnd.TheVariants.{Settled, Fault}
+use Rattle.rw_log.specs.declared.trace.TraceEvent.{TraceEvent}
+use Rattle.rw_log.specs.declared.trace.TraceEvent.TheVariants.{Solve}
+use Rattle.rw_log.specs.Log.{Asked, Cells, Event, given, opened, closed, idle, solved, fired, fault, Log, cells_of}
+use Rattle.rw_log.specs.Waiting.{waiting, first_of, queued_after}
+use Rattle.rw_log.specs.Dispatch.{asked_by, dispatched}
+use Rattle.rw_log.specs.Next.{count_if, dispatches, agenda_of, no_rules, first_due, next, next_of, after_objects}
+use Rattle.rw_log.specs.Runs.{Standing, rests, inside, over, standing}
+use Rattle.rw_log.specs.RunOf.{line_of, lines, end_of, last_closed}
+use Rattle.rw_log.proofs.Waits.{idles, solves}
+use Rattle.rw_dispatch.specs.declared.dispatched.Dispatched.{Dispatched}
+use Rattle.rw_dispatch.specs.declared.dispatched.Dispatched.TheVariants.{Idle as IsIdle, Solved as IsSolved, Conflict as IsConflict, OutOfRange as IsOutOfRange}
+use Rattle.rw_dispatch.specs.Answer.{IsAnswer}
+use Rattle.rw_engine.specs.declared.engine.Engine.{Engine}
+use Rattle.rw_engine.specs.declared.step_end.StepEnd.TheVariants.{Closed as IsClosed, Fault as IsFault}
+use Rattle.rw_engine.specs.Telling.{line_by, lines_by, fault_by}
+use Rattle.rw_engine.specs.Stands.{Shows, Holds, EndsBy}
+use Rattle.rw_engine.specs.Passing.{room}
+
+-- ---- which event follows
+
+-- the first that waits is dispatched, below the limit
+pub next_is : (basin : Draft) (cells : Cells) (step : ℕ) (log : Log) (object : ℕ) (rest : List ℕ) → waiting basin log ≡ object ∷ rest
+    → cells ≡ cells_of basin log → dispatches log object < basin.control.object_limit → next basin no_rules step log ≡ dispatched basin cells object step
+next_is basin cells step log object rest waits same below =
+    ap (λ queue. next_of basin no_rules (cells_of basin log) log step (first_of queue)) waits
+    ∙ often (nat_le basin.control.object_limit (dispatches log object)) refl ∙ ap (λ z. dispatched basin z object step) (sym same)
+  where
+    often : (reached : Bool) → nat_le basin.control.object_limit (dispatches log object) ≡ reached
+        → (if reached then fault (ObjectLimit (record { 0 = object }) (record { 0 = step }) (dispatches log object)) else dispatched basin (cells_of basin log) object step)
+        ≡ dispatched basin (cells_of basin log) object step
+    often true is = absurd (grind (arith, nat_tests))
+    often false is = refl
+
+-- at the limit that is the fault
+pub next_limit : (basin : Draft) (step : ℕ) (log : Log) (object : ℕ) (rest : List ℕ) → waiting basin log ≡ object ∷ rest
+    → basin.control.object_limit ≤ dispatches log object
+    → next basin no_rules step log ≡ fault (ObjectLimit (record { 0 = object }) (record { 0 = step }) (dispatches log object))
+next_limit basin step log object rest waits reached =
+    ap (λ queue. next_of basin no_rules (cells_of basin log) log step (first_of queue)) waits
+    ∙ often (nat_le basin.control.object_limit (dispatches log object)) refl
+  where
+    often : (test : Bool) → nat_le basin.control.object_limit (dispatches log object) ≡ test
+        → (if test then fault (ObjectLimit (record { 0 = object }) (record { 0 = step }) (dispatches log object)) else dispatched basin (cells_of basin log) object step)
+        ≡ fault (ObjectLimit (record { 0 = object }) (record { 0 = step }) (dispatches log object))
+    often true is = refl
+    often false is = absurd (grind (arith, nat_tests))
+
+no_agenda : (order : AgendaOrder) → agenda_of order 0 ≡ []
+no_agenda HighFirst = refl
+no_agenda LowFirst = refl
+
+-- where none waits the timestep is closed
+pub next_closes : (basin : Draft) (step : ℕ) (log : Log) → waiting basin log ≡ [] → next basin no_rules step log ≡ closed step
+next_closes basin step log waits =
+    ap (λ queue. next_of basin no_rules (cells_of basin log) log step (first_of queue)) waits ∙ none basin.control.agenda
+  where
+    none : (order : AgendaOrder) → after_objects basin no_rules (cells_of basin log) log step (find (is_due (cells_of basin log) log) (agenda_of order 0)) ≡ closed step
+    none HighFirst = refl
+    none LowFirst = refl
+
+-- ---- counts
+
+set_at : (xs : List ℕ) (k j v : ℕ) → k < length xs → get_or (set xs k v) j 0 ≡ (if k == j then v else get_or xs j 0)
+set_at [] k j v near = absurd (omega arith)
+set_at (x ∷ xs) zero zero v near = refl
+set_at (x ∷ xs) zero (suc j) v near = grind (arith, nat_tests)
+set_at (x ∷ xs) (suc k) zero v near = grind (arith, nat_tests)
+set_at (x ∷ xs) (suc k) (suc j) v near = let h = set_at xs k j v (omega arith) in grind (arith, nat_tests)
+
+counts_more : (counts : List ℕ) (object other m n : ℕ) → object - 1 < length counts → 1 ≤ object → 1 ≤ other → get_or counts (object - 1) 0 ≡ n
+    → get_or counts (other - 1) 0 ≡ m → get_or (set counts (object - 1) (n + 1)) (other - 1) 0 ≡ count_if (object == other) m
+counts_more counts object other m n near first first_other own others = let h = set_at counts (object - 1) (other - 1) (n + 1) near in grind (arith, nat_tests)
+
+pub room_falls : (limit : ℕ) (counts : List ℕ) (k n : ℕ) → k < length counts → get_or counts k 0 ≡ n → n < limit → room limit (set counts k (n + 1)) < room limit counts
+room_falls limit [] k n near is below = absurd (omega arith)
+room_falls limit (count ∷ counts) zero n near is below = omega arith
+room_falls limit (count ∷ counts) (suc k) n near is below = let h = room_falls limit counts k n (omega arith) is below in omega arith
+
+-- ---- after an event
+
+-- a log that is inside a timestep has no fault
+pub settled_inside : (log : Log) (step : ℕ) → standing log ≡ inside step → end_of log ≡ Settled
+settled_inside [] step is = refl
+settled_inside (given cell value ∷ log) step is = refl
+settled_inside (opened at ∷ log) step is = refl
+settled_inside (closed at ∷ log) step is = refl
+settled_inside (idle object at looked ∷ log) step is = refl
+settled_inside (solved dispatch ∷ log) step is = refl
+settled_inside (fired firing ∷ log) step is = refl
+settled_inside (fault why ∷ log) step is = absurd (cc)
+
+-- what the engine has after the dispatch of an object
+pub record Went (basin : Draft) (old new : Engine) (step object count : ℕ) (rest : List ℕ) (event : Event) (answer : Dispatched) : Type 0 where
+  pub answer_is : IsAnswer basin object step event answer
+  pub own : IsObject basin.objects object
+  pub length_is : length old.counts.items ≡ length basin.objects
+  pub count_is : get_or old.counts.items (object - 1) 0 ≡ count
+  pub counts : new.counts.items ≡ set old.counts.items (object - 1) (count + 1)
+  pub queue : new.queue.waiting ≡ queued_after basin event rest
+  pub trace : new.trace ≡ old.trace ++ lines_by basin object step answer
+  pub closed_steps : new.closed ≡ old.closed
+
+module _ (basin : Draft) (old new : Engine) (step object count : ℕ) (rest : List ℕ) (log : Log) where
+  counted : (event : Event) (answer : Dispatched) → Holds basin old step log (object ∷ rest) → Went basin old new step object count rest event answer
+      → (own other : ℕ) → own ≡ object → IsObject basin.objects other → get_or new.counts.items (other - 1) 0 ≡ count_if (own == other) (dispatches log other)
+  counted event answer holds went own other is known =
+      let near : object - 1 < length old.counts.items = (let f = went.own.first in let l = went.own.last in let e = went.length_is in omega arith) in
+      ap (λ xs. get_or xs (other - 1) 0) went.counts
+      ∙ counts_more old.counts.items object other (dispatches log other) count near went.own.first known.first went.count_is (holds.counts other known)
+      ∙ ap (λ z. count_if (z == other) (dispatches log other)) (sym is)
+
+  written_lines : (puts : List Put) → map (line_by basin object step) puts ≡ map line_of (map (asked_by basin object step) puts)
+  written_lines [] = refl
+  written_lines (put ∷ puts) = ap (λ xs. line_by basin object step put ∷ xs) (written_lines puts)
+
+  -- the lines of an answer are those of its event
+  lines_are : (event : Event) (answer : Dispatched) → IsAnswer basin object step event answer → lines_by basin object step answer ≡ lines event
+  lines_are (idle other at looked) IsIdle is = ap (λ o. TraceEvent.Idle (record { 0 = o }) ∷ []) (sym is.0)
+  lines_are (solved dispatch) (IsSolved asked written) is =
+      ap₂ (λ o xs. Solve (record { 0 = o }) ∷ xs) (sym is.own) (written_lines written ∙ ap (map line_of) (sym is.those))
+  lines_are (fault (Conflict other slot at there here)) (IsConflict own left right) is = ?
+  lines_are (fault (ObjectOutOfRange other slot at here)) (IsOutOfRange own right) is = ?
+  lines_are event answer is = ?
