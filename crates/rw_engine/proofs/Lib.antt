@@ -3,3 +3,5 @@ pub mod Undo
 pub mod Own
 pub mod Events
 pub mod Steps
+pub mod Starts
+pub mod After

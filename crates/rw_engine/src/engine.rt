@@ -80,7 +80,7 @@ impl Engine {
         ensures undo { self.new.undo ≡ self.old.undo }
         ensures closed_steps { self.new.closed ≡ self.old.closed }
         ensures end { self.new.end ≡ self.old.end }
-        ensures opened { IfOk result (λ _. (log : Log) → Shows basin.now self.old log
+        ensures opened { IfOk result (λ _. (log : Log) → Shows basin.now self.old log → IsBefore basin.now step.0 log
             → Holds basin.now self.new step.0 (opened step.0 ∷ log) self.new.queue.waiting) }
         ensures grows { Grows self.old.trace self.new.trace }
     {
@@ -156,6 +156,7 @@ impl Engine {
             → CanUndo basin.now self.new.undo.items self.new.series before }
         ensures closed_steps { self.new.closed ≡ self.old.closed }
         ensures end { IfErr result (λ _. self.new.end ≡ self.old.end) }
+        ensures going { IfOk result (λ end. end ≡ None → self.new.end ≡ self.old.end) }
         ensures grows { Grows self.old.trace self.new.trace }
         ensures falls { IfOk result (λ end. end ≡ None
             → room basin.now.control.object_limit self.new.counts.items < room basin.now.control.object_limit self.old.counts.items) }
