@@ -5,3 +5,4 @@ pub mod Events
 pub mod Steps
 pub mod Starts
 pub mod After
+pub mod Runs

@@ -1,4 +1,4 @@
-ghost use Rattle.std.specs.Prelude.{◌≡◌, map, IfOk};
+ghost use Rattle.std.specs.Prelude.{◌≤◌, map, IfOk};
 ghost use Rattle.rw_method.specs.Catalogue.{AreInOrder};
 ghost use Rattle.rw_inputs.specs.Inputs.{IsInputsOf};
 ghost use Rattle.rw_engine.specs.Passing.{ComesTo};
@@ -22,6 +22,7 @@ pub fn run_all(
     requires order { AreInOrder (map (λ b. code (b.vtable, b.value)) methods.now.methods.items) }
     requires inputs { IsInputsOf basin.now inputs.now }
     ensures run { IfOk result (ComesTo basin.now inputs.now) }
+    ensures closed { IfOk result (λ run. run.closed ≤ basin.now.control.stamps.count) }
 {
     let mut engine = Engine::for_run(alloc, basin, inputs)?;
     for before in 0..basin.control().stamps.count() {
