@@ -21,14 +21,15 @@ use Rattle.rw_engine.proofs.Undo.{undo-kept, undo-more}
 
 pub made_after : (basin : Draft) (old new : Engine) (event : Event) (place count : ℕ) → IsEngineOf basin old → IsSeriesOf basin new.series
     → AreBounded basin (held new.series) → IsQueueOf basin new.queue → new.queue.waiting ≡ queued_after basin event old.queue.waiting
-    → new.counts.items ≡ set old.counts.items place count → All (λ (undone : Undone). IsCell basin undone.cell) new.undo.items → IsEngineOf basin new
-made_after basin old new event place count made series bounded queue waiting counts undo = record {
+    → new.counts.items ≡ set old.counts.items place count → new.closed ≡ old.closed → All (λ (undone : Undone). IsCell basin undone.cell) new.undo.items → IsEngineOf basin new
+made_after basin old new event place count made series bounded queue waiting counts last undo = record {
   valid = made.valid;
   series = series;
   bounded = bounded;
   queue = queue;
   counts = ap length counts ∙ length-set old.counts.items place count ∙ made.counts;
   ready = subst (AreReady basin) (sym waiting) (queued_after-ready basin event old.queue.waiting made.ready);
+  closed_steps = subst (λ n. n ≤ basin.control.stamps.count) (sym last) made.closed_steps;
   undo = undo;
 }
 

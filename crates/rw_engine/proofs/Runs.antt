@@ -48,14 +48,14 @@ none_left steps true is = absurd (grind (arith, nat_tests))
 none_left steps false is = refl
 
 -- after the last timestep the run is whole
-pub comes_settled : (basin : Draft) (inputs : Inputs) (engine : Engine) (run : Run) → (stands : Stands basin inputs engine basin.control.stamps.count)
-    → IsRunOf basin stands.log run → ComesTo basin inputs run
-comes_settled basin inputs engine run stands is = record {
+pub comes_settled : (basin : Draft) (inputs : Inputs) (engine : Engine) (step : ℕ) (run : Run) → (stands : Stands basin inputs engine step)
+    → step ≡ basin.control.stamps.count → IsRunOf basin stands.log run → ComesTo basin inputs run
+comes_settled basin inputs engine step run stands last is = record {
   log = stands.log;
   whole = record {
     events = stands.events;
     leads = stands.leads;
-    end = ap (follows_in basin no_rules stands.log) stands.rest ∙ none_left basin.control.stamps.count (nat_lt basin.control.stamps.count basin.control.stamps.count) refl;
+    end = ap (follows_in basin no_rules stands.log) (stands.rest ∙ ap rests last) ∙ none_left basin.control.stamps.count (nat_lt basin.control.stamps.count basin.control.stamps.count) refl;
   };
   is = is;
 }
@@ -72,5 +72,3 @@ comes_faulted basin inputs old new step at why run stands passes is = record {
   };
   is = is;
 }
-
--- the last closed timestep is one of the run

@@ -93,6 +93,7 @@ impl Engine {
     // Closes the open timestep.
     fn close(&mut self, basin: &Basin, step: StepNo) -> Result<StepEnd, NoMemory>
         requires made { IsEngineOf basin.now self.old }
+        requires last { step.0 ≤ basin.now.control.stamps.count }
         ensures made { IsEngineOf basin.now self.new }
         ensures series { self.new.series ≡ self.old.series }
         ensures undo { self.new.undo ≡ self.old.undo }
@@ -272,7 +273,8 @@ impl Engine {
 
     /// What the run came to.
     pub(crate) fn finish(self) -> Run
-        ensures { (basin : Draft) (log : Log) → IsEngineOf basin self → Shows basin self log → IsRunOf basin log result }
+        ensures run { (basin : Draft) (log : Log) → IsEngineOf basin self → Shows basin self log → IsRunOf basin log result }
+        ensures closed { (basin : Draft) → IsEngineOf basin self → result.closed ≤ basin.control.stamps.count }
     {
         Run {
             end: self.end,

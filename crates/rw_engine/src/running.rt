@@ -26,9 +26,9 @@ pub fn run_all(
 {
     let mut engine = Engine::for_run(alloc, basin, inputs)?;
     for before in 0..basin.control().stamps.count() {
-        let end = engine.run_step(basin, methods, StepNo(before + 1))?;
-        if end != StepEnd::Closed {
-            return Ok(engine.finish());
+        match engine.run_step(basin, methods, StepNo(before + 1))? {
+            StepEnd::Closed => {}
+            StepEnd::Fault(_) => return Ok(engine.finish()),
         }
     }
     Ok(engine.finish())

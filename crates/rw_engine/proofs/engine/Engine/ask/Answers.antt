@@ -32,7 +32,7 @@ returns-in_err-remember-clause-undo g c = λ before can.
 pub returns-in_err-fault-clause-made : goal.returns-in_err-fault-clause-made
 returns-in_err-fault-clause-made g c =
     made_after c.args.basin.now c.args.self.now _ (dispatched c.args.basin.now (held c.args.self.now.series) c.args.object.0 c.args.step.0) _ _ c.requires.made
-    c.dispatch-answer.ensures.series c.dispatch-answer.ensures.bounded c.dispatch-answer.ensures.made c.dispatch-answer.ensures.queue refl (c.remember.ensures.cells c.requires.made.undo)
+    c.dispatch-answer.ensures.series c.dispatch-answer.ensures.bounded c.dispatch-answer.ensures.made c.dispatch-answer.ensures.queue refl refl (c.remember.ensures.cells c.requires.made.undo)
 
 pub returns-in_err-fault-clause-undo : goal.returns-in_err-fault-clause-undo
 returns-in_err-fault-clause-undo g c = λ before can.
@@ -41,7 +41,7 @@ returns-in_err-fault-clause-undo g c = λ before can.
 pub returns-in_default-clause-made : goal.returns-in_default-clause-made
 returns-in_default-clause-made g c =
     made_after c.args.basin.now c.args.self.now _ (dispatched c.args.basin.now (held c.args.self.now.series) c.args.object.0 c.args.step.0) _ _ c.requires.made
-    c.dispatch-answer.ensures.series c.dispatch-answer.ensures.bounded c.dispatch-answer.ensures.made c.dispatch-answer.ensures.queue refl (c.remember.ensures.cells c.requires.made.undo)
+    c.dispatch-answer.ensures.series c.dispatch-answer.ensures.bounded c.dispatch-answer.ensures.made c.dispatch-answer.ensures.queue refl refl (c.remember.ensures.cells c.requires.made.undo)
 
 pub returns-in_default-clause-undo : goal.returns-in_default-clause-undo
 returns-in_default-clause-undo g c = λ before can.
@@ -92,7 +92,7 @@ returns-in_default-clause-falls g c = λ going.
 pub returns-clause-made : goal.returns-clause-made
 returns-clause-made g c =
     made_after c.args.basin.now c.args.self.now _ (dispatched c.args.basin.now (held c.args.self.now.series) c.args.object.0 c.args.step.0) _ _ c.requires.made
-    c.dispatch-answer.ensures.series c.dispatch-answer.ensures.bounded c.dispatch-answer.ensures.made c.dispatch-answer.ensures.queue refl (c.remember.ensures.cells c.requires.made.undo)
+    c.dispatch-answer.ensures.series c.dispatch-answer.ensures.bounded c.dispatch-answer.ensures.made c.dispatch-answer.ensures.queue refl refl (c.remember.ensures.cells c.requires.made.undo)
 
 pub returns-clause-undo : goal.returns-clause-undo
 returns-clause-undo g c = λ before can.

@@ -12,5 +12,6 @@ ask-requires-clause-made g c =
       queue = c.next.ensures.objects ∙ made.queue;
       counts = made.counts;
       ready = All-rest (λ object. is_data c.args.basin.now object ≡ false) c.in-Some.object.0 c.next.new.self.waiting c.args.self.now.queue.waiting c.in-Some.ensures.taken made.ready;
+      closed_steps = made.closed_steps;
       undo = made.undo;
     }

@@ -13,6 +13,7 @@ returns-clause-made c = record {
   queue = c.begin_step.ensures.made;
   counts = c.zero.ensures.length ∙ c.requires.made.counts;
   ready = subst (AreReady c.args.basin.now) (sym c.begin_step.ensures.all) (all_waiting-ready c.args.basin.now);
+  closed_steps = c.requires.made.closed_steps;
   undo = c.requires.made.undo;
 }
 
