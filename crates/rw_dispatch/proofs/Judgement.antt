@@ -1,6 +1,5 @@
 -- Puts are judged one after another, all by what the cells hold before the first of them.
-use Rattle.std.proofs.Common.{◌≡◌, ◌≤◌, ◌+◌, ℕ, List, [], ◌∷◌, ◌++◌, map, length, Option, None, refl, sym, ap, ◌∙◌, append_assoc}
-use Rattle.std.specs.List.{filter}
+use Rattle.std.proofs.Common.{◌≡◌, ℕ, List, [], ◌∷◌, ◌++◌, None, refl, sym, ap, ◌∙◌, append_assoc}
 use Rattle.std.proofs.lemmas.List.Elements.{filter-append}
 use Rattle.rw_log.specs.Log.{Asked, Cells, Event}
 use Rattle.rw_log.specs.Dispatch.{end_in, is_written, puts_written, denied_by, or_fault, judged}

@@ -1,20 +1,19 @@
 -- Puts are made one after another.
-use Rattle.std.proofs.Common.{◌≡◌, ◌+◌, ◌==◌, ◌&&◌, ◌++◌, ℕ, Bool, true, false, List, [], ◌∷◌, Option, Some, None, refl, sym, ap, ap₂, subst, ◌∙◌, arith, if◌then◌else◌}
+use Rattle.std.proofs.Common.{◌≡◌, ℕ, Bool, true, false, List, [], ◌∷◌, Option, Some, None, refl, sym, ap, subst, ◌∙◌, if◌then◌else◌}
 use Rattle.std.specs.Prelude.{IsSome, option_map, unwrap_or, pos}
 use Rattle.std.specs.Option.{option_or}
 use Rattle.rw_base.specs.declared.number.Cell.{Cell}
 use Rattle.rw_model.specs.declared.content.Content.{Content}
 use Rattle.rw_model.specs.Objects.{slot_in_place}
 use Rattle.rw_model.specs.Draft.{Draft}
-use Rattle.rw_model.specs.Links.{IsBetween, is_among, is_together, group_of, bounds_in}
+use Rattle.rw_model.specs.Links.{IsBetween, bounds_in}
 use Rattle.rw_method.specs.declared.put.Put.{Put}
-use Rattle.rw_series.specs.Series.{Series, held, is_shared, IsCell, Sets}
+use Rattle.rw_series.specs.Series.{Series, held, is_shared, Sets}
 use Rattle.rw_log.specs.Log.{Asked, Cells, last_put}
 use Rattle.rw_log.specs.Dispatch.{asked_by, bounds_in_place, slot_or_none}
 use Rattle.rw_dispatch.specs.Answer.{AreBounded}
 use Rattle.rw_dispatch.specs.Putting.{CanPut}
 use Rattle.rw_dispatch.proofs.Together.{bounds-shared}
-
 
 chosen : (test : Bool) (new : Content) (held : Option Content) → (if test then Some new else held) ≡ option_or (if test then Some new else None) held
 chosen true new held = refl
