@@ -24,20 +24,9 @@ pub put-set : (basin : Draft) (put : Asked) (old new : Series) → Sets basin pu
     → held new cell ≡ option_or (last_put basin (put ∷ []) cell) (held old cell)
 put-set basin put old new sets cell = sets cell ∙ chosen (is_shared basin put.cell cell) put.content (held old cell)
 
-or_assoc : (a b c : Option Content) → option_or (option_or a b) c ≡ option_or a (option_or b c)
-or_assoc None b c = refl
-or_assoc (Some x) b c = refl
-
 -- what is left to be put, over what was put, is what was to be put
 abbrev pub IsPutting : Draft → Cells → Cells → List Asked → List Asked → Type 0
 IsPutting basin first now all left = (cell : Cell) → option_or (last_put basin left cell) (now cell) ≡ option_or (last_put basin all cell) (first cell)
-
-pub IsPutting-next : (basin : Draft) (first now next : Cells) (all left : List Asked) (put : Asked) → IsPutting basin first now all (put ∷ left)
-    → ((cell : Cell) → next cell ≡ option_or (last_put basin (put ∷ []) cell) (now cell)) → IsPutting basin first next all left
-IsPutting-next basin first now next all left put putting made = λ cell.
-    ap (option_or (last_put basin left cell)) (made cell)
-    ∙ sym (or_assoc (last_put basin left cell) (if is_shared basin put.cell cell then Some put.content else None) (now cell))
-    ∙ putting cell
 
 -- ---- what is put is within bounds
 
