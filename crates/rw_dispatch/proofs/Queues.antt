@@ -66,16 +66,6 @@ taken_first items n m room a waits q e =
       few = grind (arith, q.few);
     }
 
-first_within : (items : List ℕ) (n room a : ℕ) (waits : List Bool) → KeepsQueue (a ∷ items) n room waits → (1 ≤ a) × (a ≤ length waits)
-first_within items n room a waits q =
-    let own : 1 + times a items ≡ cond (is_marked waits a) 1 0 = let h = q.marked a in grind (arith, nat_tests) in
-    let w = set_within waits a (times a items) own in
-    let k : a - 1 < length waits = in_range waits (a - 1) w.1 in
-    (w.0, omega arith)
-
-pub within_of : (all items : List ℕ) (n room a : ℕ) (waits : List Bool) → all ≡ a ∷ items → KeepsQueue all n room waits → (1 ≤ a) × (a ≤ length waits)
-within_of all items n room a waits e q = first_within items n room a waits (subst (λ xs. KeepsQueue xs n room waits) e q)
-
 pub taken : (all items : List ℕ) (n m room wide a : ℕ) (waits : List Bool) → all ≡ a ∷ items → wide ≡ room → KeepsQueue all n room waits → m + 1 ≡ n
     → KeepsQueue items m wide (set waits (a - 1) false)
 taken all items n m room wide a waits e w q l = rw w (taken_first items n m room a waits (subst (λ xs. KeepsQueue xs n room waits) e q) l)
