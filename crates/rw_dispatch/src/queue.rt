@@ -2,8 +2,9 @@ ghost use Rattle.std.specs.Prelude.{ℕ, List, true, cond, ◌==◌, ◌≡◌, 
 ghost use Rattle.std.specs.List.{list_any};
 ghost use Rattle.rw_model.specs.Draft.{IsObject, IsSlot};
 ghost use Rattle.rw_model.specs.Kept.{numbers_of};
+ghost use Rattle.rw_log.specs.Times.{times};
 ghost use Rattle.rw_log.specs.Waiting.{all_waiting, is_but, is_owner, is_woken, woken};
-ghost use Rattle.rw_dispatch.specs.Queue.{IsQueueOf, times};
+ghost use Rattle.rw_dispatch.specs.Queue.{IsQueueOf};
 
 use crate::owners::{is_data, next_owner};
 use rw_base::{NoMemory, ObjectNo, SlotNo};
