@@ -1,0 +1,80 @@
+-- What an object puts, it can put.
+use Rattle.std.proofs.Common.{◌≡◌, ◌<◌, ◌&&◌, ℕ, Bool, true, false, List, Option, Some, None, refl, sym, ap, ◌∙◌, arith}
+use Rattle.std.specs.Prelude.{ℤ, int_le, All, IsSome, option_map, unwrap_or, slice_index_or}
+use Rattle.std.proofs.lemmas.Int.{ints}
+use Rattle.rw_model.specs.declared.kind.Kind.{Kind}
+use Rattle.rw_model.specs.Kind.{IsKind}
+use Rattle.rw_model.specs.Slot.{Bounds, all_quantities}
+use Rattle.rw_model.specs.Slots.{slot_in}
+use Rattle.rw_model.specs.Objects.{Object, object_at, slot_in_place}
+use Rattle.rw_model.specs.Draft.{Draft, IsObject}
+use Rattle.rw_model.specs.Links.{IsBetween}
+use Rattle.rw_method.specs.declared.put.Put.{Put}
+use Rattle.rw_method.specs.declared.solved.Solved.TheVariants.{Idle, Puts}
+use Rattle.rw_method.specs.declared.view.View.{View}
+use Rattle.rw_method.specs.View.{bounds_at, is_between}
+use Rattle.rw_method.specs.Puts.{is_bounded}
+use Rattle.rw_method.specs.Solve.{solve_of}
+use Rattle.rw_log.specs.Log.{Cells}
+use Rattle.rw_log.proofs.SolvedPuts.{solve-puts}
+use Rattle.rw_log.specs.Dispatch.{bounds_in_place, view_of, solved_by}
+use Rattle.rw_dispatch.specs.Putting.{CanPut}
+use Rattle.rw_dispatch.proofs.Viewed.{has_slot, bounds_at-view}
+
+-- a put to a slot of the kind, of a value that the slot can have
+pub record IsFitting (kind : Kind) (view : View) (put : Put) : Type 0 where
+  pub near : put.place < 12
+  pub slot : IsSome (slot_in kind put.place)
+  pub bounded : is_bounded view put ≡ true
+
+pub solved_fit : (kind : Kind) (view : View) (puts : List Put) → IsKind kind → solve_of kind view ≡ Puts puts → All (λ (put : Put). IsFitting kind view put) puts
+solved_fit kind view puts sound solved = λ k d near.
+    let put = (solve-puts kind view puts sound solved).0 k d near in
+    record { near = put.own.few; slot = put.own.slot; bounded = put.bounded }
+
+there : {X : Type 0} (found : Option X) → IsSome found → (x : X) × (found ≡ Some x)
+there None some = absurd (cc)
+there (Some x) some = (x, refl)
+
+some_slot : (found : Option ℕ) (number : ℕ) → found ≡ Some number → IsSome found
+some_slot found number is = rw is refl
+
+both : (a b : Bool) → (a && b) ≡ true → (a ≡ true) × (b ≡ true)
+both true true is = (refl, refl)
+both true false is = absurd (cc)
+both false b is = absurd (cc)
+
+between : (seen bounds : Bounds) (value : ℤ) → seen ≡ bounds → (is_between seen value && is_between all_quantities value) ≡ true → IsBetween bounds value
+between seen bounds value same inside =
+    let parts = both (int_le seen.0 value) (int_le value seen.1) (both (is_between seen value) (is_between all_quantities value) inside).0 in
+    let low : int_le bounds.0 value ≡ true = ap (λ (b : Bounds). int_le b.0 value) (sym same) ∙ parts.0 in
+    let high : int_le value bounds.1 ≡ true = ap (λ (b : Bounds). int_le value b.1) (sym same) ∙ parts.1 in
+    record { low = omega (arith, ints); high = omega (arith, ints) }
+
+pub CanPut-fitting : (basin : Draft) (cells : Cells) (object step : ℕ) (kind : Kind) (put : Put) → IsObject basin.objects object
+    → option_map (λ (found : Object). found.kind) (object_at basin.objects object) ≡ Some kind → IsFitting kind (view_of basin cells object step) put → CanPut basin object put
+CanPut-fitting basin cells object step kind put own is fitting =
+    let slot = there (slot_in kind put.place) fitting.slot in
+    let at = has_slot basin.objects object put.place kind slot.0 own.first is slot.1 in
+    record {
+      slot = some_slot (slot_in_place basin.objects object put.place) at.0 at.1;
+      between = between (bounds_at (view_of basin cells object step) put.place) (bounds_in_place basin object put.place) put.value
+          (bounds_at-view basin cells object step put.place fitting.near) fitting.bounded;
+    }
+
+pub all_can : (basin : Draft) (cells : Cells) (object step : ℕ) (kind : Kind) (seen : View) (puts : List Put) → IsObject basin.objects object
+    → option_map (λ (found : Object). found.kind) (object_at basin.objects object) ≡ Some kind → IsKind kind → seen ≡ view_of basin cells object step → solve_of kind seen ≡ Puts puts
+    → All (λ (put : Put). CanPut basin object put) puts
+all_can basin cells object step kind seen puts own is sound same solved = λ k d near.
+    CanPut-fitting basin cells object step kind (slice_index_or puts k d) own is
+    (solved_fit kind (view_of basin cells object step) puts sound (ap (solve_of kind) (sym same) ∙ solved) k d near)
+
+of_object : (found : Option Object) (kind : Kind) (view : View) → option_map (λ (object : Object). object.kind) found ≡ Some kind
+    → solve_of kind view ≡ unwrap_or (option_map (λ (object : Object). solve_of object.kind view) found) Idle
+of_object None kind view is = absurd (cc)
+of_object (Some object) kind view is = let same : kind ≡ object.kind = cc in ap (λ k. solve_of k view) same
+
+pub solved-is : (basin : Draft) (cells : Cells) (object step : ℕ) (kind : Kind) (seen : View) → option_map (λ (found : Object). found.kind) (object_at basin.objects object) ≡ Some kind
+    → seen ≡ view_of basin cells object step → solve_of kind seen ≡ solved_by basin cells object step
+solved-is basin cells object step kind seen is same =
+    ap (solve_of kind) same ∙ of_object (object_at basin.objects object) kind (view_of basin cells object step) is

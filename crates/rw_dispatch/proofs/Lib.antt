@@ -1,0 +1,8 @@
+pub mod Queues
+pub mod Filling
+pub mod Viewed
+pub mod Judgement
+pub mod CanPuts
+pub mod Together
+pub mod Makes
+pub mod Owning

@@ -1,0 +1,67 @@
+-- Puts are made one after another.
+use Rattle.std.proofs.Common.{◌≡◌, ℕ, Bool, true, false, List, [], ◌∷◌, Option, Some, None, refl, sym, ap, subst, ◌∙◌, if◌then◌else◌}
+use Rattle.std.specs.Prelude.{IsSome, option_map, unwrap_or, pos}
+use Rattle.std.specs.Option.{option_or}
+use Rattle.rw_base.specs.declared.number.Cell.{Cell}
+use Rattle.rw_model.specs.declared.content.Content.{Content}
+use Rattle.rw_model.specs.Objects.{slot_in_place}
+use Rattle.rw_model.specs.Draft.{Draft}
+use Rattle.rw_model.specs.Links.{IsBetween, bounds_in}
+use Rattle.rw_method.specs.declared.put.Put.{Put}
+use Rattle.rw_series.specs.Series.{Series, held, is_shared, Sets}
+use Rattle.rw_log.specs.Log.{Asked, Cells, last_put}
+use Rattle.rw_log.specs.Dispatch.{asked_by, bounds_in_place, slot_or_none}
+use Rattle.rw_dispatch.specs.Answer.{AreBounded}
+use Rattle.rw_dispatch.specs.Putting.{CanPut}
+use Rattle.rw_dispatch.proofs.Together.{bounds-shared}
+
+chosen : (test : Bool) (new : Content) (held : Option Content) → (if test then Some new else held) ≡ option_or (if test then Some new else None) held
+chosen true new held = refl
+chosen false new held = refl
+
+-- a put that is made is what the cells hold last
+pub put-set : (basin : Draft) (put : Asked) (old new : Series) → Sets basin put.cell (Some put.content) old new → (cell : Cell)
+    → held new cell ≡ option_or (last_put basin (put ∷ []) cell) (held old cell)
+put-set basin put old new sets cell = sets cell ∙ chosen (is_shared basin put.cell cell) put.content (held old cell)
+
+-- what is left to be put, over what was put, is what was to be put
+abbrev pub IsPutting : Draft → Cells → Cells → List Asked → List Asked → Type 0
+IsPutting basin first now all left = (cell : Cell) → option_or (last_put basin left cell) (now cell) ≡ option_or (last_put basin all cell) (first cell)
+
+-- ---- what is put is within bounds
+
+slot_is : (found : Option ℕ) → IsSome found → (number : ℕ) × (found ≡ Some number)
+slot_is None some = absurd (cc)
+slot_is (Some number) some = (number, refl)
+
+put_between : (basin : Draft) (object step : ℕ) (put : Put) → CanPut basin object put
+    → IsBetween (bounds_in basin.objects basin.links basin.bounds (asked_by basin object step put).cell.slot.0) put.value
+put_between basin object step put can =
+    let slot = slot_is (slot_in_place basin.objects object put.place) can.slot in
+    let here : bounds_in_place basin object put.place ≡ bounds_in basin.objects basin.links basin.bounds slot.0 =
+    ap (λ s. unwrap_or (option_map (bounds_in basin.objects basin.links basin.bounds) s) (pos 0, pos 0)) slot.1 in
+    let at : slot_or_none basin object put.place ≡ slot.0 = ap (λ s. unwrap_or s 0) slot.1 in
+    subst (λ bounds. IsBetween bounds put.value) (here ∙ ap (bounds_in basin.objects basin.links basin.bounds) (sym at)) can.between
+
+held_between : (basin : Draft) (put : Asked) (cell : Cell) (content : Content) (held : Option Content)
+    → IsBetween (bounds_in basin.objects basin.links basin.bounds put.cell.slot.0) put.content.value
+    → (held ≡ Some content → IsBetween (bounds_in basin.objects basin.links basin.bounds cell.slot.0) content.value)
+    → (shared : Bool) → is_shared basin put.cell cell ≡ shared → (if shared then Some put.content else held) ≡ Some content
+    → IsBetween (bounds_in basin.objects basin.links basin.bounds cell.slot.0) content.value
+held_between basin put cell content held between before true shared is =
+    let same : put.content ≡ content = cc in
+    subst (λ (c : Content). IsBetween (bounds_in basin.objects basin.links basin.bounds cell.slot.0) c.value) same
+    (subst (λ bounds. IsBetween bounds put.content.value) (bounds-shared basin put.cell cell shared) between)
+held_between basin put cell content held between before false apart is = before is
+
+-- what is put within bounds leaves what is held within bounds
+pub AreBounded-put : (basin : Draft) (put : Asked) (old new : Series) → IsBetween (bounds_in basin.objects basin.links basin.bounds put.cell.slot.0) put.content.value
+    → AreBounded basin (held old) → Sets basin put.cell (Some put.content) old new → AreBounded basin (held new)
+AreBounded-put basin put old new between bounded sets = λ cell content known is.
+    held_between basin put cell content (held old cell) between
+    (bounded cell content known) (is_shared basin put.cell cell) refl (sym (sets cell) ∙ is)
+
+pub AreBounded-set : (basin : Draft) (object step : ℕ) (put : Put) (old new : Series) → CanPut basin object put → AreBounded basin (held old)
+    → Sets basin (asked_by basin object step put).cell (Some (asked_by basin object step put).content) old new → AreBounded basin (held new)
+AreBounded-set basin object step put old new can bounded sets =
+    AreBounded-put basin (asked_by basin object step put) old new (put_between basin object step put can) bounded sets

@@ -1,0 +1,175 @@
+-- A queue with one object more or less.
+use Rattle.std.proofs.Common.{◌≡◌, ◌≤◌, ◌<◌, ◌+◌, ◌-◌, ◌==◌, ℕ, zero, suc, Bool, true, false, not, ◌&&◌, cond, List, [], ◌∷◌, ◌++◌, length, get_or, set, nat_eq, nat_lt, refl, sym, ap, ap₂, subst, ◌∙◌, arith, add-one, append_assoc, append-nil, Option}
+use Rattle.std.specs.List.{list_any, filter}
+use Rattle.std.proofs.lemmas.List.Elements.{filter-append}
+use Rattle.std.proofs.Math.ListN.{length-replicate, replicate, length-append, length-set}
+use Rattle.std.proofs.lemmas.Bool.Decides.{nat_tests}
+use Rattle.rw_model.specs.Draft.{Draft}
+use Rattle.rw_log.specs.Times.{times}
+use Rattle.rw_log.specs.Waiting.{numbers, is_data, is_woken, is_but, is_owner}
+use Rattle.rw_dispatch.specs.Queue.{KeepsQueue, is_marked, unmarked}
+use Rattle.rw_log.proofs.Lists.{times-append, times-filter, times-numbers, any-times}
+
+unmarked-set : (bits : List Bool) (k : ℕ) (v : Bool) → k < length bits → unmarked (set bits k v) + cond (get_or bits k false) 0 1 ≡ unmarked bits + cond v 0 1
+unmarked-set [] k v l = absurd (omega arith)
+unmarked-set (b ∷ bits) zero v l = omega arith
+unmarked-set (b ∷ bits) (suc k) v l = let h = unmarked-set bits k v (omega arith) in omega arith
+
+set_at : (bits : List Bool) (k j : ℕ) (v : Bool) → k < length bits → get_or (set bits k v) j false ≡ cond (nat_eq k j) v (get_or bits j false)
+set_at [] k j v l = absurd (omega arith)
+set_at (b ∷ bits) zero zero v l = refl
+set_at (b ∷ bits) zero (suc j) v l = grind (arith, nat_tests)
+set_at (b ∷ bits) (suc k) zero v l = grind (arith, nat_tests)
+set_at (b ∷ bits) (suc k) (suc j) v l = let h = set_at bits k j v (omega arith) in grind (arith, nat_tests)
+
+pub has_room : (items : List ℕ) (n room a : ℕ) (waits : List Bool) → KeepsQueue items n room waits → 1 ≤ a → a ≤ length waits → times a items ≡ 0 → n < room
+has_room items n room a waits q l u t =
+    let m = q.marked a in
+    let f = unmarked-set waits (a - 1) true (omega arith) in
+    grind (arith, nat_tests)
+
+pub pushed : (items : List ℕ) (n m room a : ℕ) (waits : List Bool) → KeepsQueue items n room waits → 1 ≤ a → a ≤ length waits → times a items ≡ 0 → m ≡ n + 1
+    → KeepsQueue (items ++ a ∷ []) m room (set waits (a - 1) true)
+pushed items n m room a waits q l u t e =
+    let f = unmarked-set waits (a - 1) true (omega arith) in
+    let s = length-set waits (a - 1) true in
+    let g = length-append items (a ∷ []) in
+    let mark = q.marked a in
+    record {
+      marked = λ b. let h = times-append b items (a ∷ []) in let i = set_at waits (a - 1) (b - 1) true (omega arith) in let j = q.marked b in grind (arith, nat_tests);
+      count = grind (arith, q.count);
+      left = grind (arith, nat_tests);
+      fits = grind (arith, q.fits);
+      few = grind (arith, q.few);
+    }
+
+in_range : (bits : List Bool) (k : ℕ) → get_or bits k false ≡ true → k < length bits
+in_range [] k e = absurd (grind arith)
+in_range (b ∷ bits) zero e = omega arith
+in_range (b ∷ bits) (suc k) e = let h = in_range bits k e in omega arith
+
+set_within : (waits : List Bool) (a n : ℕ) → 1 + n ≡ cond (is_marked waits a) 1 0 → (1 ≤ a) × (get_or waits (a - 1) false ≡ true)
+set_within waits a n e = (grind (arith, nat_tests), grind (arith, nat_tests))
+
+taken_first : (items : List ℕ) (n m room a : ℕ) (waits : List Bool) → KeepsQueue (a ∷ items) n room waits → m + 1 ≡ n
+    → KeepsQueue items m room (set waits (a - 1) false)
+taken_first items n m room a waits q e =
+    let own : 1 + times a items ≡ cond (is_marked waits a) 1 0 = let h = q.marked a in grind (arith, nat_tests) in
+    let w = set_within waits a (times a items) own in
+    let k : a - 1 < length waits = in_range waits (a - 1) w.1 in
+    let f = unmarked-set waits (a - 1) false k in
+    let s = length-set waits (a - 1) false in
+    record {
+      marked = λ b. let i = set_at waits (a - 1) (b - 1) false k in let j = q.marked b in grind (arith, nat_tests, own, w.0, w.1);
+      count = grind (arith, q.count);
+      left = grind (arith, nat_tests, w.1, q.left);
+      fits = grind (arith, q.fits);
+      few = grind (arith, q.few);
+    }
+
+pub taken : (all items : List ℕ) (n m room wide a : ℕ) (waits : List Bool) → all ≡ a ∷ items → wide ≡ room → KeepsQueue all n room waits → m + 1 ≡ n
+    → KeepsQueue items m wide (set waits (a - 1) false)
+taken all items n m room wide a waits e w q l = rw w (taken_first items n m room a waits (subst (λ xs. KeepsQueue xs n room waits) e q) l)
+
+pub waits_is : (items : List ℕ) (n room a : ℕ) (waits : List Bool) → KeepsQueue items n room waits → 1 ≤ a → get_or waits (a - 1) false ≡ list_any (λ x. a == x) items
+waits_is items n room a waits q l =
+    let m : times a items ≡ cond (is_marked waits a) 1 0 = q.marked a in
+    let e : is_marked waits a ≡ get_or waits (a - 1) false = grind (arith, nat_tests) in
+    sym e ∙ sym (any-times a items ∙ ap (nat_lt 0) m ∙ bit (is_marked waits a))
+  where
+    bit : (b : Bool) → nat_lt 0 (cond b 1 0) ≡ b
+    bit true = refl
+    bit false = refl
+
+later : (p : ℕ → Bool) (a n : ℕ) → n < a → times a (filter p (numbers n)) ≡ 0
+later p a n l = let f = times-filter a p (numbers n) in let g = times-numbers a n in grind (arith, nat_tests)
+
+pub any-later : (p : ℕ → Bool) (old : List ℕ) (a n : ℕ) → n < a → list_any (λ x. a == x) (old ++ filter p (numbers n)) ≡ list_any (λ x. a == x) old
+any-later p old a n l =
+    any-times a (old ++ filter p (numbers n))
+    ∙ ap (nat_lt 0) (times-append a old (filter p (numbers n)) ∙ ap (λ k. times a old + k) (later p a n l) ∙ omega arith)
+    ∙ sym (any-times a old)
+
+pub free : (a : ℕ) (xs : List ℕ) → list_any (λ x. a == x) xs ≡ false → times a xs ≡ 0
+free a xs e = let f : nat_lt 0 (times a xs) ≡ false = sym (any-times a xs) ∙ e in grind (arith, nat_tests)
+
+more_numbers : (p : ℕ → Bool) (n : ℕ) → filter p (numbers (n + 1)) ≡ filter p (numbers n) ++ cond (p (n + 1)) ((n + 1) ∷ []) []
+more_numbers p n = rw add-one (filter-append p (numbers n) (suc n ∷ []))
+
+-- one turn of a loop over the objects that appends those that pass
+pub more_passed : (p : ℕ → Bool) (n : ℕ) (old now next : List ℕ) (t : Bool) → now ≡ old ++ filter p (numbers n) → t ≡ p (n + 1) → next ≡ now ++ cond t ((n + 1) ∷ []) []
+    → next ≡ old ++ filter p (numbers (n + 1))
+more_passed p n old now next t e h f =
+    f ∙ ap₂ (λ xs b. xs ++ cond b ((n + 1) ∷ []) []) e h
+    ∙ append_assoc old (filter p (numbers n)) (cond (p (n + 1)) ((n + 1) ∷ []) [])
+    ∙ ap (λ xs. old ++ xs) (sym (more_numbers p n))
+
+-- whether an object is woken doesn't depend on those appended before it
+pub woken-later : (b : Draft) (but : Option ℕ) (p : ℕ → Bool) (old slots : List ℕ) (a n : ℕ) → n < a
+    → is_woken b but (old ++ filter p (numbers n)) slots a ≡ is_woken b but old slots a
+woken-later b but p old slots a n l = rw (any-later p old a n l) refl
+
+woken_free : (d e r o t : Bool) → t ≡ not d && (not e && (not r && o)) → t ≡ true → r ≡ false
+woken_free d e r o t h k = grind (arith, nat_tests)
+
+-- an object that is woken doesn't wait yet
+pub woken-free : (b : Draft) (but : Option ℕ) (queue slots : List ℕ) (a : ℕ) (t : Bool) → t ≡ is_woken b but queue slots a → t ≡ true → times a queue ≡ 0
+woken-free b but queue slots a t h k = free a queue (woken_free (is_data b a) (is_but but a) (list_any (λ x. a == x) queue) (is_owner b slots a) t h k)
+
+unowned_test : (d e r o : Bool) → o ≡ false → (not d && (not e && (not r && o))) ≡ false
+unowned_test d e r o h = grind (arith, h)
+
+-- who owns none of the slots isn't woken
+pub woken-unowned : (b : Draft) (but : Option ℕ) (queue slots : List ℕ) (a : ℕ) → is_owner b slots a ≡ false → is_woken b but queue slots a ≡ false
+woken-unowned b but queue slots a h = unowned_test (is_data b a) (is_but but a) (list_any (λ x. a == x) queue) (is_owner b slots a) h
+
+-- none of these passes
+skipped : (p : ℕ → Bool) (from count : ℕ) → ((a : ℕ) → from < a → a ≤ from + count → p a ≡ false) → filter p (numbers (from + count)) ≡ filter p (numbers from)
+skipped p from zero none = let same : from + 0 ≡ from = omega arith in ap (λ n. filter p (numbers n)) same
+skipped p from (suc count) none =
+    let more : from + suc count ≡ (from + count) + 1 = omega arith in
+    let fails : p ((from + count) + 1) ≡ false = none ((from + count) + 1) (omega arith) (omega arith) in
+    ap (λ n. filter p (numbers n)) more
+    ∙ more_numbers p (from + count)
+    ∙ ap (λ t. filter p (numbers (from + count)) ++ cond t (((from + count) + 1) ∷ []) []) fails
+    ∙ append-nil (filter p (numbers (from + count)))
+    ∙ skipped p from count (λ a low high. none a low (omega (arith, high)))
+
+-- none that is left passes
+pub none_left : (p : ℕ → Bool) (from to : ℕ) (old now : List ℕ) → from ≤ to → ((a : ℕ) → from < a → p a ≡ false) → now ≡ old ++ filter p (numbers from)
+    → now ≡ old ++ filter p (numbers to)
+none_left p from to old now l none is =
+    let same : from + (to - from) ≡ to = omega (arith, l) in
+    is ∙ ap (λ xs. old ++ xs) (sym (skipped p from (to - from) (λ a low high. none a low)) ∙ ap (λ n. filter p (numbers n)) same)
+
+-- one turn of a loop over those that may pass
+pub next_passed : (p : ℕ → Bool) (from to : ℕ) (old now next : List ℕ) (t : Bool) → from < to → ((a : ℕ) → from < a → a < to → p a ≡ false)
+    → now ≡ old ++ filter p (numbers from) → t ≡ p to → next ≡ now ++ cond t (to ∷ []) [] → next ≡ old ++ filter p (numbers to)
+next_passed p from to old now next t l none is tested appended =
+    let before : from + (to - 1 - from) ≡ to - 1 = omega (arith, l) in
+    let same : (to - 1) + 1 ≡ to = omega (arith, l) in
+    let reached : now ≡ old ++ filter p (numbers (to - 1)) =
+    is ∙ ap (λ xs. old ++ xs) (sym (skipped p from (to - 1 - from) (λ a low high. none a low (omega (arith, high, l)))) ∙ ap (λ n. filter p (numbers n)) before) in
+    more_passed p (to - 1) old now next t reached (tested ∙ ap p (sym same)) (appended ∙ ap (λ n. now ++ cond t (n ∷ []) []) (sym same))
+    ∙ ap (λ n. old ++ filter p (numbers n)) same
+
+pub later-free : (p : ℕ → Bool) (n : ℕ) (now : List ℕ) → now ≡ filter p (numbers n) → times (n + 1) now ≡ 0
+later-free p n now e = ap (times (n + 1)) e ∙ later p (n + 1) n (omega arith)
+
+unmarked-none : (n : ℕ) → unmarked (replicate n false) ≡ n
+unmarked-none zero = refl
+unmarked-none (suc n) = let h = unmarked-none n in omega arith
+
+none_set : (n k : ℕ) → get_or (replicate n false) k false ≡ false
+none_set zero k = refl
+none_set (suc n) zero = refl
+none_set (suc n) (suc k) = none_set n k
+
+pub empty : (n m room : ℕ) (items : List ℕ) (waits : List Bool) → items ≡ [] → m ≡ 0 → waits ≡ replicate n false → n ≤ room → n ≤ 500 → KeepsQueue items m room waits
+empty n m room items waits e f g l k = rw (e, f, g) (record {
+  marked = λ a. let h = none_set n (a - 1) in grind (arith, nat_tests);
+  count = refl;
+  left = let h = unmarked-none n in let l = length-replicate n false in omega arith;
+  fits = rw (length-replicate n false) l;
+  few = rw (length-replicate n false) k;
+})

@@ -1,0 +1,17 @@
+use Rattle.std.proofs.Common.{◌≡◌, ◌≤◌, ◌++◌, ◌-◌, length}
+use Rattle.std.specs.Prelude.{option_map}
+use Rattle.std.specs.List.{filter}
+use Rattle.rw_base.specs.declared.number.ObjectNo.{ObjectNo}
+use Rattle.rw_model.specs.Kept.{numbers_of}
+use Rattle.rw_log.specs.Waiting.{is_woken, numbers}
+use Rattle.rw_dispatch.proofs.queue.Queue.wake.Given as goal
+
+abbrev pub invariant-loop-owner : goal.invariant-loop-owner
+invariant-loop-owner l = record {
+  objects : l.self.objects ≡ l.fn.self.objects;
+  waiting : l.self.waiting ≡ l.fn.self.waiting ++ filter (is_woken l.basin (option_map (λ (object : ObjectNo). object.0) l.but) l.fn.self.waiting (numbers_of l.slots)) (numbers l.last);
+  within : l.last ≤ length l.basin.objects;
+}
+
+abbrev pub decreases-loop-owner : goal.decreases-loop-owner
+decreases-loop-owner l = length l.basin.objects - l.last

@@ -1,0 +1,21 @@
+//! The dispatch of objects. `Queue` holds the objects that wait, in the order in which they are to be dispatched.
+//! `dispatch` lets one of them solve what it can from what its slots hold, and leaves the cells and the queue as the event
+//! of that dispatch says. Only making a queue takes memory.
+#![tactic(auto)]
+
+mod dispatched;
+mod dispatching;
+mod judging;
+mod making;
+mod owners;
+mod past;
+mod queue;
+mod seeing;
+mod solving;
+#[cfg(test)]
+mod tests;
+
+pub use dispatched::Dispatched;
+pub use dispatching::dispatch;
+pub use past::past_cell;
+pub use queue::Queue;

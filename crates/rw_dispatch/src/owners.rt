@@ -1,0 +1,78 @@
+ghost use Rattle.std.specs.Prelude.{◌≡◌, ◌≤◌, ◌<◌, ℕ, All, None, IfSome, true, false, length};
+ghost use Rattle.rw_model.specs.Draft.{IsObject, IsSlot};
+ghost use Rattle.rw_model.specs.Links.{owner_of};
+ghost use Rattle.rw_model.specs.Kept.{numbers_of};
+ghost use Rattle.rw_log.specs.Waiting.{is_data, is_owner};
+ghost use Rattle.rw_dispatch.specs.Owners.{nearer, nearest, owners_at, nearest_owner};
+
+use rw_base::{ObjectNo, SlotNo};
+use rw_model::Basin;
+
+/// Whether an object only keeps data.
+pub fn is_data(basin: &Basin, object: ObjectNo) -> bool
+    requires { IsObject basin.now.objects object.0 }
+    ensures { result ≡ is_data basin.now object.0 }
+{
+    basin.kind_code(object) == 0
+}
+
+// The number of the object that owns a slot.
+fn owner_of(basin: &Basin, slot: SlotNo) -> u16
+    requires { IsSlot basin.now.objects slot.0 }
+    ensures owner { result ≡ owner_of basin.now.objects slot.0 }
+    ensures known { IsObject basin.now.objects result }
+{
+    basin.owner(slot).0
+}
+
+// The lesser of the best number and an owner's, which counts only above a number.
+fn nearer(after: u16, best: Option<u16>, owner: u16) -> Option<u16>
+    ensures { result ≡ nearer after best owner }
+{
+    match best {
+        None => { if owner <= after { None } else { Some(owner) } }
+        Some(least) => {
+            if owner <= after || least <= owner {
+                Some(least)
+            } else {
+                Some(owner)
+            }
+        }
+    }
+}
+
+// The least of the best number and those owners of slots in a slot's group that are above a number.
+fn nearest_at(basin: &Basin, slot: SlotNo, after: u16, best: Option<u16>) -> Option<u16>
+    requires { IsSlot basin.now.objects slot.0 }
+    ensures { result ≡ nearest after best (owners_at basin.now slot.0) }
+{
+    let mut best = best;
+    let group = basin.group(slot);
+    for other in group {
+        best = nearer(after, best, owner_of(basin, *other));
+    }
+    best
+}
+
+// The least owner above a number.
+fn nearest(basin: &Basin, slots: &[SlotNo], after: u16) -> Option<u16>
+    requires { All (λ (slot : SlotNo). IsSlot basin.now.objects slot.0) slots.now }
+    ensures { result ≡ nearest_owner basin.now after None (numbers_of slots.now) }
+{
+    let mut best = None;
+    for slot in slots {
+        best = nearest_at(basin, *slot, after, best);
+    }
+    best
+}
+
+/// The first object after this one that owns a slot which carries one value with one of these.
+pub fn next_owner(basin: &Basin, slots: &[SlotNo], after: u16) -> Option<u16>
+    requires { All (λ (slot : SlotNo). IsSlot basin.now.objects slot.0) slots.now }
+    ensures none { result ≡ None → (object : ℕ) → after < object → is_owner basin.now (numbers_of slots.now) object ≡ false }
+    ensures some { IfSome result (λ owner. (after < owner) × (is_owner basin.now (numbers_of slots.now) owner ≡ true)) }
+    ensures least { IfSome result (λ owner. (object : ℕ) → after < object → object < owner → is_owner basin.now (numbers_of slots.now) object ≡ false) }
+    ensures known { IfSome result (λ owner. owner ≤ length basin.now.objects) }
+{
+    nearest(basin, slots, after)
+}

@@ -1,0 +1,152 @@
+ghost use Rattle.std.specs.Prelude.{ℕ, List, true, cond, ◌==◌, ◌≡◌, ◌≤◌, ◌<◌, ◌+◌, ◌++◌, ◌∷◌, [], MatchOption, IfSome, IfOk, All, option_map};
+ghost use Rattle.std.specs.List.{list_any};
+ghost use Rattle.rw_model.specs.Draft.{IsObject, IsSlot};
+ghost use Rattle.rw_model.specs.Kept.{numbers_of};
+ghost use Rattle.rw_log.specs.Times.{times};
+ghost use Rattle.rw_log.specs.Waiting.{all_waiting, is_but, is_owner, is_woken, woken};
+ghost use Rattle.rw_dispatch.specs.Queue.{IsQueueOf};
+
+use crate::owners::{is_data, next_owner};
+use rw_base::{NoMemory, ObjectNo, SlotNo};
+use rw_model::Basin;
+use std::alloc::Global;
+use std::collections::VecDeque;
+use std::marker::Model;
+
+/// The objects of a basin that wait to be dispatched, seen as how many objects there are and the numbers of those that wait,
+/// the one to be dispatched next first. None of them waits twice.
+#[derive(Drop)]
+pub struct Queue {
+    items: VecDeque<u16>,
+    waits: Vec<bool>,
+}
+
+impl Model for Queue {
+    ghost use Rattle.rw_dispatch.specs.Queue as specs;
+    ghost use Rattle.std.specs.Prelude.{length};
+
+    ghost Value = { specs.Queue };
+
+    ghost view = { λ q. record { objects = length q.waits.items; waiting = q.items.items } };
+
+    ghost invariant = { λ q. specs.KeepsQueue q.items.items q.items.len q.items.cap q.waits.items };
+}
+
+impl Queue {
+    /// A queue for a basin, in which no object waits. No other call takes memory.
+    pub fn for_basin(alloc: Global, basin: &Basin) -> Result<Queue, NoMemory>
+        ensures made { IfOk result (IsQueueOf basin.now) }
+        ensures empty { IfOk result (λ queue. queue.waiting ≡ []) }
+    {
+        let count = usize::from(basin.object_count());
+        let items = VecDeque::with_capacity(alloc, count)?;
+        let waits = Vec::from_elem(alloc, false, count)?;
+        Ok(Queue { items, waits })
+    }
+
+    /// Takes out the object that is to be dispatched next. `None` exactly where none waits.
+    pub fn next(&mut self) -> Option<ObjectNo>
+        ensures objects { self.new.objects ≡ self.old.objects }
+        ensures taken { MatchOption result ((self.old.waiting ≡ []) × (self.new.waiting ≡ [])) (λ object. self.old.waiting ≡ object.0 ∷ self.new.waiting) }
+        ensures known { IfSome result (λ object. (1 ≤ object.0) × (object.0 ≤ self.old.objects)) }
+    {
+        let Some(object) = self.items.pop_front() else {
+            return None;
+        };
+        self.waits[(object - 1) as usize] = false;
+        Some(ObjectNo(object))
+    }
+
+    /// Begins a timestep: all objects but those that only keep data wait, in order of number.
+    pub fn begin_step(&mut self, basin: &Basin)
+        requires made { IsQueueOf basin.now self.old }
+        ensures made { IsQueueOf basin.now self.new }
+        ensures all { self.new.waiting ≡ all_waiting basin.now }
+    {
+        while self.next().is_some() {}
+        for place in 0..basin.object_count() {
+            let data = is_data(basin, ObjectNo(place + 1));
+            self.append_if(!data, place + 1);
+        }
+    }
+
+    /// Wakes the objects that own a slot which carries one value with one of these, as one event: those that don't wait
+    /// yet, but the one that is left out and those that only keep data, wait behind all others, in order of number.
+    pub fn wake(&mut self, basin: &Basin, slots: &[SlotNo], but: Option<ObjectNo>)
+        requires made { IsQueueOf basin.now self.old }
+        requires slots { All (λ (slot : SlotNo). IsSlot basin.now.objects slot.0) slots.now }
+        ensures made { IsQueueOf basin.now self.new }
+        ensures woken { self.new.waiting ≡ self.old.waiting ++ woken basin.now (option_map (λ object. object.0) but) self.old.waiting (numbers_of slots.now) }
+    {
+        let mut last = 0;
+        while let Some(owner) = next_owner(basin, slots, last) {
+            let woken = self.is_woken(basin, but, owner);
+            self.append_if(woken, owner);
+            last = owner;
+        }
+    }
+
+    // Appends an object that doesn't wait yet.
+    fn append(&mut self, object: u16)
+        requires first { 1 ≤ object }
+        requires last { object ≤ self.old.objects }
+        requires free { times object self.old.waiting ≡ 0 }
+        ensures objects { self.new.objects ≡ self.old.objects }
+        ensures appended { self.new.waiting ≡ self.old.waiting ++ object ∷ [] }
+    {
+        push(&mut self.items, object);
+        self.waits[(object - 1) as usize] = true;
+    }
+
+    // Appends an object where the test says so.
+    fn append_if(&mut self, test: bool, object: u16)
+        requires first { 1 ≤ object }
+        requires last { object ≤ self.old.objects }
+        requires free { test ≡ true → times object self.old.waiting ≡ 0 }
+        ensures objects { self.new.objects ≡ self.old.objects }
+        ensures appended { self.new.waiting ≡ self.old.waiting ++ cond test (object ∷ []) [] }
+    {
+        if test {
+            self.append(object);
+        }
+    }
+
+    // Whether puts wake an owner of a slot that they reach.
+    fn is_woken(&self, basin: &Basin, but: Option<ObjectNo>, owner: u16) -> bool
+        requires made { IsQueueOf basin.now self.now }
+        requires known { IsObject basin.now.objects owner }
+        ensures { (slots : List ℕ) → is_owner basin.now slots owner ≡ true
+            → result ≡ is_woken basin.now (option_map (λ other. other.0) but) self.now.waiting slots owner }
+    {
+        !is_data(basin, ObjectNo(owner)) && !is_but(but, owner) && !self.waits(owner)
+    }
+
+    // Whether an object waits.
+    fn waits(&self, object: u16) -> bool
+        requires first { 1 ≤ object }
+        requires last { object ≤ self.now.objects }
+        ensures { result ≡ list_any (λ other. object == other) self.now.waiting }
+    {
+        self.waits[(object - 1) as usize]
+    }
+}
+
+// Adds an object behind all others, for which there is room.
+fn push(items: &mut VecDeque<u16>, object: u16)
+    requires { items.old.len < items.old.cap }
+    ensures items { items.new.items ≡ items.old.items ++ object ∷ [] }
+    ensures len { items.new.len ≡ items.old.len + 1 }
+    ensures capacity { items.new.cap ≡ items.old.cap }
+{
+    items.push_back_reserved(object);
+}
+
+// Whether this object is left out.
+fn is_but(but: Option<ObjectNo>, object: u16) -> bool
+    ensures { result ≡ is_but (option_map (λ other. other.0) but) object }
+{
+    match but {
+        None => false,
+        Some(other) => other.0 == object,
+    }
+}

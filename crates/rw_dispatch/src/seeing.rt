@@ -1,0 +1,89 @@
+ghost use Rattle.std.specs.Prelude.{◌≡◌, ◌≤◌, IfSome, map};
+ghost use Rattle.rw_model.specs.Draft.{IsObject};
+ghost use Rattle.rw_series.specs.Series.{held, IsCell};
+ghost use Rattle.rw_log.specs.Dispatch.{cell_in, content_in, bounds_in_place, view_of, places};
+
+use crate::past::past_value;
+use rw_base::{Cell, ObjectNo, StepNo};
+use rw_method::View;
+use rw_model::{Basin, Content};
+use rw_series::Series;
+
+/// The cell of the object's slot in a place, if it has one there.
+pub fn cell_in(basin: &Basin, o: ObjectNo, t: StepNo, place: u8) -> Option<Cell>
+    requires object { IsObject basin.now.objects o.0 }
+    requires first { 1 ≤ t.0 }
+    requires last { t.0 ≤ basin.now.control.stamps.count }
+    ensures cell { result ≡ cell_in basin.now o.0 t.0 place }
+    ensures known { IfSome result (IsCell basin.now) }
+{
+    match basin.slot_at(o, place) {
+        Some(slot) => Some(Cell { slot, step: t }),
+        None => None,
+    }
+}
+
+// What the object's slot in a place holds.
+fn content_in(basin: &Basin, series: &Series, o: ObjectNo, t: StepNo, place: u8) -> Option<Content>
+    requires object { IsObject basin.now.objects o.0 }
+    requires first { 1 ≤ t.0 }
+    requires last { t.0 ≤ basin.now.control.stamps.count }
+    ensures { result ≡ content_in basin.now (held series.now) o.0 t.0 place }
+{
+    match cell_in(basin, o, t, place) {
+        Some(cell) => series.get(cell),
+        None => None,
+    }
+}
+
+// The bounds of the object's slot in a place.
+fn bounds_in_place(basin: &Basin, o: ObjectNo, place: u8) -> (i64, i64)
+    requires { IsObject basin.now.objects o.0 }
+    ensures { result ≡ bounds_in_place basin.now o.0 place }
+{
+    match basin.slot_at(o, place) {
+        Some(slot) => basin.bounds(slot),
+        None => (0, 0),
+    }
+}
+
+// What the object's slots hold, by place.
+fn contents(basin: &Basin, series: &Series, o: ObjectNo, t: StepNo) -> [Option<Content>; 12]
+    requires object { IsObject basin.now.objects o.0 }
+    requires first { 1 ≤ t.0 }
+    requires last { t.0 ≤ basin.now.control.stamps.count }
+    ensures { result ≡ map (content_in basin.now (held series.now) o.0 t.0) places }
+{
+    let mut now = [None; 12];
+    for place in 0..12u8 {
+        now[usize::from(place)] = content_in(basin, series, o, t, place);
+    }
+    now
+}
+
+// The bounds of the object's slots, by place.
+fn all_bounds(basin: &Basin, o: ObjectNo) -> [(i64, i64); 12]
+    requires { IsObject basin.now.objects o.0 }
+    ensures { result ≡ map (bounds_in_place basin.now o.0) places }
+{
+    let mut bounds = [(0, 0); 12];
+    for place in 0..12u8 {
+        bounds[usize::from(place)] = bounds_in_place(basin, o, place);
+    }
+    bounds
+}
+
+/// What an object sees in a dispatch.
+pub fn view_of(basin: &Basin, series: &Series, o: ObjectNo, t: StepNo) -> View
+    requires object { IsObject basin.now.objects o.0 }
+    requires first { 1 ≤ t.0 }
+    requires last { t.0 ≤ basin.now.control.stamps.count }
+    ensures { result ≡ view_of basin.now (held series.now) o.0 t.0 }
+{
+    View {
+        own: o,
+        now: contents(basin, series, o, t),
+        past: past_value(basin, series, o, t),
+        bounds: all_bounds(basin, o),
+    }
+}

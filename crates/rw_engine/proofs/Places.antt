@@ -1,0 +1,56 @@
+-- Inputs are placed one after another.
+use Rattle.std.proofs.Common.{◌≡◌, ◌≤◌, ℕ, suc, ◌+◌, List, [], ◌∷◌, ◌++◌, Option, Some, None, refl, sym, ap, subst, ◌∙◌}
+use Rattle.std.proofs.Math.Numerals.{add-one}
+use Rattle.std.specs.Prelude.{ℤ}
+use Rattle.rw_base.specs.declared.number.Cell.{Cell}
+use Rattle.rw_model.specs.declared.content.Content.{Content}
+use Rattle.rw_model.specs.Draft.{Draft}
+use Rattle.rw_model.specs.Links.{IsBetween, bounds_in}
+use Rattle.rw_series.specs.Series.{Series, held, Sets}
+use Rattle.rw_inputs.specs.Inputs.{Inputs, IsInputsOf, value_at}
+use Rattle.rw_log.specs.Log.{Log, input_content}
+use Rattle.rw_log.specs.Runs.{placed}
+use Rattle.rw_dispatch.specs.Answer.{AreBounded}
+use Rattle.rw_dispatch.proofs.Makes.{AreBounded-put}
+use Rattle.rw_engine.specs.Givens.{if_given, givens_of, givens_to, HoldsAll}
+
+-- inputs placed after others
+pub placed-append : (log : Log) (xs ys : List (Cell × ℤ)) → placed log (xs ++ ys) ≡ placed (placed log xs) ys
+placed-append log [] ys = refl
+placed-append log (x ∷ xs) ys = placed-append (placed log (x ∷ [])) xs ys
+
+-- a given value is one that its slot can have
+pub given-bounded : (basin : Draft) (inputs : Inputs) (cell : Cell) (value : ℤ) (old new : Series) → IsInputsOf basin inputs
+    → value_at inputs cell.slot.0 cell.step.0 ≡ Some value → AreBounded basin (held old) → Sets basin cell (Some (input_content value)) old new
+    → AreBounded basin (held new)
+given-bounded basin inputs cell value old new made is bounded sets =
+    let within = (made.sound cell.slot.0 cell.step.0 value is).within in
+    AreBounded-put basin (record { cell = cell; content = input_content value }) old new (record { low = within.low; high = within.high }) bounded sets
+
+of_more : (inputs : Inputs) (slot steps n : ℕ) → n ≡ suc steps → givens_of inputs slot n ≡ givens_of inputs slot steps ++ if_given slot n (value_at inputs slot n)
+of_more inputs slot steps n is =
+    subst (λ m. givens_of inputs slot m ≡ givens_of inputs slot steps ++ if_given slot m (value_at inputs slot m)) (sym is) refl
+
+to_more : (inputs : Inputs) (slots steps n : ℕ) → n ≡ suc slots → givens_to inputs n steps ≡ givens_to inputs slots steps ++ givens_of inputs n steps
+to_more inputs slots steps n is =
+    subst (λ m. givens_to inputs m steps ≡ givens_to inputs slots steps ++ givens_of inputs m steps) (sym is) refl
+
+-- what one more timestep gives to a slot
+pub one-more : (basin : Draft) (inputs : Inputs) (slot steps : ℕ) (first old new : Series)
+    → ((log : Log) → HoldsAll basin first log → HoldsAll basin old (placed log (givens_of inputs slot steps)))
+    → ((log : Log) → HoldsAll basin old log → HoldsAll basin new (placed log (if_given slot (steps + 1) (value_at inputs slot (steps + 1)))))
+    → (log : Log) → HoldsAll basin first log → HoldsAll basin new (placed log (givens_of inputs slot (steps + 1)))
+one-more basin inputs slot steps first old new before placed_one log holds =
+    let now = placed_one (placed log (givens_of inputs slot steps)) (before log holds) in
+    subst (HoldsAll basin new) (sym (ap (placed log) (of_more inputs slot steps (steps + 1) (add-one steps))
+    ∙ placed-append log (givens_of inputs slot steps) (if_given slot (steps + 1) (value_at inputs slot (steps + 1))))) now
+
+-- what one more slot is given
+pub slot-more : (basin : Draft) (inputs : Inputs) (slots steps : ℕ) (first old new : Series)
+    → ((log : Log) → HoldsAll basin first log → HoldsAll basin old (placed log (givens_to inputs slots steps)))
+    → ((log : Log) → HoldsAll basin old log → HoldsAll basin new (placed log (givens_of inputs (slots + 1) steps)))
+    → (log : Log) → HoldsAll basin first log → HoldsAll basin new (placed log (givens_to inputs (slots + 1) steps))
+slot-more basin inputs slots steps first old new before placed_one log holds =
+    let now = placed_one (placed log (givens_to inputs slots steps)) (before log holds) in
+    subst (HoldsAll basin new) (sym (ap (placed log) (to_more inputs slots steps (slots + 1) (add-one slots))
+    ∙ placed-append log (givens_to inputs slots steps) (givens_of inputs (slots + 1) steps))) now

@@ -1,0 +1,10 @@
+use rw_log::RunFault;
+
+/// How a timestep ended.
+#[derive(Clone, Copy, Debug, PartialEq, Eq)]
+pub enum StepEnd {
+    /// It was closed.
+    Closed,
+    /// The run ended in it.
+    Fault(RunFault),
+}
