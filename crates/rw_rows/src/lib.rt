@@ -4,6 +4,8 @@
 #![tactic(auto)]
 
 #[cfg(test)]
+mod catalogue;
+#[cfg(test)]
 mod dispatch;
 #[cfg(test)]
 mod is_view;
@@ -11,6 +13,8 @@ mod is_view;
 mod methods;
 #[cfg(test)]
 mod reservoirs;
+#[cfg(test)]
+mod runs;
 #[cfg(test)]
 mod streams;
 #[cfg(test)]

@@ -7,9 +7,9 @@ use Rattle.rw_model_toml.specs.declared.fault.ModelFault.TheVariants.{NotToml, M
 use Rattle.rw_model_toml.specs.Fault.{refusal_of}
 use Rattle.rw_model_toml.specs.Refusal.{Refusal as Why}
 use Rattle.rw_top.specs.Reading.{path_of}
-use Rattle.rw_top.specs.Refusal.{ReadCause, WritesAll}
+use Rattle.rw_top.specs.Refusal.{ReadCause}
 use Rattle.rw_top.specs.declared.refusal.Refusal.{Refusal}
-use Rattle.rw_top.specs.declared.refusal.Refusal.TheVariants.{Words, CannotRead, CannotWrite, NoMemory, Model, NotFirstModel, Inputs, NotFirstInputs, TooLong}
+use Rattle.rw_top.specs.declared.refusal.Refusal.TheVariants.{Words, CannotRead, CannotWrite, NoMemory, Model, Inputs, TooLong}
 
 -- every other fault of a model tells why
 pub tells_why : (fault : ModelFault) → fault ≢ NoMemoryForModel → (why : Why) × (refusal_of fault ≡ Some why)
@@ -33,9 +33,7 @@ cause_earlier words holds first before now given (CannotRead file) later cause =
 cause_earlier words holds first before now given CannotWrite later cause = cause
 cause_earlier words holds first before now given NoMemory later cause = cause
 cause_earlier words holds first before now given (Model fault) later cause = cause
-cause_earlier words holds first before now given NotFirstModel later cause = cause
 cause_earlier words holds first before now given (Inputs kind row column) later cause = cause
-cause_earlier words holds first before now given NotFirstInputs later cause = cause
 cause_earlier words holds first before now given (TooLong file) later cause = cause
 
 -- and of a shelf that holds the same
@@ -44,9 +42,3 @@ pub cause_held : (words : List (List ℕ)) (held holds : List ℕ → Option (Li
 cause_held words held holds before now given r same cause =
     let one : held ≡ holds = λ i p. same p i in
     subst (λ h. ReadCause words h before now given r) one cause
-
--- a run that ended in a fault has its value
-pub with_fault : (words : List (List ℕ)) (holds : List ℕ → Option (List ℕ)) (old new : Option (List ℕ)) (fault : Option ℤ) → is_some fault ≡ true
-    → WritesAll words holds old new fault → (value : ℤ) × WritesAll words holds old new (Some value)
-with_fault words holds old new None some written = absurd (cc)
-with_fault words holds old new (Some value) some written = (value, written)

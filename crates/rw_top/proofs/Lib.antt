@@ -1,9 +1,6 @@
 pub mod CauseLemmas
 pub mod DueLemmas
-pub mod FormLemmas
 pub mod OneReading
 pub mod OneText
-pub mod RunLemmas
-pub mod TableLemmas
 pub mod TellLemmas
 pub mod WordsLemmas

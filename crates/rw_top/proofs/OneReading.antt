@@ -5,7 +5,6 @@ use Rattle.rw_model.specs.Draft.{Draft}
 use Rattle.rw_inputs.specs.declared.fault.InputFault.{InputFault}
 use Rattle.rw_inputs.specs.Inputs.{Inputs, value_at, given_at}
 use Rattle.rw_inputs.specs.Reading.{Reads, Refuses, read_records}
-use Rattle.rw_top.specs.FirstForm.{IsColumn, IsFirstFlows}
 
 -- inputs that are refused aren't read
 pub refuses_clash : (basin : Draft) (text : List ℕ) (inputs : Inputs) (fault : InputFault) → Reads basin text inputs → Refuses basin text fault → ⊥
@@ -21,13 +20,3 @@ same_values basin text inputs others h k slot step =
     let both : Ok h.rows ≡ Ok k.rows = sym h.read ∙ ap (read_records basin) same ∙ k.read in
     let rows : h.rows ≡ k.rows = cc in
     h.kept.values slot step ∙ ap (λ rs. given_at basin rs slot step) rows ∙ sym (k.kept.values slot step)
-
-same_column : (inputs others : Inputs) (slot steps : ℕ) (values : List ℤ) → ((slot step : ℕ) → value_at inputs slot step ≡ value_at others slot step) → IsColumn inputs slot steps values → IsColumn others slot steps values
-same_column inputs others slot steps values same h = record { count = h.count; each = λ t lt. sym (same slot (t + 1)) ∙ h.each t lt }
-
-pub same_flows : (inputs others : Inputs) (steps : ℕ) (ins outs : List ℤ) → ((slot step : ℕ) → value_at inputs slot step ≡ value_at others slot step) → IsFirstFlows inputs steps ins outs → IsFirstFlows others steps ins outs
-same_flows inputs others steps ins outs same h = record {
-  inflow = same_column inputs others 1 steps ins same h.inflow;
-  outflow = same_column inputs others 2 steps outs same h.outflow;
-  storage = λ t lt. sym (same 3 (t + 1)) ∙ h.storage t lt;
-}

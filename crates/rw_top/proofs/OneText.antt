@@ -1,38 +1,50 @@
 -- A run has one end and one text.
-use Rattle.std.proofs.Common.{◌≡◌, ℕ, ◌+◌, ◌<◌, ◌≤◌, ℤ, List, ◌++◌, refl, ap, sym, ◌∙◌, subst, arith, None, Some}
-use Rattle.std.specs.Prelude.{Option}
-use Rattle.rw_top.specs.FirstForm.{FirstModel}
-use Rattle.rw_top.specs.Reservoir.{IsRun, IsStorage, storage_at}
-use Rattle.rw_top.specs.Table.{IsRunText, heading, columns, rows}
+use Rattle.std.proofs.Common.{◌≡◌, ℕ, zero, suc, ◌++◌, List, refl, sym, ap, ap₂, ◌∙◌, subst}
+use Rattle.std.specs.Prelude.{ℤ, Option, option_map, length}
+use Rattle.rw_base.specs.declared.number.Cell.{Cell}
+use Rattle.rw_model.specs.declared.content.Content.{Content}
+use Rattle.rw_model.specs.Draft.{Draft}
+use Rattle.rw_model.specs.Objects.{all_slots}
+use Rattle.rw_inputs.specs.Inputs.{Inputs, value_at}
+use Rattle.rw_log.specs.declared.run.Run.{Run}
+use Rattle.rw_log.specs.declared.run.RunEnd.{RunEnd}
+use Rattle.rw_log.specs.Log.{Log}
+use Rattle.rw_log.specs.Dispatch.{cell_at}
+use Rattle.rw_log.specs.Next.{Policy, no_rules}
+use Rattle.rw_log.specs.Runs.{IsRun}
+use Rattle.rw_log.specs.RunOf.{end_of, last_closed, IsRunOf}
+use Rattle.rw_report.specs.Section.{section_of, values_of}
+use Rattle.rw_engine.specs.Givens.{if_given, givens_of, givens_to, givens}
+use Rattle.rw_engine.specs.Passing.{ComesTo}
+use Rattle.rw_top.specs.RunText.{IsRunText, values_after, text_of}
 
--- the steps of a run are its end at most
-at_most : (steps : ℕ) (i : ℤ) (ins outs : List ℤ) (closed : ℕ) (fault : Option ℤ) → IsRun steps i ins outs closed fault → closed ≤ steps
-at_most steps i ins outs closed None h = omega (arith, h.ends)
-at_most steps i ins outs closed (Some v) h = omega (arith, h.ends.0)
+module _ (inputs others : Inputs) (same : (slot step : ℕ) → value_at inputs slot step ≡ value_at others slot step) where
+  same_of : (slot steps : ℕ) → givens_of inputs slot steps ≡ givens_of others slot steps
+  same_of slot zero = refl
+  same_of slot (suc steps) = ap₂ (λ xs value. xs ++ if_given slot (suc steps) value) (same_of slot steps) (same slot (suc steps))
 
--- a run that has ended goes no further
-no_further : (steps : ℕ) (i : ℤ) (ins outs : List ℤ) (closed more : ℕ) (fault : Option ℤ) → IsRun steps i ins outs closed fault → more ≤ steps → ((t : ℕ) → t < more → IsStorage (storage_at i ins outs (t + 1))) → closed < more → ⊥
-no_further steps i ins outs closed more None h le inside lt = omega (arith, h.ends)
-no_further steps i ins outs closed more (Some v) h le inside lt =
-    h.ends.2 (subst IsStorage (sym h.ends.1) (inside closed lt))
+  same_to : (slots steps : ℕ) → givens_to inputs slots steps ≡ givens_to others slots steps
+  same_to zero steps = refl
+  same_to (suc slots) steps = ap₂ (λ xs ys. xs ++ ys) (same_to slots steps) (same_of (suc slots) steps)
 
-same_closed : (steps : ℕ) (i : ℤ) (ins outs : List ℤ) (a b : ℕ) (f g : Option ℤ) → IsRun steps i ins outs a f → IsRun steps i ins outs b g → a ≡ b
-same_closed steps i ins outs a b f g h k =
-    let up = no_further steps i ins outs a b f h (at_most steps i ins outs b g k) k.inside in
-    let down = no_further steps i ins outs b a g k (at_most steps i ins outs a f h) h.inside in
-    grind (arith, up, down)
+-- two texts of one basin and of inputs with the same values
+pub one_text : ((basin : Draft) (policy : Policy) (inputs : List (Cell × ℤ)) (log other : Log) → IsRun basin policy inputs log → IsRun basin policy inputs other → log ≡ other)
+    → (basin : Draft) (inputs others : Inputs) (end other : RunEnd) (text more : List ℕ) → ((slot step : ℕ) → value_at inputs slot step ≡ value_at others slot step)
+    → IsRunText basin inputs end text → IsRunText basin others other more → (end ≡ other) × (text ≡ more)
+one_text one_run basin inputs others end other text more same left right =
+    let given = same_to inputs others same (length (all_slots basin.objects)) basin.control.stamps.count in
+    let log = one_run basin no_rules (givens basin others) left.log right.log (subst (λ xs. IsRun basin no_rules xs left.log) given left.run) right.run in
+    (left.end_is ∙ ap end_of log ∙ sym right.end_is, left.text_is ∙ ap (text_of basin) log ∙ sym right.text_is)
 
-same_fault : (steps : ℕ) (i : ℤ) (ins outs : List ℤ) (a : ℕ) (f g : Option ℤ) → IsRun steps i ins outs a f → IsRun steps i ins outs a g → f ≡ g
-same_fault steps i ins outs a None None h k = refl
-same_fault steps i ins outs a None (Some w) h k = absurd (omega (arith, h.ends, k.ends.0))
-same_fault steps i ins outs a (Some v) None h k = absurd (omega (arith, k.ends, h.ends.0))
-same_fault steps i ins outs a (Some v) (Some w) h k = ap Some (h.ends.1 ∙ sym k.ends.1)
-
-pub one_text : (model : FirstModel) (ins outs : List ℤ) (f g : Option ℤ) (x y : List ℕ) → IsRunText model ins outs f x → IsRunText model ins outs g y → (f ≡ g) × (x ≡ y)
-one_text model ins outs f g x y h k =
-    let steps = model.run.count in
-    let closed : h.closed ≡ k.closed = same_closed steps model.initial ins outs h.closed k.closed f g h.run k.run in
-    let P : ℕ → Type 0 = λ n. IsRun steps model.initial ins outs n g in
-    let fault : f ≡ g = same_fault steps model.initial ins outs h.closed f g h.run (subst P (sym closed) k.run) in
-    let text : (ℕ → Option ℤ → List ℕ) = λ n e. (heading model.name n e ++ columns model.name) ++ rows model ins outs n in
-    (fault, h.text_is ∙ ap (λ n. text n f) closed ∙ ap (λ e. text k.closed e) fault ∙ sym k.text_is)
+-- the section of what a run comes to
+pub text_is_run : (basin : Draft) (inputs : Inputs) (run : Run) (text : List ℕ) → ComesTo basin inputs run
+    → text ≡ section_of basin 0 run.end run.closed (values_of run.series) → IsRunText basin inputs run.end text
+text_is_run basin inputs run text comes is =
+    let values : values_of run.series ≡ values_after basin comes.log = λ i slot step. option_map (λ (content : Content). content.value) (comes.is.cells (cell_at slot step) i) in
+    record {
+      log = comes.log;
+      run = comes.whole;
+      end_is = comes.is.end;
+      text_is = is ∙ ap (λ e. section_of basin 0 e run.closed (values_of run.series)) comes.is.end
+          ∙ ap₂ (λ closed v. section_of basin 0 (end_of comes.log) closed v) comes.is.closed_steps values;
+    }

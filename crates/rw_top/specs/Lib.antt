@@ -1,7 +1,5 @@
 pub mod Command
-pub mod FirstForm
-pub mod Reservoir
-pub mod Table
+pub mod RunText
 pub mod Reading
 pub mod Refusal
 pub mod Lines

@@ -13,7 +13,7 @@ use Rattle.rw_inputs.specs.declared.fault.InputKind.{InputKind}
 use Rattle.rw_inputs.specs.declared.fault.InputKind.TheVariants.{Header, UnknownSlot, NotSettable, NotANumber, OutOfBounds, StepOutside, Twice, Ragged}
 use Rattle.rw_top.specs.Reading.{path_of}
 use Rattle.rw_top.specs.declared.refusal.Refusal.{Refusal}
-use Rattle.rw_top.specs.declared.refusal.Refusal.TheVariants.{Words, CannotRead, CannotWrite, NoMemory, Model, NotFirstModel, Inputs, NotFirstInputs, TooLong}
+use Rattle.rw_top.specs.declared.refusal.Refusal.TheVariants.{Words, CannotRead, CannotWrite, NoMemory, Model, Inputs, TooLong}
 
 -- what is wrong with what the basin is built of
 abbrev pub build_words : BuildFault → List ℕ
@@ -77,7 +77,5 @@ line_of words (CannotRead file) = (codes "basin: cannot read " ++ path_of words 
 line_of words CannotWrite = codes "basin: cannot write\n"
 line_of words NoMemory = codes "basin: want of memory\n"
 line_of words (Model fault) = model_line fault
-line_of words NotFirstModel = codes "basin: model: not the first form\n"
 line_of words (Inputs kind row column) = inputs_line kind row column
-line_of words NotFirstInputs = codes "basin: inputs: not the first form\n"
 line_of words (TooLong file) = (codes "basin: too long " ++ path_of words file) ++ codes "\n"

@@ -1,5 +1,5 @@
 -- What the words and the files that they name are found to be.
-use Rattle.std.specs.Prelude.{◌≡◌, ℕ, ◌<◌, ◌≤◌, ℤ, List, Option, Ok, Err, length, IfSome, IsSome}
+use Rattle.std.specs.Prelude.{◌≡◌, ℕ, ◌<◌, ◌≤◌, List, Option, Ok, Err, length, IfSome, IsSome}
 use Rattle.rw_io.specs.Causes.{Rose}
 use Rattle.rw_model.specs.Draft.{Draft}
 use Rattle.rw_model_toml.specs.Model.{model_of}
@@ -8,7 +8,6 @@ use Rattle.rw_inputs.specs.declared.fault.InputFault.{InputFault}
 use Rattle.rw_inputs.specs.Inputs.{Inputs as Given}
 use Rattle.rw_inputs.specs.Reading.{Reads, Refuses}
 use Rattle.rw_top.specs.Command.{IsCommand, inputs_path, model_path}
-use Rattle.rw_top.specs.FirstForm.{FirstModel, IsFirstForm, IsFirstFlows}
 use Rattle.rw_top.specs.declared.refusal.File.{File}
 use Rattle.rw_top.specs.declared.refusal.File.TheVariants.{Model, Inputs}
 
@@ -35,14 +34,6 @@ pub record ReadsBoth (words : List (List ℕ)) (holds : List ℕ → Option (Lis
   pub read : WasRead holds (inputs_path words) text
   pub are : Reads basin text inputs
 
--- both are read, and both are in the first form: a reservoir with its inflows and outflows
-pub record ReadsFirst (words : List (List ℕ)) (holds : List ℕ → Option (List ℕ)) (model : FirstModel) (inflows outflows : List ℤ) : Type 0 where
-  pub basin : Draft
-  pub inputs : Given
-  pub both : ReadsBoth words holds basin inputs
-  pub form : IsFirstForm basin model
-  pub flows : IsFirstFlows inputs model.run.count inflows outflows
-
 -- the words name a model that is refused for this
 pub record RefusesModel (words : List (List ℕ)) (holds : List ℕ → Option (List ℕ)) (why : Refusal) : Type 0 where
   pub command : IsCommand words
@@ -57,22 +48,6 @@ pub record RefusesInputs (words : List (List ℕ)) (holds : List ℕ → Option 
   pub text : List ℕ
   pub read : WasRead holds (inputs_path words) text
   pub are : Refuses basin text why
-
--- model and inputs are read, and the model isn't in the first form
-pub record ReadsOtherModel (words : List (List ℕ)) (holds : List ℕ → Option (List ℕ)) : Type 0 where
-  pub basin : Draft
-  pub inputs : Given
-  pub both : ReadsBoth words holds basin inputs
-  pub other : (model : FirstModel) → ¬ IsFirstForm basin model
-
--- model and inputs are read, and of the two the inputs aren't in the first form
-pub record ReadsOtherInputs (words : List (List ℕ)) (holds : List ℕ → Option (List ℕ)) : Type 0 where
-  pub basin : Draft
-  pub inputs : Given
-  pub both : ReadsBoth words holds basin inputs
-  pub model : FirstModel
-  pub form : IsFirstForm basin model
-  pub other : (inflows outflows : List ℤ) → ¬ IsFirstFlows inputs model.run.count inflows outflows
 
 -- the words name a file that is read once what stands before it is accepted
 abbrev pub Reaches : List (List ℕ) → (List ℕ → Option (List ℕ)) → File → Type 0

@@ -1,5 +1,5 @@
 -- Why the top call refuses, with which status, and in which line it says so.
-use Rattle.std.specs.Prelude.{◌≡◌, ◌⊎◌, ℕ, ◌<◌, ℤ, List, Option, Some, Err, ⊤}
+use Rattle.std.specs.Prelude.{◌≡◌, ◌⊎◌, ℕ, ◌<◌, List, Option, Some, Err, ⊤}
 use Rattle.rw_io.specs.Causes.{Rose}
 use Rattle.rw_io.specs.Known.{GrowsBy, PrefixGrew}
 use Rattle.rw_io.specs.declared.whole_file.ReadEnd.{ReadEnd}
@@ -12,12 +12,12 @@ use Rattle.rw_inputs.specs.Reading.{Refuses}
 use Rattle.rw_model_toml.specs.Fault.{refusal_of}
 use Rattle.rw_model_toml.specs.Refusal.{Refusal as Why}
 use Rattle.rw_inputs.specs.declared.fault.InputFault.TheVariants.{Refused}
-use Rattle.rw_top.specs.FirstForm.{FirstModel, IsFirstForm, IsFirstFlows}
-use Rattle.rw_top.specs.Reading.{IsTooLong, Reaches, ReadsFirst, ReadsOtherModel, ReadsOtherInputs, RefusesInputs, RefusesModel, path_of}
-use Rattle.rw_top.specs.Table.{IsRunText}
+use Rattle.rw_top.specs.Reading.{IsTooLong, Reaches, ReadsBoth, RefusesInputs, RefusesModel, path_of}
+use Rattle.rw_log.specs.declared.run.RunEnd.{RunEnd}
+use Rattle.rw_top.specs.RunText.{IsRunText}
 use Rattle.rw_top.specs.declared.refusal.File.{File}
 use Rattle.rw_top.specs.declared.refusal.Refusal.{Refusal}
-use Rattle.rw_top.specs.declared.refusal.Refusal.TheVariants.{Words, CannotRead, CannotWrite, NoMemory, Model, NotFirstModel, Inputs, NotFirstInputs, TooLong}
+use Rattle.rw_top.specs.declared.refusal.Refusal.TheVariants.{Words, CannotRead, CannotWrite, NoMemory, Model, Inputs, TooLong}
 
 abbrev pub status_of : Refusal → ℕ
 status_of Words = 2
@@ -25,9 +25,7 @@ status_of (CannotRead file) = 3
 status_of CannotWrite = 4
 status_of NoMemory = 5
 status_of (Model fault) = 6
-status_of NotFirstModel = 6
 status_of (Inputs kind row column) = 8
-status_of NotFirstInputs = 8
 status_of (TooLong file) = 10
 
 -- the call ends with this status, or with that of want of memory, which may always come
@@ -61,29 +59,26 @@ ReadCause words holds before now given Words = ¬ IsCommand words
 ReadCause words holds before now given (CannotRead file) = FailsToRead words holds before now file
 ReadCause words holds before now given (TooLong file) = FindsTooLong words holds given file
 ReadCause words holds before now given (Model fault) = (why : Why) × (refusal_of fault ≡ Some why) × RefusesModel words holds why
-ReadCause words holds before now given NotFirstModel = ReadsOtherModel words holds
 ReadCause words holds before now given (Inputs kind row column) = RefusesInputs words holds (Refused kind row column)
-ReadCause words holds before now given NotFirstInputs = ReadsOtherInputs words holds
 ReadCause words holds before now given NoMemory = ⊤
 ReadCause words holds before now given CannotWrite = ⊥
 
 -- both files were read, and the text of their run was written: all of it, or what `Grew` says
-pub record Writes (Grew : List ℕ → Type 0) (words : List (List ℕ)) (holds : List ℕ → Option (List ℕ)) (fault : Option ℤ) : Type 0 where
-  pub model : FirstModel
-  pub inflows : List ℤ
-  pub outflows : List ℤ
-  pub read : ReadsFirst words holds model inflows outflows
+pub record Writes (Grew : List ℕ → Type 0) (words : List (List ℕ)) (holds : List ℕ → Option (List ℕ)) (end : RunEnd) : Type 0 where
+  pub basin : Draft
+  pub inputs : Given
+  pub read : ReadsBoth words holds basin inputs
   pub text : List ℕ
-  pub run_text : IsRunText model inflows outflows fault text
+  pub run_text : IsRunText basin inputs end text
   pub grew : Grew text
 
 -- the whole text of the run was appended to what the sink held
-abbrev pub WritesAll : List (List ℕ) → (List ℕ → Option (List ℕ)) → Option (List ℕ) → Option (List ℕ) → Option ℤ → Type 0
-WritesAll words holds old new fault = Writes (GrowsBy old new) words holds fault
+abbrev pub WritesAll : List (List ℕ) → (List ℕ → Option (List ℕ)) → Option (List ℕ) → Option (List ℕ) → RunEnd → Type 0
+WritesAll words holds old new end = Writes (GrowsBy old new) words holds end
 
 -- a front of the text of the run was appended
 abbrev pub WritesFront : List (List ℕ) → (List ℕ → Option (List ℕ)) → Option (List ℕ) → Option (List ℕ) → Type 0
-WritesFront words holds old new = (fault : Option ℤ) × Writes (PrefixGrew old new) words holds fault
+WritesFront words holds old new = (end : RunEnd) × Writes (PrefixGrew old new) words holds end
 
 -- why the call refuses; but for a failed write, nothing was written
 abbrev pub Cause : List (List ℕ) → (List ℕ → Option (List ℕ)) → (List ℕ → ℕ) → (List ℕ → ℕ) → ℕ → Option (List ℕ) → Option (List ℕ) → ℕ → ℕ → Refusal → Type 0
@@ -95,15 +90,6 @@ pub record Tells (old new : Option (List ℕ)) (before now : ℕ) (line : List �
   pub front : PrefixGrew old new line
   pub whole : Rose before now ⊎ GrowsBy old new line
 
--- the text that a basin and its inputs give where both are in the first form
-pub record FirstText (basin : Draft) (inputs : Given) (fault : Option ℤ) (text : List ℕ) : Type 0 where
-  pub model : FirstModel
-  pub inflows : List ℤ
-  pub outflows : List ℤ
-  pub form : IsFirstForm basin model
-  pub flows : IsFirstFlows inputs model.run.count inflows outflows
-  pub run_text : IsRunText model inflows outflows fault text
-
 -- why the bytes of a model's file give no basin
 abbrev pub IsModelRefusal : List ℕ → Refusal → Type 0
 IsModelRefusal text (Model fault) = (why : Why) × (refusal_of fault ≡ Some why) × (model_of text ≡ Err why)
@@ -111,9 +97,7 @@ IsModelRefusal text NoMemory = ⊤
 IsModelRefusal text Words = ⊥
 IsModelRefusal text (CannotRead file) = ⊥
 IsModelRefusal text CannotWrite = ⊥
-IsModelRefusal text NotFirstModel = ⊥
 IsModelRefusal text (Inputs kind row column) = ⊥
-IsModelRefusal text NotFirstInputs = ⊥
 IsModelRefusal text (TooLong file) = ⊥
 
 -- why the bytes of an inputs file give no inputs for the basin
@@ -124,19 +108,4 @@ IsInputRefusal basin text Words = ⊥
 IsInputRefusal basin text (CannotRead file) = ⊥
 IsInputRefusal basin text CannotWrite = ⊥
 IsInputRefusal basin text (Model fault) = ⊥
-IsInputRefusal basin text NotFirstModel = ⊥
-IsInputRefusal basin text NotFirstInputs = ⊥
 IsInputRefusal basin text (TooLong file) = ⊥
-
--- why a basin and its inputs aren't run
-abbrev pub IsFormRefusal : Draft → Given → Refusal → Type 0
-IsFormRefusal basin inputs NotFirstModel = (model : FirstModel) → ¬ IsFirstForm basin model
-IsFormRefusal basin inputs NotFirstInputs =
-    (model : FirstModel) × IsFirstForm basin model × ((inflows outflows : List ℤ) → ¬ IsFirstFlows inputs model.run.count inflows outflows)
-IsFormRefusal basin inputs NoMemory = ⊤
-IsFormRefusal basin inputs Words = ⊥
-IsFormRefusal basin inputs (CannotRead file) = ⊥
-IsFormRefusal basin inputs CannotWrite = ⊥
-IsFormRefusal basin inputs (Model fault) = ⊥
-IsFormRefusal basin inputs (Inputs kind row column) = ⊥
-IsFormRefusal basin inputs (TooLong file) = ⊥

@@ -2,14 +2,10 @@
 //! the text that the definitions give for these files; every other status has its cause, and one line that says so.
 #![tactic(auto)]
 
-mod first_form;
-mod flows;
 pub mod law;
 mod phrase;
 mod refusal;
-mod reservoir;
 mod simulate;
-mod table;
 mod tell;
 mod top;
 mod words;

@@ -24,12 +24,8 @@ pub enum Refusal {
     NoMemory,
     /// The model is refused.
     Model(ModelFault),
-    /// The model isn't in the first form.
-    NotFirstModel,
     /// The inputs are refused: what is wrong, in which row and column.
     Inputs(InputKind, u32, u8),
-    /// The inputs aren't in the first form for that model.
-    NotFirstInputs,
     /// More bytes were given of that file than a file may hold.
     TooLong(File),
 }
@@ -46,8 +42,8 @@ impl Refusal {
             Refusal::CannotRead(_) => 3,
             Refusal::CannotWrite => 4,
             Refusal::NoMemory => 5,
-            Refusal::Model(_) | Refusal::NotFirstModel => 6,
-            Refusal::Inputs(_, _, _) | Refusal::NotFirstInputs => 8,
+            Refusal::Model(_) => 6,
+            Refusal::Inputs(_, _, _) => 8,
             Refusal::TooLong(_) => 10,
         }
     }

@@ -1,25 +1,25 @@
-ghost use Rattle.std.specs.Prelude.{◌≡◌, ℕ, ℤ, ◌≤◌, List, Option, Ok, length, string_bytes, is_some, IfErr, IfOk, MatchResult};
+ghost use Rattle.std.specs.Prelude.{◌≡◌, ℕ, List, Ok, map, IfErr, IfOk, MatchResult};
+ghost use Rattle.rw_inputs.specs.Inputs.{IsInputsOf};
 ghost use Rattle.rw_inputs.specs.Reading.{Reads};
 ghost use Rattle.rw_io.specs.Causes.{NoneFell};
 ghost use Rattle.rw_model_toml.specs.Fault.{IsWhy};
 ghost use Rattle.rw_model_toml.specs.Model.{model_of};
 ghost use Rattle.rw_top.specs.Command.{IsCommand, texts_of, model_path, inputs_path};
-ghost use Rattle.rw_top.specs.Reservoir.{IsStorage};
+ghost use Rattle.rw_method.specs.Catalogue.{AreInOrder};
 ghost use Rattle.rw_top.specs.Reading.{ReadsModel, ReadsBoth};
-ghost use Rattle.rw_top.specs.Refusal.{Cause, FirstText, IsModelRefusal, IsInputRefusal, IsFormRefusal, ReadCause, WritesAll};
-ghost use Rattle.rw_top.specs.Table.{IsRunText};
+ghost use Rattle.rw_top.specs.Refusal.{Cause, IsModelRefusal, IsInputRefusal, ReadCause, WritesAll};
+ghost use Rattle.rw_top.specs.RunText.{IsRunText};
 
-use crate::first_form::{FirstModel, first_model};
-use crate::flows::{Flows, first_flows};
-use crate::reservoir::run_reservoir;
-use crate::table::table;
 use crate::words::read_words;
 use crate::{File, Refusal};
 use rw_base::NoMemory;
+use rw_engine::{RunEnd, run_all};
 use rw_inputs::{InputFault, Inputs, read_inputs};
 use rw_io::{Shelf, Sink, WriteFault, read_all, write_all};
+use rw_method::Catalogue;
 use rw_model::Basin;
 use rw_model_toml::{ModelFault, read_model};
+use rw_report::section;
 use std::alloc::Global;
 
 // What was read.
@@ -117,52 +117,31 @@ fn read_files<S: Shelf>(alloc: Global, words: &[String], shelf: &mut S) -> Resul
     }
 }
 
-// The text of a run of the reservoir, and the value that ended it, if one did.
-fn reservoir_text(
+// The text of the run, and how it ended.
+fn run_text(
     alloc: Global,
-    model: &FirstModel<'_>,
-    flows: &Flows,
-) -> Result<(String, Option<i128>), NoMemory>
-    requires few { model.now.stamps.now.count ≤ 4096 }
-    requires initial { IsStorage model.now.initial }
-    requires inflows { length flows.now.inflows.items ≡ model.now.stamps.now.count }
-    requires outflows { length flows.now.outflows.items ≡ model.now.stamps.now.count }
-    ensures { IfOk result (λ p. IsRunText (record { name = model.now.name.now; initial = model.now.initial; run = model.now.stamps.now })
-        flows.now.inflows.items flows.now.outflows.items p.1 (string_bytes p.0)) }
+    files: &Files,
+    methods: &Catalogue,
+) -> Result<(Vec<u8>, RunEnd), NoMemory>
+    requires order { AreInOrder (map (λ b. code (b.vtable, b.value)) methods.now.methods.items) }
+    requires inputs { IsInputsOf files.now.basin files.now.inputs }
+    ensures { IfOk result (λ pair. IsRunText files.now.basin files.now.inputs pair.1 pair.0.items) }
 {
-    let run = run_reservoir(alloc, model.initial, &flows.inflows, &flows.outflows)?;
-    let text = table(alloc, model, flows, &run)?;
-    Ok((text, run.fault))
+    let run = run_all(alloc, &files.basin, methods, &files.inputs)?;
+    let text = section(alloc, &files.basin, 0, &run)?;
+    Ok((text, run.end))
 }
 
-// The same, of the basin and the inputs that were read.
-fn run_text(alloc: Global, files: &Files) -> Result<(String, Option<i128>), Refusal>
-    ensures { MatchResult result (λ p. FirstText files.now.basin files.now.inputs p.1 (string_bytes p.0))
-        (IsFormRefusal files.now.basin files.now.inputs) }
-{
-    let Some(model) = first_model(&files.basin) else {
-        return Err(Refusal::NotFirstModel);
-    };
-    let flows = match first_flows(alloc, &files.inputs, model.stamps.count()) {
-        Ok(Some(flows)) => flows,
-        Ok(None) => return Err(Refusal::NotFirstInputs),
-        Err(NoMemory) => return Err(Refusal::NoMemory),
-    };
-    match reservoir_text(alloc, &model, &flows) {
-        Ok(pair) => Ok(pair),
-        Err(NoMemory) => Err(Refusal::NoMemory),
-    }
-}
-
-/// Writes the text of the run that the words ask for, and says whether it ended in a fault.
+/// Writes the text of the run that the words ask for, and says how the run ended.
 pub(crate) fn simulate<S: Shelf, K: Sink>(
     alloc: Global,
     words: &[String],
     shelf: &mut S,
     out: &mut K,
-) -> Result<bool, Refusal>
-    ensures wrote { IfOk result (λ faulted. (fault : Option ℤ) × (is_some fault ≡ faulted)
-        × WritesAll (texts_of words.now) (S.holds shelf.old) (K.contents out.old) (K.contents out.new) fault) }
+    methods: &Catalogue,
+) -> Result<RunEnd, Refusal>
+    requires order { AreInOrder (map (λ b. code (b.vtable, b.value)) methods.now.methods.items) }
+    ensures wrote { IfOk result (WritesAll (texts_of words.now) (S.holds shelf.old) (K.contents out.old) (K.contents out.new)) }
     ensures cause { IfErr result (Cause (texts_of words.now) (S.holds shelf.old) (S.faults shelf.old) (S.faults shelf.new) (S.given shelf.new)
         (K.contents out.old) (K.contents out.new) (K.faults out.old) (K.faults out.new)) }
     ensures held { (p : List ℕ) → S.holds shelf.new p ≡ S.holds shelf.old p }
@@ -171,12 +150,12 @@ pub(crate) fn simulate<S: Shelf, K: Sink>(
         Ok(files) => files,
         Err(refusal) => return Err(refusal),
     };
-    let (text, fault) = match run_text(alloc, &files) {
+    let (text, end) = match run_text(alloc, &files, methods) {
         Ok(pair) => pair,
-        Err(refusal) => return Err(refusal),
+        Err(NoMemory) => return Err(Refusal::NoMemory),
     };
-    match write_all(out, text.as_bytes()) {
-        Ok(()) => Ok(fault.is_some()),
+    match write_all(out, &text) {
+        Ok(()) => Ok(end),
         Err(WriteFault) => Err(Refusal::CannotWrite),
     }
 }

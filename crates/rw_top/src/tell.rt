@@ -133,9 +133,7 @@ pub(crate) fn tell<E: Sink>(err: &mut E, words: &[String], refusal: &Refusal)
         Refusal::CannotWrite => tell_line(err, "basin: cannot write", ""),
         Refusal::NoMemory => tell_line(err, "basin: want of memory", ""),
         Refusal::Model(fault) => tell_model(err, fault),
-        Refusal::NotFirstModel => tell_line(err, "basin: model: not the first form", ""),
         Refusal::Inputs(kind, row, column) => tell_inputs(err, *kind, *row, *column),
-        Refusal::NotFirstInputs => tell_line(err, "basin: inputs: not the first form", ""),
         Refusal::TooLong(file) => tell_line(err, "basin: too long ", path_in(words, *file)),
     }
 }

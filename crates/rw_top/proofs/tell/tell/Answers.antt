@@ -12,11 +12,5 @@ returns-in-CannotWrite g c = rw c.in-CannotWrite.is c.tell_line-in-CannotWrite.e
 pub returns-in-NoMemory : goal.returns-in-NoMemory
 returns-in-NoMemory g c = rw c.in-NoMemory.is c.tell_line-in-NoMemory.ensures
 
-pub returns-in-NotFirstModel : goal.returns-in-NotFirstModel
-returns-in-NotFirstModel g c = rw c.in-NotFirstModel.is c.tell_line-in-NotFirstModel.ensures
-
-pub returns-in-NotFirstInputs : goal.returns-in-NotFirstInputs
-returns-in-NotFirstInputs g c = rw c.in-NotFirstInputs.is c.tell_line-in-NotFirstInputs.ensures
-
 pub returns-in-Inputs : goal.returns-in-Inputs
 returns-in-Inputs g c = rw c.in-Inputs.is c.tell_inputs.ensures
