@@ -81,24 +81,6 @@ impl<A: Abort + Drop> Method for OfNone<A> {
     }
 }
 
-fn catalogue<A: Abort + Copy + Drop + 'static>(rt: A, alloc: Global) -> Catalogue
-    ensures { AreInOrder (map (λ b. code (b.vtable, b.value)) result.methods.items) }
-{
-    let mut methods: Vec<Box<dyn Method>> = Vec::new(alloc);
-    methods
-        .push(Box::new(alloc, OfGages).expect(&rt, "memory"))
-        .expect(&rt, "memory");
-    methods
-        .push(Box::new(alloc, OfConfluences).expect(&rt, "memory"))
-        .expect(&rt, "memory");
-    for code in 3..8 {
-        methods
-            .push(Box::new(alloc, OfNone { code, rt }).expect(&rt, "memory"))
-            .expect(&rt, "memory");
-    }
-    Catalogue::of(methods).expect(&rt, "a catalogue")
-}
-
 fn control(rt: &impl Abort, alloc: Global, steps: u16) -> RunControl {
     assert!(rt; 1 <= steps && steps <= 4096);
     let start = Start {
@@ -156,9 +138,11 @@ fn written(rt: &impl Abort, slot: u16, step: u16, value: i64, object: ObjectNo) 
     }
 }
 
-fn run<A: Abort + Copy + Drop + 'static>(rt: A, alloc: Global, basin: &Basin, text: &str) -> Run {
-    let inputs = inputs(&rt, alloc, basin, text);
-    run_all(alloc, basin, &catalogue(rt, alloc), &inputs).expect(&rt, "memory")
+fn run(rt: &impl Abort, alloc: Global, basin: &Basin, methods: &Catalogue, text: &str) -> Run
+    requires { AreInOrder (map (λ b. code (b.vtable, b.value)) methods.now.methods.items) }
+{
+    let inputs = inputs(rt, alloc, basin, text);
+    run_all(alloc, basin, methods, &inputs).expect(rt, "memory")
 }
 
 fn engine(rt: &impl Abort, alloc: Global, basin: &Basin, text: &str) -> Engine
@@ -189,7 +173,13 @@ fn pass(
 #[test]
 fn an_engine_holds_the_inputs(rt: HostRuntime) {
     let basin = basin(&rt, rt.alloc(), 3);
-    let run = engine(&rt, rt.alloc(), &basin, "slot,step,value\nC.Outflow,2-3,5\n").finish();
+    let run = engine(
+        &rt,
+        rt.alloc(),
+        &basin,
+        "slot,step,value\nC.Outflow,2-3,5\n",
+    )
+    .finish();
     assert_eq!(rt; run.closed, 0);
     assert!(rt; run.trace.events().is_empty());
     assert_eq!(rt; value_at(&run.series, 3, 1), None);
@@ -206,14 +196,15 @@ fn an_engine_holds_the_inputs(rt: HostRuntime) {
     assert_eq!(rt; run.series.get(cell), Some(given));
 }
 
-#[test]
-fn timesteps_are_passed(rt: HostRuntime) {
-    let basin = basin(&rt, rt.alloc(), 2);
-    let methods = catalogue(rt, rt.alloc());
+// Two timesteps, passed one by one.
+fn check_timesteps(rt: &impl Abort, alloc: Global, methods: &Catalogue)
+    requires { AreInOrder (map (λ b. code (b.vtable, b.value)) methods.now.methods.items) }
+{
+    let basin = basin(rt, alloc, 2);
     let text = "slot,step,value\nC.Inflow1,1-2,5\nC.Inflow2,1,7\nC.Inflow2,2,9\n";
-    let mut engine = engine(&rt, rt.alloc(), &basin, text);
-    assert_eq!(rt; pass(&rt, &mut engine, &basin, &methods, 1), StepEnd::Closed);
-    assert_eq!(rt; pass(&rt, &mut engine, &basin, &methods, 2), StepEnd::Closed);
+    let mut engine = engine(rt, alloc, &basin, text);
+    assert_eq!(rt; pass(rt, &mut engine, &basin, methods, 1), StepEnd::Closed);
+    assert_eq!(rt; pass(rt, &mut engine, &basin, methods, 2), StepEnd::Closed);
     let run = engine.finish();
     assert_eq!(rt; run.closed, 2);
     assert_eq!(rt; value_at(&run.series, 3, 1), Some(12));
@@ -222,30 +213,36 @@ fn timesteps_are_passed(rt: HostRuntime) {
     assert_eq!(rt; value_at(&run.series, 5, 2), Some(14));
 }
 
-#[test]
-fn a_fault_ends_a_timestep(rt: HostRuntime) {
-    let basin = basin(&rt, rt.alloc(), 1);
-    let methods = catalogue(rt, rt.alloc());
+// A timestep that ends by a value below 0.
+fn check_fault(rt: &impl Abort, alloc: Global, methods: &Catalogue)
+    requires { AreInOrder (map (λ b. code (b.vtable, b.value)) methods.now.methods.items) }
+{
+    let basin = basin(rt, alloc, 1);
     let text = "slot,step,value\nC.Inflow1,1,7\nC.Outflow,1,5\n";
-    let mut engine = engine(&rt, rt.alloc(), &basin, text);
+    let mut engine = engine(rt, alloc, &basin, text);
     let fault = RunFault::ObjectOutOfRange {
         object: C,
         slot: SlotNo(2),
         step: StepNo(1),
         value: -2,
     };
-    assert_eq!(rt; pass(&rt, &mut engine, &basin, &methods, 1), StepEnd::Fault(fault));
+    assert_eq!(rt;
+        pass(rt, &mut engine, &basin, methods, 1),
+        StepEnd::Fault(fault)
+    );
     let run = engine.finish();
     assert_eq!(rt; run.end, RunEnd::Fault(fault));
     assert_eq!(rt; run.closed, 0);
     assert_eq!(rt; value_at(&run.series, 2, 1), None);
 }
 
-#[test]
-fn a_run_goes_to_its_last_timestep(rt: HostRuntime) {
-    let basin = basin(&rt, rt.alloc(), 3);
+// A run to its last timestep.
+fn check_last_timestep(rt: &impl Abort, alloc: Global, methods: &Catalogue)
+    requires { AreInOrder (map (λ b. code (b.vtable, b.value)) methods.now.methods.items) }
+{
+    let basin = basin(rt, alloc, 3);
     let text = "slot,step,value\nC.Inflow1,1-3,5\nC.Inflow2,1,7\nC.Inflow2,3,9\n";
-    let run = run(rt, rt.alloc(), &basin, text);
+    let run = run(rt, alloc, &basin, methods, text);
     assert_eq!(rt; run.end, RunEnd::Settled);
     assert_eq!(rt; run.closed, 3);
     assert_eq!(rt; value_at(&run.series, 5, 1), Some(12));
@@ -254,24 +251,34 @@ fn a_run_goes_to_its_last_timestep(rt: HostRuntime) {
     assert_eq!(rt; run.trace.len(), 16);
 }
 
-#[test]
-fn a_trace_tells_what_was_solved(rt: HostRuntime) {
-    let basin = basin(&rt, rt.alloc(), 1);
-    let run = run(rt, rt.alloc(), &basin, "slot,step,value\nC.Inflow1,1,5\nC.Inflow2,1,7\n");
+// The lines of a timestep in which both objects solve.
+fn check_solved_lines(rt: &impl Abort, alloc: Global, methods: &Catalogue)
+    requires { AreInOrder (map (λ b. code (b.vtable, b.value)) methods.now.methods.items) }
+{
+    let basin = basin(rt, alloc, 1);
+    let run = run(
+        rt,
+        alloc,
+        &basin,
+        methods,
+        "slot,step,value\nC.Inflow1,1,5\nC.Inflow2,1,7\n",
+    );
     let lines = run.trace.events();
     assert_eq!(rt; lines.len(), 6);
     assert_eq!(rt; lines.first(), Some(&TraceEvent::Opened(StepNo(1))));
     assert_eq!(rt; lines.get(1), Some(&TraceEvent::Solve(C)));
-    assert_eq!(rt; lines.get(2), Some(&written(&rt, 3, 1, 12, C)));
+    assert_eq!(rt; lines.get(2), Some(&written(rt, 3, 1, 12, C)));
     assert_eq!(rt; lines.get(3), Some(&TraceEvent::Solve(G)));
-    assert_eq!(rt; lines.get(4), Some(&written(&rt, 5, 1, 12, G)));
+    assert_eq!(rt; lines.get(4), Some(&written(rt, 5, 1, 12, G)));
     assert_eq!(rt; lines.last(), Some(&TraceEvent::Closed(StepNo(1))));
 }
 
-#[test]
-fn a_trace_tells_who_was_idle(rt: HostRuntime) {
-    let basin = basin(&rt, rt.alloc(), 1);
-    let run = run(rt, rt.alloc(), &basin, "slot,step,value\n");
+// The lines of a timestep in which none does.
+fn check_idle_lines(rt: &impl Abort, alloc: Global, methods: &Catalogue)
+    requires { AreInOrder (map (λ b. code (b.vtable, b.value)) methods.now.methods.items) }
+{
+    let basin = basin(rt, alloc, 1);
+    let run = run(rt, alloc, &basin, methods, "slot,step,value\n");
     let lines = run.trace.events();
     assert_eq!(rt; run.end, RunEnd::Settled);
     assert_eq!(rt; lines.len(), 4);
@@ -279,11 +286,13 @@ fn a_trace_tells_who_was_idle(rt: HostRuntime) {
     assert_eq!(rt; lines.get(2), Some(&TraceEvent::Idle(G)));
 }
 
-#[test]
-fn a_conflict_ends_a_run(rt: HostRuntime) {
-    let basin = basin(&rt, rt.alloc(), 3);
+// A run with values in its second timestep that don't agree.
+fn check_conflict(rt: &impl Abort, alloc: Global, methods: &Catalogue)
+    requires { AreInOrder (map (λ b. code (b.vtable, b.value)) methods.now.methods.items) }
+{
+    let basin = basin(rt, alloc, 3);
     let text = "slot,step,value\nC.Inflow1,1-3,5\nC.Inflow2,1-3,7\nG.GageOutflow,2,6\n";
-    let run = run(rt, rt.alloc(), &basin, text);
+    let run = run(rt, alloc, &basin, methods, text);
     let fault = RunFault::Conflict {
         object: G,
         slot: SlotNo(5),
@@ -300,11 +309,13 @@ fn a_conflict_ends_a_run(rt: HostRuntime) {
     assert_eq!(rt; value_at(&run.series, 3, 3), None);
 }
 
-#[test]
-fn a_conflict_in_the_first_timestep_closes_none(rt: HostRuntime) {
-    let basin = basin(&rt, rt.alloc(), 1);
+// A run with such values in its first one.
+fn check_first_conflict(rt: &impl Abort, alloc: Global, methods: &Catalogue)
+    requires { AreInOrder (map (λ b. code (b.vtable, b.value)) methods.now.methods.items) }
+{
+    let basin = basin(rt, alloc, 1);
     let text = "slot,step,value\nC.Inflow1,1,5\nC.Inflow2,1,7\nG.GageOutflow,1,13\n";
-    let run = run(rt, rt.alloc(), &basin, text);
+    let run = run(rt, alloc, &basin, methods, text);
     let fault = RunFault::Conflict {
         object: G,
         slot: SlotNo(5),
@@ -314,4 +325,29 @@ fn a_conflict_in_the_first_timestep_closes_none(rt: HostRuntime) {
     };
     assert_eq!(rt; run.end, RunEnd::Fault(fault));
     assert_eq!(rt; run.closed, 0);
+}
+
+#[test]
+fn runs_come_to_what_they_should(rt: HostRuntime) {
+    let alloc = rt.alloc();
+    let mut methods: Vec<Box<dyn Method>> = Vec::new(alloc);
+    methods
+        .push(Box::new(alloc, OfGages).expect(&rt, "memory"))
+        .expect(&rt, "memory");
+    methods
+        .push(Box::new(alloc, OfConfluences).expect(&rt, "memory"))
+        .expect(&rt, "memory");
+    for code in 3..8 {
+        methods
+            .push(Box::new(alloc, OfNone { code, rt }).expect(&rt, "memory"))
+            .expect(&rt, "memory");
+    }
+    let methods = Catalogue::of(methods).expect(&rt, "a catalogue");
+    check_timesteps(&rt, alloc, &methods);
+    check_fault(&rt, alloc, &methods);
+    check_last_timestep(&rt, alloc, &methods);
+    check_solved_lines(&rt, alloc, &methods);
+    check_idle_lines(&rt, alloc, &methods);
+    check_conflict(&rt, alloc, &methods);
+    check_first_conflict(&rt, alloc, &methods);
 }
