@@ -157,15 +157,23 @@ module _ (basin : Draft) (old new : Engine) (step object count : ℕ) (rest : Li
   tells (idle other at looked) IsIdle is = record {
     lines_are = ap (λ o. IdleLine (record { 0 = o }) ∷ []) (sym is.0);
     last = refl;
-    calm = λ none. (refl, ap inside is.1, λ waits. idles basin log other at looked rest (waits ∙ ap (λ o. o ∷ rest) (sym is.0)),
-        λ o. ap (λ z. count_if (z == o) (dispatches log o)) is.0);
+    calm = λ none. (
+      refl,
+      ap inside is.1,
+      λ waits. idles basin log other at looked rest (waits ∙ ap (λ o. o ∷ rest) (sym is.0)),
+      λ o. ap (λ z. count_if (z == o) (dispatches log o)) is.0,
+    );
     faulted = λ why some. absurd (cc);
   }
   tells (solved dispatch) (IsSolved asked written) is = record {
     lines_are = ap₂ (λ o xs. Solve (record { 0 = o }) ∷ xs) (sym is.own) (written_lines written ∙ ap (map line_of) (sym is.those));
     last = refl;
-    calm = λ none. (refl, ap inside is.now, λ waits. solves basin log dispatch rest (waits ∙ ap (λ o. o ∷ rest) (sym is.own)),
-        λ o. ap (λ z. count_if (z == o) (dispatches log o)) is.own);
+    calm = λ none. (
+      refl,
+      ap inside is.now,
+      λ waits. solves basin log dispatch rest (waits ∙ ap (λ o. o ∷ rest) (sym is.own)),
+      λ o. ap (λ z. count_if (z == o) (dispatches log o)) is.own,
+    );
     faulted = λ why some. absurd (cc);
   }
   tells (fault (Conflict other slot at there here)) (IsConflict own left right) is =

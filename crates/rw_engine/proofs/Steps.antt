@@ -69,13 +69,16 @@ pub ends_step : (basin : Draft) (log : Log) (old new : Engine) (step : ℕ) (end
 ends_step basin log old new step end reached goes before =
     let went = goes reached.log reached.holds in
     let first : follows basin no_rules log ≡ Some (opened step) =
-        ap (follows_in basin no_rules log) before.rest ∙ opened_next basin step before.last (nat_lt before.last basin.control.stamps.count) refl before.next_one before.exists in
+    ap (follows_in basin no_rules log) before.rest ∙ opened_next basin step before.last (nat_lt before.last basin.control.stamps.count) refl before.next_one before.exists in
     record {
       events = opened step ∷ (reached.events ++ next basin no_rules step reached.log ∷ []);
       last = next basin no_rules step reached.log;
       before = reached.log;
-      leads = (first, leads_more basin no_rules (opened step ∷ log) reached.events (next basin no_rules step reached.log) reached.log reached.leads
-          (follows_inside basin old step reached.log old.queue.waiting reached.holds));
+      leads = (
+        first,
+        leads_more basin no_rules (opened step ∷ log) reached.events (next basin no_rules step reached.log) reached.log reached.leads
+            (follows_inside basin old step reached.log old.queue.waiting reached.holds),
+      );
       ends = went.0;
       shows = went.1;
     }

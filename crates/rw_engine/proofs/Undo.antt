@@ -118,8 +118,8 @@ apart_from : (basin : Draft) (cells : Cells) (object step places place : ℕ) (o
 apart_from basin cells object step zero place own cell near is none = absurd (omega arith)
 apart_from basin cells object step (suc places) place own cell near is none =
     let parts = either (is_reached basin (undone_to basin cells object step places) cell)
-        (is_reached basin (if_undone (undone_at basin cells object step places)) cell)
-        (sym (list_any-append (λ (undone : Undone). is_shared basin undone.cell cell) (undone_to basin cells object step places) (if_undone (undone_at basin cells object step places))) ∙ none) in
+    (is_reached basin (if_undone (undone_at basin cells object step places)) cell)
+    (sym (list_any-append (λ (undone : Undone). is_shared basin undone.cell cell) (undone_to basin cells object step places) (if_undone (undone_at basin cells object step places))) ∙ none) in
     apart_here basin cells object step places place own cell is (place == places) refl
     (λ other. apart_from basin cells object step places place own cell (grind (arith, nat_tests)) is parts.0) parts.1
 

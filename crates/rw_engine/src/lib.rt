@@ -9,6 +9,8 @@ mod placing;
 mod running;
 mod step_end;
 mod telling;
+#[cfg(test)]
+mod tests;
 mod undoing;
 mod undone;
 

@@ -34,6 +34,6 @@ returns-clause-run g c =
     let stands = c.loop-before.invariant.stands in
     let steps = ap (λ (k : RunControl). k.stamps.count) c.control.ensures in
     let last : c.loop-before.before ≡ c.args.basin.now.control.stamps.count =
-        let test = c.loop-before-test.false in let end = c.loop-before.auto.before-end in let value = c.count-before-end.ensures.value in omega arith in
+    let test = c.loop-before-test.false in let end = c.loop-before.auto.before-end in let value = c.count-before-end.ensures.value in omega arith in
     comes_settled c.args.basin.now c.args.inputs.now c.loop-before.engine c.loop-before.before c.finish-2.result stands last
     (c.finish-2.ensures.run c.args.basin.now stands.log c.loop-before.invariant.made stands.shows)

@@ -22,7 +22,7 @@ returns-then-control-count-clause-goes g c = λ log holds.
     let at : c.from-place.result ≡ c.args.object.0 = c.from-place.ensures in
     let near : c.from-place.result - 1 < length items = omega arith in
     let count : get_or items (c.args.object.0 - 1) 0 ≡ c.index-count.result.now =
-        ap (λ p. get_or items (p - 1) 0) (sym at) ∙ get_or_default items (c.from-place.result - 1) 0 c.index-count.result.now near ∙ sym c.index-count.ensures in
+    ap (λ p. get_or items (p - 1) 0) (sym at) ∙ get_or_default items (c.from-place.result - 1) 0 c.index-count.result.now near ∙ sym c.index-count.ensures in
     c.in_ok-exceed.ensures.goes log c.args.self.now.queue.waiting holds (sym count ∙ holds.counts c.args.object.0 own)
 
 pub returns-in_err-remember-clause-undo : goal.returns-in_err-remember-clause-undo
@@ -60,7 +60,7 @@ returns-in_default-clause-goes g c = λ log holds.
     let at : c.from-place.result ≡ c.args.object.0 = c.from-place.ensures in
     let near : c.from-place.result - 1 < length items = omega arith in
     let count : get_or items (c.args.object.0 - 1) 0 ≡ c.index-count.result.now =
-        ap (λ p. get_or items (p - 1) 0) (sym at) ∙ get_or_default items (c.from-place.result - 1) 0 c.index-count.result.now near ∙ sym c.index-count.ensures in
+    ap (λ p. get_or items (p - 1) 0) (sym at) ∙ get_or_default items (c.from-place.result - 1) 0 c.index-count.result.now near ∙ sym c.index-count.ensures in
     let below : dispatches log c.args.object.0 < basin.control.object_limit = let so_far = holds.counts c.args.object.0 own in let under = c.if-control-count.false in let limit = ap (λ (k : RunControl). k.object_limit) c.control.ensures in omega arith in
     let same : cells ≡ cells_of basin log = λ i cell. holds.shows.cells cell i in
     let event = dispatched basin cells c.args.object.0 c.args.step.0 in
@@ -111,7 +111,7 @@ returns-clause-goes g c = λ log holds.
     let at : c.from-place.result ≡ c.args.object.0 = c.from-place.ensures in
     let near : c.from-place.result - 1 < length items = omega arith in
     let count : get_or items (c.args.object.0 - 1) 0 ≡ c.index-count.result.now =
-        ap (λ p. get_or items (p - 1) 0) (sym at) ∙ get_or_default items (c.from-place.result - 1) 0 c.index-count.result.now near ∙ sym c.index-count.ensures in
+    ap (λ p. get_or items (p - 1) 0) (sym at) ∙ get_or_default items (c.from-place.result - 1) 0 c.index-count.result.now near ∙ sym c.index-count.ensures in
     let below : dispatches log c.args.object.0 < basin.control.object_limit = let so_far = holds.counts c.args.object.0 own in let under = c.if-control-count.false in let limit = ap (λ (k : RunControl). k.object_limit) c.control.ensures in omega arith in
     let same : cells ≡ cells_of basin log = λ i cell. holds.shows.cells cell i in
     let event = dispatched basin cells c.args.object.0 c.args.step.0 in
