@@ -1,6 +1,7 @@
 pub mod Lists
 pub mod Waits
 pub mod SolvedPuts
+pub mod Ready
 mod OneRun
 mod Sinces
 mod Frames

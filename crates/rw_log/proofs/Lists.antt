@@ -2,12 +2,8 @@
 use Rattle.std.proofs.Common.{◌≡◌, ◌<◌, ◌+◌, ◌==◌, ℕ, zero, suc, Bool, true, false, not, ◌&&◌, cond, List, [], ◌∷◌, ◌++◌, nat_lt, refl, ap, arith}
 use Rattle.std.specs.List.{filter, list_any}
 use Rattle.std.proofs.lemmas.Bool.Decides.{nat_tests}
+use Rattle.rw_log.specs.Times.{times}
 use Rattle.rw_log.specs.Waiting.{numbers}
-
--- how often a number stands in a list
-abbrev pub times : ℕ → List ℕ → ℕ
-times a [] = 0
-times a (x ∷ xs) = cond (a == x) 1 0 + times a xs
 
 pub filter-same : {X : Type 0} (p q : X → Bool) (xs : List X) → ((x : X) → p x ≡ q x) → filter p xs ≡ filter q xs
 filter-same p q [] same = refl

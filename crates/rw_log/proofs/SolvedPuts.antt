@@ -1,6 +1,5 @@
--- What a dispatch puts stands in slots of the object.
-use Rattle.std.proofs.Common.{◌≡◌, ℕ, zero, suc, ◌+◌, ◌-◌, ◌==◌, ◌<◌, ◌≤◌, ℤ, pos, ◌+ℤ◌, Bool, true, false, not, ◌&&◌, if◌then◌else◌, List, [], ◌∷◌, ◌++◌, length, All, Option, None, Some, is_some, IsSome, nat_le, slice_index_or, option_map, unwrap_or, refl, sym, ap, ap₂, subst, ◌∙◌, arith}
-use Rattle.std.specs.Prelude.{take}
+-- What a method puts stands in slots of its kind.
+use Rattle.std.proofs.Common.{◌≡◌, ℕ, zero, suc, ◌+◌, ◌==◌, ◌<◌, ◌≤◌, ℤ, pos, ◌+ℤ◌, Bool, true, false, not, ◌&&◌, if◌then◌else◌, List, [], ◌∷◌, ◌++◌, length, All, Option, None, Some, is_some, IsSome, nat_le, refl, sym, ap, ap₂, subst, ◌∙◌, arith}
 use Rattle.std.specs.Ordering.{int_eq}
 use Rattle.std.proofs.lemmas.List.{length-append}
 use Rattle.std.proofs.lemmas.List.Elements.{All-append, All-push}
@@ -9,12 +8,9 @@ use Rattle.rw_table.specs.Table.{Row}
 use Rattle.rw_model.specs.declared.kind.Kind.{Kind}
 use Rattle.rw_model.specs.declared.kind.Kind.TheVariants.{DataObject, Gage, Confluence, Bifurcation, Reach, Reservoir, WaterUser, Canal}
 use Rattle.rw_model.specs.declared.kind.Supply.TheVariants.{Request, Rule}
-use Rattle.rw_model.specs.Draft.{Draft}
 use Rattle.rw_model.specs.Kind.{IsKind, IsStored}
-use Rattle.rw_model.specs.Objects.{Object, placed_from, first_from, object_at, slots_from, slot_in_place, is_in_place}
 use Rattle.rw_model.specs.Slot.{Slot}
-use Rattle.rw_model.specs.Slots.{where_chosen, slots_of, slot_in}
-use Rattle.rw_model.proofs.Numbering.{first_from-own, IsOfOwner-is_in_place}
+use Rattle.rw_model.specs.Slots.{where_chosen, slot_in}
 use Rattle.rw_method.specs.declared.balanced.Balanced.{Balanced}
 use Rattle.rw_method.specs.declared.balanced.Balanced.TheVariants.{Idle, Holds, Solves, Conflicts}
 use Rattle.rw_method.specs.declared.basis.Basis.{Basis}
@@ -32,8 +28,6 @@ use Rattle.rw_method.specs.Settling.{missing, net_of, gives_way_before, weakest,
 use Rattle.rw_method.specs.Solve.{or_else, fault_of_past, fault_of_contents, fits, first_misfit, AllFit, all_or_misfit, answer, balanced_of, solve_of}
 use Rattle.rw_method.specs.View.{given}
 use Rattle.rw_method.proofs.PutFacts.{first_fits}
-use Rattle.rw_log.specs.Log.{Cells}
-use Rattle.rw_log.specs.Dispatch.{view_of, solved_by}
 
 -- ---- a kind has a slot in each place at which it puts
 
@@ -329,64 +323,3 @@ solve-puts kind view puts is e =
     let own : AreOwn kind 8 puts = subst (AreOwn kind 8) judging.same (puts_own kind view is) in
     let fit : All (λ (put : Put). fits kind view put ≡ true) puts = all_fit (fits kind view) puts (subst (AllFit (fits kind view)) judging.same judging.fit_all) in
     (λ k d lt. record { own = own.own k d lt; bounded = and_second _ _ (fit k d lt) }, own.few)
-
--- ---- a put of an object
-
-found_here : (test : Bool) (n : ℕ) (rest : Option ℕ) → test ≡ true → is_some (if test then Some n else rest) ≡ true
-found_here test n rest e = rw e refl
-
-found_later : (test : Bool) (n : ℕ) (rest : Option ℕ) → is_some rest ≡ true → is_some (if test then Some n else rest) ≡ true
-found_later true n rest e = refl
-found_later false n rest e = e
-
--- of the slots that stand from a place on, the one in a later place is found if it is there
-own_slot : (number owner place : ℕ) (slots : List (Option Slot)) (j : ℕ) → is_some (slice_index_or slots j None) ≡ true
-    → is_some (first_from number (is_in_place owner (place + j)) (placed_from owner place slots)) ≡ true
-own_slot number owner place [] zero there = absurd (cc)
-own_slot number owner place [] (suc j) there = absurd (cc)
-own_slot number owner place (None ∷ slots) zero there = absurd (cc)
-own_slot number owner place (Some slot ∷ slots) zero there =
-    let same : place + 0 ≡ place = omega arith in
-    found_here ((owner == owner) && (place == place + 0)) number _ (rw same (grind arith))
-own_slot number owner place (None ∷ slots) (suc j) there =
-    let same : (place + 1) + j ≡ place + suc j = omega arith in
-    ap (λ q. is_some (first_from number (is_in_place owner q) (placed_from owner (place + 1) slots))) (sym same)
-    ∙ own_slot number owner (place + 1) slots j there
-own_slot number owner place (Some slot ∷ slots) (suc j) there =
-    let same : (place + 1) + j ≡ place + suc j = omega arith in
-    found_later ((owner == owner) && (place == place + suc j)) number _
-    (ap (λ q. is_some (first_from (number + 1) (is_in_place owner q) (placed_from owner (place + 1) slots))) (sym same)
-    ∙ own_slot (number + 1) owner (place + 1) slots j there)
-
--- an object has a slot in each place of its kind
-pub slot-in-place : (objects : List Object) (owner place : ℕ) (object : Object) → 1 ≤ owner → object_at objects owner ≡ Some object
-    → IsSome (slot_in object.kind place) → IsSome (slot_in_place objects owner place)
-slot-in-place objects owner place object first found there =
-    let at : owner ≡ 1 + (owner - 1) = omega (arith, first) in
-    let start : 0 + place ≡ place = omega arith in
-    let before : ℕ = 1 + length (slots_from 1 (take (owner - 1) objects)) in
-    ap is_some (first_from-own 1 (is_in_place owner place) owner 1 objects (owner - 1) object (IsOfOwner-is_in_place owner place) at found)
-    ∙ ap (λ q. is_some (first_from before (is_in_place owner q) (placed_from owner 0 (slots_of object.kind)))) (sym start)
-    ∙ own_slot before owner 0 (slots_of object.kind) place there
-
--- it stands in a slot of the object, and is a quantity within the slot's bounds
-pub record IsOwnPut (basin : Draft) (cells : Cells) (object step : ℕ) (put : Put) : Type 0 where
-  pub few : put.place < 12
-  pub slot : IsSome (slot_in_place basin.objects object put.place)
-  pub bounded : is_bounded (view_of basin cells object step) put ≡ true
-
--- what a dispatch of an object puts
-pub solved-puts : (basin : Draft) (cells : Cells) (object step : ℕ) (found : Object) (puts : List Put) → 1 ≤ object
-    → object_at basin.objects object ≡ Some found → IsKind found.kind → solved_by basin cells object step ≡ Puts puts
-    → All (IsOwnPut basin cells object step) puts × (length puts ≤ 8)
-solved-puts basin cells object step found puts first at is e =
-    let view : View = view_of basin cells object step in
-    let same = ap (λ (x : Option Object). unwrap_or (option_map (λ (f : Object). solve_of f.kind (view_of basin cells object step)) x) IdleAnswer) at in
-    let all = solve-puts found.kind view puts is (sym same ∙ e) in (
-      λ k d lt. record {
-        few = (all.0 k d lt).own.few;
-        slot = slot-in-place basin.objects object _ found first at (all.0 k d lt).own.slot;
-        bounded = (all.0 k d lt).bounded;
-      },
-      all.1,
-    )

@@ -14,10 +14,11 @@ use Rattle.rw_method.specs.declared.solved.Solved.{Solved}
 use Rattle.rw_method.specs.declared.solved.Solved.TheVariants.{Idle, Puts, Conflict, OutOfRange}
 use Rattle.rw_log.specs.declared.fault.RunFault.{RunFault}
 use Rattle.rw_log.specs.Log.{Asked, Cells, Log, Event, Dispatch, Firing, given, opened, closed, idle, solved, fired, fault}
+use Rattle.rw_log.specs.Times.{times}
 use Rattle.rw_log.specs.Waiting.{numbers, is_data, ends_wait, wakes, since, is_place, is_since, waiting_below, waiting, is_at, is_put_at, is_owner, woken, slots_at, all_waiting, queued_after}
 use Rattle.rw_log.specs.Dispatch.{asked_by, end_in, denied_by, or_fault, judged, dispatch_of, answered, looks_at, looked_cells, solved_by, dispatched}
 use Rattle.rw_log.specs.Frame.{IsFault}
-use Rattle.rw_log.proofs.Lists.{times, filter-same, filter-filter, times-append, times-filter, times-numbers, without, none-kept, all-kept, filter-within, any-times}
+use Rattle.rw_log.proofs.Lists.{filter-same, filter-filter, times-append, times-filter, times-numbers, without, none-kept, all-kept, filter-within, any-times}
 
 -- ---- the places since which an object waits
 

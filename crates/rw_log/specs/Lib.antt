@@ -1,5 +1,6 @@
 pub mod Log
 pub mod Waiting
+pub mod Times
 pub mod Dispatch
 pub mod Next
 pub mod Runs

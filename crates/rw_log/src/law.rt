@@ -64,7 +64,7 @@ pub fn waiting_after()
     ensures fault { (basin : Draft) (log : Log) (why : RunFault) → waiting basin (fault why ∷ log) ≡ waiting basin log }
 {}
 
-/// An object waits since the first event after its last dispatch, or after the opening of the timestep, that wakes it.
+/// An object waits since the first event that wakes it, from the opening of the timestep on, and after its last dispatch.
 pub fn since_is()
     ensures { (basin : Draft) (log : Log) (object place : ℕ)
         → (since basin log object ≡ Some place) ↔ WaitsSince basin log object place }
