@@ -8,10 +8,10 @@ use rw_log::Run;
 use rw_model::Basin;
 use std::alloc::Global;
 
-/// The text of the section of a batch, whose number is counted from 0: a line on how its run ended, a line of column
-/// names, and a line for each closed timestep with its number, the moment at which it ends and the values of all slots,
-/// in the base units of their dimensions and in the order of their numbers. Every line ends in a line feed, and an
-/// unknown value is nothing. A fault's numbers that the basin doesn't have are written as nothing.
+/// The text of the section of the batch of this number: a line on how its run ended, a line of column names, and a line
+/// for each closed timestep with its number, the moment at which it ends and the values of all slots, in the base units of
+/// their dimensions and in the order of their numbers. Every line ends in a line feed, and an unknown value is nothing. An
+/// object or a slot that a fault names and the basin doesn't have is written as nothing.
 pub fn section(alloc: Global, basin: &Basin, batch: u32, run: &Run) -> Result<Vec<u8>, NoMemory>
     requires closed { run.now.closed ≤ basin.now.control.stamps.count }
     ensures text { IfOk result (λ text. text.items
