@@ -1,0 +1,4 @@
+pub mod FirstForm
+pub mod Reservoir
+pub mod Table
+pub mod Givens
