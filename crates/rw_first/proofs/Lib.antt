@@ -1,3 +1,4 @@
 mod Alone
 mod Solves
 mod Placed
+mod Texts
