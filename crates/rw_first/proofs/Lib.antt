@@ -2,3 +2,5 @@ mod Alone
 mod Solves
 mod Placed
 mod Texts
+mod Storages
+mod Steps
