@@ -1,6 +1,7 @@
 mod Alone
 mod Solves
 mod Placed
-mod Texts
 mod Storages
 mod Steps
+mod Texts
+mod Whole

@@ -14,7 +14,8 @@ use Rattle.rw_model.specs.Before.{before_of}
 use Rattle.rw_model.specs.Draft.{Bound, Draft}
 use Rattle.rw_model.specs.Links.{bounds_in}
 use Rattle.rw_model.specs.Slot.{from_zero}
-use Rattle.rw_log.specs.declared.fault.RunFault.TheVariants.{ObjectOutOfRange}
+use Rattle.rw_series.specs.declared.look.Look.{Look}
+use Rattle.rw_log.specs.declared.fault.RunFault.TheVariants.{ObjectLimit, ObjectOutOfRange}
 use Rattle.rw_log.specs.declared.run.RunEnd.{RunEnd}
 use Rattle.rw_log.specs.declared.run.RunEnd.TheVariants.{Settled, Fault}
 use Rattle.rw_log.specs.Log.{Asked, Cells, Dispatch, Event, Log, opened, closed, solved, fault, cells_of, input_content, value_in}
@@ -111,7 +112,7 @@ dispatches_next s step log is =
     let least = is.limit in
     let below : nat_le s.control.object_limit 0 ≡ false = grind (arith, nat_tests, least) in
     ap (λ o. Some (next_of basin no_rules (cells_of basin now) now step o)) first
-    ∙ ap (λ t. Some (if t then _ else dispatched basin (cells_of basin now) 1 step)) below
+    ∙ ap (λ t. Some (if t then fault (ObjectLimit (record { 0 = 1 }) (record { 0 = step }) 0) else dispatched basin (cells_of basin now) 1 step)) below
 
 past_later : (s : Case) (cells : Cells) (step at : ℕ) → nat_lt 1 step ≡ true → step - 1 ≡ at
     → past_value (basin_of s) cells 1 step ≡ value_in cells (cell_at 3 at)
@@ -133,7 +134,7 @@ no_agenda : (order : AgendaOrder) → agenda_of order 0 ≡ []
 no_agenda HighFirst = refl
 no_agenda LowFirst = refl
 
-closes_next : (s : Case) (step : ℕ) (log : Log) (looked : _) (z : ℤ)
+closes_next : (s : Case) (step : ℕ) (log : Log) (looked : List Look) (z : ℤ)
     → follows (basin_of s) no_rules (solved (stores_at looked step z) ∷ opened step ∷ log) ≡ Some (closed step)
 closes_next s step log looked z =
     let basin = basin_of s in
@@ -143,3 +144,141 @@ closes_next s step log looked z =
     let undue : first_due basin no_rules (cells_of basin now) now ≡ None = ap (find (is_due (cells_of basin now) now)) (no_agenda s.control.agenda) in
     ap (λ o. Some (next_of basin no_rules (cells_of basin now) now step o)) none
     ∙ ap (λ o. Some (after_objects basin no_rules (cells_of basin now) now step o)) undue
+
+-- the log of a timestep that was closed
+abbrev log_after : List Look → ℕ → ℤ → Log → Log
+log_after looked step z log = closed step ∷ solved (stores_at looked step z) ∷ opened step ∷ log
+
+-- what it leaves of the storages
+storage_after : (s : Case) (looked : List Look) (t step : ℕ) (z : ℤ) (log : Log) (same : Bool) → (t + 1 == step + 1) ≡ same
+    → cells_of (basin_of s) (log_after looked (step + 1) z log) (cell_at 3 (t + 1))
+    ≡ option_or (if same then Some (storing (step + 1) z).content else None) (cells_of (basin_of s) log (cell_at 3 (t + 1)))
+storage_after s looked t step z log same e =
+    ap (λ b. option_or (if b then Some (storing (step + 1) z).content else None) (cells_of (basin_of s) log (cell_at 3 (t + 1)))) e
+
+older_storage : (s : Case) (looked : List Look) (t step : ℕ) (z : ℤ) (log : Log) → t ≢ step
+    → cells_of (basin_of s) (log_after looked (step + 1) z log) (cell_at 3 (t + 1)) ≡ cells_of (basin_of s) log (cell_at 3 (t + 1))
+older_storage s looked t step z log apart = storage_after s looked t step z log false (grind (arith, nat_tests, apart))
+
+newest_storage : (s : Case) (looked : List Look) (step : ℕ) (z : ℤ) (log : Log)
+    → value_in (cells_of (basin_of s) (log_after looked (step + 1) z log)) (cell_at 3 (step + 1)) ≡ Some z
+newest_storage s looked step z log =
+    ap (option_map (λ (content : Content). content.value)) (storage_after s looked step step z log true (grind (arith, nat_tests)))
+
+stands_on : (s : Case) (looked : List Look) (step : ℕ) (log : Log) → Stands s step log → IsStorage (storage_of s (step + 1))
+    → Stands s (step + 1) (log_after looked (step + 1) (storage_of s (step + 1)) log)
+stands_on s looked step log h fits = record {
+  standing = refl;
+  end = refl;
+  closed = refl;
+  inflow = h.inflow;
+  outflow = h.outflow;
+  stored =
+      let new : Log = log_after looked (step + 1) (storage_of s (step + 1)) log in
+      below_more (λ t. value_in (cells_of (basin_of s) new) (cell_at 3 (t + 1)) ≡ Some (storage_of s (t + 1))) step
+      (λ t lt. ap (option_map (λ (content : Content). content.value)) (older_storage s looked t step (storage_of s (step + 1)) log (omega (arith, lt))) ∙ h.stored t lt)
+      (newest_storage s looked step (storage_of s (step + 1)) log);
+  unknown = λ t le lt. older_storage s looked t step (storage_of s (step + 1)) log (omega (arith, le)) ∙ h.unknown t (omega (arith, le)) lt;
+  inside = below_more (λ t. IsStorage (storage_of s (t + 1))) step h.inside fits;
+}
+
+-- ---- the end
+
+abbrev pub run_end : ℕ → Option ℤ → RunEnd
+run_end steps None = Settled
+run_end steps (Some value) = Fault (ObjectOutOfRange (record { 0 = 1 }) (record { 0 = 3 }) (record { 0 = steps + 1 }) value)
+
+-- what the run comes to
+pub record Ends (s : Case) (log : Log) : Type 0 where
+  pub fault : Option ℤ
+  pub closed : ℕ
+  pub run : IsRun (count_of s) s.initial s.inflows s.outflows closed fault
+  pub end : end_of log ≡ run_end closed fault
+  pub last : last_closed log ≡ closed
+  pub inflow : (t : ℕ) → t < closed → value_in (cells_of (basin_of s) log) (cell_at 1 (t + 1)) ≡ Some (inflow_at s t)
+  pub outflow : (t : ℕ) → t < closed → value_in (cells_of (basin_of s) log) (cell_at 2 (t + 1)) ≡ Some (outflow_at s t)
+  pub storage : (t : ℕ) → t < closed → value_in (cells_of (basin_of s) log) (cell_at 3 (t + 1)) ≡ Some (storage_of s (t + 1))
+
+-- after the last timestep it settles
+settles : (s : Case) (step : ℕ) (log : Log) → Stands s step log → step ≡ count_of s → Ends s log
+settles s step log h all = record {
+  fault = None;
+  closed = step;
+  run = record { inside = h.inside; ends = all };
+  end = h.end;
+  last = h.closed;
+  inflow = λ t lt. ap (option_map (λ (content : Content). content.value)) (h.inflow t (omega (arith, lt, all)));
+  outflow = λ t lt. ap (option_map (λ (content : Content). content.value)) (h.outflow t (omega (arith, lt, all)));
+  storage = h.stored;
+}
+
+-- a storage out of range ends it
+faults : (s : Case) (step : ℕ) (log : Log) → Stands s step log → step < count_of s → ¬ IsStorage (storage_of s (step + 1))
+    → Ends s (fault (ObjectOutOfRange (record { 0 = 1 }) (record { 0 = 3 }) (record { 0 = step + 1 }) (storage_of s (step + 1))) ∷ opened (step + 1) ∷ log)
+faults s step log h more beyond = record {
+  fault = Some (storage_of s (step + 1));
+  closed = step;
+  run = record { inside = h.inside; ends = (more, refl, beyond) };
+  end = refl;
+  last = h.closed;
+  inflow = λ t lt. ap (option_map (λ (content : Content). content.value)) (h.inflow t (omega (arith, lt, more)));
+  outflow = λ t lt. ap (option_map (λ (content : Content). content.value)) (h.outflow t (omega (arith, lt, more)));
+  storage = h.stored;
+}
+
+-- ---- all timesteps
+
+-- the storage that follows, as the dispatch finds it
+found : (s : Case) (step : ℕ) → IsCase s → step < count_of s
+    → storage_of s (step + 1) ≡ after (storage_of s step) (inflow_at s step) (outflow_at s step)
+found s step is more =
+    let ins = is.inflows in
+    let outs = is.outflows in
+    next-storage s.initial s.inflows s.outflows step (omega (arith, more, ins)) (omega (arith, more, outs))
+
+abbrev looked_at : Case → ℕ → Log → List Look
+looked_at s step log = looks_at (cells_of (basin_of s) log) (looked_cells (basin_of s) 1 step)
+
+stores_next : (s : Case) (step : ℕ) (log : Log) → IsCase s → Stands s step log → step < count_of s → IsStorage (storage_of s (step + 1))
+    → follows (basin_of s) no_rules (opened (step + 1) ∷ log) ≡ Some (solved (stores_at (looked_at s (step + 1) log) (step + 1) (storage_of s (step + 1))))
+stores_next s step log is h more fits =
+    let same = found s step is more in
+    dispatches_next s (step + 1) log is
+    ∙ ap Some (stores s.control s.name s.initial s.bounds (cells_of (basin_of s) log) (step + 1) (inflow_at s step) (outflow_at s step) (storage_of s step)
+    (h.inflow step more) (h.outflow step more) (h.unknown step (omega arith) more) (past_is s step log h) is.usual (subst IsStorage same fits))
+    ∙ ap (λ z. Some (solved (stores_at (looked_at s (step + 1) log) (step + 1) z))) (sym same)
+
+faults_next : (s : Case) (step : ℕ) (log : Log) → IsCase s → Stands s step log → step < count_of s → ¬ IsStorage (storage_of s (step + 1))
+    → follows (basin_of s) no_rules (opened (step + 1) ∷ log)
+    ≡ Some (fault (ObjectOutOfRange (record { 0 = 1 }) (record { 0 = 3 }) (record { 0 = step + 1 }) (storage_of s (step + 1))))
+faults_next s step log is h more beyond =
+    let same = found s step is more in
+    dispatches_next s (step + 1) log is
+    ∙ ap Some (leaves_range s.control s.name s.initial s.bounds (cells_of (basin_of s) log) (step + 1) (inflow_at s step) (outflow_at s step) (storage_of s step)
+    (h.inflow step more) (h.outflow step more) (h.unknown step (omega arith) more) (past_is s step log h) is.usual (λ fits. beyond (subst IsStorage (sym same) fits)))
+    ∙ ap (λ z. Some (fault (ObjectOutOfRange (record { 0 = 1 }) (record { 0 = 3 }) (record { 0 = step + 1 }) z))) (sym same)
+
+pub ends : (s : Case) (left step : ℕ) (log end : Log) (events : List Event) → IsCase s → step + left ≡ count_of s → Stands s step log
+    → Leads (basin_of s) no_rules log events end → follows (basin_of s) no_rules end ≡ None → Ends s end
+ends s zero step log end events is all h leads ended =
+    let same : end ≡ log = stops (basin_of s) no_rules log end events (opens_none s step log h.standing (omega (arith, all))) leads in
+    subst (Ends s) (sym same) (settles s step log h (omega (arith, all)))
+ends s (suc left) step log end events is all h leads ended =
+    let basin = basin_of s in
+    let more : step < count_of s = omega (arith, all) in
+    let z : ℤ = storage_of s (step + 1) in
+    let opening = peel basin no_rules log end (opened (step + 1)) events (opens_next s step log h.standing more) leads ended in
+    let log1 : Log = opened (step + 1) ∷ log in
+    elim (storage_or_not z) [
+      inl fits ↦
+          let event : Event = solved (stores_at (looked_at s (step + 1) log) (step + 1) z) in
+          let storing = peel basin no_rules log1 end event opening.0 (stores_next s step log is h more fits) opening.1 ended in
+          let closing = peel basin no_rules (event ∷ log1) end (closed (step + 1)) storing.0 (closes_next s (step + 1) log (looked_at s (step + 1) log) z) storing.1 ended in
+          ends s left (step + 1) (closed (step + 1) ∷ event ∷ log1) end closing.0 is (omega (arith, all))
+          (stands_on s (looked_at s (step + 1) log) step log h fits) closing.1 ended
+      | inr beyond ↦
+          let event : Event = fault (ObjectOutOfRange (record { 0 = 1 }) (record { 0 = 3 }) (record { 0 = step + 1 }) z) in
+          let telling = peel basin no_rules log1 end event opening.0 (faults_next s step log is h more beyond) opening.1 ended in
+          let same : end ≡ event ∷ log1 = stops basin no_rules (event ∷ log1) end telling.0 refl telling.1 in
+          subst (Ends s) (sym same) (faults s step log h more beyond)
+    ]

@@ -15,6 +15,7 @@ use Rattle.rw_first.specs.FirstForm.{FirstModel}
 use Rattle.rw_first.specs.Reservoir.{storage_at}
 use Rattle.rw_first.specs.Table.{heading, columns, row, rows}
 use Rattle.rw_first.proofs.Alone.{lone}
+use Rattle.rw_first.proofs.Steps.{run_end}
 
 list_fault : (hash nought space fault out object name slot storage step number value quantity end : List ℕ)
     → hash ++ (nought ++ (space ++ ((fault ++ ((out ++ (object ++ (name ++ (slot ++ ((name ++ storage) ++ (step ++ number)))))) ++ (value ++ quantity))) ++ end)))
@@ -70,7 +71,7 @@ pub record HasValues (model : FirstModel) (inflows outflows : List ℤ) (values 
   pub outflow : (t : ℕ) → t < closed → values 2 (t + 1) ≡ Some (slice_index_or outflows t (pos 0))
   pub storage : (t : ℕ) → t < closed → values 3 (t + 1) ≡ Some (storage_at model.initial inflows outflows (t + 1))
 
-abbrev model_of : RunControl → List ℕ → ℤ → FirstModel
+abbrev pub model_of : RunControl → List ℕ → ℤ → FirstModel
 model_of control name initial = record { name = name; initial = initial; run = control.stamps }
 
 same_rows : (control : RunControl) (name : List ℕ) (initial : ℤ) (bounds : List Bound) (inflows outflows : List ℤ) (values : ℕ → ℕ → Option ℤ) (closed all : ℕ)
@@ -85,3 +86,20 @@ same_rows control name initial bounds inflows outflows values (suc t) all h le =
     (same_row control name initial bounds values (suc t) (slice_index_or inflows t (pos 0)) (slice_index_or outflows t (pos 0)) (storage_at initial inflows outflows (suc t))
     (ap (values 1) more ∙ h.inflow t lt) (ap (values 2) more ∙ h.outflow t lt)
     (ap (values 3) more ∙ h.storage t lt ∙ ap (λ n. Some (storage_at initial inflows outflows n)) (sym more)))
+
+-- the whole section
+ended_heading : (control : RunControl) (name : List ℕ) (initial : ℤ) (bounds : List Bound) (steps : ℕ) (fault : Option ℤ)
+    → heading_of (lone control name initial bounds) 0 (run_end steps fault) ≡ heading name steps fault
+ended_heading control name initial bounds steps None = settled_heading control name initial bounds steps
+ended_heading control name initial bounds steps (Some value) = fault_heading control name initial bounds steps value
+
+pub same-text : (control : RunControl) (name : List ℕ) (initial : ℤ) (bounds : List Bound) (inflows outflows : List ℤ) (values : ℕ → ℕ → Option ℤ) (steps : ℕ) (fault : Option ℤ)
+    → HasValues (model_of control name initial) inflows outflows values steps
+    → section_of (lone control name initial bounds) 0 (run_end steps fault) steps values
+    ≡ (heading name steps fault ++ columns name) ++ rows (model_of control name initial) inflows outflows steps
+same-text control name initial bounds inflows outflows values steps fault h =
+    let basin = lone control name initial bounds in
+    ap (λ x. x ++ (columns_of basin ++ rows_of basin values steps)) (ended_heading control name initial bounds steps fault)
+    ∙ ap (λ x. heading name steps fault ++ (x ++ rows_of basin values steps)) (same_columns control name initial bounds)
+    ∙ ap (λ x. heading name steps fault ++ (columns name ++ x)) (same_rows control name initial bounds inflows outflows values steps steps h (omega arith))
+    ∙ sym (append_assoc (heading name steps fault) (columns name) (rows (model_of control name initial) inflows outflows steps))
