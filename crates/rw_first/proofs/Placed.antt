@@ -11,6 +11,8 @@ use Rattle.rw_series.specs.Series.{is_shared}
 use Rattle.rw_inputs.specs.Inputs.{Inputs, value_at}
 use Rattle.rw_log.specs.Log.{Log, given, cells_of, input_content}
 use Rattle.rw_log.specs.Dispatch.{cell_at}
+use Rattle.rw_log.specs.declared.run.RunEnd.TheVariants.{Settled}
+use Rattle.rw_log.specs.RunOf.{end_of, last_closed}
 use Rattle.rw_log.specs.Runs.{placed, standing, rests}
 use Rattle.rw_first.specs.Givens.{if_given, givens_of, givens_to}
 use Rattle.rw_first.proofs.Alone.{lone}
@@ -39,6 +41,14 @@ holds_given basin (input ∷ inputs) log cell =
 pub rests-placed : (log : Log) (inputs : List (Cell × ℤ)) → standing log ≡ rests 0 → standing (placed log inputs) ≡ rests 0
 rests-placed log [] e = e
 rests-placed log (input ∷ inputs) e = rests-placed _ inputs refl
+
+pub end-placed : (log : Log) (inputs : List (Cell × ℤ)) → end_of log ≡ Settled → end_of (placed log inputs) ≡ Settled
+end-placed log [] e = e
+end-placed log (input ∷ inputs) e = end-placed (given input.0 input.1 ∷ log) inputs refl
+
+pub closed-placed : (log : Log) (inputs : List (Cell × ℤ)) → last_closed (placed log inputs) ≡ last_closed log
+closed-placed log [] = refl
+closed-placed log (input ∷ inputs) = closed-placed (given input.0 input.1 ∷ log) inputs
 
 given-append : (basin : Draft) (xs ys : List (Cell × ℤ)) (cell : Cell)
     → last_given basin (xs ++ ys) cell ≡ option_or (last_given basin ys cell) (last_given basin xs cell)

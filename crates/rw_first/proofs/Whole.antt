@@ -19,7 +19,7 @@ use Rattle.rw_first.specs.FirstForm.{FirstModel, IsFirstForm, IsFirstFlows, plai
 use Rattle.rw_first.specs.Givens.{givens}
 use Rattle.rw_first.specs.Table.{IsRunText}
 use Rattle.rw_first.proofs.Alone.{lone, no-links}
-use Rattle.rw_first.proofs.Placed.{inflow-placed, outflow-placed, storage-placed, rests-placed}
+use Rattle.rw_first.proofs.Placed.{inflow-placed, outflow-placed, storage-placed, rests-placed, end-placed, closed-placed}
 use Rattle.rw_first.proofs.Steps.{Case, IsCase, Stands, Ends, basin_of, count_of, run_end, ends}
 use Rattle.rw_first.proofs.Texts.{HasValues, model_of, same-text}
 
@@ -28,8 +28,8 @@ starts : (s : Case) (inputs : Inputs) → IsFirstFlows inputs (count_of s) s.inf
     → Stands s 0 (placed [] (givens (basin_of s) inputs))
 starts s inputs flows = record {
   standing = rests-placed [] (givens (basin_of s) inputs) refl;
-  end = ?;
-  closed = ?;
+  end = end-placed [] (givens (basin_of s) inputs) refl;
+  closed = closed-placed [] (givens (basin_of s) inputs);
   inflow = λ t lt. inflow-placed s.control s.name s.initial s.bounds inputs (t + 1) (count_of s) _ (flows.inflow.each t lt) (omega arith) (omega (arith, lt));
   outflow = λ t lt. outflow-placed s.control s.name s.initial s.bounds inputs (t + 1) (count_of s) _ (flows.outflow.each t lt) (omega arith) (omega (arith, lt));
   stored = λ t lt. absurd (omega (arith, lt));
@@ -45,12 +45,13 @@ Tells basin model inflows outflows log =
     (section_of basin 0 (end_of log) (last_closed log) (λ slot step. value_in (cells_of basin log) (cell_at slot step)))
     × ((fault ≡ None) ↔ (end_of log ≡ Settled))
 
-is_settled : RunEnd → Option (Unit {0})
+abbrev is_settled : RunEnd → Option (Unit {0})
 is_settled Settled = None
 is_settled (Fault why) = Some tt
 
 settled_where : (steps : ℕ) (fault : Option ℤ) → (fault ≡ None) ↔ (run_end steps fault ≡ Settled)
-settled_where steps fault = ?
+settled_where steps None = (λ e. refl, λ e. refl)
+settled_where steps (Some value) = (λ e. absurd (none-some _ (sym e)), λ e. absurd (none-some _ (sym (ap is_settled e))))
 
 tells : (s : Case) (log : Log) → Ends s log → Tells (basin_of s) (model_of s.control s.name s.initial) s.inflows s.outflows log
 tells s log h =
