@@ -5,3 +5,6 @@ mod Storages
 mod Steps
 mod Texts
 mod Whole
+mod OneModel
+mod OneText
+mod Worked

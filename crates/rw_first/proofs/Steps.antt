@@ -31,19 +31,6 @@ use Rattle.rw_first.proofs.Alone.{lone}
 use Rattle.rw_first.proofs.Solves.{after, stores, stores_at, storing, leaves_range, storage_or_not}
 use Rattle.rw_first.proofs.Storages.{next-storage, first-storage}
 
--- ---- a run has no choice
-
-pub peel : (basin : Draft) (policy : Policy) (old end : Log) (event : Event) (events : List Event) → follows basin policy old ≡ Some event
-    → Leads basin policy old events end → follows basin policy end ≡ None → (rest : List Event) × Leads basin policy (event ∷ old) rest end
-peel basin policy old end event [] is leads ended = absurd (none-some _ (sym (sym is ∙ ap (follows basin policy) (sym leads) ∙ ended)))
-peel basin policy old end event (other ∷ rest) is leads ended =
-    (rest, subst (λ z. Leads basin policy (z ∷ old) rest end) (same_Some _ _ (sym leads.0 ∙ is)) leads.1)
-
-pub stops : (basin : Draft) (policy : Policy) (old end : Log) (events : List Event) → follows basin policy old ≡ None
-    → Leads basin policy old events end → end ≡ old
-stops basin policy old end [] none leads = leads
-stops basin policy old end (event ∷ rest) none leads = absurd (none-some _ (sym none ∙ leads.0))
-
 -- ---- the case
 
 -- a plain reservoir alone, and its flows
@@ -95,7 +82,7 @@ opens_next s step log at lt =
     let more : nat_lt step (count_of s) ≡ true = grind (arith, nat_tests, lt) in
     ap (follows_in (basin_of s) no_rules log) at ∙ ap (λ t. if t then Some (opened (step + 1)) else None) more
 
-pub opens_none : (s : Case) (step : ℕ) (log : Log) → standing log ≡ rests step → count_of s ≤ step
+opens_none : (s : Case) (step : ℕ) (log : Log) → standing log ≡ rests step → count_of s ≤ step
     → follows (basin_of s) no_rules log ≡ None
 opens_none s step log at le =
     let none : nat_lt step (count_of s) ≡ false = grind (arith, nat_tests, le) in
@@ -258,27 +245,44 @@ faults_next s step log is h more beyond =
     (h.inflow step more) (h.outflow step more) (h.unknown step (omega arith) more) (past_is s step log h) is.usual (λ fits. beyond (subst IsStorage (sym same) fits)))
     ∙ ap (λ z. Some (fault (ObjectOutOfRange (record { 0 = 1 }) (record { 0 = 3 }) (record { 0 = step + 1 }) z))) (sym same)
 
-pub ends : (s : Case) (left step : ℕ) (log end : Log) (events : List Event) → IsCase s → step + left ≡ count_of s → Stands s step log
-    → Leads (basin_of s) no_rules log events end → follows (basin_of s) no_rules end ≡ None → Ends s end
-ends s zero step log end events is all h leads ended =
-    let same : end ≡ log = stops (basin_of s) no_rules log end events (opens_none s step log h.standing (omega (arith, all))) leads in
-    subst (Ends s) (sym same) (settles s step log h (omega (arith, all)))
-ends s (suc left) step log end events is all h leads ended =
-    let basin = basin_of s in
+-- the run from a log on
+pub record Comes (s : Case) (old : Log) : Type 0 where
+  pub events : List Event
+  pub log : Log
+  pub leads : Leads (basin_of s) no_rules old events log
+  pub over : follows (basin_of s) no_rules log ≡ None
+  pub ends : Ends s log
+
+pub runs_on : (s : Case) (left step : ℕ) (log : Log) → IsCase s → step + left ≡ count_of s → Stands s step log → Comes s log
+runs_on s zero step log is all h = record {
+  events = [];
+  log = log;
+  leads = refl;
+  over = opens_none s step log h.standing (omega (arith, all));
+  ends = settles s step log h (omega (arith, all));
+}
+runs_on s (suc left) step log is all h =
     let more : step < count_of s = omega (arith, all) in
+    let opening = opens_next s step log h.standing more in
     let z : ℤ = storage_of s (step + 1) in
-    let opening = peel basin no_rules log end (opened (step + 1)) events (opens_next s step log h.standing more) leads ended in
-    let log1 : Log = opened (step + 1) ∷ log in
+    let looked : List Look = looked_at s (step + 1) log in
     elim (storage_or_not z) [
       inl fits ↦
-          let event : Event = solved (stores_at (looked_at s (step + 1) log) (step + 1) z) in
-          let storing = peel basin no_rules log1 end event opening.0 (stores_next s step log is h more fits) opening.1 ended in
-          let closing = peel basin no_rules (event ∷ log1) end (closed (step + 1)) storing.0 (closes_next s (step + 1) log (looked_at s (step + 1) log) z) storing.1 ended in
-          ends s left (step + 1) (closed (step + 1) ∷ event ∷ log1) end closing.0 is (omega (arith, all))
-          (stands_on s (looked_at s (step + 1) log) step log h fits) closing.1 ended
+          let rest = runs_on s left (step + 1) (log_after looked (step + 1) z log) is (omega (arith, all)) (stands_on s looked step log h fits) in
+          record {
+            events = opened (step + 1) ∷ solved (stores_at looked (step + 1) z) ∷ closed (step + 1) ∷ rest.events;
+            log = rest.log;
+            leads = (opening, (stores_next s step log is h more fits, (closes_next s (step + 1) log looked z, rest.leads)));
+            over = rest.over;
+            ends = rest.ends;
+          }
       | inr beyond ↦
-          let event : Event = fault (ObjectOutOfRange (record { 0 = 1 }) (record { 0 = 3 }) (record { 0 = step + 1 }) z) in
-          let telling = peel basin no_rules log1 end event opening.0 (faults_next s step log is h more beyond) opening.1 ended in
-          let same : end ≡ event ∷ log1 = stops basin no_rules (event ∷ log1) end telling.0 refl telling.1 in
-          subst (Ends s) (sym same) (faults s step log h more beyond)
+          let why : Event = fault (ObjectOutOfRange (record { 0 = 1 }) (record { 0 = 3 }) (record { 0 = step + 1 }) z) in
+          record {
+            events = opened (step + 1) ∷ why ∷ [];
+            log = why ∷ opened (step + 1) ∷ log;
+            leads = (opening, (faults_next s step log is h more beyond, refl));
+            over = refl;
+            ends = faults s step log h more beyond;
+          }
     ]

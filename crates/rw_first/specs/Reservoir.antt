@@ -1,5 +1,5 @@
 -- The run of one reservoir: its storages, and the timestep at which one leaves its range.
-use Rattle.std.specs.Prelude.{◌≡◌, ℕ, ◌+◌, ◌*◌, ◌<◌, ℤ, pos, neg_ℤ, ◌+ℤ◌, ◌-ℤ◌, ◌≤ℤ◌, List, [], ◌∷◌, take, Option, MatchOption}
+use Rattle.std.specs.Prelude.{◌≡◌, ℕ, ◌+◌, ◌<◌, ℤ, pos, ◌+ℤ◌, ◌-ℤ◌, ◌≤ℤ◌, List, [], ◌∷◌, take, Option, MatchOption}
 use Rattle.rw_base.specs.Quantity.{quantity_max}
 
 -- how much flowed, all together
@@ -16,12 +16,8 @@ pub record IsStorage (z : ℤ) : Type 0 where
   pub low : pos 0 ≤ℤ z
   pub high : z ≤ℤ quantity_max
 
--- so many times Q from 0 at most
-pub record IsWithin (times : ℕ) (z : ℤ) : Type 0 where
-  pub low : neg_ℤ (pos (times * 100000000000000000)) ≤ℤ z
-  pub high : z ≤ℤ pos (times * 100000000000000000)
-
--- The timesteps up to `closed` have their storages in range. Either these are all, or the next one's storage is the fault's value, out of range.
+-- The timesteps up to `closed` have their storages in range. Either these are all, or the next one's storage is the
+-- fault's value, out of range.
 pub record IsRun (steps : ℕ) (initial : ℤ) (inflows outflows : List ℤ) (closed : ℕ) (fault : Option ℤ) : Type 0 where
   pub inside : (t : ℕ) → t < closed → IsStorage (storage_at initial inflows outflows (t + 1))
   pub ends : MatchOption fault (closed ≡ steps) (λ value. (closed < steps) × (value ≡ storage_at initial inflows outflows (closed + 1)) × ¬ IsStorage value)
