@@ -1,14 +1,12 @@
 -- A basin that is one plain reservoir: it has no links, and each of its slots is a group of its own.
-use Rattle.std.proofs.Common.{◌≡◌, ◌≤◌, ◌<◌, ◌+◌, ◌==◌, ℕ, zero, suc, ℤ, Bool, true, false, List, [], ◌∷◌, map, length, refl, sym, ap, ◌∙◌, arith}
+use Rattle.std.proofs.Common.{◌≡◌, ◌≤◌, ℕ, zero, suc, ℤ, List, [], ◌∷◌, refl, arith}
 use Rattle.std.proofs.lemmas.Bool.Decides.{nat_tests}
 use Rattle.std.specs.Prelude.{All}
 use Rattle.std.specs.List.{IsDistinct}
-use Rattle.rw_base.specs.declared.number.Cell.{Cell}
 use Rattle.rw_model.specs.declared.control.RunControl.{RunControl}
 use Rattle.rw_model.specs.Draft.{Bound, Draft}
 use Rattle.rw_model.specs.Basin.{IsLink}
 use Rattle.rw_model.specs.Links.{owner_of, group_of}
-use Rattle.rw_model.specs.Objects.{Object, all_slots}
 use Rattle.rw_first.specs.FirstForm.{plain_reservoir}
 
 abbrev pub lone : RunControl → List ℕ → ℤ → List Bound → Draft

@@ -1,10 +1,9 @@
 -- What a dispatch of the plain reservoir is, from the flows that are given and the storage before.
-use Rattle.std.proofs.Common.{◌≡◌, ◌≤◌, ℕ, ℤ, pos, neg_ℤ, ◌+ℤ◌, ◌-ℤ◌, ◌≤ℤ◌, ◌<ℤ◌, Bool, true, false, ◌&&◌, List, [], ◌∷◌, ◌++◌, map, replicate, Option, None, Some, refl, sym, ap, subst, ◌∙◌, arith, inl, inr}
-use Rattle.std.specs.Prelude.{◌⊎◌, int_le, if◌then◌else◌, slice_index_or}
+use Rattle.std.proofs.Common.{◌≡◌, ℕ, ℤ, pos, neg_ℤ, ◌+ℤ◌, ◌-ℤ◌, Bool, true, false, ◌&&◌, List, [], ◌∷◌, map, replicate, Option, None, Some, refl, ap, ◌∙◌, arith, inl, inr}
+use Rattle.std.specs.Prelude.{◌⊎◌, if◌then◌else◌, slice_index_or}
 use Rattle.std.proofs.lemmas.Int.{ints}
 use Rattle.rw_table.proofs.Comparison.{below_or_not, le_fails}
 use Rattle.rw_base.specs.Quantity.{quantity_max}
-use Rattle.rw_base.specs.declared.number.ObjectNo.{ObjectNo}
 use Rattle.rw_model.specs.declared.content.Content.{Content}
 use Rattle.rw_model.specs.declared.control.RunControl.{RunControl}
 use Rattle.rw_model.specs.declared.kind.Kind.{Kind}
@@ -14,13 +13,12 @@ use Rattle.rw_model.specs.Draft.{Bound, Draft}
 use Rattle.rw_model.specs.Links.{bounds_in}
 use Rattle.rw_model.specs.Put.{end_of_put}
 use Rattle.rw_model.specs.Slot.{Bounds, from_zero, all_quantities}
-use Rattle.rw_method.specs.declared.put.Put.{Put}
 use Rattle.rw_method.specs.declared.solved.Solved.{Solved}
 use Rattle.rw_method.specs.declared.solved.Solved.TheVariants.{Puts, OutOfRange}
 use Rattle.rw_method.specs.declared.view.View.{View}
-use Rattle.rw_method.specs.View.{bounds_at, is_between}
+use Rattle.rw_method.specs.View.{is_between}
 use Rattle.rw_method.specs.Puts.{put}
-use Rattle.rw_method.specs.Solve.{solve_of, all_or_misfit, fits, balanced_of}
+use Rattle.rw_method.specs.Solve.{solve_of, all_or_misfit, fits}
 use Rattle.rw_series.specs.declared.look.Look.{Look}
 use Rattle.rw_log.specs.declared.fault.RunFault.TheVariants.{ObjectOutOfRange}
 use Rattle.rw_log.specs.Log.{Asked, Cells, Dispatch, Event, solved, fault, input_content}
@@ -48,9 +46,9 @@ facing inflow outflow past bounds = seen (Some (input_content inflow)) (Some (in
 
 pub storage_or_not : (z : ℤ) → IsStorage z ⊎ (¬ IsStorage z)
 storage_or_not z = elim (below_or_not z (pos 0)) [
-  inl low ↦ inr (λ (h : IsStorage z). let l = h.low in absurd (omega (arith, ints, low, l)))
+  | inl low ↦ inr (λ (h : IsStorage z). let l = h.low in absurd (omega (arith, ints, low, l)))
   | inr least ↦ elim (below_or_not quantity_max z) [
-    inl high ↦ inr (λ (h : IsStorage z). let u = h.high in absurd (omega (arith, ints, high, u)))
+    | inl high ↦ inr (λ (h : IsStorage z). let u = h.high in absurd (omega (arith, ints, high, u)))
     | inr most ↦ inl (record { low = least; high = most })
   ]
 ]
@@ -68,9 +66,9 @@ fails_high true b c e = ap (λ t. t && c) e
 
 outside : (z : ℤ) → ¬ IsStorage z → (is_between from_zero z && is_between all_quantities z) ≡ false
 outside z h = elim (below_or_not z (pos 0)) [
-  inl low ↦ fails_low _ _ _ (le_fails (pos 0) z low)
+  | inl low ↦ fails_low _ _ _ (le_fails (pos 0) z low)
   | inr least ↦ elim (below_or_not quantity_max z) [
-    inl high ↦ fails_high _ _ _ (le_fails z quantity_max high)
+    | inl high ↦ fails_high _ _ _ (le_fails z quantity_max high)
     | inr most ↦ absurd (h (record { low = least; high = most }))
   ]
 ]

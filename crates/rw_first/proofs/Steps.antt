@@ -1,11 +1,9 @@
 -- The run of a plain reservoir, event by event.
 use Rattle.std.proofs.Common.{◌≡◌, ◌≢◌, ◌≤◌, ◌<◌, ◌+◌, ◌-◌, ◌==◌, ℕ, zero, suc, ℤ, pos, ◌-ℤ◌, Bool, true, false, List, [], ◌∷◌, length, Option, Some, None, nat_lt, refl, sym, ap, subst, ◌∙◌, arith, inl, inr, below_more}
-use Rattle.std.specs.Prelude.{◌⊎◌, if◌then◌else◌, nat_le, option_map}
+use Rattle.std.specs.Prelude.{if◌then◌else◌, nat_le, option_map}
 use Rattle.std.specs.Option.{option_or}
 use Rattle.std.specs.List.{slice_index_or, find}
 use Rattle.std.proofs.lemmas.Bool.Decides.{nat_tests}
-use Rattle.std.proofs.lemmas.Option.{same_Some, none-some}
-use Rattle.rw_base.specs.declared.number.Cell.{Cell}
 use Rattle.rw_model.specs.declared.content.Content.{Content}
 use Rattle.rw_model.specs.declared.control.AgendaOrder.{AgendaOrder}
 use Rattle.rw_model.specs.declared.control.AgendaOrder.TheVariants.{HighFirst, LowFirst}
@@ -18,11 +16,11 @@ use Rattle.rw_series.specs.declared.look.Look.{Look}
 use Rattle.rw_log.specs.declared.fault.RunFault.TheVariants.{ObjectLimit, ObjectOutOfRange}
 use Rattle.rw_log.specs.declared.run.RunEnd.{RunEnd}
 use Rattle.rw_log.specs.declared.run.RunEnd.TheVariants.{Settled, Fault}
-use Rattle.rw_log.specs.Log.{Asked, Cells, Dispatch, Event, Log, opened, closed, solved, fault, cells_of, input_content, value_in}
-use Rattle.rw_log.specs.Waiting.{waiting, first_waiting, first_of}
+use Rattle.rw_log.specs.Log.{Cells, Event, Log, opened, closed, solved, fault, cells_of, input_content, value_in}
+use Rattle.rw_log.specs.Waiting.{first_waiting, first_of}
 use Rattle.rw_log.specs.Dispatch.{cell_at, dispatched, looked_cells, looks_at, past_value}
-use Rattle.rw_log.specs.Next.{Policy, no_rules, next_of, after_objects, agenda_of, is_due, first_due, dispatches}
-use Rattle.rw_log.specs.Runs.{Leads, Standing, follows, follows_in, standing, rests}
+use Rattle.rw_log.specs.Next.{no_rules, next_of, after_objects, agenda_of, is_due, first_due}
+use Rattle.rw_log.specs.Runs.{Leads, follows, follows_in, standing, rests}
 use Rattle.rw_log.specs.RunOf.{end_of, last_closed}
 use Rattle.rw_log.proofs.Waits.{opens, solves}
 use Rattle.rw_first.specs.FirstForm.{plain_reservoir}
@@ -267,7 +265,7 @@ runs_on s (suc left) step log is all h =
     let z : ℤ = storage_of s (step + 1) in
     let looked : List Look = looked_at s (step + 1) log in
     elim (storage_or_not z) [
-      inl fits ↦
+      | inl fits ↦
           let rest = runs_on s left (step + 1) (log_after looked (step + 1) z log) is (omega (arith, all)) (stands_on s looked step log h fits) in
           record {
             events = opened (step + 1) ∷ solved (stores_at looked (step + 1) z) ∷ closed (step + 1) ∷ rest.events;

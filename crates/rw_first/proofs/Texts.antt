@@ -1,5 +1,5 @@
 -- The text of the run of a plain reservoir.
-use Rattle.std.proofs.Common.{◌≡◌, ◌≤◌, ◌<◌, ◌+◌, ℕ, zero, suc, ℤ, pos, List, [], ◌∷◌, ◌++◌, length, Option, Some, None, refl, sym, ap, ap₂, ◌∙◌, arith, append_assoc}
+use Rattle.std.proofs.Common.{◌≡◌, ◌≤◌, ◌<◌, ◌+◌, ℕ, zero, suc, ℤ, pos, List, [], ◌∷◌, ◌++◌, Option, Some, None, refl, sym, ap, ap₂, ◌∙◌, arith, append_assoc}
 use Rattle.std.specs.Prelude.{codes}
 use Rattle.std.specs.Fmt.{decimal, signed_decimal}
 use Rattle.std.proofs.lemmas.Fmt.{decimal_digit}
@@ -7,10 +7,10 @@ use Rattle.std.specs.List.{slice_index_or}
 use Rattle.std.proofs.Math.Numerals.{suc-eq-add-one}
 use Rattle.rw_calendar.specs.Stamps.{end_of, stamp_text}
 use Rattle.rw_model.specs.declared.control.RunControl.{RunControl}
-use Rattle.rw_model.specs.Draft.{Bound, Draft}
+use Rattle.rw_model.specs.Draft.{Bound}
 use Rattle.rw_log.specs.declared.run.RunEnd.TheVariants.{Settled, Fault}
 use Rattle.rw_log.specs.declared.fault.RunFault.TheVariants.{ObjectOutOfRange}
-use Rattle.rw_report.specs.Section.{heading as heading_of, columns as columns_of, row as row_of, rows as rows_of, for_each, value_words, section_of}
+use Rattle.rw_report.specs.Section.{heading as heading_of, columns as columns_of, row as row_of, rows as rows_of, value_words, section_of}
 use Rattle.rw_first.specs.FirstForm.{FirstModel}
 use Rattle.rw_first.specs.Reservoir.{storage_at}
 use Rattle.rw_first.specs.Table.{heading, columns, row, rows}

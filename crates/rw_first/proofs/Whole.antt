@@ -1,5 +1,5 @@
 -- The section of the run of a plain reservoir is the text of its run.
-use Rattle.std.proofs.Common.{◌≡◌, ◌≤◌, ◌<◌, ◌+◌, ℕ, ℤ, pos, List, [], ◌∷◌, Option, Some, None, refl, sym, ap, subst, ◌∙◌, arith, option_map}
+use Rattle.std.proofs.Common.{◌≡◌, ◌+◌, ℕ, ℤ, List, [], ◌∷◌, Option, Some, None, refl, sym, ap, subst, ◌∙◌, arith}
 use Rattle.std.specs.Prelude.{◌↔◌, All}
 use Rattle.std.proofs.lemmas.Option.{none-some}
 use Rattle.rw_calendar.specs.Stamps.{Timesteps}
@@ -74,14 +74,15 @@ tells s log h =
     let basin = basin_of s in
     let values : (ℕ → ℕ → Option ℤ) = λ slot step. value_in (cells_of basin log) (cell_at slot step) in
     let has : HasValues (model_of s.control s.name s.initial) s.inflows s.outflows values h.closed = record { inflow = h.inflow; outflow = h.outflow; storage = h.storage } in
-    let text = same-text s.control s.name s.initial s.bounds s.inflows s.outflows values h.closed h.fault has in
-    (h.fault,
-    record {
-      closed = h.closed;
-      run = h.run;
-      text_is = ap (λ e. section_of basin 0 e (last_closed log) values) h.end ∙ ap (λ n. section_of basin 0 (run_end h.closed h.fault) n values) h.last ∙ text;
-    },
-    subst (λ e. (h.fault ≡ None) ↔ (e ≡ Settled)) (sym h.end) (settled_where h.closed h.fault))
+    let text = same-text s.control s.name s.initial s.bounds s.inflows s.outflows values h.closed h.fault has in (
+      h.fault,
+      record {
+        closed = h.closed;
+        run = h.run;
+        text_is = ap (λ e. section_of basin 0 e (last_closed log) values) h.end ∙ ap (λ n. section_of basin 0 (run_end h.closed h.fault) n values) h.last ∙ text;
+      },
+      subst (λ e. (h.fault ≡ None) ↔ (e ≡ Settled)) (sym h.end) (settled_where h.closed h.fault),
+    )
 
 comes : (s : Case) (inputs : Inputs) → IsCase s → IsFirstFlows inputs (count_of s) s.inflows s.outflows
     → Comes s (placed [] (givens (basin_of s) inputs))

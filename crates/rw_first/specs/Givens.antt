@@ -1,5 +1,5 @@
 -- The inputs in the order in which a run places them: slot by slot, and for each slot timestep by timestep.
-use Rattle.std.specs.Prelude.{◌≡◌, ℕ, zero, suc, ℤ, List, [], ◌∷◌, ◌++◌, length, Option, Some, None}
+use Rattle.std.specs.Prelude.{ℕ, zero, suc, ℤ, List, [], ◌∷◌, ◌++◌, length, Option, Some, None}
 use Rattle.rw_base.specs.declared.number.Cell.{Cell}
 use Rattle.rw_model.specs.Draft.{Draft}
 use Rattle.rw_model.specs.Objects.{all_slots}
@@ -23,4 +23,3 @@ givens_to inputs (suc slot) steps = givens_to inputs slot steps ++ givens_of inp
 -- all that is given
 abbrev pub givens : Draft → Inputs → List (Cell × ℤ)
 givens basin inputs = givens_to inputs (length (all_slots basin.objects)) basin.control.stamps.count
-
