@@ -1,4 +1,4 @@
--- A basin that is one plain reservoir: it has no links, and each of its slots is a group of its own.
+-- A basin that is one plain reservoir has no links, since a link joins slots of two objects.
 use Rattle.std.proofs.Common.{◌≡◌, ◌≤◌, ℕ, zero, suc, ℤ, List, [], ◌∷◌, refl, arith}
 use Rattle.std.proofs.lemmas.Bool.Decides.{nat_tests}
 use Rattle.std.specs.Prelude.{All}
@@ -6,7 +6,7 @@ use Rattle.std.specs.List.{IsDistinct}
 use Rattle.rw_model.specs.declared.control.RunControl.{RunControl}
 use Rattle.rw_model.specs.Draft.{Bound, Draft}
 use Rattle.rw_model.specs.Basin.{IsLink}
-use Rattle.rw_model.specs.Links.{owner_of, group_of}
+use Rattle.rw_model.specs.Links.{owner_of}
 use Rattle.rw_first.specs.FirstForm.{plain_reservoir}
 
 abbrev pub lone : RunControl → List ℕ → ℤ → List Bound → Draft
@@ -18,9 +18,6 @@ owner name initial (suc zero) low high = refl
 owner name initial (suc (suc zero)) low high = refl
 owner name initial (suc (suc (suc zero))) low high = refl
 owner name initial (suc (suc (suc (suc more)))) low high = absurd (omega (arith, high))
-
-groups : (name : List ℕ) (initial : ℤ) → group_of (plain_reservoir name initial ∷ []) [] 1 ≡ 1 ∷ []
-groups name initial = refl
 
 no_link : (name : List ℕ) (initial : ℤ) (link : List ℕ) → IsLink (plain_reservoir name initial ∷ []) link → ⊥
 unfolding IsDistinct

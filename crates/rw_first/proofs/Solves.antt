@@ -22,7 +22,7 @@ use Rattle.rw_method.specs.Solve.{solve_of, all_or_misfit, fits}
 use Rattle.rw_series.specs.declared.look.Look.{Look}
 use Rattle.rw_log.specs.declared.fault.RunFault.TheVariants.{ObjectOutOfRange}
 use Rattle.rw_log.specs.Log.{Asked, Cells, Dispatch, Event, solved, fault, input_content}
-use Rattle.rw_log.specs.Dispatch.{cell_at, places, bounds_in_place, past_value, view_of, looked_cells, looks_at, dispatched, answered, judged, or_fault, denied_by, is_written, dispatch_of}
+use Rattle.rw_log.specs.Dispatch.{cell_at, places, bounds_in_place, past_value, looked_cells, looks_at, dispatched, answered, judged, or_fault, denied_by, is_written, dispatch_of}
 use Rattle.rw_first.specs.FirstForm.{plain_reservoir}
 use Rattle.rw_first.specs.Reservoir.{IsStorage}
 use Rattle.rw_first.proofs.Alone.{lone}
@@ -129,12 +129,6 @@ stores_at looked step z = record {
   asked = storing step z ∷ [];
   written = storing step z ∷ [];
 }
-
-views : (control : RunControl) (name : List ℕ) (initial : ℤ) (bounds : List Bound) (cells : Cells) (step : ℕ)
-    → view_of (lone control name initial bounds) cells 1 step
-    ≡ seen (cells (cell_at 1 step)) (cells (cell_at 2 step)) (cells (cell_at 3 step)) (past_value (lone control name initial bounds) cells 1 step)
-    (map (bounds_in_place (lone control name initial bounds) 1) places)
-views control name initial bounds cells step = refl
 
 -- what is answered where the three places hold this
 abbrev answer_of : ℤ → Draft → Cells → ℕ → Option Content → Option Content → Option Content → Option ℤ → Event

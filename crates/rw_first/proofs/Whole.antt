@@ -113,7 +113,7 @@ in_first_form basin model inputs inflows outflows P valid form flows all =
     subst (λ (r : Timesteps). IsFirstFlows inputs r.count inflows outflows) (sym form.run) flows in
     let is : IsCase (case_of basin.control model.name model.initial basin.bounds inflows outflows) = record {
       limit = valid.whole.control.least_object;
-      usual = ap (λ (b : Draft). bounds_in b.objects b.links b.bounds 3) (sym same) ∙ form.usual.storage;
+      usual = ap (λ (b : Draft). bounds_in b.objects b.links b.bounds 3) (sym same) ∙ form.storage;
       inflows = flows_here.inflow.count;
       outflows = flows_here.outflow.count;
     } in

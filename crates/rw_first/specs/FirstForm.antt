@@ -1,4 +1,4 @@
--- The models and inputs that are run so far: one reservoir whose inflow and outflow are given.
+-- The first form of models and inputs: one reservoir whose inflow and outflow are given.
 use Rattle.std.specs.Prelude.{◌≡◌, ℕ, ◌+◌, ◌<◌, ℤ, pos, List, [], ◌∷◌, length, Some, None, false}
 use Rattle.std.specs.List.{slice_index_or}
 use Rattle.rw_calendar.specs.Stamps.{Timesteps}
@@ -19,16 +19,10 @@ pub record FirstModel : Type 0 where
 abbrev pub plain_reservoir : List ℕ → ℤ → Object
 plain_reservoir name initial = record { name = name; kind = Reservoir initial None false false false false None }
 
--- inflow, outflow and storage can each have any quantity from 0 on
-pub record HasUsualBounds (draft : Draft) : Type 0 where
-  pub inflow : bounds_in draft.objects draft.links draft.bounds 1 ≡ from_zero
-  pub outflow : bounds_in draft.objects draft.links draft.bounds 2 ≡ from_zero
-  pub storage : bounds_in draft.objects draft.links draft.bounds 3 ≡ from_zero
-
--- the basin is that reservoir alone, and each of its slots has its usual bounds
+-- the basin is that reservoir alone, and its storage can be any quantity from 0 on
 pub record IsFirstForm (draft : Draft) (model : FirstModel) : Type 0 where
   pub alone : draft.objects ≡ plain_reservoir model.name model.initial ∷ []
-  pub usual : HasUsualBounds draft
+  pub storage : bounds_in draft.objects draft.links draft.bounds 3 ≡ from_zero
   pub run : draft.control.stamps ≡ model.run
 
 -- the values of a slot, one for each of so many timesteps
