@@ -1,4 +1,3 @@
-pub mod Times
 pub mod Queues
 pub mod Filling
 pub mod Viewed

@@ -1,20 +1,19 @@
 -- Puts are made one after another.
-use Rattle.std.proofs.Common.{◌≡◌, ◌+◌, ◌==◌, ◌&&◌, ◌++◌, ℕ, Bool, true, false, List, [], ◌∷◌, Option, Some, None, refl, sym, ap, ap₂, subst, ◌∙◌, arith, if◌then◌else◌}
+use Rattle.std.proofs.Common.{◌≡◌, ℕ, Bool, true, false, List, [], ◌∷◌, Option, Some, None, refl, sym, ap, subst, ◌∙◌, if◌then◌else◌}
 use Rattle.std.specs.Prelude.{IsSome, option_map, unwrap_or, pos}
 use Rattle.std.specs.Option.{option_or}
 use Rattle.rw_base.specs.declared.number.Cell.{Cell}
 use Rattle.rw_model.specs.declared.content.Content.{Content}
 use Rattle.rw_model.specs.Objects.{slot_in_place}
 use Rattle.rw_model.specs.Draft.{Draft}
-use Rattle.rw_model.specs.Links.{IsBetween, is_among, is_together, group_of, bounds_in}
+use Rattle.rw_model.specs.Links.{IsBetween, bounds_in}
 use Rattle.rw_method.specs.declared.put.Put.{Put}
-use Rattle.rw_series.specs.Series.{Series, held, is_shared, IsCell, Sets}
+use Rattle.rw_series.specs.Series.{Series, held, is_shared, Sets}
 use Rattle.rw_log.specs.Log.{Asked, Cells, last_put}
 use Rattle.rw_log.specs.Dispatch.{asked_by, bounds_in_place, slot_or_none}
 use Rattle.rw_dispatch.specs.Answer.{AreBounded}
 use Rattle.rw_dispatch.specs.Putting.{CanPut}
 use Rattle.rw_dispatch.proofs.Together.{bounds-shared}
-
 
 chosen : (test : Bool) (new : Content) (held : Option Content) → (if test then Some new else held) ≡ option_or (if test then Some new else None) held
 chosen true new held = refl
@@ -25,20 +24,9 @@ pub put-set : (basin : Draft) (put : Asked) (old new : Series) → Sets basin pu
     → held new cell ≡ option_or (last_put basin (put ∷ []) cell) (held old cell)
 put-set basin put old new sets cell = sets cell ∙ chosen (is_shared basin put.cell cell) put.content (held old cell)
 
-or_assoc : (a b c : Option Content) → option_or (option_or a b) c ≡ option_or a (option_or b c)
-or_assoc None b c = refl
-or_assoc (Some x) b c = refl
-
 -- what is left to be put, over what was put, is what was to be put
 abbrev pub IsPutting : Draft → Cells → Cells → List Asked → List Asked → Type 0
 IsPutting basin first now all left = (cell : Cell) → option_or (last_put basin left cell) (now cell) ≡ option_or (last_put basin all cell) (first cell)
-
-pub IsPutting-next : (basin : Draft) (first now next : Cells) (all left : List Asked) (put : Asked) → IsPutting basin first now all (put ∷ left)
-    → ((cell : Cell) → next cell ≡ option_or (last_put basin (put ∷ []) cell) (now cell)) → IsPutting basin first next all left
-IsPutting-next basin first now next all left put putting made = λ cell.
-    ap (option_or (last_put basin left cell)) (made cell)
-    ∙ sym (or_assoc (last_put basin left cell) (if is_shared basin put.cell cell then Some put.content else None) (now cell))
-    ∙ putting cell
 
 -- ---- what is put is within bounds
 

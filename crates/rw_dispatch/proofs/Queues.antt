@@ -5,9 +5,10 @@ use Rattle.std.proofs.lemmas.List.Elements.{filter-append}
 use Rattle.std.proofs.Math.ListN.{length-replicate, replicate, length-append, length-set}
 use Rattle.std.proofs.lemmas.Bool.Decides.{nat_tests}
 use Rattle.rw_model.specs.Draft.{Draft}
+use Rattle.rw_log.specs.Times.{times}
 use Rattle.rw_log.specs.Waiting.{numbers, is_data, is_woken, is_but, is_owner}
-use Rattle.rw_dispatch.specs.Queue.{KeepsQueue, is_marked, unmarked, times}
-use Rattle.rw_dispatch.proofs.Times.{times-append, times-filter, times-numbers, any-times}
+use Rattle.rw_dispatch.specs.Queue.{KeepsQueue, is_marked, unmarked}
+use Rattle.rw_log.proofs.Lists.{times-append, times-filter, times-numbers, any-times}
 
 unmarked-set : (bits : List Bool) (k : ℕ) (v : Bool) → k < length bits → unmarked (set bits k v) + cond (get_or bits k false) 0 1 ≡ unmarked bits + cond v 0 1
 unmarked-set [] k v l = absurd (omega arith)
@@ -65,16 +66,6 @@ taken_first items n m room a waits q e =
       fits = grind (arith, q.fits);
       few = grind (arith, q.few);
     }
-
-first_within : (items : List ℕ) (n room a : ℕ) (waits : List Bool) → KeepsQueue (a ∷ items) n room waits → (1 ≤ a) × (a ≤ length waits)
-first_within items n room a waits q =
-    let own : 1 + times a items ≡ cond (is_marked waits a) 1 0 = let h = q.marked a in grind (arith, nat_tests) in
-    let w = set_within waits a (times a items) own in
-    let k : a - 1 < length waits = in_range waits (a - 1) w.1 in
-    (w.0, omega arith)
-
-pub within_of : (all items : List ℕ) (n room a : ℕ) (waits : List Bool) → all ≡ a ∷ items → KeepsQueue all n room waits → (1 ≤ a) × (a ≤ length waits)
-within_of all items n room a waits e q = first_within items n room a waits (subst (λ xs. KeepsQueue xs n room waits) e q)
 
 pub taken : (all items : List ℕ) (n m room wide a : ℕ) (waits : List Bool) → all ≡ a ∷ items → wide ≡ room → KeepsQueue all n room waits → m + 1 ≡ n
     → KeepsQueue items m wide (set waits (a - 1) false)

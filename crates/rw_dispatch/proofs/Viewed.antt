@@ -1,7 +1,6 @@
 -- What an object sees is a view of its kind.
 use Rattle.std.proofs.Common.{◌≡◌, ◌≤◌, ◌<◌, ◌+◌, ◌-◌, ◌==◌, ◌&&◌, ℕ, zero, suc, Bool, true, false, List, [], ◌∷◌, length, Option, Some, None, refl, sym, ap, subst, ◌∙◌, arith, slice_index_or, if◌then◌else◌}
 use Rattle.std.specs.Prelude.{ℤ, pos, ◌≤ℤ◌, slice_get, option_map, option_and_then, unwrap_or, take}
-use Rattle.std.specs.Option.{ForSome}
 use Rattle.std.proofs.lemmas.Bool.Decides.{nat_tests}
 use Rattle.std.proofs.lemmas.List.FromFn.{get_or-map-range_with_len}
 use Rattle.rw_model.specs.declared.content.Content.{Content}

@@ -6,7 +6,6 @@ use Rattle.rw_model.specs.Draft.{Draft}
 use Rattle.rw_model.specs.Links.{IsBetween, bounds_in}
 use Rattle.rw_method.specs.declared.put.Put.{Put}
 use Rattle.rw_series.specs.Series.{IsCell}
-use Rattle.rw_log.specs.declared.fault.RunFault.{RunFault}
 use Rattle.rw_log.specs.declared.fault.RunFault.TheVariants.{Conflict as FaultConflict, ObjectOutOfRange}
 use Rattle.rw_log.specs.Log.{Cells, Event, idle, solved, fault}
 use Rattle.rw_log.specs.Log.{Dispatch}

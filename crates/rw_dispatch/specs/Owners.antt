@@ -1,5 +1,5 @@
 -- The owners of the slots that puts reach.
-use Rattle.std.specs.Prelude.{ℕ, nat_le, ◌||◌, List, [], ◌∷◌, ◌++◌, map, Option, Some, None, if◌then◌else◌}
+use Rattle.std.specs.Prelude.{ℕ, nat_le, ◌||◌, List, [], ◌∷◌, map, Option, Some, None, if◌then◌else◌}
 use Rattle.rw_model.specs.Draft.{Draft}
 use Rattle.rw_model.specs.Links.{group_of, owner_of}
 

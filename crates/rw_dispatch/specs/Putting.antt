@@ -1,5 +1,5 @@
 -- The puts of a dispatch, one by one.
-use Rattle.std.specs.Prelude.{◌≡◌, ℕ, ℤ, Some, IsSome}
+use Rattle.std.specs.Prelude.{ℕ, ℤ, IsSome}
 use Rattle.rw_base.specs.declared.number.SlotNo.{SlotNo}
 use Rattle.rw_model.specs.Draft.{Draft}
 use Rattle.rw_model.specs.Objects.{slot_in_place}

@@ -1,6 +1,7 @@
 -- The objects that wait, as a queue.
-use Rattle.std.specs.Prelude.{◌≡◌, ◌≤◌, ◌-◌, ◌+◌, ◌==◌, ℕ, Bool, false, ◌&&◌, cond, nat_lt, List, [], ◌∷◌, length, slice_index_or}
+use Rattle.std.specs.Prelude.{◌≡◌, ◌≤◌, ◌-◌, ◌+◌, ℕ, Bool, false, ◌&&◌, cond, nat_lt, List, [], ◌∷◌, length, slice_index_or}
 use Rattle.rw_model.specs.Draft.{Draft}
+use Rattle.rw_log.specs.Times.{times}
 
 -- of how many objects it is, and those that wait, the next one first
 pub record Queue : Type 0 where
@@ -10,11 +11,6 @@ pub record Queue : Type 0 where
 -- a queue for the basin
 abbrev pub IsQueueOf : Draft → Queue → Type 0
 IsQueueOf basin queue = queue.objects ≡ length basin.objects
-
--- how often a number stands among these
-abbrev pub times : ℕ → List ℕ → ℕ
-times number [] = 0
-times number (first ∷ rest) = cond (number == first) 1 0 + times number rest
 
 -- an object is marked
 abbrev pub is_marked : List Bool → ℕ → Bool

@@ -15,7 +15,7 @@ mod solving;
 #[cfg(test)]
 mod tests;
 
-pub use dispatching::dispatch;
 pub use dispatched::Dispatched;
+pub use dispatching::dispatch;
 pub use past::past_cell;
 pub use queue::Queue;

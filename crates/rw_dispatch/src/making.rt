@@ -32,11 +32,7 @@ fn make_one(basin: &Basin, series: &mut Series, o: ObjectNo, t: StepNo, put: &Pu
     ensures series { IsSeriesOf basin.now series.new }
     ensures bounded { AreBounded basin.now (held series.new) }
 {
-    series.restore(
-        basin,
-        cell_of(basin, o, t, put),
-        Some(content_of(o, put)),
-    );
+    series.restore(basin, cell_of(basin, o, t, put), Some(content_of(o, put)));
 }
 
 /// Makes the puts, one after another.

@@ -30,13 +30,7 @@ fn nearer(after: u16, best: Option<u16>, owner: u16) -> Option<u16>
     ensures { result ≡ nearer after best owner }
 {
     match best {
-        None => {
-            if owner <= after {
-                None
-            } else {
-                Some(owner)
-            }
-        }
+        None => { if owner <= after { None } else { Some(owner) } }
         Some(least) => {
             if owner <= after || least <= owner {
                 Some(least)

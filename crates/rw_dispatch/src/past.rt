@@ -83,13 +83,7 @@ fn value_in(series: &Series, cell: Cell) -> Option<Qty>
 }
 
 // The value of a slot so many timesteps ago, which may be before the run.
-fn value_of_past(
-    basin: &Basin,
-    series: &Series,
-    t: StepNo,
-    slot: SlotNo,
-    ago: u16,
-) -> Option<Qty>
+fn value_of_past(basin: &Basin, series: &Series, t: StepNo, slot: SlotNo, ago: u16) -> Option<Qty>
     requires { IsSlot basin.now.objects slot.0 }
     ensures { result ≡ value_of_past basin.now (held series.now) t.0 (past_seen (slot, ago)) }
 {

@@ -1,9 +1,10 @@
-ghost use Rattle.std.specs.Prelude.{ℕ, List, true, cond, ◌==◌, ◌≡◌, ◌≤◌, ◌++◌, ◌∷◌, [], MatchOption, IfSome, IfOk, All, option_map};
+ghost use Rattle.std.specs.Prelude.{ℕ, List, true, cond, ◌==◌, ◌≡◌, ◌≤◌, ◌<◌, ◌+◌, ◌++◌, ◌∷◌, [], MatchOption, IfSome, IfOk, All, option_map};
 ghost use Rattle.std.specs.List.{list_any};
 ghost use Rattle.rw_model.specs.Draft.{IsObject, IsSlot};
 ghost use Rattle.rw_model.specs.Kept.{numbers_of};
+ghost use Rattle.rw_log.specs.Times.{times};
 ghost use Rattle.rw_log.specs.Waiting.{all_waiting, is_but, is_owner, is_woken, woken};
-ghost use Rattle.rw_dispatch.specs.Queue.{IsQueueOf, times};
+ghost use Rattle.rw_dispatch.specs.Queue.{IsQueueOf};
 
 use crate::owners::{is_data, next_owner};
 use rw_base::{NoMemory, ObjectNo, SlotNo};
@@ -93,7 +94,7 @@ impl Queue {
         ensures objects { self.new.objects ≡ self.old.objects }
         ensures appended { self.new.waiting ≡ self.old.waiting ++ object ∷ [] }
     {
-        self.items.push_back_reserved(object);
+        push(&mut self.items, object);
         self.waits[(object - 1) as usize] = true;
     }
 
@@ -128,6 +129,16 @@ impl Queue {
     {
         self.waits[(object - 1) as usize]
     }
+}
+
+// Adds an object behind all others, for which there is room.
+fn push(items: &mut VecDeque<u16>, object: u16)
+    requires { items.old.len < items.old.cap }
+    ensures items { items.new.items ≡ items.old.items ++ object ∷ [] }
+    ensures len { items.new.len ≡ items.old.len + 1 }
+    ensures capacity { items.new.cap ≡ items.old.cap }
+{
+    items.push_back_reserved(object);
 }
 
 // Whether this object is left out.

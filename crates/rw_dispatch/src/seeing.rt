@@ -24,13 +24,7 @@ pub fn cell_in(basin: &Basin, o: ObjectNo, t: StepNo, place: u8) -> Option<Cell>
 }
 
 // What the object's slot in a place holds.
-fn content_in(
-    basin: &Basin,
-    series: &Series,
-    o: ObjectNo,
-    t: StepNo,
-    place: u8,
-) -> Option<Content>
+fn content_in(basin: &Basin, series: &Series, o: ObjectNo, t: StepNo, place: u8) -> Option<Content>
     requires object { IsObject basin.now.objects o.0 }
     requires first { 1 ≤ t.0 }
     requires last { t.0 ≤ basin.now.control.stamps.count }

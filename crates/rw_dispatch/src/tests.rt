@@ -20,7 +20,9 @@ use std::alloc::Global;
 use std::process::Abort;
 
 const JOIN: ObjectNo = ObjectNo(1);
+
 const MARK: ObjectNo = ObjectNo(2);
+
 const DAY: StepNo = StepNo(2);
 
 /// The method of gages.
@@ -285,9 +287,26 @@ fn check_faults(rt: &impl Abort, alloc: Global, basin: &Basin, methods: &Catalog
     give(rt, basin, &mut series, 3, 5);
     give(rt, basin, &mut series, 5, 6);
     let answer = solve(rt, basin, methods, &mut series, &mut queue, JOIN);
-    assert!(rt; matches!(answer, Dispatched::OutOfRange { slot: SlotNo(2), value: -2 }));
+    assert!(rt;
+        matches!(
+            answer,
+            Dispatched::OutOfRange {
+                slot: SlotNo(2),
+                value: -2
+            }
+        )
+    );
     let answer = solve(rt, basin, methods, &mut series, &mut queue, MARK);
-    assert!(rt; matches!(answer, Dispatched::Conflict { slot: SlotNo(5), held: 6, solved: 5 }));
+    assert!(rt;
+        matches!(
+            answer,
+            Dispatched::Conflict {
+                slot: SlotNo(5),
+                held: 6,
+                solved: 5
+            }
+        )
+    );
     assert_eq!(rt; value_at(&series, 2), None);
     assert_eq!(rt; queue.next(), None);
 }

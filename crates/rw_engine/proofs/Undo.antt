@@ -104,6 +104,14 @@ either : (a b : Bool) → (a || b) ≡ false → (a ≡ false) × (b ≡ false)
 either false b is = (refl, is)
 either true b is = absurd (cc)
 
+apart_here : (basin : Draft) (cells : Cells) (object step places place : ℕ) (own cell : Cell) → cell_in basin object step place ≡ Some own
+    → (same : Bool) → (place == places) ≡ same → (same ≡ false → is_shared basin own cell ≡ false)
+    → is_reached basin (if_undone (undone_at basin cells object step places)) cell ≡ false → is_shared basin own cell ≡ false
+apart_here basin cells object step places place own cell is true same before last =
+    let at : place ≡ places = grind (arith, nat_tests) in
+    reached_one basin cells own cell (cell_in basin object step places) (ap (cell_in basin object step) (sym at) ∙ is) last
+apart_here basin cells object step places place own cell is false other before last = before refl
+
 -- a cell that no remembered one reaches is reached by no slot of the object
 apart_from : (basin : Draft) (cells : Cells) (object step places place : ℕ) (own cell : Cell) → place < places → cell_in basin object step place ≡ Some own
     → is_reached basin (undone_to basin cells object step places) cell ≡ false → is_shared basin own cell ≡ false
@@ -112,14 +120,8 @@ apart_from basin cells object step (suc places) place own cell near is none =
     let parts = either (is_reached basin (undone_to basin cells object step places) cell)
         (is_reached basin (if_undone (undone_at basin cells object step places)) cell)
         (sym (list_any-append (λ (undone : Undone). is_shared basin undone.cell cell) (undone_to basin cells object step places) (if_undone (undone_at basin cells object step places))) ∙ none) in
-    here (place == places) refl parts.0 parts.1
-  where
-    here : (same : Bool) → (place == places) ≡ same → is_reached basin (undone_to basin cells object step places) cell ≡ false
-        → is_reached basin (if_undone (undone_at basin cells object step places)) cell ≡ false → is_shared basin own cell ≡ false
-    here true same before last =
-        let at : place ≡ places = grind (arith, nat_tests) in
-        reached_one basin cells own cell (cell_in basin object step places) (ap (cell_in basin object step) (sym at) ∙ is) last
-    here false other before last = apart_from basin cells object step places place own cell (grind (arith, nat_tests)) is before
+    apart_here basin cells object step places place own cell is (place == places) refl
+    (λ other. apart_from basin cells object step places place own cell (grind (arith, nat_tests)) is parts.0) parts.1
 
 unwritten : (basin : Draft) (puts : List Asked) (cell : Cell) → All (λ (put : Asked). is_shared basin put.cell cell ≡ false) puts → last_put basin puts cell ≡ None
 unwritten basin [] cell all = refl

@@ -16,7 +16,7 @@ use Rattle.rw_engine.specs.declared.step_end.StepEnd.{StepEnd}
 use Rattle.rw_engine.specs.declared.step_end.StepEnd.TheVariants.{Closed as IsClosed, Fault as IsFault}
 use Rattle.rw_engine.specs.declared.undone.Undone.{Undone}
 
--- an engine made for the basin, whose slots all hold values that they can have
+-- an engine made for the basin: its slots hold values that they can have, and only objects with a method wait
 pub record IsEngineOf (basin : Draft) (engine : Engine) : Type 0 where
   pub valid : IsBasin basin
   pub series : IsSeriesOf basin engine.series
@@ -24,6 +24,7 @@ pub record IsEngineOf (basin : Draft) (engine : Engine) : Type 0 where
   pub queue : IsQueueOf basin engine.queue
   pub counts : length engine.counts.items ≡ length basin.objects
   pub ready : All (λ object. is_data basin object ≡ false) engine.queue.waiting
+  pub closed_steps : engine.closed ≤ basin.control.stamps.count
   pub undo : All (λ (undone : Undone). IsCell basin undone.cell) engine.undo.items
 
 -- what an engine shows of a log: what the cells hold, the trace, the last closed timestep, and the fault if there is one

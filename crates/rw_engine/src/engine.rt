@@ -80,7 +80,7 @@ impl Engine {
         ensures undo { self.new.undo ≡ self.old.undo }
         ensures closed_steps { self.new.closed ≡ self.old.closed }
         ensures end { self.new.end ≡ self.old.end }
-        ensures opened { IfOk result (λ _. (log : Log) → Shows basin.now self.old log
+        ensures opened { IfOk result (λ _. (log : Log) → Shows basin.now self.old log → IsBefore basin.now step.0 log
             → Holds basin.now self.new step.0 (opened step.0 ∷ log) self.new.queue.waiting) }
         ensures grows { Grows self.old.trace self.new.trace }
     {
@@ -93,6 +93,7 @@ impl Engine {
     // Closes the open timestep.
     fn close(&mut self, basin: &Basin, step: StepNo) -> Result<StepEnd, NoMemory>
         requires made { IsEngineOf basin.now self.old }
+        requires last { step.0 ≤ basin.now.control.stamps.count }
         ensures made { IsEngineOf basin.now self.new }
         ensures series { self.new.series ≡ self.old.series }
         ensures undo { self.new.undo ≡ self.old.undo }
@@ -156,6 +157,7 @@ impl Engine {
             → CanUndo basin.now self.new.undo.items self.new.series before }
         ensures closed_steps { self.new.closed ≡ self.old.closed }
         ensures end { IfErr result (λ _. self.new.end ≡ self.old.end) }
+        ensures going { IfOk result (λ end. end ≡ None → self.new.end ≡ self.old.end) }
         ensures grows { Grows self.old.trace self.new.trace }
         ensures falls { IfOk result (λ end. end ≡ None
             → room basin.now.control.object_limit self.new.counts.items < room basin.now.control.object_limit self.old.counts.items) }
@@ -271,7 +273,8 @@ impl Engine {
 
     /// What the run came to.
     pub(crate) fn finish(self) -> Run
-        ensures { (basin : Draft) (log : Log) → IsEngineOf basin self → Shows basin self log → IsRunOf basin log result }
+        ensures run { (basin : Draft) (log : Log) → IsEngineOf basin self → Shows basin self log → IsRunOf basin log result }
+        ensures closed { (basin : Draft) → IsEngineOf basin self → result.closed ≤ basin.control.stamps.count }
     {
         Run {
             end: self.end,

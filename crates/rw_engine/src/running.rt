@@ -1,4 +1,4 @@
-ghost use Rattle.std.specs.Prelude.{◌≡◌, map, IfOk};
+ghost use Rattle.std.specs.Prelude.{◌≤◌, map, IfOk};
 ghost use Rattle.rw_method.specs.Catalogue.{AreInOrder};
 ghost use Rattle.rw_inputs.specs.Inputs.{IsInputsOf};
 ghost use Rattle.rw_engine.specs.Passing.{ComesTo};
@@ -22,12 +22,13 @@ pub fn run_all(
     requires order { AreInOrder (map (λ b. code (b.vtable, b.value)) methods.now.methods.items) }
     requires inputs { IsInputsOf basin.now inputs.now }
     ensures run { IfOk result (ComesTo basin.now inputs.now) }
+    ensures closed { IfOk result (λ run. run.closed ≤ basin.now.control.stamps.count) }
 {
     let mut engine = Engine::for_run(alloc, basin, inputs)?;
     for before in 0..basin.control().stamps.count() {
-        let end = engine.run_step(basin, methods, StepNo(before + 1))?;
-        if end != StepEnd::Closed {
-            return Ok(engine.finish());
+        match engine.run_step(basin, methods, StepNo(before + 1))? {
+            StepEnd::Closed => {}
+            StepEnd::Fault(_) => return Ok(engine.finish()),
         }
     }
     Ok(engine.finish())

@@ -1,4 +1,4 @@
-use Rattle.std.proofs.Common.{◌≤◌, ◌+◌, drop, map, length, All}
+use Rattle.std.proofs.Common.{◌≤◌, drop, map, length, All}
 use Rattle.rw_method.specs.declared.put.Put.{Put}
 use Rattle.rw_series.specs.Series.{held}
 use Rattle.rw_log.specs.Dispatch.{asked_by}

@@ -1,4 +1,4 @@
-use Rattle.std.proofs.Common.{◌≡◌, ◌≤◌, ◌++◌, drop, map, length, All}
+use Rattle.std.proofs.Common.{◌≡◌, ◌++◌, drop, map, length, All}
 use Rattle.std.specs.Prelude.{take}
 use Rattle.rw_base.specs.declared.number.SlotNo.{SlotNo}
 use Rattle.rw_model.specs.Draft.{IsSlot}

@@ -1,0 +1,74 @@
+-- A run, timestep by timestep.
+use Rattle.std.proofs.Common.{◌≡◌, ◌≢◌, ◌≤◌, ◌<◌, ◌+◌, ℕ, Bool, true, false, List, [], ◌∷◌, ◌++◌, Option, Some, None, nat_lt, refl, sym, ap, subst, ◌∙◌, arith}
+use Rattle.std.proofs.lemmas.Bool.Decides.{nat_tests}
+use Rattle.std.specs.Prelude.{ℤ, if◌then◌else◌}
+use Rattle.rw_base.specs.declared.number.Cell.{Cell}
+use Rattle.rw_model.specs.Draft.{Draft}
+use Rattle.rw_inputs.specs.Inputs.{Inputs}
+use Rattle.rw_log.specs.declared.fault.RunFault.{RunFault}
+use Rattle.rw_log.specs.declared.run.Run.{Run}
+use Rattle.rw_log.specs.Log.{Event, given, opened, closed, idle, solved, fired, fault, Log}
+use Rattle.rw_log.specs.Next.{Policy, no_rules}
+use Rattle.rw_log.specs.Runs.{Leads, IsRun, Standing, rests, inside, over, standing, follows, follows_in, placed}
+use Rattle.rw_log.specs.RunOf.{IsRunOf, last_closed}
+use Rattle.rw_engine.specs.declared.engine.Engine.{Engine}
+use Rattle.rw_engine.specs.declared.step_end.StepEnd.{StepEnd}
+use Rattle.rw_engine.specs.declared.step_end.StepEnd.TheVariants.{Closed as IsClosed, Fault as IsFault}
+use Rattle.rw_engine.specs.Givens.{givens}
+use Rattle.rw_engine.specs.Stands.{Shows, IsBefore}
+use Rattle.rw_engine.specs.Passing.{Passes, Stands, ComesTo}
+use Rattle.rw_engine.proofs.Starts.{standing-placed}
+use Rattle.rw_engine.proofs.Steps.{leads_on}
+
+pub stands_first : (basin : Draft) (inputs : Inputs) (engine : Engine) → Shows basin engine (placed [] (givens basin inputs)) → Stands basin inputs engine 0
+stands_first basin inputs engine shows = record {
+  log = placed [] (givens basin inputs);
+  events = [];
+  leads = refl;
+  shows = shows;
+  rest = standing-placed [] (givens basin inputs) refl;
+}
+
+pub before_step : (basin : Draft) (log : Log) (step : ℕ) → standing log ≡ rests step → step < basin.control.stamps.count → IsBefore basin (step + 1) log
+before_step basin log step rest near = record { last = step; rest = rest; next_one = refl; exists = omega arith }
+
+-- a closed timestep leads on
+pub stands_next : (basin : Draft) (inputs : Inputs) (old new : Engine) (step : ℕ) → (stands : Stands basin inputs old step)
+    → Passes basin stands.log IsClosed new (step + 1) → Stands basin inputs new (step + 1)
+stands_next basin inputs old new step stands passes = record {
+  log = passes.last ∷ passes.before;
+  events = stands.events ++ passes.events;
+  leads = leads_on basin no_rules (placed [] (givens basin inputs)) stands.events passes.events stands.log (passes.last ∷ passes.before) stands.leads passes.leads;
+  shows = passes.shows;
+  rest = ap (λ event. standing (event ∷ passes.before)) passes.ends;
+}
+
+none_left : (steps : ℕ) (test : Bool) → nat_lt steps steps ≡ test → (if test then Some (opened (steps + 1)) else None) ≡ None
+none_left steps true is = absurd (grind (arith, nat_tests))
+none_left steps false is = refl
+
+-- after the last timestep the run is whole
+pub comes_settled : (basin : Draft) (inputs : Inputs) (engine : Engine) (step : ℕ) (run : Run) → (stands : Stands basin inputs engine step)
+    → step ≡ basin.control.stamps.count → IsRunOf basin stands.log run → ComesTo basin inputs run
+comes_settled basin inputs engine step run stands last is = record {
+  log = stands.log;
+  whole = record {
+    events = stands.events;
+    leads = stands.leads;
+    end = ap (follows_in basin no_rules stands.log) (stands.rest ∙ ap rests last) ∙ none_left basin.control.stamps.count (nat_lt basin.control.stamps.count basin.control.stamps.count) refl;
+  };
+  is = is;
+}
+
+-- and after a fault
+pub comes_faulted : (basin : Draft) (inputs : Inputs) (old new : Engine) (step at : ℕ) (why : RunFault) (run : Run) → (stands : Stands basin inputs old step)
+    → (passes : Passes basin stands.log (IsFault why) new at) → IsRunOf basin (passes.last ∷ passes.before) run → ComesTo basin inputs run
+comes_faulted basin inputs old new step at why run stands passes is = record {
+  log = passes.last ∷ passes.before;
+  whole = record {
+    events = stands.events ++ passes.events;
+    leads = leads_on basin no_rules (placed [] (givens basin inputs)) stands.events passes.events stands.log (passes.last ∷ passes.before) stands.leads passes.leads;
+    end = ap (λ event. follows basin no_rules (event ∷ passes.before)) passes.ends;
+  };
+  is = is;
+}

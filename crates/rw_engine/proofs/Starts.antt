@@ -1,0 +1,35 @@
+-- The log of the inputs, and logs between timesteps.
+use Rattle.std.proofs.Common.{◌≡◌, ◌++◌, ℕ, List, [], ◌∷◌, refl, sym, ap, ◌∙◌, append-nil}
+use Rattle.std.specs.Prelude.{ℤ}
+use Rattle.rw_base.specs.declared.number.Cell.{Cell}
+use Rattle.rw_log.specs.declared.run.RunEnd.TheVariants.{Settled}
+use Rattle.rw_log.specs.Log.{Event, given, opened, closed, idle, solved, fired, fault, Log}
+use Rattle.rw_log.specs.Runs.{placed, standing, rests}
+use Rattle.rw_log.specs.RunOf.{trace_of, end_of, last_closed}
+
+pub trace-placed : (log : Log) (inputs : List (Cell × ℤ)) → trace_of (placed log inputs) ≡ trace_of log
+trace-placed log [] = refl
+trace-placed log (input ∷ inputs) = trace-placed (given input.0 input.1 ∷ log) inputs ∙ append-nil (trace_of log)
+
+pub closed-placed : (log : Log) (inputs : List (Cell × ℤ)) → last_closed (placed log inputs) ≡ last_closed log
+closed-placed log [] = refl
+closed-placed log (input ∷ inputs) = closed-placed (given input.0 input.1 ∷ log) inputs
+
+pub end-placed : (log : Log) (inputs : List (Cell × ℤ)) → end_of log ≡ Settled → end_of (placed log inputs) ≡ Settled
+end-placed log [] is = is
+end-placed log (input ∷ inputs) is = end-placed (given input.0 input.1 ∷ log) inputs refl
+
+pub standing-placed : (log : Log) (inputs : List (Cell × ℤ)) → standing log ≡ rests 0 → standing (placed log inputs) ≡ rests 0
+standing-placed log [] is = is
+standing-placed log (input ∷ inputs) is = standing-placed (given input.0 input.1 ∷ log) inputs refl
+
+-- a log between timesteps has no fault
+pub settled_at_rest : (log : Log) (step : ℕ) → standing log ≡ rests step → end_of log ≡ Settled
+settled_at_rest [] step is = refl
+settled_at_rest (given cell value ∷ log) step is = refl
+settled_at_rest (opened at ∷ log) step is = refl
+settled_at_rest (closed at ∷ log) step is = refl
+settled_at_rest (idle object at looked ∷ log) step is = refl
+settled_at_rest (solved dispatch ∷ log) step is = refl
+settled_at_rest (fired firing ∷ log) step is = refl
+settled_at_rest (fault why ∷ log) step is = absurd (cc)

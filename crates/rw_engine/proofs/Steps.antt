@@ -1,0 +1,84 @@
+-- A timestep of the engine, over the log that it shows.
+use Rattle.std.proofs.Common.{◌≡◌, ◌<◌, ◌≤◌, ◌+◌, ◌-◌, ℕ, Bool, true, false, List, [], ◌∷◌, ◌++◌, length, get_or, Option, Some, None, nat_lt, refl, sym, ap, subst, ◌∙◌, arith, append_assoc}
+use Rattle.std.proofs.lemmas.Bool.Decides.{nat_tests}
+use Rattle.std.specs.Prelude.{if◌then◌else◌}
+use Rattle.rw_base.specs.declared.number.Cell.{Cell}
+use Rattle.rw_model.specs.Draft.{Draft}
+use Rattle.rw_series.specs.Series.{Series, held}
+use Rattle.rw_log.specs.Log.{Cells, Log, Event, opened}
+use Rattle.rw_log.specs.Waiting.{all_waiting}
+use Rattle.rw_log.specs.Next.{Policy, no_rules, next}
+use Rattle.rw_log.specs.Runs.{Leads, follows, follows_in}
+use Rattle.rw_log.specs.RunOf.{lines}
+use Rattle.rw_log.specs.declared.run.RunEnd.TheVariants.{Settled}
+use Rattle.rw_log.proofs.Waits.{opens}
+use Rattle.rw_engine.specs.declared.engine.Engine.{Engine}
+use Rattle.rw_engine.specs.declared.step_end.StepEnd.{StepEnd}
+use Rattle.rw_engine.specs.Telling.{Grows}
+use Rattle.rw_engine.specs.Stands.{Shows, Holds, IsBefore, Goes}
+use Rattle.rw_engine.specs.Passing.{Passes, Reached}
+
+pub leads_more : (basin : Draft) (policy : Policy) (old : Log) (events : List Event) (event : Event) (new : Log) → Leads basin policy old events new
+    → follows basin policy new ≡ Some event → Leads basin policy old (events ++ event ∷ []) (event ∷ new)
+leads_more basin policy old [] event new leads follow = (ap (follows basin policy) (sym leads) ∙ follow, ap (λ log. event ∷ log) leads)
+leads_more basin policy old (first ∷ events) event new leads follow =
+    (leads.0, leads_more basin policy (first ∷ old) events event new leads.1 follow)
+
+pub leads_on : (basin : Draft) (policy : Policy) (old : Log) (first last : List Event) (mid new : Log) → Leads basin policy old first mid
+    → Leads basin policy mid last new → Leads basin policy old (first ++ last) new
+leads_on basin policy old [] last mid new one other = subst (λ log. Leads basin policy log last new) one other
+leads_on basin policy old (event ∷ first) last mid new one other = (one.0, leads_on basin policy (event ∷ old) first last mid new one.1 other)
+
+follows_inside : (basin : Draft) (engine : Engine) (step : ℕ) (log : Log) (waits : List ℕ) → Holds basin engine step log waits
+    → follows basin no_rules log ≡ Some (next basin no_rules step log)
+follows_inside basin engine step log waits holds = ap (follows_in basin no_rules log) holds.open_step
+
+pub opens_step : (basin : Draft) (old new : Engine) (step : ℕ) (log : Log) → Shows basin old log → new.series ≡ old.series
+    → new.queue.waiting ≡ all_waiting basin → length new.counts.items ≡ length basin.objects
+    → ((k : ℕ) → k < length new.counts.items → get_or new.counts.items k 0 ≡ 0) → new.trace ≡ old.trace ++ lines (opened step)
+    → new.closed ≡ old.closed → new.end ≡ Settled → Holds basin new step (opened step ∷ log) new.queue.waiting
+opens_step basin old new step log shows series queue count counts trace last end = record {
+  open_step = refl;
+  shows = record {
+    cells = λ cell. ap (λ (s : Series). held s cell) series ∙ shows.cells cell;
+    trace = trace ∙ ap (λ xs. xs ++ lines (opened step)) shows.trace;
+    closed_steps = last ∙ shows.closed_steps;
+    end = end;
+  };
+  queue = queue ∙ sym (opens basin log step);
+  counts = λ object known. counts (object - 1) (let f = known.first in let l = known.last in omega arith);
+}
+
+pub reached_more : (basin : Draft) (start : Log) (old new : Engine) (step : ℕ) → Reached basin start old step
+    → ((log : Log) → Holds basin old step log old.queue.waiting → Goes basin None new step log) → Reached basin start new step
+reached_more basin start old new step reached goes = record {
+  events = reached.events ++ next basin no_rules step reached.log ∷ [];
+  log = next basin no_rules step reached.log ∷ reached.log;
+  leads = leads_more basin no_rules start reached.events (next basin no_rules step reached.log) reached.log reached.leads
+      (follows_inside basin old step reached.log old.queue.waiting reached.holds);
+  holds = goes reached.log reached.holds;
+}
+
+opened_next : (basin : Draft) (step last : ℕ) (test : Bool) → nat_lt last basin.control.stamps.count ≡ test → step ≡ last + 1 → step ≤ basin.control.stamps.count
+    → (if test then Some (opened (last + 1)) else None) ≡ Some (opened step)
+opened_next basin step last true test is exists = ap (λ n. Some (opened n)) (sym is)
+opened_next basin step last false test is exists = absurd (grind (arith, nat_tests))
+
+pub ends_step : (basin : Draft) (log : Log) (old new : Engine) (step : ℕ) (end : StepEnd) → Reached basin (opened step ∷ log) old step
+    → ((l : Log) → Holds basin old step l old.queue.waiting → Goes basin (Some end) new step l) → IsBefore basin step log → Passes basin log end new step
+ends_step basin log old new step end reached goes before =
+    let went = goes reached.log reached.holds in
+    let first : follows basin no_rules log ≡ Some (opened step) =
+        ap (follows_in basin no_rules log) before.rest ∙ opened_next basin step before.last (nat_lt before.last basin.control.stamps.count) refl before.next_one before.exists in
+    record {
+      events = opened step ∷ (reached.events ++ next basin no_rules step reached.log ∷ []);
+      last = next basin no_rules step reached.log;
+      before = reached.log;
+      leads = (first, leads_more basin no_rules (opened step ∷ log) reached.events (next basin no_rules step reached.log) reached.log reached.leads
+          (follows_inside basin old step reached.log old.queue.waiting reached.holds));
+      ends = went.0;
+      shows = went.1;
+    }
+
+pub grows_more : {A : Type 0} (x y z : List A) → Grows x y → Grows y z → Grows x z
+grows_more x y z one other = (one.0 ++ other.0, other.1 ∙ ap (λ xs. xs ++ other.0) one.1 ∙ append_assoc x one.0 other.0)

@@ -1,0 +1,13 @@
+use Rattle.std.proofs.Common.{refl, sym, [], ◌∙◌}
+use Rattle.rw_engine.specs.Givens.{givens}
+use Rattle.rw_engine.proofs.Starts.{trace-placed, closed-placed, end-placed}
+use Rattle.rw_engine.proofs.engine.Engine.for_run.Goals as goal
+
+pub returns-clause-shows : goal.returns-clause-shows
+returns-clause-shows c =
+    let given = givens c.args.basin.now c.args.inputs.now in record {
+      cells = c.place.ensures.placed [] c.in_ok-series.ensures.unknown;
+      trace = c.new.ensures ∙ sym (trace-placed [] given);
+      closed_steps = sym (closed-placed [] given);
+      end = sym (end-placed [] given refl);
+    }

@@ -1,0 +1,9 @@
+use Rattle.rw_engine.specs.Stands.{IsEngineOf}
+use Rattle.rw_engine.specs.Passing.{Stands}
+use Rattle.rw_engine.proofs.running.run_all.Given as goal
+
+abbrev pub invariant-loop-before : goal.invariant-loop-before
+invariant-loop-before g l = record {
+  made : IsEngineOf l.basin l.engine;
+  stands : Stands l.basin l.inputs l.engine l.before;
+}
