@@ -14,7 +14,7 @@ use Rattle.rw_log.specs.Dispatch.{cell_at}
 use Rattle.rw_log.specs.declared.run.RunEnd.TheVariants.{Settled}
 use Rattle.rw_log.specs.RunOf.{end_of, last_closed}
 use Rattle.rw_log.specs.Runs.{placed, standing, rests}
-use Rattle.rw_first.specs.Givens.{if_given, givens_of, givens_to}
+use Rattle.rw_engine.specs.Givens.{if_given, givens_of, givens_to}
 use Rattle.rw_first.proofs.Alone.{lone}
 
 -- what these inputs leave in a cell

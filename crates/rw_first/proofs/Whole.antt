@@ -18,7 +18,7 @@ use Rattle.rw_log.specs.RunOf.{end_of, last_closed}
 use Rattle.rw_log.specs.Runs.{IsRun, placed}
 use Rattle.rw_report.specs.Section.{section_of}
 use Rattle.rw_first.specs.FirstForm.{FirstModel, IsFirstForm, IsFirstFlows, plain_reservoir}
-use Rattle.rw_first.specs.Givens.{givens}
+use Rattle.rw_engine.specs.Givens.{givens}
 use Rattle.rw_first.specs.Table.{IsRunText}
 use Rattle.rw_first.proofs.Alone.{lone, no-links}
 use Rattle.rw_first.proofs.Placed.{inflow-placed, outflow-placed, storage-placed, rests-placed, end-placed, closed-placed}

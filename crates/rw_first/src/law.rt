@@ -12,7 +12,7 @@ ghost use Rattle.rw_log.specs.RunOf.{end_of, last_closed};
 ghost use Rattle.rw_log.specs.Runs.{IsRun};
 ghost use Rattle.rw_report.specs.Section.{section_of};
 ghost use Rattle.rw_first.specs.FirstForm.{FirstModel, IsFirstForm, IsFirstFlows};
-ghost use Rattle.rw_first.specs.Givens.{givens};
+ghost use Rattle.rw_engine.specs.Givens.{givens};
 ghost use Rattle.rw_first.specs.Reservoir.{IsRun as IsReservoirRun, storage_at};
 ghost use Rattle.rw_first.specs.Table.{IsRunText, columns, heading};
 
