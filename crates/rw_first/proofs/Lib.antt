@@ -1,0 +1,10 @@
+mod Alone
+mod Solves
+mod Placed
+mod Storages
+mod Steps
+mod Texts
+mod Whole
+mod OneModel
+mod OneText
+mod Worked
