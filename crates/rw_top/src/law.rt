@@ -1,5 +1,9 @@
 //! What the definitions of this crate speak of is one thing. Each law is the `ensures` of a function that does nothing.
-ghost use Rattle.std.specs.Prelude.{◌≡◌, ℕ, List};
+ghost use Rattle.std.specs.Prelude.{◌≡◌, ◌↔◌, ℕ, ℤ, List, Option, None};
+ghost use Rattle.rw_first.specs.FirstForm.{FirstModel, IsFirstForm, IsFirstFlows};
+ghost use Rattle.rw_first.specs.Table.{IsRunText as IsFirstText};
+ghost use Rattle.rw_log.specs.declared.run.RunEnd.TheVariants.{Settled};
+ghost use Rattle.rw_model.specs.Basin.{IsBasin};
 ghost use Rattle.rw_model.specs.Draft.{Draft};
 ghost use Rattle.rw_inputs.specs.declared.fault.InputFault.{InputFault};
 ghost use Rattle.rw_inputs.specs.Inputs.{Inputs, value_at};
@@ -7,6 +11,7 @@ ghost use Rattle.rw_inputs.specs.Reading.{Reads, Refuses};
 ghost use Rattle.rw_log.specs.declared.run.RunEnd.{RunEnd};
 ghost use Rattle.rw_top.specs.RunText.{IsRunText};
 
+use rw_first::law::first_text;
 use rw_log::law::one_run;
 
 /// A text is read as inputs in one way, and isn't refused where it is read.
@@ -24,4 +29,14 @@ pub fn one_text()
         → IsRunText basin inputs end text → IsRunText basin others other more → (end ≡ other) × (text ≡ more) }
 {
     one_run();
+}
+
+/// Of one plain reservoir whose inflow and outflow are given, the text is the table that the simplest definition gives, by
+/// the sums of its flows. It says that the run settled exactly where no storage leaves its range.
+pub fn first_form()
+    ensures { (basin : Draft) (model : FirstModel) (inputs : Inputs) (inflows outflows : List ℤ) (end : RunEnd) (text : List ℕ)
+        → IsBasin basin → IsFirstForm basin model → IsFirstFlows inputs model.run.count inflows outflows → IsRunText basin inputs end text
+        → (fault : Option ℤ) × IsFirstText model inflows outflows fault text × ((fault ≡ None) ↔ (end ≡ Settled)) }
+{
+    first_text();
 }

@@ -1,0 +1,12 @@
+use Rattle.std.proofs.Common.{◌≡◌, ◌↔◌, None, sym, subst}
+use Rattle.rw_log.specs.declared.run.RunEnd.TheVariants.{Settled}
+use Rattle.rw_first.specs.Table.{IsRunText as IsFirstText}
+use Rattle.rw_top.proofs.law.first_form.Goals as goal
+
+pub returns : goal.returns
+returns c = λ basin model inputs inflows outflows end text valid form flows written.
+    let first = c.first_text.ensures basin model inputs inflows outflows written.log valid form flows written.run in (
+      first.0,
+      subst (IsFirstText model inflows outflows first.0) (sym written.text_is) first.1,
+      subst (λ e. (first.0 ≡ None) ↔ (e ≡ Settled)) (sym written.end_is) first.2,
+    )
