@@ -37,14 +37,15 @@ fn is_right(rt: &impl Abort, alloc: Global, example: Example<'_>) -> Result<bool
     let model = model(alloc, example.days, example.objects)?;
     let inputs = inputs(alloc, example.inputs)?;
     let done = simulate(rt, alloc, model.as_str(), inputs.as_str(), NONE_FAILS)?;
-    Ok(done.status == example.status
-        && done.out.as_slice() == example.text.as_bytes()
-        && done.err.is_empty())
+    Ok(
+        done.status == example.status
+            && done.out.as_slice() == example.text.as_bytes()
+            && done.err.is_empty(),
+    )
 }
 
 // A reservoir without a table, and 1000 in it.
-const DAM: &str =
-    "[[object]]\nname = \"Dam\"\nkind = \"reservoir\"\ninitial_storage = 1000\n";
+const DAM: &str = "[[object]]\nname = \"Dam\"\nkind = \"reservoir\"\ninitial_storage = 1000\n";
 
 #[test]
 fn what_is_not_known_of_a_reservoir_is_solved(rt: HostRuntime) -> Result<(), Fail> {
