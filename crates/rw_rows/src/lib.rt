@@ -4,6 +4,8 @@
 #![tactic(auto)]
 
 #[cfg(test)]
+mod basins;
+#[cfg(test)]
 mod catalogue;
 #[cfg(test)]
 mod dispatch;

@@ -7,12 +7,12 @@ use std::test::Fail;
 
 /// A basin that runs for some days, its inputs, and how its run ends: with this status, and this text.
 #[derive(Clone, Copy)]
-struct Example<'a> {
-    days: &'a str,
-    objects: &'a str,
-    inputs: &'a str,
-    status: u8,
-    text: &'a str,
+pub(crate) struct Example<'a> {
+    pub(crate) days: &'a str,
+    pub(crate) objects: &'a str,
+    pub(crate) inputs: &'a str,
+    pub(crate) status: u8,
+    pub(crate) text: &'a str,
 }
 
 fn model(alloc: Global, days: &str, objects: &str) -> Result<String, NoMemory> {
@@ -32,8 +32,12 @@ fn inputs(alloc: Global, rows: &str) -> Result<String, NoMemory> {
     Ok(text)
 }
 
-// Whether the run of the example ends as it says.
-fn is_right(rt: &impl Abort, alloc: Global, example: Example<'_>) -> Result<bool, NoMemory> {
+/// Whether the run of the example ends as it says.
+pub(crate) fn is_right(
+    rt: &impl Abort,
+    alloc: Global,
+    example: Example<'_>,
+) -> Result<bool, NoMemory> {
     let model = model(alloc, example.days, example.objects)?;
     let inputs = inputs(alloc, example.inputs)?;
     let done = simulate(rt, alloc, model.as_str(), inputs.as_str(), NONE_FAILS)?;
