@@ -2,11 +2,10 @@
 //! ends with its status.
 #![tactic(auto)]
 
-ghost use Rattle.std.specs.Prelude.{◌≡◌, ◌<◌, map, IfOk};
-ghost use Rattle.rw_method.specs.Catalogue.{AreInOrder};
+ghost use Rattle.std.specs.Prelude.{◌≡◌, ◌<◌};
 
 use rw_base::NoMemory;
-use rw_io::{FileShelf, StdSink, write_all};
+use rw_io::{FileShelf, Shelf, Sink, StdSink, write_all};
 use rw_method::{Catalogue, Method};
 use rw_reservoir::ReservoirMethod;
 use rw_stream::{BifurcationMethod, ConfluenceMethod, GageMethod, ReachMethod};
@@ -36,8 +35,16 @@ fn words(rt: &HostRuntime) -> Result<Vec<String>, NoMemory> {
     Ok(words)
 }
 
-// One method for each kind that has one, in the order of their numbers.
-fn all_methods(alloc: Global) -> Result<Vec<Box<dyn Method>>, NoMemory> {
+// The status of a call that has the methods of all kinds, in the order of their numbers. Were they in another order, they
+// would be missing like memory: each run of the program shows that they aren't.
+fn status<S: Shelf, K: Sink, E: Sink, L: Ledger>(
+    alloc: Global,
+    words: &[String],
+    shelf: &mut S,
+    out: &mut K,
+    err: &mut E,
+    steps: &mut Steps<L>,
+) -> Result<u8, NoMemory> {
     let mut methods: Vec<Box<dyn Method>> = Vec::new(alloc);
     methods.push(Box::new(alloc, GageMethod)?)?;
     methods.push(Box::new(alloc, ConfluenceMethod)?)?;
@@ -46,17 +53,10 @@ fn all_methods(alloc: Global) -> Result<Vec<Box<dyn Method>>, NoMemory> {
     methods.push(Box::new(alloc, ReservoirMethod)?)?;
     methods.push(Box::new(alloc, WaterUserMethod)?)?;
     methods.push(Box::new(alloc, CanalMethod)?)?;
-    Ok(methods)
-}
-
-// Their catalogue. Were they in another order, it would be missing like memory: each run of the program shows that it isn't.
-fn catalogue(alloc: Global) -> Result<Catalogue, NoMemory>
-    ensures { IfOk result (λ catalogue. AreInOrder (map (λ b. code (b.vtable, b.value)) catalogue.methods.items)) }
-{
-    match Catalogue::of(all_methods(alloc)?) {
-        Ok(catalogue) => Ok(catalogue),
-        Err(_) => Err(NoMemory),
-    }
+    let Ok(methods) = Catalogue::of(methods) else {
+        return Err(NoMemory);
+    };
+    Ok(basin_main(alloc, words, shelf, out, err, &methods, steps))
 }
 
 fn run<L: Ledger>(rt: HostRuntime, blank: Blank) -> ExitCode
@@ -68,15 +68,18 @@ fn run<L: Ledger>(rt: HostRuntime, blank: Blank) -> ExitCode
     let mut out = StdSink::of(rt.stdout());
     let mut err = StdSink::of(rt.stderr());
     let alloc = rt.alloc();
-    let (Ok(words), Ok(methods)) = (words(&rt), catalogue(alloc)) else {
+    let Ok(words) = words(&rt) else {
         let _ = write_all(&mut err, b"basin: want of memory\n");
         return ExitCode::from(NO_MEMORY);
     };
     let mut shelf = FileShelf::of(rt);
-    let status = basin_main(
-        alloc, &words, &mut shelf, &mut out, &mut err, &methods, &mut steps,
-    );
-    ExitCode::from(status)
+    match status(alloc, &words, &mut shelf, &mut out, &mut err, &mut steps) {
+        Ok(status) => ExitCode::from(status),
+        Err(NoMemory) => {
+            let _ = write_all(&mut err, b"basin: want of memory\n");
+            ExitCode::from(NO_MEMORY)
+        }
+    }
 }
 
 fn main(rt: HostRuntime) -> ExitCode {

@@ -13,7 +13,7 @@ fn a_fault_leaves_the_days_before_it(rt: HostRuntime) -> Result<(), Fail> {
         status: 1,
         text: "# batch 0 fault out of range object Dam slot Dam.Storage step 2 value -200\nstep,stamp,Dam.Inflow,Dam.Outflow,Dam.Storage\n1,2020-01-02T00:00,0,600,400\n",
     };
-    assert!(rt; is_right(&rt, rt.alloc(), second_day)?);
+    assert!(rt; is_right(rt.alloc(), second_day)?);
     Ok(())
 }
 
@@ -26,13 +26,13 @@ fn a_storage_is_known_again_where_it_is_given(rt: HostRuntime) -> Result<(), Fai
         status: 0,
         text: "# batch 0 settled\nstep,stamp,Dam.Inflow,Dam.Outflow,Dam.Storage\n1,2020-01-02T00:00,,,500\n2,2020-01-03T00:00,10,20,490\n3,2020-01-04T00:00,10,20,480\n",
     };
-    assert!(rt; is_right(&rt, rt.alloc(), given)?);
+    assert!(rt; is_right(rt.alloc(), given)?);
     let unknown = Example {
         inputs: "Dam.Inflow,2-3,10\nDam.Outflow,2-3,20\n",
         text: "# batch 0 settled\nstep,stamp,Dam.Inflow,Dam.Outflow,Dam.Storage\n1,2020-01-02T00:00,,,\n2,2020-01-03T00:00,10,20,\n3,2020-01-04T00:00,10,20,\n",
         ..given
     };
-    assert!(rt; is_right(&rt, rt.alloc(), unknown)?);
+    assert!(rt; is_right(rt.alloc(), unknown)?);
     Ok(())
 }
 
@@ -45,7 +45,7 @@ fn a_bound_is_a_range(rt: HostRuntime) -> Result<(), Fail> {
         status: 1,
         text: "# batch 0 fault out of range object Dam slot Dam.Outflow step 1 value 80\nstep,stamp,Dam.Inflow,Dam.Outflow,Dam.Storage\n",
     };
-    assert!(rt; is_right(&rt, rt.alloc(), bounded)?);
+    assert!(rt; is_right(rt.alloc(), bounded)?);
     Ok(())
 }
 
@@ -62,7 +62,7 @@ fn water_flows_down_the_river(rt: HostRuntime) -> Result<(), Fail> {
         status: 0,
         text: "# batch 0 settled\nstep,stamp,Dam.Inflow,Dam.Outflow,Dam.Storage,R.Inflow,R.Outflow,F.Inflow,F.Outflow1,F.Outflow2,C.Inflow,C.Outflow,C.Seepage\n1,2020-01-02T00:00,100,80,1020,80,30,30,20,10,10,9,1\n2,2020-01-03T00:00,100,70,1050,70,80,80,20,60,60,54,6\n",
     };
-    assert!(rt; is_right(&rt, rt.alloc(), down)?);
+    assert!(rt; is_right(rt.alloc(), down)?);
     Ok(())
 }
 
@@ -75,7 +75,7 @@ fn what_flows_out_tells_what_flowed_in(rt: HostRuntime) -> Result<(), Fail> {
         status: 0,
         text: "# batch 0 settled\nstep,stamp,A.GageInflow,A.GageOutflow,B.GageInflow,B.GageOutflow\n1,2020-01-02T00:00,5,5,5,5\n",
     };
-    assert!(rt; is_right(&rt, rt.alloc(), up)?);
+    assert!(rt; is_right(rt.alloc(), up)?);
     Ok(())
 }
 
@@ -88,13 +88,13 @@ fn what_a_rule_would_set_is_given(rt: HostRuntime) -> Result<(), Fail> {
         status: 0,
         text: "# batch 0 settled\nstep,stamp,U.DiversionRequest,U.Diversion,U.Depletion,U.ReturnFlow\n1,2020-01-02T00:00,105,,,\n",
     };
-    assert!(rt; is_right(&rt, rt.alloc(), requested)?);
+    assert!(rt; is_right(rt.alloc(), requested)?);
     let diverted = Example {
         inputs: "U.Diversion,1,100\n",
         text: "# batch 0 settled\nstep,stamp,U.DiversionRequest,U.Diversion,U.Depletion,U.ReturnFlow\n1,2020-01-02T00:00,,100,33,67\n",
         ..requested
     };
-    assert!(rt; is_right(&rt, rt.alloc(), diverted)?);
+    assert!(rt; is_right(rt.alloc(), diverted)?);
     Ok(())
 }
 
@@ -107,6 +107,6 @@ fn no_equation_ties_data(rt: HostRuntime) -> Result<(), Fail> {
         status: 0,
         text: "# batch 0 settled\nstep,stamp,T.Volume,T.Least\n1,2020-01-02T00:00,,-7\n",
     };
-    assert!(rt; is_right(&rt, rt.alloc(), data)?);
+    assert!(rt; is_right(rt.alloc(), data)?);
     Ok(())
 }

@@ -6,8 +6,6 @@
 #[cfg(test)]
 mod basins;
 #[cfg(test)]
-mod catalogue;
-#[cfg(test)]
 mod dispatch;
 #[cfg(test)]
 mod is_view;

@@ -2,7 +2,6 @@
 ghost use Rattle.std.specs.Prelude.{◌≡◌, map};
 ghost use Rattle.rw_method.specs.Catalogue.{AreInOrder};
 
-use crate::catalogue::catalogue;
 use crate::reservoirs::{
     contents_are_right, evaporation_is_right, given_levels_are_right,
     levels_outside_the_table_are_right, pasts_outside_the_table_are_right, releases_are_right,
@@ -98,7 +97,29 @@ fn check_others(rt: &impl Abort, catalogue: &Catalogue)
 #[test]
 fn each_kind_is_solved_by_its_rules(rt: HostRuntime) {
     let alloc = rt.alloc();
-    let catalogue = catalogue(&rt, alloc);
+    let mut methods: Vec<Box<dyn Method>> = Vec::new(alloc);
+    methods
+        .push(Box::new(alloc, GageMethod).expect(&rt, "memory"))
+        .expect(&rt, "memory");
+    methods
+        .push(Box::new(alloc, ConfluenceMethod).expect(&rt, "memory"))
+        .expect(&rt, "memory");
+    methods
+        .push(Box::new(alloc, BifurcationMethod).expect(&rt, "memory"))
+        .expect(&rt, "memory");
+    methods
+        .push(Box::new(alloc, ReachMethod).expect(&rt, "memory"))
+        .expect(&rt, "memory");
+    methods
+        .push(Box::new(alloc, ReservoirMethod).expect(&rt, "memory"))
+        .expect(&rt, "memory");
+    methods
+        .push(Box::new(alloc, WaterUserMethod).expect(&rt, "memory"))
+        .expect(&rt, "memory");
+    methods
+        .push(Box::new(alloc, CanalMethod).expect(&rt, "memory"))
+        .expect(&rt, "memory");
+    let catalogue = Catalogue::of(methods).expect(&rt, "a catalogue");
     check_others(&rt, &catalogue);
     check_reaches(&rt, alloc, &catalogue);
     check_reservoirs(&rt, alloc, &catalogue);

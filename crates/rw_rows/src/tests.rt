@@ -1,13 +1,15 @@
 //! Statuses, lines, and calls that fail.
 ghost use Rattle.std.specs.Prelude.{◌≡◌, ◌<◌};
 
-use crate::catalogue::catalogue;
 use rw_base::NoMemory;
 use rw_io::{MemShelf, MemSink};
+use rw_method::{Catalogue, Method};
+use rw_reservoir::ReservoirMethod;
+use rw_stream::{BifurcationMethod, ConfluenceMethod, GageMethod, ReachMethod};
 use rw_top::{Blank, Ledger, Steps, basin_main};
+use rw_users::{CanalMethod, WaterUserMethod};
 use std::alloc::Global;
 use std::marker::Brand;
-use std::process::Abort;
 use std::test::Fail;
 
 const SIMULATE: [&str; 3] = ["simulate", "m.toml", "i.csv"];
@@ -77,7 +79,6 @@ fn one_call(alloc: Global, number: u64) -> Result<Vec<u64>, NoMemory> {
 }
 
 fn call_counted<L: Ledger>(
-    rt: &impl Abort,
     alloc: Global,
     blank: Blank,
     words: &[String],
@@ -89,10 +90,20 @@ fn call_counted<L: Ledger>(
     requires some { 0 < blank.parts }
 {
     let mut steps = Steps::<L>::of(blank);
-    let methods = catalogue(rt, alloc);
     let mut shelf = MemShelf::of(alloc, files, one_call(alloc, failing.shelf)?)?;
     let mut out = MemSink::of(alloc, one_call(alloc, failing.out)?);
     let mut err = MemSink::of(alloc, one_call(alloc, failing.err)?);
+    let mut methods: Vec<Box<dyn Method>> = Vec::new(alloc);
+    methods.push(Box::new(alloc, GageMethod)?)?;
+    methods.push(Box::new(alloc, ConfluenceMethod)?)?;
+    methods.push(Box::new(alloc, BifurcationMethod)?)?;
+    methods.push(Box::new(alloc, ReachMethod)?)?;
+    methods.push(Box::new(alloc, ReservoirMethod)?)?;
+    methods.push(Box::new(alloc, WaterUserMethod)?)?;
+    methods.push(Box::new(alloc, CanalMethod)?)?;
+    let Ok(methods) = Catalogue::of(methods) else {
+        return Err(NoMemory);
+    };
     let status = basin_main(
         alloc, words, &mut shelf, &mut out, &mut err, &methods, &mut steps,
     );
@@ -104,30 +115,28 @@ fn call_counted<L: Ledger>(
 }
 
 fn call(
-    rt: &impl Abort,
     alloc: Global,
     words: &[String],
     files: Vec<(String, Vec<u8>)>,
     failing: Failing,
 ) -> Result<Done, NoMemory> {
-    call_counted::<Brand>(rt, alloc, Blank::new(1), words, files, failing)
+    call_counted::<Brand>(alloc, Blank::new(1), words, files, failing)
 }
 
 /// What `simulate` does with the texts of a model and of inputs.
 pub(crate) fn simulate(
-    rt: &impl Abort,
     alloc: Global,
     model: &str,
     inputs: &str,
     failing: Failing,
 ) -> Result<Done, NoMemory> {
     let files = files(alloc, model.as_bytes(), inputs.as_bytes())?;
-    call(rt, alloc, &owned(alloc, &SIMULATE)?, files, failing)
+    call(alloc, &owned(alloc, &SIMULATE)?, files, failing)
 }
 
 #[test]
 fn three_days_settle(rt: HostRuntime) -> Result<(), Fail> {
-    let done = simulate(&rt, rt.alloc(), MODEL_OF_THREE, INPUTS_OF_THREE, NONE_FAILS)?;
+    let done = simulate(rt.alloc(), MODEL_OF_THREE, INPUTS_OF_THREE, NONE_FAILS)?;
     assert_eq!(rt; done.status, 0);
     assert_eq!(rt; done.out.as_slice(), TABLE_OF_THREE.as_bytes());
     assert!(rt; done.err.is_empty());
@@ -139,7 +148,7 @@ fn overdrawn_storage_is_a_fault(rt: HostRuntime) -> Result<(), Fail> {
     let inputs = "slot,step,value\nDam.Inflow,1,0\nDam.Outflow,1,1001\n";
     let table =
         "# batch 0 fault out of range object Dam slot Dam.Storage step 1 value -1\nstep,stamp,Dam.Inflow,Dam.Outflow,Dam.Storage\n";
-    let done = simulate(&rt, rt.alloc(), MODEL_OF_ONE, inputs, NONE_FAILS)?;
+    let done = simulate(rt.alloc(), MODEL_OF_ONE, inputs, NONE_FAILS)?;
     assert_eq!(rt; done.status, 1);
     assert_eq!(rt; done.out.as_slice(), table.as_bytes());
     assert!(rt; done.err.is_empty());
@@ -151,12 +160,12 @@ fn refusals_have_their_status_and_line(rt: HostRuntime) -> Result<(), Fail> {
     let alloc = rt.alloc();
     let words = owned(alloc, &["simulate", "m.toml"])?;
     let given = files(alloc, MODEL_OF_THREE.as_bytes(), INPUTS_OF_THREE.as_bytes())?;
-    let done = call(&rt, alloc, &words, given, NONE_FAILS)?;
+    let done = call(alloc, &words, given, NONE_FAILS)?;
     assert_eq!(rt; done.status, 2);
     assert_eq!(rt; done.err.as_slice(), b"basin: words refused\n".as_slice());
     assert!(rt; done.out.is_empty());
 
-    let done = simulate(&rt, alloc, MODEL_OF_NONE, INPUTS_OF_THREE, NONE_FAILS)?;
+    let done = simulate(alloc, MODEL_OF_NONE, INPUTS_OF_THREE, NONE_FAILS)?;
     assert_eq!(rt; done.status, 6);
     assert_eq!(rt;
         done.err.as_slice(),
@@ -165,7 +174,7 @@ fn refusals_have_their_status_and_line(rt: HostRuntime) -> Result<(), Fail> {
     assert!(rt; done.out.is_empty());
 
     let unknown = "slot,step,value\nDam.Inflow,1-3,100\nDam.Level,1,50\n";
-    let done = simulate(&rt, alloc, MODEL_OF_THREE, unknown, NONE_FAILS)?;
+    let done = simulate(alloc, MODEL_OF_THREE, unknown, NONE_FAILS)?;
     assert_eq!(rt; done.status, 8);
     assert_eq!(rt;
         done.err.as_slice(),
@@ -179,7 +188,7 @@ fn refusals_have_their_status_and_line(rt: HostRuntime) -> Result<(), Fail> {
 fn a_range_of_timesteps_is_given_at_once(rt: HostRuntime) -> Result<(), Fail> {
     let ranges =
         "slot,step,value\nDam.Inflow,1-3,100\nDam.Outflow,1,50\nDam.Outflow,2,150\nDam.Outflow,3,100\n";
-    let done = simulate(&rt, rt.alloc(), MODEL_OF_THREE, ranges, NONE_FAILS)?;
+    let done = simulate(rt.alloc(), MODEL_OF_THREE, ranges, NONE_FAILS)?;
     assert_eq!(rt; done.status, 0);
     assert_eq!(rt; done.out.as_slice(), TABLE_OF_THREE.as_bytes());
     Ok(())
@@ -193,7 +202,7 @@ fn each_failing_shelf_call_is_a_read_fault(rt: HostRuntime) -> Result<(), Fail> 
             shelf: call,
             ..NONE_FAILS
         };
-        let done = simulate(&rt, rt.alloc(), MODEL_OF_THREE, INPUTS_OF_THREE, failing)?;
+        let done = simulate(rt.alloc(), MODEL_OF_THREE, INPUTS_OF_THREE, failing)?;
         if call > 6 {
             assert_eq!(rt; done.status, 0);
         } else {
@@ -216,7 +225,7 @@ fn a_failing_write_leaves_a_front(rt: HostRuntime) -> Result<(), Fail> {
         out: 1,
         ..NONE_FAILS
     };
-    let done = simulate(&rt, rt.alloc(), MODEL_OF_THREE, INPUTS_OF_THREE, failing)?;
+    let done = simulate(rt.alloc(), MODEL_OF_THREE, INPUTS_OF_THREE, failing)?;
     assert_eq!(rt; done.status, 4);
     assert_eq!(rt; done.err.as_slice(), b"basin: cannot write\n".as_slice());
     assert!(rt; TABLE_OF_THREE.as_bytes().starts_with(&done.out));
@@ -230,7 +239,7 @@ fn a_failing_error_stream_changes_no_status(rt: HostRuntime) -> Result<(), Fail>
             err: call,
             ..NONE_FAILS
         };
-        let done = simulate(&rt, rt.alloc(), MODEL_OF_NONE, INPUTS_OF_THREE, failing)?;
+        let done = simulate(rt.alloc(), MODEL_OF_NONE, INPUTS_OF_THREE, failing)?;
         assert_eq!(rt; done.status, 6);
         assert!(rt; b"basin: model: build run.steps: bad parameter\n".starts_with(&done.err));
         assert!(rt; done.out.is_empty());
@@ -248,12 +257,12 @@ fn a_file_is_too_long_past_its_greatest_length(rt: HostRuntime) -> Result<(), Fa
     let alloc = rt.alloc();
     let words = owned(alloc, &SIMULATE)?;
     let given = files(alloc, &equal_signs(alloc, 16_777_216)?, b"")?;
-    let done = call(&rt, alloc, &words, given, NONE_FAILS)?;
+    let done = call(alloc, &words, given, NONE_FAILS)?;
     assert_eq!(rt; done.status, 6);
 
     let words = owned(alloc, &SIMULATE)?;
     let given = files(alloc, &equal_signs(alloc, 16_777_217)?, b"")?;
-    let done = call(&rt, alloc, &words, given, NONE_FAILS)?;
+    let done = call(alloc, &words, given, NONE_FAILS)?;
     assert_eq!(rt; done.status, 10);
     assert_eq!(rt; done.err.as_slice(), b"basin: too long m.toml\n".as_slice());
 
@@ -263,7 +272,7 @@ fn a_file_is_too_long_past_its_greatest_length(rt: HostRuntime) -> Result<(), Fa
         MODEL_OF_ONE.as_bytes(),
         &equal_signs(alloc, 16_777_217)?,
     )?;
-    let done = call(&rt, alloc, &words, given, NONE_FAILS)?;
+    let done = call(alloc, &words, given, NONE_FAILS)?;
     assert_eq!(rt; done.status, 10);
     assert_eq!(rt; done.err.as_slice(), b"basin: too long i.csv\n".as_slice());
     assert!(rt; done.out.is_empty());
