@@ -12,8 +12,6 @@ mod past;
 mod queue;
 mod seeing;
 mod solving;
-#[cfg(test)]
-mod tests;
 
 pub use dispatched::Dispatched;
 pub use dispatching::dispatch;

@@ -9,8 +9,6 @@ mod placing;
 mod running;
 mod step_end;
 mod telling;
-#[cfg(test)]
-mod tests;
 mod undoing;
 mod undone;
 

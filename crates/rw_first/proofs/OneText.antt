@@ -2,7 +2,8 @@
 use Rattle.std.proofs.Common.{◌≡◌, ℕ, ◌+◌, ◌<◌, ◌≤◌, ℤ, List, ◌++◌, refl, ap, sym, ◌∙◌, subst, arith, None, Some}
 use Rattle.std.specs.Prelude.{Option}
 use Rattle.rw_first.specs.FirstForm.{FirstModel}
-use Rattle.rw_first.specs.Reservoir.{IsRun, IsStorage, storage_at}
+use Rattle.rw_model.specs.Kind.{IsAmount}
+use Rattle.rw_first.specs.Reservoir.{IsRun, storage_at}
 use Rattle.rw_first.specs.Table.{IsRunText, heading, columns, rows}
 
 -- the steps of a run are its end at most
@@ -11,10 +12,10 @@ at_most steps i ins outs closed None h = omega (arith, h.ends)
 at_most steps i ins outs closed (Some v) h = omega (arith, h.ends.0)
 
 -- a run that has ended goes no further
-no_further : (steps : ℕ) (i : ℤ) (ins outs : List ℤ) (closed more : ℕ) (fault : Option ℤ) → IsRun steps i ins outs closed fault → more ≤ steps → ((t : ℕ) → t < more → IsStorage (storage_at i ins outs (t + 1))) → closed < more → ⊥
+no_further : (steps : ℕ) (i : ℤ) (ins outs : List ℤ) (closed more : ℕ) (fault : Option ℤ) → IsRun steps i ins outs closed fault → more ≤ steps → ((t : ℕ) → t < more → IsAmount (storage_at i ins outs (t + 1))) → closed < more → ⊥
 no_further steps i ins outs closed more None h le inside lt = omega (arith, h.ends)
 no_further steps i ins outs closed more (Some v) h le inside lt =
-    h.ends.2 (subst IsStorage (sym h.ends.1) (inside closed lt))
+    h.ends.2 (subst IsAmount (sym h.ends.1) (inside closed lt))
 
 same_closed : (steps : ℕ) (i : ℤ) (ins outs : List ℤ) (a b : ℕ) (f g : Option ℤ) → IsRun steps i ins outs a f → IsRun steps i ins outs b g → a ≡ b
 same_closed steps i ins outs a b f g h k =

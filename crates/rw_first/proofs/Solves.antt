@@ -10,6 +10,7 @@ use Rattle.rw_model.specs.declared.kind.Kind.{Kind}
 use Rattle.rw_model.specs.declared.kind.Kind.TheVariants.{Reservoir}
 use Rattle.rw_model.specs.declared.writer.Writer.TheVariants.{Object}
 use Rattle.rw_model.specs.Draft.{Bound, Draft}
+use Rattle.rw_model.specs.Kind.{IsAmount}
 use Rattle.rw_model.specs.Links.{bounds_in}
 use Rattle.rw_model.specs.Put.{end_of_put}
 use Rattle.rw_model.specs.Slot.{Bounds, from_zero, all_quantities}
@@ -24,7 +25,6 @@ use Rattle.rw_log.specs.declared.fault.RunFault.TheVariants.{ObjectOutOfRange}
 use Rattle.rw_log.specs.Log.{Asked, Cells, Dispatch, Event, solved, fault, input_content}
 use Rattle.rw_log.specs.Dispatch.{cell_at, places, bounds_in_place, past_value, looked_cells, looks_at, dispatched, answered, judged, or_fault, denied_by, is_written, dispatch_of}
 use Rattle.rw_first.specs.FirstForm.{plain_reservoir}
-use Rattle.rw_first.specs.Reservoir.{IsStorage}
 use Rattle.rw_first.proofs.Alone.{lone}
 
 abbrev plain : ℤ → Kind
@@ -44,16 +44,16 @@ facing inflow outflow past bounds = seen (Some (input_content inflow)) (Some (in
 
 -- ---- whether a storage is in range
 
-pub storage_or_not : (z : ℤ) → IsStorage z ⊎ (¬ IsStorage z)
+pub storage_or_not : (z : ℤ) → IsAmount z ⊎ (¬ IsAmount z)
 storage_or_not z = elim (below_or_not z (pos 0)) [
-  | inl low ↦ inr (λ (h : IsStorage z). let l = h.low in absurd (omega (arith, ints, low, l)))
+  | inl low ↦ inr (λ (h : IsAmount z). let l = h.low in absurd (omega (arith, ints, low, l)))
   | inr least ↦ elim (below_or_not quantity_max z) [
-    | inl high ↦ inr (λ (h : IsStorage z). let u = h.high in absurd (omega (arith, ints, high, u)))
+    | inl high ↦ inr (λ (h : IsAmount z). let u = h.high in absurd (omega (arith, ints, high, u)))
     | inr most ↦ inl (record { low = least; high = most })
   ]
 ]
 
-inside : (z : ℤ) → IsStorage z → (is_between from_zero z && is_between all_quantities z) ≡ true
+inside : (z : ℤ) → IsAmount z → (is_between from_zero z && is_between all_quantities z) ≡ true
 inside z h = let l = h.low in let u = h.high in grind (arith, ints, l, u)
 
 fails_low : (a b c : Bool) → a ≡ false → ((a && b) && c) ≡ false
@@ -64,7 +64,7 @@ fails_high : (a b c : Bool) → b ≡ false → ((a && b) && c) ≡ false
 fails_high false b c e = refl
 fails_high true b c e = ap (λ t. t && c) e
 
-outside : (z : ℤ) → ¬ IsStorage z → (is_between from_zero z && is_between all_quantities z) ≡ false
+outside : (z : ℤ) → ¬ IsAmount z → (is_between from_zero z && is_between all_quantities z) ≡ false
 outside z h = elim (below_or_not z (pos 0)) [
   | inl low ↦ fails_low _ _ _ (le_fails (pos 0) z low)
   | inr least ↦ elim (below_or_not quantity_max z) [
@@ -100,7 +100,7 @@ misfitting true z e = absurd (grind (arith, e))
 misfitting false z e = refl
 
 solves_inside : (initial inflow outflow past : ℤ) (bounds : List Bounds) → slice_index_or bounds 2 (pos 0, pos 0) ≡ from_zero
-    → IsStorage (after past inflow outflow)
+    → IsAmount (after past inflow outflow)
     → solve_of (plain initial) (facing inflow outflow past bounds) ≡ Puts (put 2 (after past inflow outflow) 0 ∷ [])
 solves_inside initial inflow outflow past bounds usual h =
     let z : ℤ = after past inflow outflow in
@@ -108,7 +108,7 @@ solves_inside initial inflow outflow past bounds usual h =
     ∙ fitting _ z (ap (λ (b : Bounds). is_between b z && is_between all_quantities z) usual ∙ inside z h)
 
 solves_outside : (initial inflow outflow past : ℤ) (bounds : List Bounds) → slice_index_or bounds 2 (pos 0, pos 0) ≡ from_zero
-    → ¬ IsStorage (after past inflow outflow)
+    → ¬ IsAmount (after past inflow outflow)
     → solve_of (plain initial) (facing inflow outflow past bounds) ≡ OutOfRange 2 (after past inflow outflow)
 solves_outside initial inflow outflow past bounds usual h =
     let z : ℤ = after past inflow outflow in
@@ -171,7 +171,7 @@ pub stores : (control : RunControl) (name : List ℕ) (initial : ℤ) (bounds : 
     → cells (cell_at 1 step) ≡ Some (input_content inflow) → cells (cell_at 2 step) ≡ Some (input_content outflow) → cells (cell_at 3 step) ≡ None
     → past_value (lone control name initial bounds) cells 1 step ≡ Some past
     → bounds_in (plain_reservoir name initial ∷ []) [] bounds 3 ≡ from_zero
-    → IsStorage (after past inflow outflow)
+    → IsAmount (after past inflow outflow)
     → dispatched (lone control name initial bounds) cells 1 step
     ≡ solved (stores_at (looks_at cells (looked_cells (lone control name initial bounds) 1 step)) step (after past inflow outflow))
 stores control name initial bounds cells step inflow outflow past is_inflow is_outflow is_unknown is_past usual h =
@@ -186,7 +186,7 @@ pub leaves_range : (control : RunControl) (name : List ℕ) (initial : ℤ) (bou
     → cells (cell_at 1 step) ≡ Some (input_content inflow) → cells (cell_at 2 step) ≡ Some (input_content outflow) → cells (cell_at 3 step) ≡ None
     → past_value (lone control name initial bounds) cells 1 step ≡ Some past
     → bounds_in (plain_reservoir name initial ∷ []) [] bounds 3 ≡ from_zero
-    → ¬ IsStorage (after past inflow outflow)
+    → ¬ IsAmount (after past inflow outflow)
     → dispatched (lone control name initial bounds) cells 1 step
     ≡ fault (ObjectOutOfRange (record { 0 = 1 }) (record { 0 = 3 }) (record { 0 = step }) (after past inflow outflow))
 leaves_range control name initial bounds cells step inflow outflow past is_inflow is_outflow is_unknown is_past usual h =

@@ -10,6 +10,7 @@ use Rattle.rw_model.specs.declared.control.AgendaOrder.TheVariants.{HighFirst, L
 use Rattle.rw_model.specs.declared.control.RunControl.{RunControl}
 use Rattle.rw_model.specs.Before.{before_of}
 use Rattle.rw_model.specs.Draft.{Bound, Draft}
+use Rattle.rw_model.specs.Kind.{IsAmount}
 use Rattle.rw_model.specs.Links.{bounds_in}
 use Rattle.rw_model.specs.Slot.{from_zero}
 use Rattle.rw_series.specs.declared.look.Look.{Look}
@@ -24,7 +25,7 @@ use Rattle.rw_log.specs.Runs.{Leads, follows, follows_in, standing, rests}
 use Rattle.rw_log.specs.RunOf.{end_of, last_closed}
 use Rattle.rw_log.proofs.Waits.{opens, solves}
 use Rattle.rw_first.specs.FirstForm.{plain_reservoir}
-use Rattle.rw_first.specs.Reservoir.{IsRun, IsStorage, storage_at}
+use Rattle.rw_first.specs.Reservoir.{IsRun, storage_at}
 use Rattle.rw_first.proofs.Alone.{lone}
 use Rattle.rw_first.proofs.Solves.{after, stores, stores_at, storing, leaves_range, storage_or_not}
 use Rattle.rw_first.proofs.Storages.{next-storage, first-storage}
@@ -70,7 +71,7 @@ pub record Stands (s : Case) (step : ℕ) (log : Log) : Type 0 where
   pub outflow : (t : ℕ) → t < count_of s → cells_of (basin_of s) log (cell_at 2 (t + 1)) ≡ Some (input_content (outflow_at s t))
   pub stored : (t : ℕ) → t < step → value_in (cells_of (basin_of s) log) (cell_at 3 (t + 1)) ≡ Some (storage_of s (t + 1))
   pub unknown : (t : ℕ) → step ≤ t → t < count_of s → cells_of (basin_of s) log (cell_at 3 (t + 1)) ≡ None
-  pub inside : (t : ℕ) → t < step → IsStorage (storage_of s (t + 1))
+  pub inside : (t : ℕ) → t < step → IsAmount (storage_of s (t + 1))
 
 -- ---- a timestep is opened
 
@@ -150,7 +151,7 @@ newest_storage : (s : Case) (looked : List Look) (step : ℕ) (z : ℤ) (log : L
 newest_storage s looked step z log =
     ap (option_map (λ (content : Content). content.value)) (storage_after s looked step step z log true (grind (arith, nat_tests)))
 
-stands_on : (s : Case) (looked : List Look) (step : ℕ) (log : Log) → Stands s step log → IsStorage (storage_of s (step + 1))
+stands_on : (s : Case) (looked : List Look) (step : ℕ) (log : Log) → Stands s step log → IsAmount (storage_of s (step + 1))
     → Stands s (step + 1) (log_after looked (step + 1) (storage_of s (step + 1)) log)
 stands_on s looked step log h fits = record {
   standing = refl;
@@ -164,7 +165,7 @@ stands_on s looked step log h fits = record {
       (λ t lt. ap (option_map (λ (content : Content). content.value)) (older_storage s looked t step (storage_of s (step + 1)) log (omega (arith, lt))) ∙ h.stored t lt)
       (newest_storage s looked step (storage_of s (step + 1)) log);
   unknown = λ t le lt. older_storage s looked t step (storage_of s (step + 1)) log (omega (arith, le)) ∙ h.unknown t (omega (arith, le)) lt;
-  inside = below_more (λ t. IsStorage (storage_of s (t + 1))) step h.inside fits;
+  inside = below_more (λ t. IsAmount (storage_of s (t + 1))) step h.inside fits;
 }
 
 -- ---- the end
@@ -198,7 +199,7 @@ settles s step log h all = record {
 }
 
 -- a storage out of range ends it
-faults : (s : Case) (step : ℕ) (log : Log) → Stands s step log → step < count_of s → ¬ IsStorage (storage_of s (step + 1))
+faults : (s : Case) (step : ℕ) (log : Log) → Stands s step log → step < count_of s → ¬ IsAmount (storage_of s (step + 1))
     → Ends s (fault (ObjectOutOfRange (record { 0 = 1 }) (record { 0 = 3 }) (record { 0 = step + 1 }) (storage_of s (step + 1))) ∷ opened (step + 1) ∷ log)
 faults s step log h more beyond = record {
   fault = Some (storage_of s (step + 1));
@@ -224,23 +225,23 @@ found s step is more =
 abbrev looked_at : Case → ℕ → Log → List Look
 looked_at s step log = looks_at (cells_of (basin_of s) log) (looked_cells (basin_of s) 1 step)
 
-stores_next : (s : Case) (step : ℕ) (log : Log) → IsCase s → Stands s step log → step < count_of s → IsStorage (storage_of s (step + 1))
+stores_next : (s : Case) (step : ℕ) (log : Log) → IsCase s → Stands s step log → step < count_of s → IsAmount (storage_of s (step + 1))
     → follows (basin_of s) no_rules (opened (step + 1) ∷ log) ≡ Some (solved (stores_at (looked_at s (step + 1) log) (step + 1) (storage_of s (step + 1))))
 stores_next s step log is h more fits =
     let same = found s step is more in
     dispatches_next s (step + 1) log is
     ∙ ap Some (stores s.control s.name s.initial s.bounds (cells_of (basin_of s) log) (step + 1) (inflow_at s step) (outflow_at s step) (storage_of s step)
-    (h.inflow step more) (h.outflow step more) (h.unknown step (omega arith) more) (past_is s step log h) is.usual (subst IsStorage same fits))
+    (h.inflow step more) (h.outflow step more) (h.unknown step (omega arith) more) (past_is s step log h) is.usual (subst IsAmount same fits))
     ∙ ap (λ z. Some (solved (stores_at (looked_at s (step + 1) log) (step + 1) z))) (sym same)
 
-faults_next : (s : Case) (step : ℕ) (log : Log) → IsCase s → Stands s step log → step < count_of s → ¬ IsStorage (storage_of s (step + 1))
+faults_next : (s : Case) (step : ℕ) (log : Log) → IsCase s → Stands s step log → step < count_of s → ¬ IsAmount (storage_of s (step + 1))
     → follows (basin_of s) no_rules (opened (step + 1) ∷ log)
     ≡ Some (fault (ObjectOutOfRange (record { 0 = 1 }) (record { 0 = 3 }) (record { 0 = step + 1 }) (storage_of s (step + 1))))
 faults_next s step log is h more beyond =
     let same = found s step is more in
     dispatches_next s (step + 1) log is
     ∙ ap Some (leaves_range s.control s.name s.initial s.bounds (cells_of (basin_of s) log) (step + 1) (inflow_at s step) (outflow_at s step) (storage_of s step)
-    (h.inflow step more) (h.outflow step more) (h.unknown step (omega arith) more) (past_is s step log h) is.usual (λ fits. beyond (subst IsStorage (sym same) fits)))
+    (h.inflow step more) (h.outflow step more) (h.unknown step (omega arith) more) (past_is s step log h) is.usual (λ fits. beyond (subst IsAmount (sym same) fits)))
     ∙ ap (λ z. Some (fault (ObjectOutOfRange (record { 0 = 1 }) (record { 0 = 3 }) (record { 0 = step + 1 }) z))) (sym same)
 
 -- the run from a log on

@@ -11,12 +11,11 @@ use Rattle.rw_model.specs.Links.{bounds_in}
 use Rattle.rw_inputs.specs.Inputs.{Inputs}
 use Rattle.rw_log.specs.declared.run.RunEnd.{RunEnd}
 use Rattle.rw_log.specs.declared.run.RunEnd.TheVariants.{Settled, Fault}
-use Rattle.rw_log.specs.Dispatch.{cell_at}
-use Rattle.rw_log.specs.Log.{Log, cells_of, value_in}
+use Rattle.rw_log.specs.Log.{Log, cells_of}
 use Rattle.rw_log.specs.Next.{Policy, no_rules}
 use Rattle.rw_log.specs.RunOf.{end_of, last_closed}
 use Rattle.rw_log.specs.Runs.{IsRun, placed}
-use Rattle.rw_report.specs.Section.{section_of}
+use Rattle.rw_report.specs.Section.{section_of, values_in}
 use Rattle.rw_first.specs.FirstForm.{FirstModel, IsFirstForm, IsFirstFlows, plain_reservoir}
 use Rattle.rw_engine.specs.Givens.{givens}
 use Rattle.rw_first.specs.Table.{IsRunText}
@@ -58,7 +57,7 @@ abbrev Tells : Draft → FirstModel → List ℤ → List ℤ → Log → Type 0
 Tells basin model inflows outflows log =
     (fault : Option ℤ)
     × IsRunText model inflows outflows fault
-    (section_of basin 0 (end_of log) (last_closed log) (λ slot step. value_in (cells_of basin log) (cell_at slot step)))
+    (section_of basin 0 (end_of log) (last_closed log) (values_in (cells_of basin log)))
     × ((fault ≡ None) ↔ (end_of log ≡ Settled))
 
 abbrev is_settled : RunEnd → Option (Unit {0})
@@ -72,7 +71,7 @@ settled_where steps (Some value) = (λ e. absurd (none-some _ (sym e)), λ e. ab
 tells : (s : Case) (log : Log) → Ends s log → Tells (basin_of s) (model_of s.control s.name s.initial) s.inflows s.outflows log
 tells s log h =
     let basin = basin_of s in
-    let values : (ℕ → ℕ → Option ℤ) = λ slot step. value_in (cells_of basin log) (cell_at slot step) in
+    let values : (ℕ → ℕ → Option ℤ) = values_in (cells_of basin log) in
     let has : HasValues (model_of s.control s.name s.initial) s.inflows s.outflows values h.closed = record { inflow = h.inflow; outflow = h.outflow; storage = h.storage } in
     let text = same-text s.control s.name s.initial s.bounds s.inflows s.outflows values h.closed h.fault has in (
       h.fault,

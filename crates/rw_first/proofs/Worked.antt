@@ -4,7 +4,8 @@ use Rattle.std.proofs.lemmas.Fmt.{decimal_digit}
 use Rattle.std.proofs.lemmas.Int.{ints}
 use Rattle.std.specs.Fmt.{decimal}
 use Rattle.std.specs.Prelude.{codes}
-use Rattle.rw_first.specs.Reservoir.{IsRun, IsStorage}
+use Rattle.rw_model.specs.Kind.{IsAmount}
+use Rattle.rw_first.specs.Reservoir.{IsRun}
 use Rattle.rw_first.specs.Table.{heading}
 
 one_written : decimal 1 ≡ 49 ∷ []
@@ -17,5 +18,5 @@ faulted = ap (λ d. codes "# batch 0 fault out of range object Dam slot Dam.Stor
 pub emptied : IsRun 1 (pos 1000) (pos 0 ∷ []) (pos 1001 ∷ []) 0 (Some (negsuc 0))
 emptied = record {
   inside = λ t lt. absurd (omega (arith, lt));
-  ends = (omega arith, refl, λ (h : IsStorage (negsuc 0)). let low = h.low in absurd (omega (arith, ints, low)));
+  ends = (omega arith, refl, λ (h : IsAmount (negsuc 0)). let low = h.low in absurd (omega (arith, ints, low)));
 }

@@ -5,12 +5,11 @@ ghost use Rattle.rw_model.specs.Basin.{IsBasin};
 ghost use Rattle.rw_model.specs.Draft.{Draft};
 ghost use Rattle.rw_inputs.specs.Inputs.{Inputs};
 ghost use Rattle.rw_log.specs.declared.run.RunEnd.TheVariants.{Settled};
-ghost use Rattle.rw_log.specs.Dispatch.{cell_at};
-ghost use Rattle.rw_log.specs.Log.{Log, cells_of, value_in};
+ghost use Rattle.rw_log.specs.Log.{Log, cells_of};
 ghost use Rattle.rw_log.specs.Next.{no_rules};
 ghost use Rattle.rw_log.specs.RunOf.{end_of, last_closed};
 ghost use Rattle.rw_log.specs.Runs.{IsRun};
-ghost use Rattle.rw_report.specs.Section.{section_of};
+ghost use Rattle.rw_report.specs.Section.{section_of, values_in};
 ghost use Rattle.rw_first.specs.FirstForm.{FirstModel, IsFirstForm, IsFirstFlows};
 ghost use Rattle.rw_engine.specs.Givens.{givens};
 ghost use Rattle.rw_first.specs.Reservoir.{IsRun as IsReservoirRun, storage_at};
@@ -33,7 +32,7 @@ pub fn first_text()
         → IsRun basin no_rules (givens basin inputs) log
         → (fault : Option ℤ)
         × IsRunText model inflows outflows fault
-        (section_of basin 0 (end_of log) (last_closed log) (λ slot step. value_in (cells_of basin log) (cell_at slot step)))
+        (section_of basin 0 (end_of log) (last_closed log) (values_in (cells_of basin log)))
         × ((fault ≡ None) ↔ (end_of log ≡ Settled)) }
 {
     one_run();

@@ -13,8 +13,6 @@ mod reading;
 mod records;
 mod row;
 mod span;
-#[cfg(test)]
-mod tests;
 mod values;
 mod wrong;
 

@@ -8,8 +8,6 @@
 mod fault;
 pub mod law;
 mod run;
-#[cfg(test)]
-mod tests;
 mod trace;
 
 pub use fault::RunFault;

@@ -19,8 +19,6 @@ mod settling;
 mod share;
 mod solved;
 mod term;
-#[cfg(test)]
-mod tests;
 mod view;
 
 pub use balanced::Balanced;

@@ -10,8 +10,6 @@ mod basin;
 mod before;
 mod bounds;
 mod builder;
-#[cfg(test)]
-mod builder_tests;
 mod content;
 mod control;
 mod data_slots;
@@ -32,8 +30,6 @@ mod put;
 mod role;
 mod slot;
 mod slots;
-#[cfg(test)]
-mod tests;
 mod writer;
 
 pub use basin::Basin;

@@ -23,8 +23,6 @@ mod run;
 mod run_control;
 mod slot_text;
 mod start_text;
-#[cfg(test)]
-mod tests;
 mod told;
 mod value;
 mod word;

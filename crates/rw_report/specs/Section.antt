@@ -1,15 +1,15 @@
 -- The text of a section: how the run of a batch ended, the names of the columns, and a line for each closed timestep.
-use Rattle.std.specs.Prelude.{ℕ, zero, suc, ℤ, nat_le, ◌&&◌, if◌then◌else◌, List, [], ◌++◌, length, Option, None, Some, option_map, codes}
+use Rattle.std.specs.Prelude.{ℕ, zero, suc, ℤ, nat_le, ◌&&◌, if◌then◌else◌, List, [], ◌++◌, length, Option, None, Some, codes}
 use Rattle.std.specs.Fmt.{decimal, signed_decimal}
 use Rattle.rw_calendar.specs.Stamps.{end_of, stamp_text}
-use Rattle.rw_model.specs.declared.content.Content.{Content}
 use Rattle.rw_model.specs.Objects.{Object, Placed, object_at, all_slots, slot_at}
 use Rattle.rw_model.specs.Draft.{Draft}
-use Rattle.rw_series.specs.Series.{Series, held}
 use Rattle.rw_log.specs.declared.fault.RunFault.{RunFault}
 use Rattle.rw_log.specs.declared.fault.RunFault.TheVariants.{Conflict, ZeroDivisor, ObjectOutOfRange, RuleOutOfRange, ObjectLimit, RuleLimit}
 use Rattle.rw_log.specs.declared.run.RunEnd.{RunEnd}
 use Rattle.rw_log.specs.declared.run.RunEnd.TheVariants.{Settled, Fault}
+use Rattle.rw_log.specs.Dispatch.{cell_at}
+use Rattle.rw_log.specs.Log.{Cells, value_in}
 
 -- ---- names
 
@@ -94,10 +94,9 @@ rows basin values closed = for_each (row basin values) closed
 
 -- ---- all of it
 
--- the values that a series holds, by slot number and timestep
-abbrev pub values_of : Series → ℕ → ℕ → Option ℤ
-values_of series slot step =
-    option_map (λ (content : Content). content.value) (held series (record { slot = record { 0 = slot }; step = record { 0 = step } }))
+-- the values of cells, by slot number and timestep
+abbrev pub values_in : Cells → ℕ → ℕ → Option ℤ
+values_in cells slot step = value_in cells (cell_at slot step)
 
 abbrev pub section_of : Draft → (batch : ℕ) → RunEnd → (closed : ℕ) → (values : ℕ → ℕ → Option ℤ) → List ℕ
 section_of basin batch end closed values = heading basin batch end ++ (columns basin ++ rows basin values closed)

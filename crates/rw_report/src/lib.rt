@@ -7,8 +7,6 @@
 mod heading;
 mod names;
 mod table;
-#[cfg(test)]
-mod tests;
 mod whole;
 
 pub use whole::section;

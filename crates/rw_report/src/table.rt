@@ -2,7 +2,8 @@ ghost use Rattle.std.specs.Prelude.{◌≡◌, ◌≤◌, ◌++◌, OnOk, string
 ghost use Rattle.std.specs.Fmt.{decimal, signed_decimal};
 ghost use Rattle.rw_calendar.specs.Stamps.{end_of, stamp_text};
 ghost use Rattle.rw_model.specs.declared.content.Content.{Content};
-ghost use Rattle.rw_report.specs.Section.{columns, for_slots, row, rows, slot_words, value_words, values_of};
+ghost use Rattle.rw_series.specs.Series.{held};
+ghost use Rattle.rw_report.specs.Section.{columns, for_slots, row, rows, slot_words, value_words, values_in};
 
 use crate::names::push_slot;
 use itoa::Buffer;
@@ -68,7 +69,7 @@ fn push_values(
     step: StepNo,
 ) -> Result<(), NoMemory>
     ensures { OnOk result (string_bytes text.new ≡ string_bytes text.old
-        ++ for_slots basin.now (λ slot. codes "," ++ value_words (values_of series.now slot step.0))) }
+        ++ for_slots basin.now (λ slot. codes "," ++ value_words (values_in (held series.now) slot step.0))) }
 {
     for before in 0..basin.slot_count() {
         let slot = SlotNo(before + 1);
@@ -99,7 +100,7 @@ fn push_row(
 ) -> Result<(), NoMemory>
     requires first { 1 ≤ step }
     requires last { step ≤ basin.now.control.stamps.count }
-    ensures { OnOk result (string_bytes text.new ≡ string_bytes text.old ++ row basin.now (values_of series.now) step) }
+    ensures { OnOk result (string_bytes text.new ≡ string_bytes text.old ++ row basin.now (values_in (held series.now)) step) }
 {
     push_stamp(alloc, text, basin, step)?;
     push_values(text, basin, series, StepNo(step))?;
@@ -116,7 +117,7 @@ pub(crate) fn push_rows(
     closed: u16,
 ) -> Result<(), NoMemory>
     requires closed { closed ≤ basin.now.control.stamps.count }
-    ensures { OnOk result (string_bytes text.new ≡ string_bytes text.old ++ rows basin.now (values_of series.now) closed) }
+    ensures { OnOk result (string_bytes text.new ≡ string_bytes text.old ++ rows basin.now (values_in (held series.now)) closed) }
 {
     for before in 0..closed {
         push_row(alloc, text, basin, series, before + 1)?;

@@ -1,5 +1,6 @@
 ghost use Rattle.std.specs.Prelude.{◌≡◌, ◌≤◌, IfOk};
-ghost use Rattle.rw_report.specs.Section.{section_of, values_of};
+ghost use Rattle.rw_series.specs.Series.{held};
+ghost use Rattle.rw_report.specs.Section.{section_of, values_in};
 
 use crate::heading::push_heading;
 use crate::table::{push_columns, push_rows};
@@ -15,7 +16,7 @@ use std::alloc::Global;
 pub fn section(alloc: Global, basin: &Basin, batch: u32, run: &Run) -> Result<Vec<u8>, NoMemory>
     requires closed { run.now.closed ≤ basin.now.control.stamps.count }
     ensures text { IfOk result (λ text. text.items
-        ≡ section_of basin.now batch run.now.end run.now.closed (values_of run.now.series)) }
+        ≡ section_of basin.now batch run.now.end run.now.closed (values_in (held run.now.series))) }
 {
     let mut text = String::new(alloc);
     push_heading(&mut text, basin, batch, &run.end)?;

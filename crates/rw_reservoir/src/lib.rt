@@ -13,9 +13,5 @@ mod level;
 mod puts;
 mod release;
 mod reservoir;
-#[cfg(test)]
-mod tests;
-#[cfg(test)]
-mod worked;
 
 pub use reservoir::ReservoirMethod;

@@ -6,8 +6,6 @@
 mod cells;
 mod look;
 mod series;
-#[cfg(test)]
-mod tests;
 
 pub use look::Look;
 pub use rw_model::{Content, PutEnd, Writer};

@@ -6,10 +6,6 @@ mod bifurcation;
 mod confluence;
 mod gage;
 mod reach;
-#[cfg(test)]
-mod tests;
-#[cfg(test)]
-mod worked;
 
 pub use bifurcation::BifurcationMethod;
 pub use confluence::ConfluenceMethod;

@@ -5,18 +5,19 @@ use Rattle.rw_base.specs.declared.number.Cell.{Cell}
 use Rattle.rw_model.specs.declared.content.Content.{Content}
 use Rattle.rw_model.specs.Draft.{Draft}
 use Rattle.rw_model.specs.Objects.{all_slots}
+use Rattle.rw_series.specs.Series.{held}
 use Rattle.rw_inputs.specs.Inputs.{Inputs, value_at}
 use Rattle.rw_log.specs.declared.run.Run.{Run}
 use Rattle.rw_log.specs.declared.run.RunEnd.{RunEnd}
-use Rattle.rw_log.specs.Log.{Log}
+use Rattle.rw_log.specs.Log.{Log, cells_of}
 use Rattle.rw_log.specs.Dispatch.{cell_at}
 use Rattle.rw_log.specs.Next.{Policy, no_rules}
 use Rattle.rw_log.specs.Runs.{IsRun}
 use Rattle.rw_log.specs.RunOf.{end_of, last_closed, IsRunOf}
-use Rattle.rw_report.specs.Section.{section_of, values_of}
+use Rattle.rw_report.specs.Section.{section_of, values_in}
 use Rattle.rw_engine.specs.Givens.{if_given, givens_of, givens_to, givens}
 use Rattle.rw_engine.specs.Passing.{ComesTo}
-use Rattle.rw_top.specs.RunText.{IsRunText, values_after, text_of}
+use Rattle.rw_top.specs.RunText.{IsRunText, text_of}
 
 module _ (inputs others : Inputs) (same : (slot step : ℕ) → value_at inputs slot step ≡ value_at others slot step) where
   same_of : (slot steps : ℕ) → givens_of inputs slot steps ≡ givens_of others slot steps
@@ -38,13 +39,13 @@ one_text one_run basin inputs others end other text more same left right =
 
 -- the section of what a run comes to
 pub text_is_run : (basin : Draft) (inputs : Inputs) (run : Run) (text : List ℕ) → ComesTo basin inputs run
-    → text ≡ section_of basin 0 run.end run.closed (values_of run.series) → IsRunText basin inputs run.end text
+    → text ≡ section_of basin 0 run.end run.closed (values_in (held run.series)) → IsRunText basin inputs run.end text
 text_is_run basin inputs run text comes is =
-    let values : values_of run.series ≡ values_after basin comes.log = λ i slot step. option_map (λ (content : Content). content.value) (comes.is.cells (cell_at slot step) i) in
+    let values : values_in (held run.series) ≡ values_in (cells_of basin comes.log) = λ i slot step. option_map (λ (content : Content). content.value) (comes.is.cells (cell_at slot step) i) in
     record {
       log = comes.log;
       run = comes.whole;
       end_is = comes.is.end;
-      text_is = is ∙ ap (λ e. section_of basin 0 e run.closed (values_of run.series)) comes.is.end
+      text_is = is ∙ ap (λ e. section_of basin 0 e run.closed (values_in (held run.series))) comes.is.end
           ∙ ap₂ (λ closed v. section_of basin 0 (end_of comes.log) closed v) comes.is.closed_steps values;
     }

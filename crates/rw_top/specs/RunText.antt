@@ -1,23 +1,18 @@
 -- The text of a run.
-use Rattle.std.specs.Prelude.{◌≡◌, ℕ, ℤ, List, Option}
+use Rattle.std.specs.Prelude.{◌≡◌, ℕ, List}
 use Rattle.rw_model.specs.Draft.{Draft}
 use Rattle.rw_inputs.specs.Inputs.{Inputs}
 use Rattle.rw_log.specs.declared.run.RunEnd.{RunEnd}
-use Rattle.rw_log.specs.Log.{Log, cells_of, value_in}
-use Rattle.rw_log.specs.Dispatch.{cell_at}
+use Rattle.rw_log.specs.Log.{Log, cells_of}
 use Rattle.rw_log.specs.Next.{no_rules}
 use Rattle.rw_log.specs.Runs.{IsRun}
 use Rattle.rw_log.specs.RunOf.{end_of, last_closed}
-use Rattle.rw_report.specs.Section.{section_of}
+use Rattle.rw_report.specs.Section.{section_of, values_in}
 use Rattle.rw_engine.specs.Givens.{givens}
-
--- the values that slots have at timesteps after a log
-abbrev pub values_after : Draft → Log → ℕ → ℕ → Option ℤ
-values_after basin log slot step = value_in (cells_of basin log) (cell_at slot step)
 
 -- the section of a log, before any batch of edits
 abbrev pub text_of : Draft → Log → List ℕ
-text_of basin log = section_of basin 0 (end_of log) (last_closed log) (values_after basin log)
+text_of basin log = section_of basin 0 (end_of log) (last_closed log) (values_in (cells_of basin log))
 
 -- the text of the run of a basin from its inputs, without rules, and how the run ends
 pub record IsRunText (basin : Draft) (inputs : Inputs) (end : RunEnd) (text : List ℕ) : Type 0 where

@@ -3,11 +3,7 @@
 #![tactic(auto)]
 
 mod canal;
-#[cfg(test)]
-mod tests;
 mod water_user;
-#[cfg(test)]
-mod worked;
 
 pub use canal::CanalMethod;
 pub use water_user::WaterUserMethod;

@@ -1,0 +1,12 @@
+//! Worked values of dispatches, runs, traces and sections, by calls below the top one. There is nothing here but tests: what
+//! they compare with was worked out by hand.
+#![tactic(auto)]
+
+#[cfg(test)]
+mod dispatch;
+#[cfg(test)]
+mod runs;
+#[cfg(test)]
+mod sections;
+#[cfg(test)]
+mod traces;
