@@ -9,7 +9,7 @@ use rw_base::{ObjectNo, SlotNo};
 use rw_model::Basin;
 
 /// Whether an object only keeps data.
-pub fn is_data(basin: &Basin, object: ObjectNo) -> bool
+pub(crate) fn is_data(basin: &Basin, object: ObjectNo) -> bool
     requires { IsObject basin.now.objects object.0 }
     ensures { result ≡ is_data basin.now object.0 }
 {
@@ -67,7 +67,7 @@ fn nearest(basin: &Basin, slots: &[SlotNo], after: u16) -> Option<u16>
 }
 
 /// The first object after this one that owns a slot which carries one value with one of these.
-pub fn next_owner(basin: &Basin, slots: &[SlotNo], after: u16) -> Option<u16>
+pub(crate) fn next_owner(basin: &Basin, slots: &[SlotNo], after: u16) -> Option<u16>
     requires { All (λ (slot : SlotNo). IsSlot basin.now.objects slot.0) slots.now }
     ensures none { result ≡ None → (object : ℕ) → after < object → is_owner basin.now (numbers_of slots.now) object ≡ false }
     ensures some { IfSome result (λ owner. (after < owner) × (is_owner basin.now (numbers_of slots.now) owner ≡ true)) }

@@ -10,7 +10,7 @@ use rw_model::{Basin, Content};
 use rw_series::Series;
 
 /// The cell of the object's slot in a place, if it has one there.
-pub fn cell_in(basin: &Basin, o: ObjectNo, t: StepNo, place: u8) -> Option<Cell>
+pub(crate) fn cell_in(basin: &Basin, o: ObjectNo, t: StepNo, place: u8) -> Option<Cell>
     requires object { IsObject basin.now.objects o.0 }
     requires first { 1 ≤ t.0 }
     requires last { t.0 ≤ basin.now.control.stamps.count }
@@ -74,7 +74,7 @@ fn all_bounds(basin: &Basin, o: ObjectNo) -> [(i64, i64); 12]
 }
 
 /// What an object sees in a dispatch.
-pub fn view_of(basin: &Basin, series: &Series, o: ObjectNo, t: StepNo) -> View
+pub(crate) fn view_of(basin: &Basin, series: &Series, o: ObjectNo, t: StepNo) -> View
     requires object { IsObject basin.now.objects o.0 }
     requires first { 1 ≤ t.0 }
     requires last { t.0 ≤ basin.now.control.stamps.count }
