@@ -1,6 +1,7 @@
 -- What an object puts, it can put.
-use Rattle.std.proofs.Common.{◌≡◌, ◌<◌, ◌&&◌, ℕ, Bool, true, false, List, Option, Some, None, refl, sym, ap, ◌∙◌, arith}
+use Rattle.std.proofs.Common.{◌≡◌, ◌<◌, ◌&&◌, ℕ, true, List, Option, Some, None, refl, sym, ap, ◌∙◌, arith}
 use Rattle.std.specs.Prelude.{ℤ, int_le, All, IsSome, option_map, unwrap_or, slice_index_or}
+use Rattle.std.proofs.lemmas.Bool.{and_parts}
 use Rattle.std.proofs.lemmas.Int.{ints}
 use Rattle.rw_model.specs.declared.kind.Kind.{Kind}
 use Rattle.rw_model.specs.Kind.{IsKind}
@@ -39,14 +40,9 @@ there (Some x) some = (x, refl)
 some_slot : (found : Option ℕ) (number : ℕ) → found ≡ Some number → IsSome found
 some_slot found number is = rw is refl
 
-both : (a b : Bool) → (a && b) ≡ true → (a ≡ true) × (b ≡ true)
-both true true is = (refl, refl)
-both true false is = absurd (cc)
-both false b is = absurd (cc)
-
 between : (seen bounds : Bounds) (value : ℤ) → seen ≡ bounds → (is_between seen value && is_between all_quantities value) ≡ true → IsBetween bounds value
 between seen bounds value same inside =
-    let parts = both (int_le seen.0 value) (int_le value seen.1) (both (is_between seen value) (is_between all_quantities value) inside).0 in
+    let parts = and_parts (int_le seen.0 value) (int_le value seen.1) (and_parts (is_between seen value) (is_between all_quantities value) inside).0 in
     let low : int_le bounds.0 value ≡ true = ap (λ (b : Bounds). int_le b.0 value) (sym same) ∙ parts.0 in
     let high : int_le value bounds.1 ≡ true = ap (λ (b : Bounds). int_le value b.1) (sym same) ∙ parts.1 in
     record { low = omega (arith, ints); high = omega (arith, ints) }

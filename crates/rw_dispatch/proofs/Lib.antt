@@ -3,6 +3,5 @@ pub mod Filling
 pub mod Viewed
 pub mod Judgement
 pub mod CanPuts
-pub mod Together
 pub mod Makes
 pub mod Owning

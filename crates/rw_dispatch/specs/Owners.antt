@@ -1,23 +1,13 @@
--- The owners of the slots that puts reach.
-use Rattle.std.specs.Prelude.{ℕ, nat_le, ◌||◌, List, [], ◌∷◌, map, Option, Some, None, if◌then◌else◌}
-use Rattle.rw_model.specs.Draft.{Draft}
-use Rattle.rw_model.specs.Links.{group_of, owner_of}
+-- The least of the numbers that pass a test.
+use Rattle.std.specs.Prelude.{◌≡◌, ◌<◌, ℕ, Bool, true, false, Option, Some, None}
 
--- the lesser of the best number and another, which counts only above a number
-abbrev pub nearer : ℕ → Option ℕ → ℕ → Option ℕ
-nearer after None number = if nat_le number after then None else Some number
-nearer after (Some best) number = if nat_le number after || nat_le best number then Some best else Some number
+-- this is the least of the numbers that are above another one and pass a test
+pub record IsLeast (after : ℕ) (test : ℕ → Bool) (least : ℕ) : Type 0 where
+  pub above : after < least
+  pub passes : test least ≡ true
+  pub first : (number : ℕ) → after < number → number < least → test number ≡ false
 
--- the least of the best and those of the numbers that are above a number
-abbrev pub nearest : ℕ → Option ℕ → List ℕ → Option ℕ
-nearest after best [] = best
-nearest after best (number ∷ numbers) = nearest after (nearer after best number) numbers
-
--- the objects that own a slot which carries one value with this one
-abbrev pub owners_at : Draft → ℕ → List ℕ
-owners_at basin slot = map (owner_of basin.objects) (group_of basin.objects basin.links slot)
-
--- the least of the best and those that own a slot which carries one value with one of these, above a number
-abbrev pub nearest_owner : Draft → ℕ → Option ℕ → List ℕ → Option ℕ
-nearest_owner basin after best [] = best
-nearest_owner basin after best (slot ∷ slots) = nearest_owner basin after (nearest after best (owners_at basin slot)) slots
+-- the least of the numbers that are above another one and pass a test, and none exactly where there is no such number
+abbrev pub IsLeastAbove : ℕ → (ℕ → Bool) → Option ℕ → Type 0
+IsLeastAbove after test None = (number : ℕ) → after < number → test number ≡ false
+IsLeastAbove after test (Some least) = IsLeast after test least

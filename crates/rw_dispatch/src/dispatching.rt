@@ -8,7 +8,7 @@ ghost use Rattle.rw_series.specs.declared.look.Look.{Look};
 ghost use Rattle.rw_series.specs.Series.{held, IsSeriesOf};
 ghost use Rattle.rw_log.specs.Log.{held_after};
 ghost use Rattle.rw_log.specs.Waiting.{is_data, queued_after};
-ghost use Rattle.rw_log.specs.Dispatch.{asked_by, slot_or_none, judged, dispatch_of, answered, dispatched};
+ghost use Rattle.rw_log.specs.Dispatch.{asked_by, judged, dispatch_of, answered, dispatched};
 ghost use Rattle.rw_dispatch.specs.Answer.{AreBounded, IsAnswer};
 ghost use Rattle.rw_dispatch.specs.Putting.{CanPut};
 ghost use Rattle.rw_dispatch.specs.Queue.{IsQueueOf};
@@ -17,22 +17,12 @@ use crate::dispatched::Dispatched;
 use crate::judging::judge;
 use crate::making::{make, wake};
 use crate::queue::Queue;
+use crate::seeing::slot_or_none;
 use crate::solving::solve;
-use rw_base::{ObjectNo, SlotNo, StepNo};
+use rw_base::{ObjectNo, StepNo};
 use rw_method::{Catalogue, PutList, Solved};
 use rw_model::Basin;
 use rw_series::Series;
-
-// The slot in a place, and number 0 where the object has none there.
-fn slot_of(basin: &Basin, o: ObjectNo, place: u8) -> SlotNo
-    requires { IsObject basin.now.objects o.0 }
-    ensures { result.0 ≡ slot_or_none basin.now o.0 place }
-{
-    match basin.slot_at(o, place) {
-        Some(slot) => slot,
-        None => SlotNo(0),
-    }
-}
 
 // Makes the puts that an object asks for, unless one is denied, and wakes those that they reach.
 fn put_all(
@@ -111,12 +101,12 @@ fn answer(
             held,
             solved,
         } => Dispatched::Conflict {
-            slot: slot_of(basin, o, place),
+            slot: slot_or_none(basin, o, place),
             held,
             solved,
         },
         Solved::OutOfRange { place, value } => Dispatched::OutOfRange {
-            slot: slot_of(basin, o, place),
+            slot: slot_or_none(basin, o, place),
             value,
         },
     }

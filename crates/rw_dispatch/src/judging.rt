@@ -14,17 +14,17 @@ use rw_series::Series;
 
 /// A put that is denied.
 #[derive(Drop)]
-pub struct Clash {
+pub(crate) struct Clash {
     /// The slot.
-    pub slot: SlotNo,
+    pub(crate) slot: SlotNo,
     /// The value that is there.
-    pub held: i128,
+    pub(crate) held: i128,
     /// The value that the object solved.
-    pub solved: i128,
+    pub(crate) solved: i128,
 }
 
 /// The cell that a put is to.
-pub fn cell_of(basin: &Basin, o: ObjectNo, t: StepNo, put: &Put) -> Cell
+pub(crate) fn cell_of(basin: &Basin, o: ObjectNo, t: StepNo, put: &Put) -> Cell
     requires object { IsObject basin.now.objects o.0 }
     requires first { 1 ≤ t.0 }
     requires last { t.0 ≤ basin.now.control.stamps.count }
@@ -39,7 +39,7 @@ pub fn cell_of(basin: &Basin, o: ObjectNo, t: StepNo, put: &Put) -> Cell
 }
 
 /// The content that a put asks for.
-pub fn content_of(o: ObjectNo, put: &Put) -> Content
+pub(crate) fn content_of(o: ObjectNo, put: &Put) -> Content
     ensures { (basin : Draft) (step : ℕ) → result ≡ (asked_by basin o.0 step put.now).content }
 {
     Content {
@@ -100,7 +100,7 @@ fn judge_one(
 }
 
 /// Which of the puts are written, by what the cells hold before the first of them. The first that is denied is the answer.
-pub fn judge(
+pub(crate) fn judge(
     basin: &Basin,
     series: &Series,
     o: ObjectNo,

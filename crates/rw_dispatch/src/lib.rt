@@ -17,3 +17,4 @@ pub use dispatched::Dispatched;
 pub use dispatching::dispatch;
 pub use past::past_cell;
 pub use queue::Queue;
+pub use seeing::slot_or_none;

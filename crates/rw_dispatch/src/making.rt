@@ -36,7 +36,7 @@ fn make_one(basin: &Basin, series: &mut Series, o: ObjectNo, t: StepNo, put: &Pu
 }
 
 /// Makes the puts, one after another.
-pub fn make(basin: &Basin, series: &mut Series, o: ObjectNo, t: StepNo, puts: &PutList)
+pub(crate) fn make(basin: &Basin, series: &mut Series, o: ObjectNo, t: StepNo, puts: &PutList)
     requires object { IsObject basin.now.objects o.0 }
     requires first { 1 ≤ t.0 }
     requires last { t.0 ≤ basin.now.control.stamps.count }
@@ -78,7 +78,7 @@ fn first(slots: &[SlotNo], count: usize) -> &[SlotNo]
 }
 
 /// Wakes those that the puts of an object reach, but itself.
-pub fn wake(basin: &Basin, queue: &mut Queue, o: ObjectNo, t: StepNo, puts: &PutList)
+pub(crate) fn wake(basin: &Basin, queue: &mut Queue, o: ObjectNo, t: StepNo, puts: &PutList)
     requires object { IsObject basin.now.objects o.0 }
     requires first { 1 ≤ t.0 }
     requires last { t.0 ≤ basin.now.control.stamps.count }

@@ -1,15 +1,15 @@
-ghost use Rattle.std.specs.Prelude.{◌≡◌, ◌≤◌, ◌<◌, ℕ, All, None, IfSome, true, false, length};
+ghost use Rattle.std.specs.Prelude.{◌≡◌, ◌≤◌, ◌<◌, ◌==◌, ◌||◌, ℕ, Bool, All, None, IfSome, true, false, length};
 ghost use Rattle.rw_model.specs.Draft.{IsObject, IsSlot};
 ghost use Rattle.rw_model.specs.Links.{owner_of};
 ghost use Rattle.rw_model.specs.Kept.{numbers_of};
-ghost use Rattle.rw_log.specs.Waiting.{is_data, is_owner};
-ghost use Rattle.rw_dispatch.specs.Owners.{nearer, nearest, owners_at, nearest_owner};
+ghost use Rattle.rw_log.specs.Waiting.{is_data, is_at, is_owner};
+ghost use Rattle.rw_dispatch.specs.Owners.{IsLeastAbove};
 
 use rw_base::{ObjectNo, SlotNo};
 use rw_model::Basin;
 
 /// Whether an object only keeps data.
-pub fn is_data(basin: &Basin, object: ObjectNo) -> bool
+pub(crate) fn is_data(basin: &Basin, object: ObjectNo) -> bool
     requires { IsObject basin.now.objects object.0 }
     ensures { result ≡ is_data basin.now object.0 }
 {
@@ -27,7 +27,7 @@ fn owner_of(basin: &Basin, slot: SlotNo) -> u16
 
 // The lesser of the best number and an owner's, which counts only above a number.
 fn nearer(after: u16, best: Option<u16>, owner: u16) -> Option<u16>
-    ensures { result ≡ nearer after best owner }
+    ensures { (seen : ℕ → Bool) → IsLeastAbove after seen best → IsLeastAbove after (λ object. owner == object || seen object) result }
 {
     match best {
         None => { if owner <= after { None } else { Some(owner) } }
@@ -44,7 +44,7 @@ fn nearer(after: u16, best: Option<u16>, owner: u16) -> Option<u16>
 // The least of the best number and those owners of slots in a slot's group that are above a number.
 fn nearest_at(basin: &Basin, slot: SlotNo, after: u16, best: Option<u16>) -> Option<u16>
     requires { IsSlot basin.now.objects slot.0 }
-    ensures { result ≡ nearest after best (owners_at basin.now slot.0) }
+    ensures { (seen : ℕ → Bool) → IsLeastAbove after seen best → IsLeastAbove after (λ object. is_at basin.now object slot.0 || seen object) result }
 {
     let mut best = best;
     let group = basin.group(slot);
@@ -57,7 +57,7 @@ fn nearest_at(basin: &Basin, slot: SlotNo, after: u16, best: Option<u16>) -> Opt
 // The least owner above a number.
 fn nearest(basin: &Basin, slots: &[SlotNo], after: u16) -> Option<u16>
     requires { All (λ (slot : SlotNo). IsSlot basin.now.objects slot.0) slots.now }
-    ensures { result ≡ nearest_owner basin.now after None (numbers_of slots.now) }
+    ensures { IsLeastAbove after (is_owner basin.now (numbers_of slots.now)) result }
 {
     let mut best = None;
     for slot in slots {
@@ -67,7 +67,7 @@ fn nearest(basin: &Basin, slots: &[SlotNo], after: u16) -> Option<u16>
 }
 
 /// The first object after this one that owns a slot which carries one value with one of these.
-pub fn next_owner(basin: &Basin, slots: &[SlotNo], after: u16) -> Option<u16>
+pub(crate) fn next_owner(basin: &Basin, slots: &[SlotNo], after: u16) -> Option<u16>
     requires { All (λ (slot : SlotNo). IsSlot basin.now.objects slot.0) slots.now }
     ensures none { result ≡ None → (object : ℕ) → after < object → is_owner basin.now (numbers_of slots.now) object ≡ false }
     ensures some { IfSome result (λ owner. (after < owner) × (is_owner basin.now (numbers_of slots.now) owner ≡ true)) }

@@ -94,7 +94,7 @@ fn value_of_past(basin: &Basin, series: &Series, t: StepNo, slot: SlotNo, ago: u
 }
 
 /// The earlier value at which a dispatch of an object looks. `None` where it looks at none, or where it is unknown.
-pub fn past_value(basin: &Basin, series: &Series, o: ObjectNo, t: StepNo) -> Option<Qty>
+pub(crate) fn past_value(basin: &Basin, series: &Series, o: ObjectNo, t: StepNo) -> Option<Qty>
     requires { IsObject basin.now.objects o.0 }
     ensures { result ≡ past_value basin.now (held series.now) o.0 t.0 }
 {

@@ -1,16 +1,27 @@
 ghost use Rattle.std.specs.Prelude.{◌≡◌, ◌≤◌, IfSome, map};
 ghost use Rattle.rw_model.specs.Draft.{IsObject};
 ghost use Rattle.rw_series.specs.Series.{held, IsCell};
-ghost use Rattle.rw_log.specs.Dispatch.{cell_in, content_in, bounds_in_place, view_of, places};
+ghost use Rattle.rw_log.specs.Dispatch.{slot_or_none, cell_in, content_in, bounds_in_place, view_of, places};
 
 use crate::past::past_value;
-use rw_base::{Cell, ObjectNo, StepNo};
+use rw_base::{Cell, ObjectNo, SlotNo, StepNo};
 use rw_method::View;
 use rw_model::{Basin, Content};
 use rw_series::Series;
 
+/// The slot that an object has in a place, and number 0 where it has none there.
+pub fn slot_or_none(basin: &Basin, o: ObjectNo, place: u8) -> SlotNo
+    requires { IsObject basin.now.objects o.0 }
+    ensures { result.0 ≡ slot_or_none basin.now o.0 place }
+{
+    match basin.slot_at(o, place) {
+        Some(slot) => slot,
+        None => SlotNo(0),
+    }
+}
+
 /// The cell of the object's slot in a place, if it has one there.
-pub fn cell_in(basin: &Basin, o: ObjectNo, t: StepNo, place: u8) -> Option<Cell>
+pub(crate) fn cell_in(basin: &Basin, o: ObjectNo, t: StepNo, place: u8) -> Option<Cell>
     requires object { IsObject basin.now.objects o.0 }
     requires first { 1 ≤ t.0 }
     requires last { t.0 ≤ basin.now.control.stamps.count }
@@ -74,7 +85,7 @@ fn all_bounds(basin: &Basin, o: ObjectNo) -> [(i64, i64); 12]
 }
 
 /// What an object sees in a dispatch.
-pub fn view_of(basin: &Basin, series: &Series, o: ObjectNo, t: StepNo) -> View
+pub(crate) fn view_of(basin: &Basin, series: &Series, o: ObjectNo, t: StepNo) -> View
     requires object { IsObject basin.now.objects o.0 }
     requires first { 1 ≤ t.0 }
     requires last { t.0 ≤ basin.now.control.stamps.count }

@@ -16,7 +16,13 @@ use rw_model::Basin;
 use rw_series::Series;
 
 /// What the method of an object answers.
-pub fn solve(basin: &Basin, methods: &Catalogue, series: &Series, o: ObjectNo, t: StepNo) -> Solved
+pub(crate) fn solve(
+    basin: &Basin,
+    methods: &Catalogue,
+    series: &Series,
+    o: ObjectNo,
+    t: StepNo,
+) -> Solved
     requires order { AreInOrder (map (λ b. code (b.vtable, b.value)) methods.now.methods.items) }
     requires object { IsObject basin.now.objects o.0 }
     requires balance { is_data basin.now o.0 ≡ false }

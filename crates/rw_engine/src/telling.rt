@@ -2,25 +2,13 @@
 ghost use Rattle.std.specs.Prelude.{◌≡◌, [], ◌∷◌, ◌++◌, ℕ, List, map, IfOk};
 ghost use Rattle.rw_model.specs.Draft.{IsObject};
 ghost use Rattle.rw_log.specs.declared.trace.TraceEvent.TheVariants as Line;
-ghost use Rattle.rw_log.specs.Dispatch.{slot_or_none};
 ghost use Rattle.rw_engine.specs.Telling.{line_by, lines_by, fault_by, Grows};
 
-use rw_base::{NoMemory, ObjectNo, SlotNo, StepNo};
-use rw_dispatch::Dispatched;
+use rw_base::{NoMemory, ObjectNo, StepNo};
+use rw_dispatch::{Dispatched, slot_or_none};
 use rw_log::{RunFault, Trace, TraceEvent};
 use rw_method::Put;
 use rw_model::{Basin, Content, Writer};
-
-// The object's slot in a place, 0 where it has none there.
-fn slot_or_none(basin: &Basin, object: ObjectNo, place: u8) -> SlotNo
-    requires { IsObject basin.now.objects object.0 }
-    ensures { result.0 ≡ slot_or_none basin.now object.0 place }
-{
-    match basin.slot_at(object, place) {
-        Some(slot) => slot,
-        None => SlotNo(0),
-    }
-}
 
 // The line of a written put.
 fn line_by(basin: &Basin, object: ObjectNo, step: StepNo, put: &Put) -> TraceEvent

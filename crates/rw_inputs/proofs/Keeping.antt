@@ -4,11 +4,12 @@ use Rattle.std.specs.Prelude.{ℤ, max, min, ◌||◌}
 use Rattle.std.specs.List.{list_any}
 use Rattle.std.proofs.lemmas.Bool.Decides.{nat_tests}
 use Rattle.rw_model.specs.Draft.{Draft}
+use Rattle.rw_series.proofs.Bounds.{bounds-alike}
 use Rattle.rw_inputs.specs.declared.given.Given.{Given}
 use Rattle.rw_inputs.specs.Inputs.{Inputs, value_at, kept_slot, gives, given_at, IsWithin, IsKeptValue, IsInputsOf, Keeps}
 use Rattle.rw_inputs.specs.Reading.{shares_cell}
 use Rattle.rw_inputs.specs.Sound.{IsGiven, IsFree, IsTaken}
-use Rattle.rw_inputs.proofs.Groups.{kept_slot-together, kept_slot-again, bounds-alike}
+use Rattle.rw_inputs.proofs.Groups.{kept_slot-together, kept_slot-again}
 
 -- ---- what rows give
 

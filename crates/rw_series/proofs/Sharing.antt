@@ -1,5 +1,6 @@
 -- Cells that share their value.
 use Rattle.std.proofs.Common.{◌≡◌, ℕ, ◌+◌, ◌-◌, ◌<◌, ◌==◌, ◌&&◌, Bool, true, false, if◌then◌else◌, List, length, Option, Some, None, refl, sym, ap, ap₂, ◌∙◌, arith}
+use Rattle.std.proofs.lemmas.Bool.{and_parts}
 use Rattle.std.proofs.lemmas.Cmp.{nat_eq_equiv}
 use Rattle.std.proofs.lemmas.Bool.Decides.{nat_tests}
 use Rattle.std.proofs.lemmas.Map.Views.{any-filter_same}
@@ -10,11 +11,6 @@ use Rattle.rw_model.specs.Draft.{Draft, IsSlot}
 use Rattle.rw_model.specs.Links.{link_of, is_same_link, is_together, is_among, slot_numbers, group_of}
 use Rattle.rw_model.proofs.Bounding.{some_crossed}
 use Rattle.rw_series.specs.Series.{Series, IsCell, is_shared, IsSeriesOf, Sets}
-
-both : (a b : Bool) → (a && b) ≡ true → (a ≡ true) × (b ≡ true)
-both true true p = (refl, refl)
-both true false p = absurd (cc)
-both false b p = absurd (cc)
 
 -- ---- a slot in a group
 
@@ -55,17 +51,27 @@ together_alike links slot one other false apart together =
 
 -- ---- cells
 
+-- the cells share their value
+pub record Shared (basin : Draft) (cell other : Cell) : Type 0 where
+  pub together : is_together basin.links cell.slot.0 other.slot.0 ≡ true
+  pub known : is_among other.slot.0 (slot_numbers basin.objects) ≡ true
+  pub step : other.step.0 ≡ cell.step.0
+
+pub Shared-of : (basin : Draft) (cell other : Cell) → is_shared basin cell other ≡ true → Shared basin cell other
+Shared-of basin cell other shared =
+    let parts = and_parts _ _ shared in
+    let in_group = and_parts _ _ (sym (among_group basin.objects basin.links cell.slot.0 other.slot.0) ∙ parts.0) in
+    record { together = in_group.0; known = in_group.1; step = grind (arith, nat_tests, parts.1) }
+
 shared_alike : (basin : Draft) (cell one other : Cell) → IsCell basin one → is_shared basin one other ≡ true → is_shared basin cell one ≡ is_shared basin cell other
 shared_alike basin cell one other known shared =
-    let parts = both _ _ shared in
-    let in_group = both _ _ (sym (among_group basin.objects basin.links one.slot.0 other.slot.0) ∙ parts.0) in
-    let step : other.step.0 ≡ one.step.0 = grind (arith, nat_tests, parts.1) in
+    let is = Shared-of basin one other shared in
     ap₂ (λ a b. a && b)
     (among_group basin.objects basin.links cell.slot.0 one.slot.0
-    ∙ ap₂ (λ a b. a && b) (together_alike basin.links cell.slot.0 one.slot.0 other.slot.0 (one.slot.0 == other.slot.0) refl in_group.0)
-    (known_number basin.objects one.slot.0 known.slot ∙ sym in_group.1)
+    ∙ ap₂ (λ a b. a && b) (together_alike basin.links cell.slot.0 one.slot.0 other.slot.0 (one.slot.0 == other.slot.0) refl is.together)
+    (known_number basin.objects one.slot.0 known.slot ∙ sym is.known)
     ∙ sym (among_group basin.objects basin.links cell.slot.0 other.slot.0))
-    (ap (λ step. step == cell.step.0) (sym step))
+    (ap (λ step. step == cell.step.0) (sym is.step))
 
 pub Sets-made : (basin : Draft) (cell : Cell) (content : Option Content) (old new : Series) → IsSeriesOf basin old → Sets basin cell content old new
     → new.slots ≡ old.slots → new.steps ≡ old.steps → IsSeriesOf basin new

@@ -1,8 +1,10 @@
-use Rattle.std.proofs.Common.{◌≡◌, map, drop}
+use Rattle.std.proofs.Common.{ℕ, Bool, ◌==◌, ◌||◌, take}
+use Rattle.std.specs.List.{list_any}
 use Rattle.rw_model.specs.Links.{owner_of}
 use Rattle.rw_model.specs.Kept.{numbers_of}
-use Rattle.rw_dispatch.specs.Owners.{nearest, owners_at}
+use Rattle.rw_dispatch.specs.Owners.{IsLeastAbove}
 use Rattle.rw_dispatch.proofs.owners.nearest_at.Given as goal
 
 abbrev pub invariant-loop-other : goal.invariant-loop-other
-invariant-loop-other l = nearest l.after l.best (map (owner_of l.basin.objects) (numbers_of (drop l.other-index l.group))) ≡ nearest l.after l.fn.best (owners_at l.basin l.fn.slot.0)
+invariant-loop-other l = (seen : ℕ → Bool) → IsLeastAbove l.after seen l.fn.best
+    → IsLeastAbove l.after (λ object. list_any (λ other. owner_of l.basin.objects other == object) (numbers_of (take l.other-index l.group)) || seen object) l.best

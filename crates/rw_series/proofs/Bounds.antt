@@ -1,19 +1,18 @@
--- Cells that share their value have the same bounds.
-use Rattle.std.proofs.Common.{◌≡◌, ℕ, suc, ◌+◌, ◌==◌, ◌&&◌, ◌||◌, Bool, true, false, if◌then◌else◌, List, [], ◌∷◌, Some, refl, sym, ap, ap₂, subst, ◌∙◌, arith}
+-- Slots that carry one value have the same bounds.
+use Rattle.std.proofs.Common.{◌≡◌, ℕ, suc, ◌+◌, ◌==◌, ◌||◌, Bool, true, false, if◌then◌else◌, List, [], ◌∷◌, Some, refl, sym, ap, ap₂, subst, ◌∙◌, arith}
 use Rattle.std.specs.Prelude.{ℤ, slice_get, unwrap_or, option_and_then}
 use Rattle.std.specs.Int.{int_max, int_min}
 use Rattle.std.proofs.lemmas.Int.{ints, int_max_is, int_min_is}
 use Rattle.std.proofs.lemmas.Bool.Decides.{nat_tests}
-use Rattle.std.proofs.lemmas.Map.Views.{any-filter_same}
 use Rattle.rw_base.specs.declared.number.Cell.{Cell}
 use Rattle.rw_model.specs.Slot.{Bounds}
 use Rattle.rw_model.specs.Objects.{Object}
 use Rattle.rw_model.specs.Draft.{Draft, Bound}
-use Rattle.rw_model.specs.Links.{is_among, link_from, link_of, is_together, slot_numbers, group_of, own_bounds, meet, meet_all, bounds_in}
+use Rattle.rw_model.specs.Links.{is_among, link_from, link_of, is_together, own_bounds, meet, meet_all, bounds_in}
 use Rattle.rw_series.specs.Series.{is_shared}
-use Rattle.rw_series.proofs.Sharing.{linked_alike}
+use Rattle.rw_series.proofs.Sharing.{linked_alike, Shared-of}
 
--- ---- bounds
+-- ---- what is between bounds
 
 max_swap : (a b c : ℤ) → int_max (int_max a b) c ≡ int_max (int_max a c) b
 max_swap a b c = omega (arith, ints, int_max_is)
@@ -65,6 +64,8 @@ module _ (objects : List Object) (given : List Bound) (slot : ℕ) where
   absorbed (first ∷ slots) b among =
       absorbed_at first slots b (absorbed slots (meet b (own_bounds objects given first))) (slot == first) refl among
 
+-- ---- slots of one link
+
 -- a link has its slots
 found_link : (place p slot : ℕ) (link : List ℕ) (links : List (List ℕ))
     → (link_from (place + 1) links slot ≡ Some p → (j : ℕ) × (p ≡ (place + 1) + j) × (is_among slot (unwrap_or (slice_get links j) []) ≡ true))
@@ -98,6 +99,8 @@ bounds_linked basin one other p first second =
     ∙ absorbed basin.objects basin.bounds one slots (own other) (linked_among basin.links one p first)
     ∙ ap (λ link. met (own other) (unwrap_or (option_and_then (λ place. slice_get basin.links place) link) [])) (sym second)
 
+-- ---- slots that carry one value, and cells that share theirs
+
 bounds_at : (basin : Draft) (one other : ℕ) → (same : Bool) → (one == other) ≡ same → is_together basin.links one other ≡ true
     → bounds_in basin.objects basin.links basin.bounds one ≡ bounds_in basin.objects basin.links basin.bounds other
 bounds_at basin one other true same together = let at : one ≡ other = grind (arith, nat_tests) in ap (bounds_in basin.objects basin.links basin.bounds) at
@@ -109,23 +112,6 @@ pub bounds-alike : (basin : Draft) (one other : ℕ) → is_together basin.links
     → bounds_in basin.objects basin.links basin.bounds one ≡ bounds_in basin.objects basin.links basin.bounds other
 bounds-alike basin one other together = bounds_at basin one other (one == other) refl together
 
--- ---- cells
-
-both : (a b : Bool) → (a && b) ≡ true → (a ≡ true) × (b ≡ true)
-both true true is = (refl, refl)
-both true false is = absurd (cc)
-both false b is = absurd (cc)
-
-among_group : (objects : List Object) (links : List (List ℕ)) (slot other : ℕ)
-    → is_among other (group_of objects links slot) ≡ (is_together links slot other && is_among other (slot_numbers objects))
-among_group objects links slot other =
-    any-filter_same (λ k. other == k) (is_together links slot) (is_together links slot other)
-    (λ k same. ap (is_together links slot) (let at : k ≡ other = grind (arith, nat_tests, same) in at)) (slot_numbers objects)
-
 pub bounds-shared : (basin : Draft) (cell other : Cell) → is_shared basin cell other ≡ true
     → bounds_in basin.objects basin.links basin.bounds cell.slot.0 ≡ bounds_in basin.objects basin.links basin.bounds other.slot.0
-bounds-shared basin cell other shared =
-    let among = (both (is_among other.slot.0 (group_of basin.objects basin.links cell.slot.0)) (other.step.0 == cell.step.0) shared).0 in
-    let together = (both (is_together basin.links cell.slot.0 other.slot.0) (is_among other.slot.0 (slot_numbers basin.objects))
-    (sym (among_group basin.objects basin.links cell.slot.0 other.slot.0) ∙ among)).0 in
-    bounds-alike basin cell.slot.0 other.slot.0 together
+bounds-shared basin cell other shared = bounds-alike basin cell.slot.0 other.slot.0 (Shared-of basin cell other shared).together

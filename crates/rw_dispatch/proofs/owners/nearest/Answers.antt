@@ -1,0 +1,10 @@
+use Rattle.std.proofs.Common.{take}
+use Rattle.rw_model.specs.Kept.{numbers_of}
+use Rattle.rw_log.specs.Waiting.{is_owner}
+use Rattle.rw_dispatch.proofs.Owning.{slot-more}
+use Rattle.rw_dispatch.proofs.owners.nearest.Goals as goal
+
+pub loop-slot-preserved : goal.loop-slot-preserved
+loop-slot-preserved c =
+    slot-more c.args.basin.now c.args.after c.args.slots.now c.loop-slot.slot-index _ c.nearest_at-best.result c.loop-slot-test.true
+    (c.nearest_at-best.ensures (is_owner c.args.basin.now (numbers_of (take c.loop-slot.slot-index c.args.slots.now))) c.loop-slot.invariant)

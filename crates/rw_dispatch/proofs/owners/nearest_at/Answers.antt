@@ -1,0 +1,20 @@
+use Rattle.std.proofs.Common.{◌==◌, ◌||◌, take}
+use Rattle.std.specs.List.{list_any}
+use Rattle.rw_model.specs.Links.{owner_of}
+use Rattle.rw_model.specs.Kept.{numbers_of}
+use Rattle.rw_dispatch.proofs.Owning.{other-more, others-all}
+use Rattle.rw_dispatch.proofs.owners.nearest_at.Goals as goal
+
+pub loop-other-preserved : goal.loop-other-preserved
+loop-other-preserved c = λ seen least.
+    other-more c.args.basin.now c.args.after seen c.group-group.result.now c.loop-other.other-index _ c.owner_of.result c.nearer-best.result c.loop-other-test.true
+    c.owner_of.ensures.owner
+    (c.nearer-best.ensures
+    (λ object. list_any (λ other. owner_of c.args.basin.now.objects other == object) (numbers_of (take c.loop-other.other-index c.group-group.result.now)) || seen object)
+    (c.loop-other.invariant seen least))
+
+pub returns : goal.returns
+returns c = λ seen least.
+    others-all c.args.basin.now c.args.slot.0 c.args.after seen c.group-group.result.now c.loop-other.other-index c.loop-other.best c.loop-other-test.false
+    c.group-group.ensures.group
+    (c.loop-other.invariant seen least)
