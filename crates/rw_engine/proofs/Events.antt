@@ -1,4 +1,4 @@
--- One event of the engine, over the log that it holds.
+-- One event of the engine, over the log that its state holds.
 use Rattle.std.proofs.Common.{◌≡◌, ◌≤◌, ◌<◌, ◌+◌, ◌-◌, ◌==◌, ℕ, zero, suc, Bool, true, false, List, [], ◌∷◌, ◌++◌, length, map, get_or, set, Option, Some, None, find, nat_le, refl, sym, ap, ap₂, subst, ◌∙◌, arith}
 use Rattle.std.specs.Prelude.{ℤ, if◌then◌else◌}
 use Rattle.rw_base.specs.declared.number.ObjectNo.{ObjectNo}
@@ -26,11 +26,12 @@ use Rattle.rw_log.proofs.Waits.{idles, solves}
 use Rattle.rw_dispatch.specs.declared.dispatched.Dispatched.{Dispatched}
 use Rattle.rw_dispatch.specs.declared.dispatched.Dispatched.TheVariants.{Idle as IsIdle, Solved as IsSolved, Conflict as IsConflict, OutOfRange as IsOutOfRange}
 use Rattle.rw_dispatch.specs.Answer.{IsAnswer}
-use Rattle.rw_engine.specs.declared.engine.Engine.{Engine}
+use Rattle.rw_engine.specs.Engine.{Engine}
+use Rattle.rw_engine.specs.declared.state.State.{State}
 use Rattle.rw_engine.specs.declared.step_end.StepEnd.TheVariants.{Closed as IsClosed, Fault as IsFault}
 use Rattle.rw_engine.specs.Telling.{line_by, lines_by, fault_by}
-use Rattle.rw_engine.specs.Stands.{Shows, Holds, EndsBy}
-use Rattle.rw_engine.specs.Passing.{room}
+use Rattle.rw_engine.specs.Stands.{Shows, EndsBy}
+use Rattle.rw_engine.specs.State.{seen, Holds, room}
 
 -- ---- which event follows
 
@@ -101,26 +102,13 @@ settled_inside (solved dispatch ∷ log) step is = refl
 settled_inside (fired firing ∷ log) step is = refl
 settled_inside (fault why ∷ log) step is = absurd (cc)
 
--- what the engine has after the dispatch of an object
-pub record Went (basin : Draft) (old new : Engine) (step object count : ℕ) (rest : List ℕ) (event : Event) (answer : Dispatched) : Type 0 where
+-- what an engine tells of the dispatch of an object
+pub record Told (basin : Draft) (old new : Engine) (step object : ℕ) (event : Event) (answer : Dispatched) : Type 0 where
   pub answer_is : IsAnswer basin object step event answer
-  pub own : IsObject basin.objects object
-  pub length_is : length old.counts.items ≡ length basin.objects
-  pub count_is : get_or old.counts.items (object - 1) 0 ≡ count
-  pub counts : new.counts.items ≡ set old.counts.items (object - 1) (count + 1)
-  pub queue : new.queue.waiting ≡ queued_after basin event rest
   pub trace : new.trace ≡ old.trace ++ lines_by basin object step answer
   pub closed_steps : new.closed ≡ old.closed
 
-module _ (basin : Draft) (old new : Engine) (step object count : ℕ) (rest : List ℕ) (log : Log) where
-  counted : (event : Event) (answer : Dispatched) → Holds basin old step log (object ∷ rest) → Went basin old new step object count rest event answer
-      → (own other : ℕ) → own ≡ object → IsObject basin.objects other → get_or new.counts.items (other - 1) 0 ≡ count_if (own == other) (dispatches log other)
-  counted event answer holds went own other is known =
-      let near : object - 1 < length old.counts.items = (let f = went.own.first in let l = went.own.last in let e = went.length_is in omega arith) in
-      ap (λ xs. get_or xs (other - 1) 0) went.counts
-      ∙ counts_more old.counts.items object other (dispatches log other) count near went.own.first known.first went.count_is (holds.counts other known)
-      ∙ ap (λ z. count_if (z == other) (dispatches log other)) (sym is)
-
+module _ (basin : Draft) (step object : ℕ) (rest : List ℕ) (log : Log) where
   conflict_is : (other : ObjectNo) (slot : SlotNo) (at : StepNo) (there here : ℤ) (own : SlotNo) (left right : ℤ)
       → (other.0 ≡ object) × (slot ≡ own) × (at.0 ≡ step) × (there ≡ left) × (here ≡ right)
       → Conflict other slot at there here ≡ Conflict (record { 0 = object }) own (record { 0 = step }) left right
@@ -211,32 +199,51 @@ module _ (basin : Draft) (old new : Engine) (step object count : ℕ) (rest : Li
   tells (fault (ObjectLimit other at count)) answer is = absurd is
   tells (fault (RuleLimit rule at count)) answer is = absurd is
 
-  shown : (event : Event) (answer : Dispatched) → Holds basin old step log (object ∷ rest) → Went basin old new step object count rest event answer
+  shown : (old new : Engine) (event : Event) (answer : Dispatched) → Shows basin old log → Told basin old new step object event answer
       → ((cell : Cell) → held new.series cell ≡ cells_of basin (event ∷ log) cell) → new.end ≡ end_of (event ∷ log) → Shows basin new (event ∷ log)
-  shown event answer holds went cells end =
-      let told = tells event answer went.answer_is in record {
+  shown old new event answer shows told cells end =
+      let says = tells event answer told.answer_is in record {
         cells = cells;
-        trace = went.trace ∙ ap₂ (λ xs ys. xs ++ ys) holds.shows.trace told.lines_are;
-        closed_steps = went.closed_steps ∙ holds.shows.closed_steps ∙ sym told.last;
+        trace = told.trace ∙ ap₂ (λ xs ys. xs ++ ys) shows.trace says.lines_are;
+        closed_steps = told.closed_steps ∙ shows.closed_steps ∙ sym says.last;
         end = end;
       }
+
+  -- the run is over by a fault
+  pub goes_over : (old new : Engine) (event : Event) (answer : Dispatched) (why : RunFault) → Shows basin old log → Told basin old new step object event answer
+      → ((cell : Cell) → held new.series cell ≡ cells_of basin (event ∷ log) cell) → new.end ≡ Fault why → fault_by object step answer ≡ Some why
+      → (event ≡ fault why) × Shows basin new (event ∷ log)
+  goes_over old new event answer why shows told cells end some =
+      let is = (tells event answer told.answer_is).faulted why some in
+      (is, shown old new event answer shows told cells (end ∙ ap (λ e. end_of (e ∷ log)) (sym is)))
+
+-- what the state has after that
+pub record Went (basin : Draft) (old new : State) (step object count : ℕ) (rest : List ℕ) (event : Event) (answer : Dispatched) : Type 0 where
+  pub told : Told basin (seen old) (seen new) step object event answer
+  pub own : IsObject basin.objects object
+  pub length_is : length old.counts.items ≡ length basin.objects
+  pub count_is : get_or old.counts.items (object - 1) 0 ≡ count
+  pub counts : new.counts.items ≡ set old.counts.items (object - 1) (count + 1)
+  pub queue : new.queue.waiting ≡ queued_after basin event rest
+
+module _ (basin : Draft) (old new : State) (step object count : ℕ) (rest : List ℕ) (log : Log) where
+  counted : (event : Event) (answer : Dispatched) → Holds basin old step log (object ∷ rest) → Went basin old new step object count rest event answer
+      → (own other : ℕ) → own ≡ object → IsObject basin.objects other → get_or new.counts.items (other - 1) 0 ≡ count_if (own == other) (dispatches log other)
+  counted event answer holds went own other is known =
+      let near : object - 1 < length old.counts.items = (let f = went.own.first in let l = went.own.last in let e = went.length_is in omega arith) in
+      ap (λ xs. get_or xs (other - 1) 0) went.counts
+      ∙ counts_more old.counts.items object other (dispatches log other) count near went.own.first known.first went.count_is (holds.counts other known)
+      ∙ ap (λ z. count_if (z == other) (dispatches log other)) (sym is)
 
   -- the timestep goes on
   pub goes_on : (event : Event) (answer : Dispatched) → Holds basin old step log (object ∷ rest) → Went basin old new step object count rest event answer
       → ((cell : Cell) → held new.series cell ≡ cells_of basin (event ∷ log) cell) → new.end ≡ old.end → fault_by object step answer ≡ None
       → Holds basin new step (event ∷ log) new.queue.waiting
   goes_on event answer holds went cells end none =
-      let calm = (tells event answer went.answer_is).calm none in record {
+      let calm = (tells basin step object rest log event answer went.told.answer_is).calm none in record {
         open_step = calm.1;
-        shows = shown event answer holds went cells (end ∙ holds.shows.end ∙ settled_inside log step holds.open_step ∙ sym calm.0);
+        shows = shown basin step object rest log (seen old) (seen new) event answer holds.shows went.told cells
+            (end ∙ holds.shows.end ∙ settled_inside log step holds.open_step ∙ sym calm.0);
         queue = went.queue ∙ sym (calm.2 (sym holds.queue));
         counts = λ other known. counted event answer holds went object other refl known ∙ sym (calm.3 other);
       }
-
-  -- or the run is over
-  pub goes_over : (event : Event) (answer : Dispatched) (why : RunFault) → Holds basin old step log (object ∷ rest) → Went basin old new step object count rest event answer
-      → ((cell : Cell) → held new.series cell ≡ cells_of basin (event ∷ log) cell) → new.end ≡ Fault why → fault_by object step answer ≡ Some why
-      → (event ≡ fault why) × Shows basin new (event ∷ log)
-  goes_over event answer why holds went cells end some =
-      let is = (tells event answer went.answer_is).faulted why some in
-      (is, shown event answer holds went cells (end ∙ ap (λ e. end_of (e ∷ log)) (sym is)))

@@ -11,7 +11,7 @@ use Rattle.rw_log.specs.Log.{Event, given, opened, closed, idle, solved, fired, 
 use Rattle.rw_log.specs.Next.{Policy, no_rules}
 use Rattle.rw_log.specs.Runs.{Leads, IsRun, Standing, rests, inside, over, standing, follows, follows_in, placed}
 use Rattle.rw_log.specs.RunOf.{IsRunOf, last_closed}
-use Rattle.rw_engine.specs.declared.engine.Engine.{Engine}
+use Rattle.rw_engine.specs.Engine.{Engine}
 use Rattle.rw_engine.specs.declared.step_end.StepEnd.{StepEnd}
 use Rattle.rw_engine.specs.declared.step_end.StepEnd.TheVariants.{Closed as IsClosed, Fault as IsFault}
 use Rattle.rw_engine.specs.Givens.{givens}

@@ -12,11 +12,12 @@ use Rattle.rw_log.specs.Runs.{Leads, follows, follows_in}
 use Rattle.rw_log.specs.RunOf.{lines}
 use Rattle.rw_log.specs.declared.run.RunEnd.TheVariants.{Settled}
 use Rattle.rw_log.proofs.Waits.{opens}
-use Rattle.rw_engine.specs.declared.engine.Engine.{Engine}
+use Rattle.rw_engine.specs.declared.state.State.{State}
 use Rattle.rw_engine.specs.declared.step_end.StepEnd.{StepEnd}
 use Rattle.rw_engine.specs.Telling.{Grows}
-use Rattle.rw_engine.specs.Stands.{Shows, Holds, IsBefore, Goes}
-use Rattle.rw_engine.specs.Passing.{Passes, Reached}
+use Rattle.rw_engine.specs.Stands.{Shows, IsBefore}
+use Rattle.rw_engine.specs.State.{seen, Holds, Goes, Reached}
+use Rattle.rw_engine.specs.Passing.{Passes}
 
 pub leads_more : (basin : Draft) (policy : Policy) (old : Log) (events : List Event) (event : Event) (new : Log) → Leads basin policy old events new
     → follows basin policy new ≡ Some event → Leads basin policy old (events ++ event ∷ []) (event ∷ new)
@@ -29,11 +30,11 @@ pub leads_on : (basin : Draft) (policy : Policy) (old : Log) (first last : List 
 leads_on basin policy old [] last mid new one other = subst (λ log. Leads basin policy log last new) one other
 leads_on basin policy old (event ∷ first) last mid new one other = (one.0, leads_on basin policy (event ∷ old) first last mid new one.1 other)
 
-follows_inside : (basin : Draft) (engine : Engine) (step : ℕ) (log : Log) (waits : List ℕ) → Holds basin engine step log waits
+follows_inside : (basin : Draft) (state : State) (step : ℕ) (log : Log) (waits : List ℕ) → Holds basin state step log waits
     → follows basin no_rules log ≡ Some (next basin no_rules step log)
-follows_inside basin engine step log waits holds = ap (follows_in basin no_rules log) holds.open_step
+follows_inside basin state step log waits holds = ap (follows_in basin no_rules log) holds.open_step
 
-pub opens_step : (basin : Draft) (old new : Engine) (step : ℕ) (log : Log) → Shows basin old log → new.series ≡ old.series
+pub opens_step : (basin : Draft) (old new : State) (step : ℕ) (log : Log) → Shows basin (seen old) log → new.series ≡ old.series
     → new.queue.waiting ≡ all_waiting basin → length new.counts.items ≡ length basin.objects
     → ((k : ℕ) → k < length new.counts.items → get_or new.counts.items k 0 ≡ 0) → new.trace ≡ old.trace ++ lines (opened step)
     → new.closed ≡ old.closed → new.end ≡ Settled → Holds basin new step (opened step ∷ log) new.queue.waiting
@@ -49,7 +50,7 @@ opens_step basin old new step log shows series queue count counts trace last end
   counts = λ object known. counts (object - 1) (let f = known.first in let l = known.last in omega arith);
 }
 
-pub reached_more : (basin : Draft) (start : Log) (old new : Engine) (step : ℕ) → Reached basin start old step
+pub reached_more : (basin : Draft) (start : Log) (old new : State) (step : ℕ) → Reached basin start old step
     → ((log : Log) → Holds basin old step log old.queue.waiting → Goes basin None new step log) → Reached basin start new step
 reached_more basin start old new step reached goes = record {
   events = reached.events ++ next basin no_rules step reached.log ∷ [];
@@ -64,8 +65,8 @@ opened_next : (basin : Draft) (step last : ℕ) (test : Bool) → nat_lt last ba
 opened_next basin step last true test is exists = ap (λ n. Some (opened n)) (sym is)
 opened_next basin step last false test is exists = absurd (grind (arith, nat_tests))
 
-pub ends_step : (basin : Draft) (log : Log) (old new : Engine) (step : ℕ) (end : StepEnd) → Reached basin (opened step ∷ log) old step
-    → ((l : Log) → Holds basin old step l old.queue.waiting → Goes basin (Some end) new step l) → IsBefore basin step log → Passes basin log end new step
+pub ends_step : (basin : Draft) (log : Log) (old new : State) (step : ℕ) (end : StepEnd) → Reached basin (opened step ∷ log) old step
+    → ((l : Log) → Holds basin old step l old.queue.waiting → Goes basin (Some end) new step l) → IsBefore basin step log → Passes basin log end (seen new) step
 ends_step basin log old new step end reached goes before =
     let went = goes reached.log reached.holds in
     let first : follows basin no_rules log ≡ Some (opened step) =

@@ -1,5 +1,5 @@
--- A timestep, from its opening to its end, and how many dispatches are left in it.
-use Rattle.std.specs.Prelude.{◌≡◌, ℕ, ◌+◌, ◌-◌, List, [], ◌∷◌}
+-- A timestep, from its opening to its end, and a run.
+use Rattle.std.specs.Prelude.{◌≡◌, ℕ, List, [], ◌∷◌}
 use Rattle.rw_model.specs.Draft.{Draft}
 use Rattle.rw_log.specs.Log.{Event, Log}
 use Rattle.rw_log.specs.Next.{no_rules}
@@ -8,9 +8,9 @@ use Rattle.rw_log.specs.RunOf.{IsRunOf}
 use Rattle.rw_log.specs.declared.run.Run.{Run}
 use Rattle.rw_inputs.specs.Inputs.{Inputs}
 use Rattle.rw_engine.specs.Givens.{givens}
-use Rattle.rw_engine.specs.declared.engine.Engine.{Engine}
+use Rattle.rw_engine.specs.Engine.{Engine}
 use Rattle.rw_engine.specs.declared.step_end.StepEnd.{StepEnd}
-use Rattle.rw_engine.specs.Stands.{Shows, Holds, EndsBy}
+use Rattle.rw_engine.specs.Stands.{Shows, EndsBy}
 
 -- the events of the timestep follow, up to its closing or to the fault, and the engine shows them
 pub record Passes (basin : Draft) (log : Log) (end : StepEnd) (engine : Engine) (step : ℕ) : Type 0 where
@@ -20,18 +20,6 @@ pub record Passes (basin : Draft) (log : Log) (end : StepEnd) (engine : Engine) 
   pub leads : Leads basin no_rules log events (last ∷ before)
   pub ends : EndsBy end step last
   pub shows : Shows basin engine (last ∷ before)
-
--- within the timestep, on the way
-pub record Reached (basin : Draft) (start : Log) (engine : Engine) (step : ℕ) : Type 0 where
-  pub events : List Event
-  pub log : Log
-  pub leads : Leads basin no_rules start events log
-  pub holds : Holds basin engine step log engine.queue.waiting
-
--- how many dispatches are left below the limit
-abbrev pub room : ℕ → List ℕ → ℕ
-room limit [] = 0
-room limit (count ∷ counts) = (limit - count) + room limit counts
 
 -- the run comes to what the whole run of the inputs does
 pub record ComesTo (basin : Draft) (inputs : Inputs) (run : Run) : Type 0 where

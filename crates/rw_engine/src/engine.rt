@@ -1,53 +1,41 @@
-ghost use Rattle.std.specs.Prelude.{◌≡◌, ◌<◌, ◌≤◌, ◌∷◌, [], ℕ, List, map, None, Some, IfOk, IfErr, EachIndex, slice_index, length, false};
-ghost use Rattle.rw_model.specs.Draft.{Draft, IsObject};
+ghost use Rattle.std.specs.Prelude.{◌≤◌, [], map, IfOk, IfErr};
+ghost use Rattle.rw_model.specs.Draft.{Draft};
 ghost use Rattle.rw_method.specs.Catalogue.{AreInOrder};
-ghost use Rattle.rw_series.specs.Series.{held};
 ghost use Rattle.rw_inputs.specs.Inputs.{IsInputsOf};
-ghost use Rattle.rw_log.specs.Log.{Log, Cells, opened};
-ghost use Rattle.rw_log.specs.Next.{dispatches};
+ghost use Rattle.rw_log.specs.Log.{Log};
 ghost use Rattle.rw_log.specs.Runs.{placed};
 ghost use Rattle.rw_log.specs.RunOf.{IsRunOf};
-ghost use Rattle.rw_log.specs.Waiting.{is_data};
 ghost use Rattle.rw_engine.specs.Givens.{givens};
-ghost use Rattle.rw_engine.specs.Undoing.{CanUndo};
-ghost use Rattle.rw_engine.specs.Telling.{Grows};
-ghost use Rattle.rw_engine.specs.Stands.{IsEngineOf, Shows, IsBefore, Holds, Goes};
-ghost use Rattle.rw_engine.specs.Passing.{Passes, room};
+ghost use Rattle.rw_engine.specs.Stands.{IsEngineOf, Shows, IsBefore};
+ghost use Rattle.rw_engine.specs.Passing.{Passes};
 
-use crate::placing::place;
+use crate::state::State;
 use crate::step_end::StepEnd;
-use crate::telling::tell;
-use crate::undoing::{remember, take_back};
-use crate::undone::Undone;
-use rw_base::{NoMemory, ObjectNo, StepNo};
-use rw_dispatch::{Queue, dispatch};
+use rw_base::{NoMemory, StepNo};
 use rw_inputs::Inputs;
-use rw_log::{Run, RunEnd, RunFault, Trace, TraceEvent};
+use rw_log::Run;
 use rw_method::Catalogue;
 use rw_model::Basin;
-use rw_series::Series;
 use std::alloc::Global;
+use std::marker::Model;
 
-/// A run on its way. It stands for a log of events, which `Shows` says.
+/// A run on its way, seen as what it shows: what the cells hold, the trace, the last closed timestep, and how it stands. It
+/// stands for a log of events, which `Shows` says.
 #[derive(Drop)]
 pub struct Engine {
-    series: Series,
-    queue: Queue,
-    counts: Vec<u8>,
-    trace: Trace,
-    closed: u16,
-    end: RunEnd,
-    undo: Vec<Undone>,
+    state: State,
 }
 
-// Sets all to 0.
-fn zero(counts: &mut Vec<u8>)
-    ensures zero { EachIndex counts.new.items (λ k. slice_index counts.new.items k ≡ 0) }
-    ensures length { length counts.new.items ≡ length counts.old.items }
-{
-    for count in counts.iter_mut() {
-        *count = 0;
-    }
+impl Model for Engine {
+    ghost use Rattle.std.specs.Prelude.{◌≡◌, length};
+    ghost use Rattle.rw_engine.specs.Engine as specs;
+    ghost use Rattle.rw_engine.specs.State.{seen};
+
+    ghost Value = { specs.Engine };
+
+    ghost view = { λ engine. seen engine.state };
+
+    ghost invariant = { λ engine. length engine.state.counts.items ≡ engine.state.queue.objects };
 }
 
 impl Engine {
@@ -57,189 +45,9 @@ impl Engine {
         ensures made { IfOk result (IsEngineOf basin.now) }
         ensures shows { IfOk result (λ engine. Shows basin.now engine (placed [] (givens basin.now inputs.now))) }
     {
-        let mut series = Series::sized(alloc, basin)?;
-        let queue = Queue::for_basin(alloc, basin)?;
-        let counts = Vec::from_elem(alloc, 0, usize::from(basin.object_count()))?;
-        place(basin, inputs, &mut series);
         Ok(Engine {
-            series,
-            queue,
-            counts,
-            trace: Trace::new(alloc),
-            closed: 0,
-            end: RunEnd::Settled,
-            undo: Vec::new(alloc),
+            state: State::for_run(alloc, basin, inputs)?,
         })
-    }
-
-    // Opens a timestep.
-    fn open(&mut self, basin: &Basin, step: StepNo) -> Result<(), NoMemory>
-        requires made { IsEngineOf basin.now self.old }
-        ensures made { IsEngineOf basin.now self.new }
-        ensures series { self.new.series ≡ self.old.series }
-        ensures undo { self.new.undo ≡ self.old.undo }
-        ensures closed_steps { self.new.closed ≡ self.old.closed }
-        ensures end { self.new.end ≡ self.old.end }
-        ensures opened { IfOk result (λ _. (log : Log) → Shows basin.now self.old log → IsBefore basin.now step.0 log
-            → Holds basin.now self.new step.0 (opened step.0 ∷ log) self.new.queue.waiting) }
-        ensures grows { Grows self.old.trace self.new.trace }
-    {
-        self.trace.push(TraceEvent::Opened(step))?;
-        self.queue.begin_step(basin);
-        zero(&mut self.counts);
-        Ok(())
-    }
-
-    // Closes the open timestep.
-    fn close(&mut self, basin: &Basin, step: StepNo) -> Result<StepEnd, NoMemory>
-        requires made { IsEngineOf basin.now self.old }
-        requires last { step.0 ≤ basin.now.control.stamps.count }
-        ensures made { IsEngineOf basin.now self.new }
-        ensures series { self.new.series ≡ self.old.series }
-        ensures undo { self.new.undo ≡ self.old.undo }
-        ensures closed_steps { IfErr result (λ _. self.new.closed ≡ self.old.closed) }
-        ensures end { self.new.end ≡ self.old.end }
-        ensures goes { (log : Log) → Holds basin.now self.old step.0 log [] → IfOk result (λ end. Goes basin.now (Some end) self.new step.0 log) }
-        ensures grows { Grows self.old.trace self.new.trace }
-    {
-        self.trace.push(TraceEvent::Closed(step))?;
-        self.closed = step.0;
-        Ok(StepEnd::Closed)
-    }
-
-    // Ends the run by a limit that is reached.
-    fn exceed(
-        &mut self,
-        basin: &Basin,
-        object: ObjectNo,
-        step: StepNo,
-        count: u8,
-    ) -> Result<StepEnd, NoMemory>
-        requires made { IsEngineOf basin.now self.old }
-        requires limit { basin.now.control.object_limit ≤ count }
-        ensures made { IsEngineOf basin.now self.new }
-        ensures series { self.new.series ≡ self.old.series }
-        ensures undo { self.new.undo ≡ self.old.undo }
-        ensures closed_steps { self.new.closed ≡ self.old.closed }
-        ensures end { IfErr result (λ _. self.new.end ≡ self.old.end) }
-        ensures goes { (log : Log) (rest : List ℕ) → Holds basin.now self.old step.0 log (object.0 ∷ rest) → count ≡ dispatches log object.0
-            → IfOk result (λ end. Goes basin.now (Some end) self.new step.0 log) }
-        ensures grows { Grows self.old.trace self.new.trace }
-    {
-        let fault = RunFault::ObjectLimit {
-            object,
-            step,
-            count,
-        };
-        self.trace.push(TraceEvent::Fault(fault))?;
-        self.end = RunEnd::Fault(fault);
-        Ok(StepEnd::Fault(fault))
-    }
-
-    // Dispatches the object that was taken out of the queue.
-    fn ask(
-        &mut self,
-        basin: &Basin,
-        methods: &Catalogue,
-        object: ObjectNo,
-        step: StepNo,
-    ) -> Result<Option<StepEnd>, NoMemory>
-        requires made { IsEngineOf basin.now self.old }
-        requires order { AreInOrder (map (λ b. code (b.vtable, b.value)) methods.now.methods.items) }
-        requires object { IsObject basin.now.objects object.0 }
-        requires balance { is_data basin.now object.0 ≡ false }
-        requires first { 1 ≤ step.0 }
-        requires last { step.0 ≤ basin.now.control.stamps.count }
-        ensures made { IsEngineOf basin.now self.new }
-        ensures goes { (log : Log) → Holds basin.now self.old step.0 log (object.0 ∷ self.old.queue.waiting)
-            → IfOk result (λ end. Goes basin.now end self.new step.0 log) }
-        ensures undo { (before : Cells) → CanUndo basin.now self.old.undo.items self.old.series before
-            → CanUndo basin.now self.new.undo.items self.new.series before }
-        ensures closed_steps { self.new.closed ≡ self.old.closed }
-        ensures end { IfErr result (λ _. self.new.end ≡ self.old.end) }
-        ensures going { IfOk result (λ end. end ≡ None → self.new.end ≡ self.old.end) }
-        ensures grows { Grows self.old.trace self.new.trace }
-        ensures falls { IfOk result (λ end. end ≡ None
-            → room basin.now.control.object_limit self.new.counts.items < room basin.now.control.object_limit self.old.counts.items) }
-    {
-        let place = usize::from(object.0) - 1;
-        let count = self.counts[place];
-        if basin.control().object_limit <= count {
-            return Ok(Some(self.exceed(basin, object, step, count)?));
-        }
-        self.counts[place] = count + 1;
-        remember(&mut self.undo, basin, &self.series, object, step)?;
-        let answer = dispatch(
-            basin,
-            methods,
-            &mut self.series,
-            &mut self.queue,
-            object,
-            step,
-        );
-        let Some(fault) = tell(&mut self.trace, basin, object, step, answer)? else {
-            return Ok(None);
-        };
-        self.end = RunEnd::Fault(fault);
-        Ok(Some(StepEnd::Fault(fault)))
-    }
-
-    // The event that follows in the open timestep.
-    fn event(
-        &mut self,
-        basin: &Basin,
-        methods: &Catalogue,
-        step: StepNo,
-    ) -> Result<Option<StepEnd>, NoMemory>
-        requires made { IsEngineOf basin.now self.old }
-        requires order { AreInOrder (map (λ b. code (b.vtable, b.value)) methods.now.methods.items) }
-        requires first { 1 ≤ step.0 }
-        requires last { step.0 ≤ basin.now.control.stamps.count }
-        ensures made { IsEngineOf basin.now self.new }
-        ensures goes { (log : Log) → Holds basin.now self.old step.0 log self.old.queue.waiting
-            → IfOk result (λ end. Goes basin.now end self.new step.0 log) }
-        ensures undo { (before : Cells) → CanUndo basin.now self.old.undo.items self.old.series before
-            → CanUndo basin.now self.new.undo.items self.new.series before }
-        ensures closed_steps { IfErr result (λ _. self.new.closed ≡ self.old.closed) }
-        ensures still { IfOk result (λ end. end ≡ None → self.new.closed ≡ self.old.closed) }
-        ensures end { IfErr result (λ _. self.new.end ≡ self.old.end) }
-        ensures going { IfOk result (λ end. end ≡ None → self.new.end ≡ self.old.end) }
-        ensures grows { Grows self.old.trace self.new.trace }
-        ensures falls { IfOk result (λ end. end ≡ None
-            → room basin.now.control.object_limit self.new.counts.items < room basin.now.control.object_limit self.old.counts.items) }
-    {
-        match self.queue.next() {
-            Some(object) => self.ask(basin, methods, object, step),
-            None => Ok(Some(self.close(basin, step)?)),
-        }
-    }
-
-    // The events of a timestep, of which the first opens it.
-    fn pass(
-        &mut self,
-        basin: &Basin,
-        methods: &Catalogue,
-        step: StepNo,
-    ) -> Result<StepEnd, NoMemory>
-        requires made { IsEngineOf basin.now self.old }
-        requires order { AreInOrder (map (λ b. code (b.vtable, b.value)) methods.now.methods.items) }
-        requires first { 1 ≤ step.0 }
-        requires last { step.0 ≤ basin.now.control.stamps.count }
-        requires cleared { self.old.undo.items ≡ [] }
-        ensures made { IsEngineOf basin.now self.new }
-        ensures passes { (log : Log) → Shows basin.now self.old log → IsBefore basin.now step.0 log
-            → IfOk result (λ end. Passes basin.now log end self.new step.0) }
-        ensures undo { CanUndo basin.now self.new.undo.items self.new.series (held self.old.series) }
-        ensures closed_steps { IfErr result (λ _. self.new.closed ≡ self.old.closed) }
-        ensures end { IfErr result (λ _. self.new.end ≡ self.old.end) }
-        ensures grows { Grows self.old.trace self.new.trace }
-    {
-        self.open(basin, step)?;
-        loop {
-            if let Some(end) = self.event(basin, methods, step)? {
-                return Ok(end);
-            }
-        }
     }
 
     /// Passes the timestep after the last closed one: it is opened, event follows event, and it is closed or ends by a
@@ -259,16 +67,7 @@ impl Engine {
             → IfOk result (λ end. Passes basin.now log end self.new t.0) }
         ensures before { (log : Log) → Shows basin.now self.old log → IfErr result (λ _. Shows basin.now self.new log) }
     {
-        self.undo.clear();
-        let mark = self.trace.len();
-        match self.pass(basin, methods, t) {
-            Ok(end) => Ok(end),
-            Err(NoMemory) => {
-                self.trace.truncate(mark);
-                take_back(basin, &mut self.series, &mut self.undo);
-                Err(NoMemory)
-            }
-        }
+        self.state.run_step(basin, methods, t)
     }
 
     /// What the run came to.
@@ -276,11 +75,6 @@ impl Engine {
         ensures run { (basin : Draft) (log : Log) → IsEngineOf basin self → Shows basin self log → IsRunOf basin log result }
         ensures closed { (basin : Draft) → IsEngineOf basin self → result.closed ≤ basin.control.stamps.count }
     {
-        Run {
-            end: self.end,
-            closed: self.closed,
-            series: self.series,
-            trace: self.trace,
-        }
+        self.state.finish()
     }
 }

@@ -7,6 +7,7 @@
 mod engine;
 mod placing;
 mod running;
+mod state;
 mod step_end;
 mod telling;
 mod undoing;

@@ -3,19 +3,23 @@ use Rattle.std.specs.Prelude.{All}
 use Rattle.rw_log.proofs.Ready.{all_waiting-ready, AreReady}
 use Rattle.rw_engine.proofs.Starts.{settled_at_rest}
 use Rattle.rw_engine.proofs.Steps.{opens_step}
-use Rattle.rw_engine.proofs.engine.Engine.open.Goals as goal
+use Rattle.rw_engine.proofs.state.State.open.Goals as goal
 
 pub returns-clause-made : goal.returns-clause-made
 returns-clause-made c = record {
-  valid = c.requires.made.valid;
-  series = c.requires.made.series;
-  bounded = c.requires.made.bounded;
-  queue = c.begin_step.ensures.made;
+  engine = record {
+    valid = c.requires.made.engine.valid;
+    objects = c.begin_step.ensures.made;
+    series = c.requires.made.engine.series;
+    bounded = c.requires.made.engine.bounded;
+    closed_steps = c.requires.made.engine.closed_steps;
+  };
   counts = c.zero.ensures.length ∙ c.requires.made.counts;
-  ready = subst (AreReady c.args.basin.now) (sym c.begin_step.ensures.all) (all_waiting-ready c.args.basin.now);
-  closed_steps = c.requires.made.closed_steps;
-  undo = c.requires.made.undo;
 }
+
+pub returns-clause-ready : goal.returns-clause-ready
+returns-clause-ready c =
+    subst (AreReady c.args.basin.now) (sym c.begin_step.ensures.all) (all_waiting-ready c.args.basin.now)
 
 pub returns-clause-opened : goal.returns-clause-opened
 returns-clause-opened c = λ log shows before.

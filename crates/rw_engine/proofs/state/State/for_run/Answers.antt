@@ -1,7 +1,7 @@
 use Rattle.std.proofs.Common.{refl, sym, [], ◌∙◌}
 use Rattle.rw_engine.specs.Givens.{givens}
 use Rattle.rw_engine.proofs.Starts.{trace-placed, closed-placed, end-placed}
-use Rattle.rw_engine.proofs.engine.Engine.for_run.Goals as goal
+use Rattle.rw_engine.proofs.state.State.for_run.Goals as goal
 
 pub returns-clause-shows : goal.returns-clause-shows
 returns-clause-shows c =

@@ -1,7 +1,7 @@
 use Rattle.std.proofs.Common.{rules, refl, ◌∷◌, ◌∙◌}
 use Rattle.rw_log.specs.Log.{opened}
 use Rattle.rw_engine.proofs.Steps.{grows_more, reached_more, ends_step}
-use Rattle.rw_engine.proofs.engine.Engine.pass.Goals as goal
+use Rattle.rw_engine.proofs.state.State.pass.Goals as goal
 
 pub returns-in-Some-clause-passes : goal.returns-in-Some-clause-passes
 returns-in-Some-clause-passes g c = λ log shows before.
@@ -16,7 +16,7 @@ returns-in_err-end-clause-undo g c = c.event.ensures.undo _ c.loop-end.invariant
 
 pub loop-end-preserved : goal.loop-end-preserved
 loop-end-preserved g c = record {
-  made = c.event.ensures.made;
+  within = c.event.ensures.within;
   reached = λ log shows before. reached_more c.args.basin.now _ c.loop-end.self c.event.new.self c.args.step.0 (c.loop-end.invariant.reached log shows before)
       (λ l holds. rw c.in_default.is at c.in_ok-end.ensures.goes l holds);
   undo = c.event.ensures.undo _ c.loop-end.invariant.undo;

@@ -1,0 +1,21 @@
+use Rattle.std.proofs.Common.{◌≡◌, ◌∙◌, false}
+use Rattle.std.proofs.lemmas.List.Elements.{All-rest}
+use Rattle.rw_log.specs.Waiting.{is_data}
+use Rattle.rw_engine.proofs.state.State.event.Goals as goal
+
+pub ask-requires-clause-within : goal.ask-requires-clause-within
+ask-requires-clause-within g c =
+    let within = c.requires.within in record {
+      made = record {
+        engine = record {
+          valid = within.made.engine.valid;
+          objects = c.next.ensures.objects ∙ within.made.engine.objects;
+          series = within.made.engine.series;
+          bounded = within.made.engine.bounded;
+          closed_steps = within.made.engine.closed_steps;
+        };
+        counts = within.made.counts;
+      };
+      ready = All-rest (λ object. is_data c.args.basin.now object ≡ false) c.in-Some.object.0 c.next.new.self.waiting c.args.self.now.queue.waiting c.in-Some.ensures.taken within.ready;
+      undo = within.undo;
+    }
