@@ -70,8 +70,8 @@ impl Engine {
         self.state.run_step(basin, methods, t)
     }
 
-    /// What the run came to.
-    pub(crate) fn finish(self) -> Run
+    /// What the run came to, or so far where timesteps are left. It takes no memory.
+    pub fn finish(self) -> Run
         ensures run { (basin : Draft) (log : Log) → IsEngineOf basin self → Shows basin self log → IsRunOf basin log result }
         ensures closed { (basin : Draft) → IsEngineOf basin self → result.closed ≤ basin.control.stamps.count }
     {
