@@ -1,11 +1,10 @@
 -- The state after the dispatch of an object.
-use Rattle.std.proofs.Common.{◌≡◌, ◌≤◌, ◌+◌, ◌-◌, ◌++◌, ℕ, List, length, set, sym, ap, subst, ◌∙◌}
-use Rattle.std.specs.Prelude.{All, IsTrue}
+use Rattle.std.proofs.Common.{◌≡◌, ◌≤◌, ◌++◌, ℕ, List, length, set, sym, ap, subst, ◌∙◌}
+use Rattle.std.specs.Prelude.{All}
 use Rattle.std.proofs.Common.{length-set}
 use Rattle.rw_base.specs.declared.number.Cell.{Cell}
 use Rattle.rw_model.specs.Draft.{Draft, IsObject}
-use Rattle.rw_model.specs.Basin.{IsBasin}
-use Rattle.rw_series.specs.Series.{Series, held, is_shared, IsCell, IsSeriesOf}
+use Rattle.rw_series.specs.Series.{Series, held, IsCell, IsSeriesOf}
 use Rattle.rw_log.specs.Log.{Cells, Event, held_after}
 use Rattle.rw_log.specs.Waiting.{queued_after}
 use Rattle.rw_log.specs.Dispatch.{dispatched}
@@ -14,7 +13,7 @@ use Rattle.rw_dispatch.specs.Answer.{AreBounded}
 use Rattle.rw_dispatch.specs.Queue.{IsQueueOf}
 use Rattle.rw_engine.specs.declared.state.State.{State}
 use Rattle.rw_engine.specs.declared.undone.Undone.{Undone}
-use Rattle.rw_engine.specs.Undoing.{undone_to, taken_back, CanUndo}
+use Rattle.rw_engine.specs.Undoing.{undone_to, CanUndo}
 use Rattle.rw_engine.specs.State.{IsWithinStep}
 use Rattle.rw_engine.proofs.Own.{owns_cells, dispatch_own}
 use Rattle.rw_engine.proofs.Undo.{undo-kept, undo-more}

@@ -1,5 +1,5 @@
 -- One event of the engine, over the log that its state holds.
-use Rattle.std.proofs.Common.{◌≡◌, ◌≤◌, ◌<◌, ◌+◌, ◌-◌, ◌==◌, ℕ, zero, suc, Bool, true, false, List, [], ◌∷◌, ◌++◌, length, map, get_or, set, Option, Some, None, find, nat_le, refl, sym, ap, ap₂, subst, ◌∙◌, arith}
+use Rattle.std.proofs.Common.{◌≡◌, ◌≤◌, ◌<◌, ◌+◌, ◌-◌, ◌==◌, ℕ, zero, suc, Bool, true, false, List, [], ◌∷◌, ◌++◌, length, map, get_or, set, Some, None, find, nat_le, refl, sym, ap, ap₂, ◌∙◌, arith}
 use Rattle.std.specs.Prelude.{ℤ, if◌then◌else◌}
 use Rattle.rw_base.specs.declared.number.ObjectNo.{ObjectNo}
 use Rattle.rw_base.specs.declared.number.SlotNo.{SlotNo}
@@ -14,13 +14,12 @@ use Rattle.rw_series.specs.Series.{held}
 use Rattle.rw_log.specs.declared.fault.RunFault.{RunFault}
 use Rattle.rw_log.specs.declared.fault.RunFault.TheVariants.{Conflict, ZeroDivisor, ObjectOutOfRange, RuleOutOfRange, ObjectLimit, RuleLimit}
 use Rattle.rw_log.specs.declared.run.RunEnd.TheVariants.{Settled, Fault}
-use Rattle.rw_log.specs.declared.trace.TraceEvent.{TraceEvent}
 use Rattle.rw_log.specs.declared.trace.TraceEvent.TheVariants.{Idle as IdleLine, Solve, Fault as FaultLine}
-use Rattle.rw_log.specs.Log.{Asked, Cells, Event, given, opened, closed, idle, solved, fired, fault, Log, cells_of}
+use Rattle.rw_log.specs.Log.{Cells, Event, given, opened, closed, idle, solved, fired, fault, Log, cells_of}
 use Rattle.rw_log.specs.Waiting.{waiting, first_of, queued_after}
 use Rattle.rw_log.specs.Dispatch.{asked_by, dispatched}
 use Rattle.rw_log.specs.Next.{count_if, dispatches, agenda_of, no_rules, is_due, next, next_of, after_objects}
-use Rattle.rw_log.specs.Runs.{Standing, rests, inside, over, standing}
+use Rattle.rw_log.specs.Runs.{inside, standing}
 use Rattle.rw_log.specs.RunOf.{line_of, lines, end_of, last_closed}
 use Rattle.rw_log.proofs.Waits.{idles, solves}
 use Rattle.rw_dispatch.specs.declared.dispatched.Dispatched.{Dispatched}
@@ -28,9 +27,8 @@ use Rattle.rw_dispatch.specs.declared.dispatched.Dispatched.TheVariants.{Idle as
 use Rattle.rw_dispatch.specs.Answer.{IsAnswer}
 use Rattle.rw_engine.specs.Engine.{Engine}
 use Rattle.rw_engine.specs.declared.state.State.{State}
-use Rattle.rw_engine.specs.declared.step_end.StepEnd.TheVariants.{Closed as IsClosed, Fault as IsFault}
 use Rattle.rw_engine.specs.Telling.{line_by, lines_by, fault_by}
-use Rattle.rw_engine.specs.Stands.{Shows, EndsBy}
+use Rattle.rw_engine.specs.Stands.{Shows}
 use Rattle.rw_engine.specs.State.{seen, Holds, room}
 
 -- ---- which event follows

@@ -1,7 +1,6 @@
 -- A dispatch writes to cells of its object's slots alone.
 use Rattle.std.proofs.Common.{◌≡◌, ◌<◌, ◌≤◌, ◌-◌, ℕ, zero, suc, List, [], ◌∷◌, Option, Some, None, length, map, get_or, refl, sym, ap, subst, ◌∙◌, arith}
-use Rattle.std.specs.Prelude.{ℤ, All, IsSome, IsTrue, slice_get, option_map, unwrap_or}
-use Rattle.std.specs.List.{filter}
+use Rattle.std.specs.Prelude.{ℤ, All, IsSome, slice_get, option_map, unwrap_or}
 use Rattle.std.proofs.lemmas.List.Elements.{All-nil, All-cons, All-head, All-tail, All-filter}
 use Rattle.rw_base.specs.declared.number.Cell.{Cell}
 use Rattle.rw_model.specs.Basin.{IsBasin}
@@ -14,10 +13,10 @@ use Rattle.rw_method.specs.declared.put.Put.{Put}
 use Rattle.rw_method.specs.Solve.{solve_of}
 use Rattle.rw_method.specs.declared.solved.Solved.{Solved}
 use Rattle.rw_method.specs.declared.solved.Solved.TheVariants.{Idle, Puts, Conflict, OutOfRange}
-use Rattle.rw_series.specs.Series.{IsCell, IsSeriesOf, Series, held, is_shared}
+use Rattle.rw_series.specs.Series.{IsCell}
 use Rattle.rw_series.specs.declared.look.Look.{Look}
 use Rattle.rw_log.specs.Log.{Asked, Cells, Event, written_by}
-use Rattle.rw_log.specs.Dispatch.{cell_at, cell_in, asked_by, slot_or_none, is_written, end_in, denied_by, or_fault, judged, dispatch_of, answered, dispatched, solved_by, view_of, looks_at, looked_cells}
+use Rattle.rw_log.specs.Dispatch.{cell_at, cell_in, asked_by, is_written, end_in, denied_by, or_fault, judged, dispatch_of, answered, dispatched, solved_by, view_of, looks_at, looked_cells}
 use Rattle.rw_log.proofs.SolvedPuts.{solve-puts}
 use Rattle.rw_dispatch.proofs.Viewed.{has_slot}
 use Rattle.rw_engine.proofs.Undo.{IsOwnCell, OwnsCells}

@@ -1,11 +1,9 @@
 -- Inputs are placed one after another.
-use Rattle.std.proofs.Common.{◌≡◌, ◌≤◌, ℕ, suc, ◌+◌, List, [], ◌∷◌, ◌++◌, Option, Some, None, refl, sym, ap, subst, ◌∙◌}
+use Rattle.std.proofs.Common.{◌≡◌, ℕ, suc, ◌+◌, List, [], ◌∷◌, ◌++◌, Some, refl, sym, ap, subst, ◌∙◌}
 use Rattle.std.proofs.Math.Numerals.{add-one}
 use Rattle.std.specs.Prelude.{ℤ}
 use Rattle.rw_base.specs.declared.number.Cell.{Cell}
-use Rattle.rw_model.specs.declared.content.Content.{Content}
 use Rattle.rw_model.specs.Draft.{Draft}
-use Rattle.rw_model.specs.Links.{IsBetween, bounds_in}
 use Rattle.rw_series.specs.Series.{Series, held, Sets}
 use Rattle.rw_inputs.specs.Inputs.{Inputs, IsInputsOf, value_at}
 use Rattle.rw_log.specs.Log.{Log, input_content}

@@ -1,18 +1,16 @@
 -- A run, timestep by timestep.
-use Rattle.std.proofs.Common.{◌≡◌, ◌≢◌, ◌≤◌, ◌<◌, ◌+◌, ℕ, Bool, true, false, List, [], ◌∷◌, ◌++◌, Option, Some, None, nat_lt, refl, sym, ap, subst, ◌∙◌, arith}
+use Rattle.std.proofs.Common.{◌≡◌, ◌<◌, ◌+◌, ℕ, Bool, true, false, [], ◌∷◌, ◌++◌, Some, None, nat_lt, refl, ap, ◌∙◌, arith}
 use Rattle.std.proofs.lemmas.Bool.Decides.{nat_tests}
-use Rattle.std.specs.Prelude.{ℤ, if◌then◌else◌}
-use Rattle.rw_base.specs.declared.number.Cell.{Cell}
+use Rattle.std.specs.Prelude.{if◌then◌else◌}
 use Rattle.rw_model.specs.Draft.{Draft}
 use Rattle.rw_inputs.specs.Inputs.{Inputs}
 use Rattle.rw_log.specs.declared.fault.RunFault.{RunFault}
 use Rattle.rw_log.specs.declared.run.Run.{Run}
-use Rattle.rw_log.specs.Log.{Event, given, opened, closed, idle, solved, fired, fault, Log}
-use Rattle.rw_log.specs.Next.{Policy, no_rules}
-use Rattle.rw_log.specs.Runs.{Leads, IsRun, Standing, rests, inside, over, standing, follows, follows_in, placed}
-use Rattle.rw_log.specs.RunOf.{IsRunOf, last_closed}
+use Rattle.rw_log.specs.Log.{opened, Log}
+use Rattle.rw_log.specs.Next.{no_rules}
+use Rattle.rw_log.specs.Runs.{rests, standing, follows, follows_in, placed}
+use Rattle.rw_log.specs.RunOf.{IsRunOf}
 use Rattle.rw_engine.specs.Engine.{Engine}
-use Rattle.rw_engine.specs.declared.step_end.StepEnd.{StepEnd}
 use Rattle.rw_engine.specs.declared.step_end.StepEnd.TheVariants.{Closed as IsClosed, Fault as IsFault}
 use Rattle.rw_engine.specs.Givens.{givens}
 use Rattle.rw_engine.specs.Stands.{Shows, IsBefore}

@@ -1,9 +1,9 @@
 -- The log of the inputs, and logs between timesteps.
-use Rattle.std.proofs.Common.{◌≡◌, ◌++◌, ℕ, List, [], ◌∷◌, refl, sym, ap, ◌∙◌, append-nil}
+use Rattle.std.proofs.Common.{◌≡◌, ℕ, List, [], ◌∷◌, refl, ◌∙◌, append-nil}
 use Rattle.std.specs.Prelude.{ℤ}
 use Rattle.rw_base.specs.declared.number.Cell.{Cell}
 use Rattle.rw_log.specs.declared.run.RunEnd.TheVariants.{Settled}
-use Rattle.rw_log.specs.Log.{Event, given, opened, closed, idle, solved, fired, fault, Log}
+use Rattle.rw_log.specs.Log.{given, opened, closed, idle, solved, fired, fault, Log}
 use Rattle.rw_log.specs.Runs.{placed, standing, rests}
 use Rattle.rw_log.specs.RunOf.{trace_of, end_of, last_closed}
 

@@ -1,11 +1,10 @@
 -- A timestep of the engine, over the log that it shows.
-use Rattle.std.proofs.Common.{◌≡◌, ◌<◌, ◌≤◌, ◌+◌, ◌-◌, ℕ, Bool, true, false, List, [], ◌∷◌, ◌++◌, length, get_or, Option, Some, None, nat_lt, refl, sym, ap, subst, ◌∙◌, arith, append_assoc}
+use Rattle.std.proofs.Common.{◌≡◌, ◌<◌, ◌≤◌, ◌+◌, ◌-◌, ℕ, Bool, true, false, List, [], ◌∷◌, ◌++◌, length, get_or, Some, None, nat_lt, refl, sym, ap, subst, ◌∙◌, arith, append_assoc}
 use Rattle.std.proofs.lemmas.Bool.Decides.{nat_tests}
 use Rattle.std.specs.Prelude.{if◌then◌else◌}
-use Rattle.rw_base.specs.declared.number.Cell.{Cell}
 use Rattle.rw_model.specs.Draft.{Draft}
 use Rattle.rw_series.specs.Series.{Series, held}
-use Rattle.rw_log.specs.Log.{Cells, Log, Event, opened}
+use Rattle.rw_log.specs.Log.{Log, Event, opened}
 use Rattle.rw_log.specs.Waiting.{all_waiting}
 use Rattle.rw_log.specs.Next.{Policy, no_rules, next}
 use Rattle.rw_log.specs.Runs.{Leads, follows, follows_in}

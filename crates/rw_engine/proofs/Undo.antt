@@ -10,11 +10,11 @@ use Rattle.std.proofs.lemmas.Bool.Decides.{nat_tests}
 use Rattle.rw_base.specs.declared.number.Cell.{Cell}
 use Rattle.rw_model.specs.declared.content.Content.{Content}
 use Rattle.rw_model.specs.Draft.{Draft}
-use Rattle.rw_series.specs.Series.{Series, held, is_shared, IsCell, IsSeriesOf}
+use Rattle.rw_series.specs.Series.{is_shared, IsCell}
 use Rattle.rw_log.specs.Log.{Asked, Cells, Event, held_after, last_put, written_by}
 use Rattle.rw_log.specs.Dispatch.{cell_in}
 use Rattle.rw_engine.specs.declared.undone.Undone.{Undone}
-use Rattle.rw_engine.specs.Undoing.{taken_back, if_undone, undone_at, undone_to, CanUndo}
+use Rattle.rw_engine.specs.Undoing.{taken_back, if_undone, undone_at, undone_to}
 
 -- what stands last is put back first
 pub taken_back-append : (basin : Draft) (first last : List Undone) (cells : Cells) (cell : Cell)

@@ -54,11 +54,7 @@ fn zero(counts: &mut Vec<u8>)
 
 impl State {
     /// The state of a run whose inputs are placed, and no timestep opened.
-    pub(crate) fn for_run(
-        alloc: Global,
-        basin: &Basin,
-        inputs: &Inputs,
-    ) -> Result<State, NoMemory>
+    pub(crate) fn for_run(alloc: Global, basin: &Basin, inputs: &Inputs) -> Result<State, NoMemory>
         requires inputs { IsInputsOf basin.now inputs.now }
         ensures made { IfOk result (IsStateOf basin.now) }
         ensures shows { IfOk result (λ state. Shows basin.now (seen state) (placed [] (givens basin.now inputs.now))) }

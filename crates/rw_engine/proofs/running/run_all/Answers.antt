@@ -1,4 +1,4 @@
-use Rattle.std.proofs.Common.{◌≡◌, ◌<◌, ◌∙◌, ap, arith}
+use Rattle.std.proofs.Common.{◌≡◌, ◌<◌, ◌+◌, ◌∷◌, ap, arith}
 use Rattle.rw_model.specs.declared.control.RunControl.{RunControl}
 use Rattle.rw_engine.proofs.Runs.{stands_first, before_step, stands_next, comes_settled, comes_faulted}
 use Rattle.rw_engine.proofs.running.run_all.Goals as goal
@@ -26,8 +26,8 @@ returns-in-Fault-clause-run g c =
     let steps = ap (λ (k : RunControl). k.stamps.count) c.control.ensures in
     let near : c.loop-before.before < c.args.basin.now.control.stamps.count = let test = c.loop-before-test.true in let value = c.count-before-end.ensures.value in omega arith in
     let passes = rw c.in-Fault.is at c.in_ok-run_step.ensures.passes stands.log stands.shows (before_step c.args.basin.now stands.log c.loop-before.before stands.rest near) in
-    comes_faulted c.args.basin.now c.args.inputs.now c.loop-before.engine c.run_step.new.self c.loop-before.before _ _ c.finish.result stands passes
-    (c.finish.ensures.run c.args.basin.now _ c.run_step.ensures.made passes.shows)
+    comes_faulted c.args.basin.now c.args.inputs.now c.loop-before.engine c.run_step.new.self c.loop-before.before (c.loop-before.before + 1) c.in-Fault.field-0 c.finish.result stands passes
+    (c.finish.ensures.run c.args.basin.now (passes.last ∷ passes.before) c.run_step.ensures.made passes.shows)
 
 pub returns-clause-run : goal.returns-clause-run
 returns-clause-run g c =

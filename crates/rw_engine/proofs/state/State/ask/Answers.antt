@@ -1,13 +1,12 @@
-use Rattle.std.proofs.Common.{arith, ◌≡◌, ◌<◌, ◌≤◌, ◌∙◌, ◌+◌, ◌-◌, sym, ap, refl, length, get_or, set, true, Some, None}
+use Rattle.std.proofs.Common.{arith, ◌≡◌, ◌<◌, ◌∙◌, ◌+◌, ◌-◌, sym, ap, refl, length, get_or, set}
 use Rattle.std.proofs.lemmas.List.{get_or_default}
 use Rattle.std.specs.Option.{option_or}
-use Rattle.rw_base.specs.declared.number.Cell.{Cell}
 use Rattle.rw_model.specs.declared.control.RunControl.{RunControl}
 use Rattle.rw_series.specs.Series.{held}
-use Rattle.rw_log.specs.Log.{Log, Cells, cells_of, last_put, written_by}
+use Rattle.rw_log.specs.Log.{cells_of, last_put, written_by}
 use Rattle.rw_log.specs.Dispatch.{dispatched}
 use Rattle.rw_log.specs.Next.{dispatches}
-use Rattle.rw_engine.specs.State.{seen, Holds}
+use Rattle.rw_engine.specs.State.{seen}
 use Rattle.rw_engine.proofs.After.{within_after, can_undo, can_undo_after}
 use Rattle.rw_engine.proofs.Events.{next_is, room_falls, goes_on, goes_over}
 use Rattle.rw_engine.proofs.state.State.ask.Goals as goal

@@ -1,5 +1,4 @@
 use Rattle.std.proofs.Common.{refl, rules, sym, subst, ◌∙◌}
-use Rattle.std.specs.Prelude.{All}
 use Rattle.rw_log.proofs.Ready.{all_waiting-ready, AreReady}
 use Rattle.rw_engine.proofs.Starts.{settled_at_rest}
 use Rattle.rw_engine.proofs.Steps.{opens_step}

@@ -1,5 +1,4 @@
-use Rattle.std.proofs.Common.{rules, refl, ◌∷◌, ◌∙◌}
-use Rattle.rw_log.specs.Log.{opened}
+use Rattle.std.proofs.Common.{◌∙◌}
 use Rattle.rw_engine.proofs.Steps.{grows_more, reached_more, ends_step}
 use Rattle.rw_engine.proofs.state.State.pass.Goals as goal
 
