@@ -5,6 +5,7 @@ use crate::{
     ArithFault, Blank, Cell, Dim, Ledger, ObjectNo, Qty, RuleNo, SlotNo, StepNo, Steps, unit_of,
 };
 use std::marker::Brand;
+use std::process::Abort;
 use std::test::Fail;
 
 const Q: i64 = 100_000_000_000_000_000;
@@ -33,85 +34,87 @@ fn value(answer: Result<Qty, ArithFault>) -> Result<i64, ArithFault> {
     }
 }
 
+// Checks what the operation answers of the two quantities.
+fn answers(
+    rt: &impl Abort,
+    op: Op,
+    a: i64,
+    b: i64,
+    want: Result<i64, ArithFault>,
+) -> Result<(), Fail> {
+    let first = Qty::of(a).ok_or("no quantity")?;
+    let second = Qty::of(b).ok_or("no quantity")?;
+    assert_eq!(rt;
+        value(answer(op, first, second)),
+        want,
+        "{op:?} of {a} and {b}"
+    );
+    Ok(())
+}
+
+fn beyond(exact: i128) -> Result<i64, ArithFault> {
+    Err(ArithFault::OutOfRange(exact))
+}
+
 #[test]
-fn arithmetic_is_exact_or_says_what_has_no_place(rt: HostRuntime) -> Result<(), Fail> {
-    for (op, a, b, want) in [
-        (Op::Div, 7, 2, Ok(3)),
-        (Op::Div, -7, 2, Ok(-4)),
-        (Op::Div, 7, -2, Ok(-4)),
-        (Op::Div, -7, -2, Ok(3)),
-        (Op::Div, 6, -3, Ok(-2)),
-        (Op::Div, 0, 5, Ok(0)),
-        (Op::Div, Q, -1, Ok(-Q)),
-        (Op::Div, -1, Q, Ok(-1)),
-        (Op::Div, 5, 0, Err(ArithFault::ZeroDivisor)),
-        (Op::Div, 0, 0, Err(ArithFault::ZeroDivisor)),
-        (Op::Mul, Q, 1, Ok(Q)),
-        (
-            Op::Mul,
-            Q,
-            2,
-            Err(ArithFault::OutOfRange(200_000_000_000_000_000)),
-        ),
-        (
-            Op::Mul,
-            -Q,
-            Q,
-            Err(ArithFault::OutOfRange(-10_000_000_000_000_000_000_000_000_000_000_000)),
-        ),
-        (
-            Op::Mul,
-            316_227_766,
-            316_227_766,
-            Ok(99_999_999_989_350_756),
-        ),
-        (
-            Op::Mul,
-            316_227_767,
-            316_227_767,
-            Err(ArithFault::OutOfRange(100_000_000_621_806_289)),
-        ),
-        (Op::Mul, 1_000_000_000, 100_000_000, Ok(Q)),
-        (
-            Op::Mul,
-            1_000_000_001,
-            100_000_000,
-            Err(ArithFault::OutOfRange(100_000_000_100_000_000)),
-        ),
-        (Op::Add, 99_999_999_999_999_999, 1, Ok(Q)),
-        (
-            Op::Add,
-            Q,
-            1,
-            Err(ArithFault::OutOfRange(100_000_000_000_000_001)),
-        ),
-        (
-            Op::Add,
-            -Q,
-            -Q,
-            Err(ArithFault::OutOfRange(-200_000_000_000_000_000)),
-        ),
-        (Op::Sub, -99_999_999_999_999_999, 1, Ok(-Q)),
-        (
-            Op::Sub,
-            -Q,
-            1,
-            Err(ArithFault::OutOfRange(-100_000_000_000_000_001)),
-        ),
-        (
-            Op::Sub,
-            Q,
-            -Q,
-            Err(ArithFault::OutOfRange(200_000_000_000_000_000)),
-        ),
+fn quotients_are_rounded_down_or_have_no_divisor(rt: HostRuntime) -> Result<(), Fail> {
+    for (a, b, want) in [
+        (7, 2, Ok(3)),
+        (-7, 2, Ok(-4)),
+        (7, -2, Ok(-4)),
+        (-7, -2, Ok(3)),
+        (6, -3, Ok(-2)),
+        (0, 5, Ok(0)),
+        (Q, -1, Ok(-Q)),
+        (-1, Q, Ok(-1)),
+        (5, 0, Err(ArithFault::ZeroDivisor)),
+        (0, 0, Err(ArithFault::ZeroDivisor)),
     ] {
-        let first = Qty::of(a).ok_or("no quantity")?;
-        let second = Qty::of(b).ok_or("no quantity")?;
-        assert_eq!(rt;
-            value(answer(op, first, second)),
-            want,
-            "{op:?} of {a} and {b}"
-        );
+        answers(&rt, Op::Div, a, b, want)?;
+    }
+    Ok(())
+}
+
+#[test]
+fn products_are_exact_or_have_no_place(rt: HostRuntime) -> Result<(), Fail> {
+    for (a, b, want) in [
+        (Q, 1, Ok(Q)),
+        (Q, 2, beyond(200_000_000_000_000_000)),
+        (
+            -Q,
+            Q,
+            beyond(-10_000_000_000_000_000_000_000_000_000_000_000),
+        ),
+        (316_227_766, 316_227_766, Ok(99_999_999_989_350_756)),
+        (316_227_767, 316_227_767, beyond(100_000_000_621_806_289)),
+        (1_000_000_000, 100_000_000, Ok(Q)),
+        (1_000_000_001, 100_000_000, beyond(100_000_000_100_000_000)),
+    ] {
+        answers(&rt, Op::Mul, a, b, want)?;
+    }
+    Ok(())
+}
+
+#[test]
+fn sums_are_exact_or_have_no_place(rt: HostRuntime) -> Result<(), Fail> {
+    for (a, b, want) in [
+        (99_999_999_999_999_999, 1, Ok(Q)),
+        (Q, 1, beyond(100_000_000_000_000_001)),
+        (-Q, -Q, beyond(-200_000_000_000_000_000)),
+    ] {
+        answers(&rt, Op::Add, a, b, want)?;
+    }
+    Ok(())
+}
+
+#[test]
+fn differences_are_exact_or_have_no_place(rt: HostRuntime) -> Result<(), Fail> {
+    for (a, b, want) in [
+        (-99_999_999_999_999_999, 1, Ok(-Q)),
+        (-Q, 1, beyond(-100_000_000_000_000_001)),
+        (Q, -Q, beyond(200_000_000_000_000_000)),
+    ] {
+        answers(&rt, Op::Sub, a, b, want)?;
     }
     Ok(())
 }
