@@ -1,9 +1,9 @@
-//! Worked values of dispatches, runs, traces and sections, by calls below the top one. There is nothing here but tests: what
-//! they compare with was worked out by hand.
+//! Worked values of the queue of objects that wait, of runs, traces and sections, by calls below the top one. There is
+//! nothing here but tests: what they compare with was worked out by hand.
 #![tactic(auto)]
 
 #[cfg(test)]
-mod dispatch;
+mod queue;
 #[cfg(test)]
 mod runs;
 #[cfg(test)]
