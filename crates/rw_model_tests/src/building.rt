@@ -5,7 +5,7 @@ use rw_base::{Dim, ObjectNo, Qty, SlotNo};
 use rw_calendar::{Stamps, Start, StepLength};
 use rw_model::{
     AgendaOrder, Basin, BasinBuilder, BuildFault, DataSlot, DataSlots, History, Kind, Name,
-    RunControl, Supply,
+    RunControl,
 };
 use rw_table::Rating;
 use std::alloc::Global;
@@ -111,16 +111,6 @@ fn objects_are_judged(rt: HostRuntime) {
 }
 
 #[test]
-fn slots_are_found_by_name(rt: HostRuntime) {
-    let builder = two_gages(&rt, rt.alloc());
-    assert_eq!(rt; builder.find_slot("Upper", "GageInflow"), Some(SlotNo(1)));
-    assert_eq!(rt; builder.find_slot("Lower", "GageOutflow"), Some(SlotNo(4)));
-    assert_eq!(rt; builder.find_slot("Targets", "Least"), Some(SlotNo(6)));
-    assert_eq!(rt; builder.find_slot("Targets", "GageInflow"), None);
-    assert_eq!(rt; builder.find_slot("More", "A"), None);
-}
-
-#[test]
 fn links_are_judged(rt: HostRuntime) {
     let mut builder = two_gages(&rt, rt.alloc());
     let alone = builder.link(&[SlotNo(1)]);
@@ -159,103 +149,6 @@ fn bounds_are_judged(rt: HostRuntime) {
     assert_eq!(rt; above, Err(BuildFault::BadParameter));
     assert_eq!(rt; builder.bound(SlotNo(4), 0, 10_000_000), Ok(()));
     assert_eq!(rt; builder.bound(SlotNo(11), 5, 5), Ok(()));
-}
-
-fn gages(rt: &impl Abort, alloc: Global, count: u16) -> BasinBuilder {
-    let mut builder = begun(rt, alloc, 1);
-    for number in 0..count {
-        let name = format!(in alloc; "Gage{number}").expect(rt, "memory");
-        add(rt, &mut builder, name.as_str(), Kind::Gage);
-    }
-    builder
-}
-
-#[test]
-fn the_most_objects(rt: HostRuntime) {
-    let mut builder = gages(&rt, rt.alloc(), 500);
-    let more = builder.object("More", Kind::Gage);
-    assert_eq!(rt; more, Err(BuildFault::TooMany(500)));
-    let last = builder.find_slot("Gage499", "GageOutflow");
-    assert_eq!(rt; last, Some(SlotNo(1000)));
-}
-
-// 4000 slots.
-fn full(rt: &impl Abort, alloc: Global, steps: u16) -> BasinBuilder
-    requires some { 1 ≤ steps }
-    requires few { steps ≤ 4096 }
-{
-    let mut builder = begun(rt, alloc, steps);
-    for number in 0..500_u16 {
-        let name = format!(in alloc; "Data{number}").expect(rt, "memory");
-        let kind = data(rt, alloc, &["A", "B", "C", "D", "E", "F", "G", "H"]);
-        add(rt, &mut builder, name.as_str(), kind);
-    }
-    builder
-}
-
-#[test]
-fn the_most_slots(rt: HostRuntime) {
-    let alloc = rt.alloc();
-    let mut builder = begun(&rt, alloc, 1);
-    for number in 0..363_u16 {
-        let name = format!(in alloc; "Lake{number}").expect(&rt, "memory");
-        add(&rt, &mut builder, name.as_str(), reservoir(&rt, alloc, 100));
-    }
-    add(
-        &rt,
-        &mut builder,
-        "User",
-        Kind::WaterUser {
-            depletion: 1000,
-            supply: Supply::Rule,
-        },
-    );
-    add(&rt, &mut builder, "Canal", Kind::Canal { seepage: 0 });
-    let more = builder.object("More", data(&rt, alloc, &["A"]));
-    assert_eq!(rt; more, Err(BuildFault::TooMany(4000)));
-}
-
-#[test]
-fn the_most_cells(rt: HostRuntime) {
-    let alloc = rt.alloc();
-    assert!(rt; full(&rt, alloc, 250).finish().is_ok());
-    let more = full(&rt, alloc, 251).finish().err();
-    assert_eq!(rt; more, Some(BuildFault::TooMany(1_000_000)));
-    let empty = begun(&rt, alloc, 1).finish().err();
-    assert_eq!(rt; empty, Some(BuildFault::BadParameter));
-}
-
-#[test]
-fn the_most_linked_slots(rt: HostRuntime) {
-    let mut builder = gages(&rt, rt.alloc(), 9);
-    let slots = [
-        SlotNo(17),
-        SlotNo(1),
-        SlotNo(3),
-        SlotNo(5),
-        SlotNo(7),
-        SlotNo(9),
-        SlotNo(11),
-        SlotNo(13),
-        SlotNo(15),
-    ];
-    assert_eq!(rt; builder.link(&slots), Err(BuildFault::BadParameter));
-    assert_eq!(rt; builder.link(&slots[..8]), Ok(()));
-}
-
-fn bound_pair(rt: &impl Abort, alloc: Global, least: i64) -> Option<BuildFault> {
-    let mut builder = two_gages(rt, alloc);
-    builder.link(&[SlotNo(3), SlotNo(2)]).expect(rt, "a link");
-    builder.bound(SlotNo(2), 0, 5).expect(rt, "bounds");
-    builder.bound(SlotNo(3), least, 9).expect(rt, "bounds");
-    builder.finish().err()
-}
-
-#[test]
-fn bounds_of_linked_slots_have_to_meet(rt: HostRuntime) {
-    let alloc = rt.alloc();
-    assert_eq!(rt; bound_pair(&rt, alloc, 6), Some(BuildFault::LinkBounds));
-    assert_eq!(rt; bound_pair(&rt, alloc, 5), None);
 }
 
 // A lake whose outflow is linked to a reach of lag 2, whose inflow is bound.

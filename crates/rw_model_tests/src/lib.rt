@@ -9,6 +9,6 @@ mod files;
 #[cfg(test)]
 mod inputs;
 #[cfg(test)]
-mod kinds;
+mod puts;
 #[cfg(test)]
 mod series;

@@ -1,4 +1,4 @@
-//! Worked values of the queue of objects that wait, of runs, traces and sections, by calls below the top one. There is
+//! Worked values of the queue of objects that wait, of runs and of sections, by calls below the top one. There is
 //! nothing here but tests: what they compare with was worked out by hand.
 #![tactic(auto)]
 
@@ -8,5 +8,3 @@ mod queue;
 mod runs;
 #[cfg(test)]
 mod sections;
-#[cfg(test)]
-mod traces;
