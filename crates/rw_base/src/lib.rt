@@ -10,8 +10,6 @@ mod memory;
 mod number;
 mod quantity;
 mod steps;
-#[cfg(test)]
-mod tests;
 mod unit;
 
 pub use dimension::Dim;

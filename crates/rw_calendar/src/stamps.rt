@@ -159,6 +159,3 @@ impl Stamps {
         Ok(format!(in alloc; "{date}T{hour:02}:00")?)
     }
 }
-
-#[cfg(test)]
-mod tests;

@@ -9,8 +9,6 @@ mod plan;
 mod shelf;
 mod sink;
 mod std_sink;
-#[cfg(test)]
-mod tests;
 mod whole_file;
 mod whole_text;
 

@@ -26,23 +26,15 @@ pub(crate) enum Want<'a> {
 
 /// The values in the slots, each with its place, and what is to be answered.
 #[derive(Clone, Copy)]
-pub(crate) struct TableRow<'a> {
-    known: &'a [(u8, i64, By)],
-    want: Want<'a>,
-}
+pub(crate) struct TableRow<'a>(pub(crate) &'a [(u8, i64, By)], pub(crate) Want<'a>);
 
-/// The row of these.
-pub(crate) fn row<'a>(known: &'a [(u8, i64, By)], want: Want<'a>) -> TableRow<'a> {
-    TableRow { known, want }
-}
-
-/// An object of a kind, its storage before or its inflow as long ago as its lag, and bounds other than the usual ones, each
-/// with its place.
+/// An object's storage before or its inflow as long ago as its lag, its bounds other than the usual ones, each with its
+/// place, and what it is to answer.
 #[derive(Clone, Copy)]
-pub(crate) struct Setting<'a> {
-    pub(crate) kind: &'a Kind,
+pub(crate) struct Table<'a> {
     pub(crate) past: Option<i64>,
     pub(crate) bounds: &'a [(u8, i64, i64)],
+    pub(crate) rows: &'a [TableRow<'a>],
 }
 
 const OWN: ObjectNo = ObjectNo(1);
@@ -63,15 +55,15 @@ fn content(value: i64, by: By) -> Option<Content> {
     }
 }
 
-fn bounds_of(setting: Setting<'_>) -> [(i64, i64); 12] {
+fn bounds_of(kind: &Kind, given: &[(u8, i64, i64)]) -> [(i64, i64); 12] {
     let mut bounds = [(0, 0); 12];
     for place in 0..12 {
-        if let Some(slot) = setting.kind.slot(place) {
+        if let Some(slot) = kind.slot(place) {
             bounds[usize::from(place)] = slot.usual();
         }
     }
-    for k in 0..setting.bounds.len() {
-        let (place, low, high) = setting.bounds[k];
+    for k in 0..given.len() {
+        let (place, low, high) = given[k];
         if let Some(bound) = bounds.get_mut(usize::from(place)) {
             *bound = (low, high);
         }
@@ -79,7 +71,7 @@ fn bounds_of(setting: Setting<'_>) -> [(i64, i64); 12] {
     bounds
 }
 
-fn view_of(setting: Setting<'_>, known: &[(u8, i64, By)]) -> View {
+fn view_of(kind: &Kind, table: Table<'_>, known: &[(u8, i64, By)]) -> View {
     let mut now = [None; 12];
     for k in 0..known.len() {
         let (place, value, by) = known[k];
@@ -87,7 +79,7 @@ fn view_of(setting: Setting<'_>, known: &[(u8, i64, By)]) -> View {
             *slot = content(value, by);
         }
     }
-    let past = match setting.past {
+    let past = match table.past {
         Some(past) => Qty::of(past),
         None => None,
     };
@@ -95,7 +87,7 @@ fn view_of(setting: Setting<'_>, known: &[(u8, i64, By)]) -> View {
         own: OWN,
         now,
         past,
-        bounds: bounds_of(setting),
+        bounds: bounds_of(kind, table.bounds),
     }
 }
 
@@ -134,22 +126,22 @@ fn is_wanted(solved: &Solved, want: Want<'_>) -> bool {
     }
 }
 
-fn is_right(catalogue: &Catalogue, setting: Setting<'_>, row: TableRow<'_>) -> bool
+fn is_right(catalogue: &Catalogue, kind: &Kind, table: Table<'_>, row: TableRow<'_>) -> bool
     requires { AreInOrder (map (λ b. code (b.vtable, b.value)) catalogue.now.methods.items) }
 {
-    let view = view_of(setting, row.known);
-    if setting.kind.code() == 0 || !is_view_of(setting.kind, &view) {
+    let view = view_of(kind, table, row.0);
+    if kind.code() == 0 || !is_view_of(kind, &view) {
         return false;
     }
-    is_wanted(&catalogue.solve(setting.kind, &view), row.want)
+    is_wanted(&catalogue.solve(kind, &view), row.1)
 }
 
-/// Whether each row is answered as it wants.
-pub(crate) fn are_right(catalogue: &Catalogue, setting: Setting<'_>, rows: &[TableRow<'_>]) -> bool
+/// Whether each row of the table is answered as it wants.
+pub(crate) fn are_right(catalogue: &Catalogue, kind: &Kind, table: Table<'_>) -> bool
     requires { AreInOrder (map (λ b. code (b.vtable, b.value)) catalogue.now.methods.items) }
 {
-    for k in 0..rows.len() {
-        if !is_right(catalogue, setting, rows[k]) {
+    for k in 0..table.rows.len() {
+        if !is_right(catalogue, kind, table, table.rows[k]) {
             return false;
         }
     }

@@ -12,6 +12,10 @@ mod is_view;
 #[cfg(test)]
 mod methods;
 #[cfg(test)]
+mod objects;
+#[cfg(test)]
+mod pools;
+#[cfg(test)]
 mod reservoirs;
 #[cfg(test)]
 mod runs;

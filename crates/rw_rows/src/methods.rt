@@ -2,24 +2,22 @@
 ghost use Rattle.std.specs.Prelude.{◌≡◌, map};
 ghost use Rattle.rw_method.specs.Catalogue.{AreInOrder};
 
+use crate::dispatch::are_right;
 use crate::reservoirs::{
-    contents_are_right, evaporation_is_right, given_levels_are_right,
-    levels_outside_the_table_are_right, pasts_outside_the_table_are_right, releases_are_right,
-    side_flows_are_right, storages_are_right, unknown_pasts_are_idle,
+    CONTENTS, EVAPORATION, GIVEN_LEVELS, LEVELS_OUTSIDE_THE_TABLE, PASTS_OUTSIDE_THE_TABLE,
+    RELEASES, SIDE_FLOWS, STORAGES, UNKNOWN_PASTS,
 };
-use crate::streams::{
-    bifurcations_are_right, confluences_are_right, gages_are_right, given_reaches_are_right,
-    lagged_reaches_are_right, reaches_are_right,
-};
-use crate::users::{canals_are_right, diversions_by_rule_are_right, requests_are_right};
+use crate::streams::{BIFURCATIONS, CONFLUENCES, GAGES, GIVEN_REACHES, LAGGED_REACHES, REACHES};
+use crate::users::{CANALS, DIVERSIONS_BY_RULE, REQUESTS};
 use rw_method::{Catalogue, CatalogueFault, Method};
-use rw_model::{History, Kind};
+use rw_model::{History, Kind, Supply};
 use rw_reservoir::ReservoirMethod;
 use rw_stream::{BifurcationMethod, ConfluenceMethod, GageMethod, ReachMethod};
 use rw_table::Rating;
 use rw_users::{CanalMethod, WaterUserMethod};
 use std::alloc::Global;
 use std::process::Abort;
+use std::test::Fail;
 
 fn reach(rt: &impl Abort, alloc: Global, inflows: &[i64], side_flows: bool) -> Kind {
     Kind::Reach {
@@ -56,126 +54,95 @@ fn reservoir(rt: &impl Abort, alloc: Global, evaporation: bool, max_release: Opt
     }
 }
 
+fn user(supply: Supply) -> Kind {
+    Kind::WaterUser {
+        depletion: 333,
+        supply,
+    }
+}
+
 fn check_reaches(rt: &impl Abort, alloc: Global, catalogue: &Catalogue)
     requires { AreInOrder (map (λ b. code (b.vtable, b.value)) catalogue.now.methods.items) }
 {
     let lagged = reach(rt, alloc, &[1, 2], false);
-    assert!(rt; lagged_reaches_are_right(catalogue, &lagged));
-    assert!(rt; unknown_pasts_are_idle(catalogue, &lagged));
+    assert!(rt; are_right(catalogue, &lagged, LAGGED_REACHES));
+    assert!(rt; are_right(catalogue, &lagged, UNKNOWN_PASTS));
     let unlagged = reach(rt, alloc, &[], true);
-    assert!(rt; reaches_are_right(catalogue, &unlagged));
-    assert!(rt; given_reaches_are_right(catalogue, &unlagged));
+    assert!(rt; are_right(catalogue, &unlagged, REACHES));
+    assert!(rt; are_right(catalogue, &unlagged, GIVEN_REACHES));
 }
 
 fn check_reservoirs(rt: &impl Abort, alloc: Global, catalogue: &Catalogue)
     requires { AreInOrder (map (λ b. code (b.vtable, b.value)) catalogue.now.methods.items) }
 {
-    assert!(rt; storages_are_right(catalogue, &storage(false)));
-    assert!(rt; unknown_pasts_are_idle(catalogue, &storage(false)));
-    assert!(rt; side_flows_are_right(catalogue, &storage(true)));
+    assert!(rt; are_right(catalogue, &storage(false), STORAGES));
+    assert!(rt; are_right(catalogue, &storage(false), UNKNOWN_PASTS));
+    assert!(rt; are_right(catalogue, &storage(true), SIDE_FLOWS));
     let tabled = reservoir(rt, alloc, false, None);
-    assert!(rt; contents_are_right(catalogue, &tabled));
-    assert!(rt; given_levels_are_right(catalogue, &tabled));
-    assert!(rt; levels_outside_the_table_are_right(catalogue, &tabled));
+    assert!(rt; are_right(catalogue, &tabled, CONTENTS));
+    assert!(rt; are_right(catalogue, &tabled, GIVEN_LEVELS));
+    assert!(rt; are_right(catalogue, &tabled, LEVELS_OUTSIDE_THE_TABLE));
     let evaporating = reservoir(rt, alloc, true, None);
-    assert!(rt; evaporation_is_right(catalogue, &evaporating));
-    assert!(rt; pasts_outside_the_table_are_right(catalogue, &evaporating));
-    assert!(rt; releases_are_right(catalogue, &reservoir(rt, alloc, false, Some(60))));
+    assert!(rt; are_right(catalogue, &evaporating, EVAPORATION));
+    assert!(rt; are_right(catalogue, &evaporating, PASTS_OUTSIDE_THE_TABLE));
+    let releasing = reservoir(rt, alloc, false, Some(60));
+    assert!(rt; are_right(catalogue, &releasing, RELEASES));
 }
 
 fn check_others(rt: &impl Abort, catalogue: &Catalogue)
     requires { AreInOrder (map (λ b. code (b.vtable, b.value)) catalogue.now.methods.items) }
 {
-    assert!(rt; gages_are_right(catalogue));
-    assert!(rt; confluences_are_right(catalogue));
-    assert!(rt; bifurcations_are_right(catalogue));
-    assert!(rt; requests_are_right(catalogue));
-    assert!(rt; diversions_by_rule_are_right(catalogue));
-    assert!(rt; canals_are_right(catalogue));
+    assert!(rt; are_right(catalogue, &Kind::Gage, GAGES));
+    assert!(rt; are_right(catalogue, &Kind::Confluence, CONFLUENCES));
+    assert!(rt; are_right(catalogue, &Kind::Bifurcation, BIFURCATIONS));
+    assert!(rt; are_right(catalogue, &user(Supply::Request), REQUESTS));
+    assert!(rt; are_right(catalogue, &user(Supply::Rule), DIVERSIONS_BY_RULE));
+    assert!(rt; are_right(catalogue, &Kind::Canal { seepage: 100 }, CANALS));
 }
 
 #[test]
-fn each_kind_is_solved_by_its_rules(rt: HostRuntime) {
+fn each_kind_is_solved_by_its_rules(rt: HostRuntime) -> Result<(), Fail> {
     let alloc = rt.alloc();
     let mut methods: Vec<Box<dyn Method>> = Vec::new(alloc);
-    methods
-        .push(Box::new(alloc, GageMethod).expect(&rt, "memory"))
-        .expect(&rt, "memory");
-    methods
-        .push(Box::new(alloc, ConfluenceMethod).expect(&rt, "memory"))
-        .expect(&rt, "memory");
-    methods
-        .push(Box::new(alloc, BifurcationMethod).expect(&rt, "memory"))
-        .expect(&rt, "memory");
-    methods
-        .push(Box::new(alloc, ReachMethod).expect(&rt, "memory"))
-        .expect(&rt, "memory");
-    methods
-        .push(Box::new(alloc, ReservoirMethod).expect(&rt, "memory"))
-        .expect(&rt, "memory");
-    methods
-        .push(Box::new(alloc, WaterUserMethod).expect(&rt, "memory"))
-        .expect(&rt, "memory");
-    methods
-        .push(Box::new(alloc, CanalMethod).expect(&rt, "memory"))
-        .expect(&rt, "memory");
+    methods.push(Box::new(alloc, GageMethod)?)?;
+    methods.push(Box::new(alloc, ConfluenceMethod)?)?;
+    methods.push(Box::new(alloc, BifurcationMethod)?)?;
+    methods.push(Box::new(alloc, ReachMethod)?)?;
+    methods.push(Box::new(alloc, ReservoirMethod)?)?;
+    methods.push(Box::new(alloc, WaterUserMethod)?)?;
+    methods.push(Box::new(alloc, CanalMethod)?)?;
     let catalogue = Catalogue::of(methods).expect(&rt, "a catalogue");
     check_others(&rt, &catalogue);
     check_reaches(&rt, alloc, &catalogue);
     check_reservoirs(&rt, alloc, &catalogue);
+    Ok(())
 }
 
 #[test]
-fn gage_and_confluence_are_exchanged(rt: HostRuntime) {
+fn gage_and_confluence_are_exchanged(rt: HostRuntime) -> Result<(), Fail> {
     let alloc = rt.alloc();
     let mut methods: Vec<Box<dyn Method>> = Vec::new(alloc);
-    methods
-        .push(Box::new(alloc, ConfluenceMethod).expect(&rt, "memory"))
-        .expect(&rt, "memory");
-    methods
-        .push(Box::new(alloc, GageMethod).expect(&rt, "memory"))
-        .expect(&rt, "memory");
-    methods
-        .push(Box::new(alloc, BifurcationMethod).expect(&rt, "memory"))
-        .expect(&rt, "memory");
-    methods
-        .push(Box::new(alloc, ReachMethod).expect(&rt, "memory"))
-        .expect(&rt, "memory");
-    methods
-        .push(Box::new(alloc, ReservoirMethod).expect(&rt, "memory"))
-        .expect(&rt, "memory");
-    methods
-        .push(Box::new(alloc, WaterUserMethod).expect(&rt, "memory"))
-        .expect(&rt, "memory");
-    methods
-        .push(Box::new(alloc, CanalMethod).expect(&rt, "memory"))
-        .expect(&rt, "memory");
-    let refused = Catalogue::of(methods);
-    assert!(rt; matches!(refused, Err(CatalogueFault::WrongPlace(1))));
+    methods.push(Box::new(alloc, ConfluenceMethod)?)?;
+    methods.push(Box::new(alloc, GageMethod)?)?;
+    methods.push(Box::new(alloc, BifurcationMethod)?)?;
+    methods.push(Box::new(alloc, ReachMethod)?)?;
+    methods.push(Box::new(alloc, ReservoirMethod)?)?;
+    methods.push(Box::new(alloc, WaterUserMethod)?)?;
+    methods.push(Box::new(alloc, CanalMethod)?)?;
+    assert!(rt; matches!(Catalogue::of(methods), Err(CatalogueFault::WrongPlace(1))));
+    Ok(())
 }
 
 #[test]
-fn six_methods_are_too_few(rt: HostRuntime) {
+fn six_methods_are_too_few(rt: HostRuntime) -> Result<(), Fail> {
     let alloc = rt.alloc();
     let mut methods: Vec<Box<dyn Method>> = Vec::new(alloc);
-    methods
-        .push(Box::new(alloc, GageMethod).expect(&rt, "memory"))
-        .expect(&rt, "memory");
-    methods
-        .push(Box::new(alloc, ConfluenceMethod).expect(&rt, "memory"))
-        .expect(&rt, "memory");
-    methods
-        .push(Box::new(alloc, BifurcationMethod).expect(&rt, "memory"))
-        .expect(&rt, "memory");
-    methods
-        .push(Box::new(alloc, ReachMethod).expect(&rt, "memory"))
-        .expect(&rt, "memory");
-    methods
-        .push(Box::new(alloc, ReservoirMethod).expect(&rt, "memory"))
-        .expect(&rt, "memory");
-    methods
-        .push(Box::new(alloc, WaterUserMethod).expect(&rt, "memory"))
-        .expect(&rt, "memory");
-    let refused = Catalogue::of(methods);
-    assert!(rt; matches!(refused, Err(CatalogueFault::WrongCount(6))));
+    methods.push(Box::new(alloc, GageMethod)?)?;
+    methods.push(Box::new(alloc, ConfluenceMethod)?)?;
+    methods.push(Box::new(alloc, BifurcationMethod)?)?;
+    methods.push(Box::new(alloc, ReachMethod)?)?;
+    methods.push(Box::new(alloc, ReservoirMethod)?)?;
+    methods.push(Box::new(alloc, WaterUserMethod)?)?;
+    assert!(rt; matches!(Catalogue::of(methods), Err(CatalogueFault::WrongCount(6))));
+    Ok(())
 }

@@ -24,7 +24,7 @@ const MODEL_OF_NONE: &str =
     "format = 1\n[run]\nstart = \"2020-01-01T00:00\"\nstep = \"24h\"\nsteps = 0\n[[object]]\nname = \"Dam\"\nkind = \"reservoir\"\ninitial_storage = 1000\n";
 
 const INPUTS_OF_THREE: &str =
-    "slot,step,value\nDam.Inflow,1,100\nDam.Inflow,2,100\nDam.Inflow,3,100\nDam.Outflow,1,50\nDam.Outflow,2,150\nDam.Outflow,3,100\n";
+    "slot,step,value\nDam.Inflow,1-3,100\nDam.Outflow,1,50\nDam.Outflow,2,150\nDam.Outflow,3,100\n";
 
 const TABLE_OF_THREE: &str =
     "# batch 0 settled\nstep,stamp,Dam.Inflow,Dam.Outflow,Dam.Storage\n1,2020-01-02T00:00,100,50,1050\n2,2020-01-03T00:00,100,150,1000\n3,2020-01-04T00:00,100,100,1000\n";
@@ -184,13 +184,35 @@ fn refusals_have_their_status_and_line(rt: HostRuntime) -> Result<(), Fail> {
     Ok(())
 }
 
+// Inputs of one day, and what is said of them.
+const REFUSED: &[(&str, &str)] = &[
+    ("", "basin: inputs: row 1 column 0: header\n"),
+    (
+        "slot,step,value\nDam.Inflow,1\n",
+        "basin: inputs: row 2 column 0: ragged\n",
+    ),
+    (
+        "slot,step,value\nDam.Inflow,1,100000000000000001\n",
+        "basin: inputs: row 2 column 3: out of bounds\n",
+    ),
+    (
+        "slot,step,value\nDam.Inflow,2,5\n",
+        "basin: inputs: row 2 column 2: step outside\n",
+    ),
+    (
+        "slot,step,value\nDam.Inflow,1,5\nDam.Inflow,1,5\n",
+        "basin: inputs: row 3 column 0: twice\n",
+    ),
+];
+
 #[test]
-fn a_range_of_timesteps_is_given_at_once(rt: HostRuntime) -> Result<(), Fail> {
-    let ranges =
-        "slot,step,value\nDam.Inflow,1-3,100\nDam.Outflow,1,50\nDam.Outflow,2,150\nDam.Outflow,3,100\n";
-    let done = simulate(rt.alloc(), MODEL_OF_THREE, ranges, NONE_FAILS)?;
-    assert_eq!(rt; done.status, 0);
-    assert_eq!(rt; done.out.as_slice(), TABLE_OF_THREE.as_bytes());
+fn inputs_are_refused_at_their_place(rt: HostRuntime) -> Result<(), Fail> {
+    for (inputs, line) in REFUSED {
+        let done = simulate(rt.alloc(), MODEL_OF_ONE, *inputs, NONE_FAILS)?;
+        assert_eq!(rt; done.status, 8);
+        assert_eq!(rt; done.err.as_slice(), line.as_bytes());
+        assert!(rt; done.out.is_empty());
+    }
     Ok(())
 }
 

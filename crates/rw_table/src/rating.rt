@@ -69,6 +69,3 @@ impl Rating {
         self.rows[0].0
     }
 }
-
-#[cfg(test)]
-mod tests;

@@ -1,0 +1,136 @@
+//! What no clause says of files and streams: that calls succeed, which calls fail, how much is asked for at a time, and real files.
+ghost use Rattle.std.specs.Prelude.{None, string_bytes};
+ghost use Rattle.std.specs.Option.{option_map};
+
+use rw_base::NoMemory;
+use rw_io::{
+    FILE_MAX, FileShelf, MemShelf, MemSink, PIECE_MAX, ReadEnd, Shelf, ShelfFault, Sink, StdSink,
+    read_all, write_all,
+};
+use std::alloc::Global;
+use std::fs;
+use std::test::Fail;
+
+fn numbers(alloc: Global, given: &[u64]) -> Result<Vec<u64>, NoMemory> {
+    Ok(Vec::from_slice(alloc, given)?)
+}
+
+fn shelf(alloc: Global, files: &[(&str, &[u8])], failing: &[u64]) -> Result<MemShelf, NoMemory> {
+    let mut owned = Vec::new(alloc);
+    for (path, bytes) in files {
+        let path = String::from_str(alloc, *path)?;
+        let bytes = Vec::from_slice(alloc, *bytes)?;
+        owned.push((path, bytes))?;
+    }
+    MemShelf::of(alloc, owned, numbers(alloc, failing)?)
+}
+
+#[test]
+fn the_first_file_of_a_path_is_read(rt: HostRuntime) -> Result<(), Fail> {
+    let alloc = rt.alloc();
+    let mut shelf = shelf(alloc, &[("a", b"one"), ("b", b""), ("a", b"two")], &[])?;
+    let found = read_all(alloc, &mut shelf, "a").map_err(|_| "not read")?;
+    assert_eq!(rt; found.as_slice(), b"one".as_slice());
+    let found = read_all(alloc, &mut shelf, "b").map_err(|_| "not read")?;
+    assert!(rt; found.is_empty());
+    assert!(rt; matches!(read_all(alloc, &mut shelf, "c"), Err(ReadEnd::ReadFault)));
+    Ok(())
+}
+
+#[test]
+fn calls_of_a_shelf_fail_by_number(rt: HostRuntime) -> Result<(), Fail> {
+    // Each `read_all` starts the file, reads its text and reads its end.
+    let alloc = rt.alloc();
+    let mut shelf = shelf(alloc, &[("a", b"one")], &[1, 3, 7])?;
+    assert!(rt; matches!(read_all(alloc, &mut shelf, "a"), Err(ReadEnd::ReadFault)));
+    assert!(rt; matches!(read_all(alloc, &mut shelf, "a"), Err(ReadEnd::ReadFault)));
+    assert!(rt; read_all(alloc, &mut shelf, "a").is_ok());
+    assert!(rt; matches!(read_all(alloc, &mut shelf, "a"), Err(ReadEnd::ReadFault)));
+    assert!(rt; read_all(alloc, &mut shelf, "a").is_ok());
+    Ok(())
+}
+
+#[test]
+fn calls_of_a_sink_fail_by_number(rt: HostRuntime) -> Result<(), Fail> {
+    let alloc = rt.alloc();
+    let mut sink = MemSink::of(alloc, numbers(alloc, &[2])?);
+    assert!(rt; write_all(&mut sink, b"one").is_ok());
+    assert!(rt; write_all(&mut sink, b"two").is_err());
+    assert!(rt; write_all(&mut sink, b"three").is_ok());
+    assert_eq!(rt; sink.held(), b"onethree".as_slice());
+    Ok(())
+}
+
+// A shelf of one endless file, which notes the most that was asked for at a time.
+#[derive(Drop)]
+struct Endless {
+    started: Option<String>,
+    given: u64,
+    most: usize,
+}
+
+impl Shelf for Endless {
+    ghost holds = { λ _ _. None };
+
+    ghost started = { λ s. option_map (λ path. string_bytes path) s.started };
+
+    ghost left = { λ _. None };
+
+    ghost given = { λ s. s.given };
+
+    ghost faults = { λ _ _. 0 };
+
+    fn start(&mut self, path: String) -> Result<(), ShelfFault> {
+        self.started = Some(path);
+        self.given = 0;
+        Ok(())
+    }
+
+    fn read(&mut self, buf: &mut [u8]) -> Result<usize, ShelfFault> {
+        let _given = self.given;
+        if self.started.is_none() {
+            return Ok(0);
+        }
+        self.most = self.most.max(buf.len());
+        self.given = self.given.saturating_add(buf.len() as u64);
+        Ok(buf.len())
+    }
+}
+
+#[test]
+fn an_endless_file_is_read_in_pieces_until_it_is_too_long(rt: HostRuntime) -> Result<(), Fail> {
+    let mut endless = Endless {
+        started: None,
+        given: 0,
+        most: 0,
+    };
+    assert!(rt;
+        matches!(
+            read_all(rt.alloc(), &mut endless, "a"),
+            Err(ReadEnd::TooLong)
+        )
+    );
+    assert_eq!(rt; endless.most, PIECE_MAX);
+    assert_eq!(rt; endless.given, (FILE_MAX + PIECE_MAX) as u64);
+    Ok(())
+}
+
+#[test]
+fn a_real_file_is_written_and_read(rt: HostRuntime) -> Result<(), Fail> {
+    let alloc = rt.alloc();
+    let text = b"Dam.Inflow,1,100\n";
+    let mut sink = StdSink::of(fs::create(&rt, "inputs.csv")?);
+    assert_eq!(rt; sink.write(b""), Ok(0));
+    assert!(rt; write_all(&mut sink, text).is_ok());
+    let mut shelf = FileShelf::of(&rt);
+    let found = read_all(alloc, &mut shelf, "inputs.csv").map_err(|_| "not read")?;
+    assert_eq!(rt; found.as_slice(), text.as_slice());
+    assert!(rt;
+        matches!(
+            read_all(alloc, &mut shelf, "none.csv"),
+            Err(ReadEnd::ReadFault)
+        )
+    );
+    fs::remove_file(&rt, "inputs.csv")?;
+    Ok(())
+}

@@ -1,0 +1,54 @@
+//! Two inflows meet in Join, whose outflow is the inflow of Mark, a gage. Notes only keeps data.
+use crate::shared::basin;
+use rw_base::{ObjectNo, SlotNo};
+use rw_dispatch::Queue;
+use std::process::Abort;
+
+const JOIN: ObjectNo = ObjectNo(1);
+
+const MARK: ObjectNo = ObjectNo(2);
+
+const LAKE: ObjectNo = ObjectNo(4);
+
+// Slots 1 to 3 are those of Join, 4 and 5 of Mark, 6 of Notes, 7 to 9 of Lake.
+const MODEL: &str = r#"
+format = 1
+[run]
+start = "2020-01-01T00:00"
+step = "24h"
+steps = 3
+[[object]]
+name = "Join"
+kind = "confluence"
+[[object]]
+name = "Mark"
+kind = "gage"
+[[object]]
+name = "Notes"
+kind = "data"
+slots = [{ name = "Level", unit = "mm" }]
+[[object]]
+name = "Lake"
+kind = "reservoir"
+initial_storage = 9
+[[link]]
+slots = ["Join.Outflow", "Mark.GageInflow"]
+"#;
+
+#[test]
+fn owners_wait_once_in_order_of_waking(rt: HostRuntime) {
+    let alloc = rt.alloc();
+    let basin = basin(&rt, alloc, MODEL);
+    assert!(rt; basin.slot_count() == 9);
+    let mut queue = Queue::for_basin(alloc, &basin).expect(&rt, "memory");
+    queue.begin_step(&basin);
+    assert_eq!(rt; queue.next(), Some(JOIN));
+    assert_eq!(rt; queue.next(), Some(MARK));
+    queue.wake(&basin, &[SlotNo(6), SlotNo(8)], None);
+    queue.wake(&basin, &[SlotNo(3), SlotNo(1)], Some(JOIN));
+    queue.wake(&basin, &[SlotNo(9), SlotNo(1)], None);
+    assert_eq!(rt; queue.next(), Some(LAKE));
+    assert_eq!(rt; queue.next(), Some(MARK));
+    assert_eq!(rt; queue.next(), Some(JOIN));
+    assert_eq!(rt; queue.next(), None);
+}

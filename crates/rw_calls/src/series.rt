@@ -1,0 +1,31 @@
+//! Values that are put into a series, restored, and copied.
+use crate::shared::{TWO_GAGES, basin, cell};
+use rw_base::{ObjectNo, Qty, RuleNo};
+use rw_model::{Content, PutEnd, Writer};
+use rw_series::Series;
+use std::process::Abort;
+
+fn content(rt: &impl Abort, value: i64, number: u16, writer: Writer) -> Content {
+    Content {
+        value: Qty::of(value).expect(rt, "a quantity"),
+        number,
+        writer,
+    }
+}
+
+#[test]
+fn linked_slots_hold_one_value(rt: HostRuntime) {
+    let alloc = rt.alloc();
+    let basin = basin(&rt, alloc, TWO_GAGES);
+    let mut series = Series::sized(alloc, &basin).expect(&rt, "memory");
+    let leaves = cell(&rt, &basin, "Up", "GageOutflow", 2);
+    let comes = cell(&rt, &basin, "Low", "GageInflow", 2);
+    let ruled = content(&rt, 5, 2, Writer::Rule(RuleNo(2)));
+    let solved = content(&rt, 6, 3, Writer::Object(ObjectNo(2)));
+    assert_eq!(rt; series.put(&basin, leaves, ruled), PutEnd::Written);
+    let copy = series.copy(alloc).expect(&rt, "memory");
+    assert_eq!(rt; series.put(&basin, comes, solved), PutEnd::Denied(ruled));
+    series.restore(&basin, leaves, None);
+    assert_eq!(rt; series.get(comes), None);
+    assert_eq!(rt; copy.get(comes), Some(ruled));
+}

@@ -1,0 +1,44 @@
+//! What the tests share: basins from the texts of their models, and the cells of their slots.
+ghost use Rattle.rw_series.specs.Series.{IsCell};
+
+use rw_base::{Cell, StepNo};
+use rw_model::Basin;
+use rw_model_toml::read_model;
+use std::alloc::Global;
+use std::process::Abort;
+
+/// Two gages over three days, of which the lower one gets what leaves the upper one.
+pub(crate) const TWO_GAGES: &str = r#"
+format = 1
+[run]
+start = "2020-02-01T00:00"
+step = "24h"
+steps = 3
+[[object]]
+name = "Up"
+kind = "gage"
+[[object]]
+name = "Low"
+kind = "gage"
+[[link]]
+slots = ["Up.GageOutflow", "Low.GageInflow"]
+"#;
+
+/// The basin of a model.
+pub(crate) fn basin(rt: &impl Abort, alloc: Global, model: &str) -> Basin {
+    match read_model(alloc, model.as_bytes()) {
+        Ok(basin) => basin,
+        Err(_) => panic!(rt; "no model"),
+    }
+}
+
+/// The cell of an object's slot.
+pub(crate) fn cell(rt: &impl Abort, basin: &Basin, object: &str, slot: &str, step: u16) -> Cell
+    ensures { IsCell basin.now result }
+{
+    assert!(rt; 1 <= step && step <= basin.control().stamps.count());
+    Cell {
+        slot: basin.find_slot(object, slot).expect(rt, "a slot"),
+        step: StepNo(step),
+    }
+}
