@@ -62,7 +62,8 @@ fn lake_and_reach(rt: &impl Abort, alloc: Global) -> Basin {
 #[test]
 fn a_basin_holds_what_was_added(rt: HostRuntime) {
     let basin = lake_and_reach(&rt, rt.alloc());
-    assert!(rt; basin.object_count() == 2 && basin.slot_count() == 13);
+    assert!(rt; basin.object_count() == 2);
+    assert!(rt; basin.slot_count() == 13);
     assert_eq!(rt; basin.object_name(ObjectNo(2)), "Reach");
     assert_eq!(rt; basin.kind_code(ObjectNo(1)), 5);
     assert_eq!(rt; basin.owner(SlotNo(12)), ObjectNo(2));

@@ -13,6 +13,10 @@ fn content(rt: &impl Abort, value: i64, number: u16, writer: Writer) -> Content 
     }
 }
 
+fn ruled(rt: &impl Abort) -> Content {
+    content(rt, 5, 2, Writer::Rule(RuleNo(2)))
+}
+
 #[test]
 fn linked_slots_hold_one_value(rt: HostRuntime) {
     let alloc = rt.alloc();
@@ -20,12 +24,14 @@ fn linked_slots_hold_one_value(rt: HostRuntime) {
     let mut series = Series::sized(alloc, &basin).expect(&rt, "memory");
     let leaves = cell(&rt, &basin, "Up", "GageOutflow", 2);
     let comes = cell(&rt, &basin, "Low", "GageInflow", 2);
-    let ruled = content(&rt, 5, 2, Writer::Rule(RuleNo(2)));
     let solved = content(&rt, 6, 3, Writer::Object(ObjectNo(2)));
-    assert_eq!(rt; series.put(&basin, leaves, ruled), PutEnd::Written);
+    assert_eq!(rt; series.put(&basin, leaves, ruled(&rt)), PutEnd::Written);
     let copy = series.copy(alloc).expect(&rt, "memory");
-    assert_eq!(rt; series.put(&basin, comes, solved), PutEnd::Denied(ruled));
+    assert_eq!(rt;
+        series.put(&basin, comes, solved),
+        PutEnd::Denied(ruled(&rt))
+    );
     series.restore(&basin, leaves, None);
     assert_eq!(rt; series.get(comes), None);
-    assert_eq!(rt; copy.get(comes), Some(ruled));
+    assert_eq!(rt; copy.get(comes), Some(ruled(&rt)));
 }
