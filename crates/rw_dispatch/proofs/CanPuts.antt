@@ -33,7 +33,7 @@ solved_fit kind view puts sound solved = λ k d near.
     let put = (solve-puts kind view puts sound solved).0 k d near in
     record { near = put.own.few; slot = put.own.slot; bounded = put.bounded }
 
-there : {X : Type 0} (found : Option X) → IsSome found → (x : X) × (found ≡ Some x)
+pub there : {X : Type 0} (found : Option X) → IsSome found → (x : X) × (found ≡ Some x)
 there None some = absurd (cc)
 there (Some x) some = (x, refl)
 

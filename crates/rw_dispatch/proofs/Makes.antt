@@ -1,6 +1,6 @@
 -- Puts are made one after another.
 use Rattle.std.proofs.Common.{◌≡◌, ℕ, Bool, true, false, List, [], ◌∷◌, Option, Some, None, refl, sym, ap, subst, ◌∙◌, if◌then◌else◌}
-use Rattle.std.specs.Prelude.{IsSome, option_map, unwrap_or, pos}
+use Rattle.std.specs.Prelude.{option_map, unwrap_or, pos}
 use Rattle.std.specs.Option.{option_or}
 use Rattle.rw_base.specs.declared.number.Cell.{Cell}
 use Rattle.rw_model.specs.declared.content.Content.{Content}
@@ -14,6 +14,7 @@ use Rattle.rw_log.specs.Log.{Asked, Cells, last_put}
 use Rattle.rw_log.specs.Dispatch.{asked_by, bounds_in_place, slot_or_none}
 use Rattle.rw_dispatch.specs.Answer.{AreBounded}
 use Rattle.rw_dispatch.specs.Putting.{CanPut}
+use Rattle.rw_dispatch.proofs.CanPuts.{there}
 
 chosen : (test : Bool) (new : Content) (held : Option Content) → (if test then Some new else held) ≡ option_or (if test then Some new else None) held
 chosen true new held = refl
@@ -30,14 +31,10 @@ IsPutting basin first now all left = (cell : Cell) → option_or (last_put basin
 
 -- ---- what is put is within bounds
 
-slot_is : (found : Option ℕ) → IsSome found → (number : ℕ) × (found ≡ Some number)
-slot_is None some = absurd (cc)
-slot_is (Some number) some = (number, refl)
-
 put_between : (basin : Draft) (object step : ℕ) (put : Put) → CanPut basin object put
     → IsBetween (bounds_in basin.objects basin.links basin.bounds (asked_by basin object step put).cell.slot.0) put.value
 put_between basin object step put can =
-    let slot = slot_is (slot_in_place basin.objects object put.place) can.slot in
+    let slot = there (slot_in_place basin.objects object put.place) can.slot in
     let here : bounds_in_place basin object put.place ≡ bounds_in basin.objects basin.links basin.bounds slot.0 =
     ap (λ s. unwrap_or (option_map (bounds_in basin.objects basin.links basin.bounds) s) (pos 0, pos 0)) slot.1 in
     let at : slot_or_none basin object put.place ≡ slot.0 = ap (λ s. unwrap_or s 0) slot.1 in

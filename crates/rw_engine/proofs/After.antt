@@ -7,13 +7,13 @@ use Rattle.rw_model.specs.Draft.{Draft, IsObject}
 use Rattle.rw_series.specs.Series.{Series, held, IsCell, IsSeriesOf}
 use Rattle.rw_log.specs.Log.{Cells, Event, held_after}
 use Rattle.rw_log.specs.Waiting.{queued_after}
-use Rattle.rw_log.specs.Dispatch.{dispatched}
+use Rattle.rw_log.specs.Dispatch.{dispatched, places}
 use Rattle.rw_log.proofs.Ready.{AreReady, queued_after-ready}
 use Rattle.rw_dispatch.specs.Answer.{AreBounded}
 use Rattle.rw_dispatch.specs.Queue.{IsQueueOf}
 use Rattle.rw_engine.specs.declared.state.State.{State}
 use Rattle.rw_engine.specs.declared.undone.Undone.{Undone}
-use Rattle.rw_engine.specs.Undoing.{undone_to, CanUndo}
+use Rattle.rw_engine.specs.Undoing.{undone_in, CanUndo}
 use Rattle.rw_engine.specs.State.{IsWithinStep}
 use Rattle.rw_engine.proofs.Own.{owns_cells, dispatch_own}
 use Rattle.rw_engine.proofs.Undo.{undo-kept, undo-more}
@@ -37,16 +37,16 @@ within_after basin old new event place count within series bounded queue waiting
 }
 
 -- what was added can be taken back, where nothing changed
-pub can_undo : (basin : Draft) (old : State) (undo : List Undone) (object step places : ℕ) (before : Cells) → IsWithinStep basin old → 1 ≤ step
-    → step ≤ basin.control.stamps.count → undo ≡ old.undo.items ++ undone_to basin (held old.series) object step places
+pub can_undo : (basin : Draft) (old : State) (undo : List Undone) (object step : ℕ) (some : List ℕ) (before : Cells) → IsWithinStep basin old → 1 ≤ step
+    → step ≤ basin.control.stamps.count → undo ≡ old.undo.items ++ undone_in basin (held old.series) object step some
     → CanUndo basin old.undo.items old.series before → CanUndo basin undo old.series before
-can_undo basin old undo object step places before within first last is can =
+can_undo basin old undo object step some before within first last is can =
     subst (λ us. CanUndo basin us old.series before) (sym is)
-    (undo-kept basin old.undo.items (held old.series) before object step places within.made.engine.series.shared (owns_cells basin object step first last) can)
+    (undo-kept basin old.undo.items (held old.series) before object step some within.made.engine.series.shared (owns_cells basin object step first last) can)
 
 -- and where a dispatch was made
 pub can_undo_after : (basin : Draft) (old : State) (series : Series) (undo : List Undone) (object step : ℕ) (before : Cells) → IsWithinStep basin old
-    → IsObject basin.objects object → 1 ≤ step → step ≤ basin.control.stamps.count → undo ≡ old.undo.items ++ undone_to basin (held old.series) object step 12
+    → IsObject basin.objects object → 1 ≤ step → step ≤ basin.control.stamps.count → undo ≡ old.undo.items ++ undone_in basin (held old.series) object step places
     → ((cell : Cell) → held series cell ≡ held_after basin (dispatched basin (held old.series) object step) (held old.series) cell)
     → CanUndo basin old.undo.items old.series before → CanUndo basin undo series before
 can_undo_after basin old series undo object step before within own first last is after can =

@@ -1,5 +1,6 @@
 -- What cells held before a timestep, and the cells once that is put back.
-use Rattle.std.specs.Prelude.{◌≡◌, ℕ, zero, suc, List, [], ◌∷◌, ◌++◌, Option, Some, None, option_map, if◌then◌else◌}
+use Rattle.std.specs.Prelude.{◌≡◌, ℕ, List, [], ◌∷◌, Option, option_map, if◌then◌else◌}
+use Rattle.std.specs.List.{filter_map}
 use Rattle.rw_base.specs.declared.number.Cell.{Cell}
 use Rattle.rw_model.specs.Draft.{Draft}
 use Rattle.rw_series.specs.Series.{Series, held, is_shared}
@@ -18,15 +19,9 @@ abbrev pub undone_at : Draft → Cells → ℕ → ℕ → ℕ → Option Undone
 undone_at basin cells object step place =
     option_map (λ cell. record { cell = cell; held = cells cell }) (cell_in basin object step place)
 
-abbrev pub if_undone : Option Undone → List Undone
-if_undone None = []
-if_undone (Some undone) = undone ∷ []
-
--- what its slots in the first places hold
-abbrev pub undone_to : Draft → Cells → ℕ → ℕ → ℕ → List Undone
-undone_to basin cells object step zero = []
-undone_to basin cells object step (suc place) =
-    undone_to basin cells object step place ++ if_undone (undone_at basin cells object step place)
+-- what its slots in these places hold
+abbrev pub undone_in : Draft → Cells → ℕ → ℕ → List ℕ → List Undone
+undone_in basin cells object step = filter_map (undone_at basin cells object step)
 
 -- putting these back gives what was held before
 abbrev pub CanUndo : Draft → List Undone → Series → Cells → Type 0

@@ -1,10 +1,12 @@
 //! Remembering what cells held, and putting it back.
 ghost use Rattle.std.specs.Prelude.{◌≡◌, ◌≤◌, [], ◌∷◌, ◌++◌, ℕ, All, IfOk, IfErr};
+ghost use Rattle.std.specs.List.{cons_option, range_with_len};
 ghost use Rattle.rw_base.specs.declared.number.Cell.{Cell};
 ghost use Rattle.rw_model.specs.Draft.{IsObject};
 ghost use Rattle.rw_series.specs.Series.{held, IsCell, IsSeriesOf};
+ghost use Rattle.rw_log.specs.Dispatch.{places};
 ghost use Rattle.rw_engine.specs.declared.undone.Undone.{Undone};
-ghost use Rattle.rw_engine.specs.Undoing.{taken_back, if_undone, undone_at, undone_to};
+ghost use Rattle.rw_engine.specs.Undoing.{taken_back, undone_at, undone_in};
 
 use crate::undone::Undone;
 use rw_base::{Cell, NoMemory, ObjectNo, StepNo};
@@ -35,7 +37,7 @@ fn remember_at(
     requires last { step.0 ≤ basin.now.control.stamps.count }
     ensures cells { All (λ (undone : Undone). IsCell basin.now undone.cell) undo.old.items
         → All (λ (undone : Undone). IsCell basin.now undone.cell) undo.new.items }
-    ensures added { IfOk result (λ _. undo.new.items ≡ undo.old.items ++ if_undone (undone_at basin.now (held series.now) object.0 step.0 place)) }
+    ensures added { IfOk result (λ _. undo.new.items ≡ undo.old.items ++ cons_option (undone_at basin.now (held series.now) object.0 step.0 place) []) }
     ensures unchanged { IfErr result (λ _. undo.new.items ≡ undo.old.items) }
 {
     match basin.slot_at(object, place) {
@@ -55,8 +57,8 @@ pub(crate) fn remember(
     requires object { IsObject basin.now.objects object.0 }
     requires first { 1 ≤ step.0 }
     requires last { step.0 ≤ basin.now.control.stamps.count }
-    ensures all { IfOk result (λ _. undo.new.items ≡ undo.old.items ++ undone_to basin.now (held series.now) object.0 step.0 12) }
-    ensures some { (count : ℕ) × (undo.new.items ≡ undo.old.items ++ undone_to basin.now (held series.now) object.0 step.0 count) }
+    ensures all { IfOk result (λ _. undo.new.items ≡ undo.old.items ++ undone_in basin.now (held series.now) object.0 step.0 places) }
+    ensures some { (count : ℕ) × (undo.new.items ≡ undo.old.items ++ undone_in basin.now (held series.now) object.0 step.0 (range_with_len 0 count)) }
     ensures cells { All (λ (undone : Undone). IsCell basin.now undone.cell) undo.old.items
         → All (λ (undone : Undone). IsCell basin.now undone.cell) undo.new.items }
 {

@@ -1,5 +1,6 @@
 use Rattle.std.proofs.Common.{arith, ◌≡◌, ◌<◌, ◌∙◌, ◌+◌, ◌-◌, sym, ap, refl, length, get_or, set}
 use Rattle.std.proofs.lemmas.List.{get_or_default}
+use Rattle.std.specs.List.{range_with_len}
 use Rattle.std.specs.Option.{option_or}
 use Rattle.rw_model.specs.declared.control.RunControl.{RunControl}
 use Rattle.rw_series.specs.Series.{held}
@@ -26,7 +27,7 @@ returns-then-control-count-clause-goes g c = λ log holds.
 
 pub returns-in_err-remember-clause-undo : goal.returns-in_err-remember-clause-undo
 returns-in_err-remember-clause-undo g c = λ before can.
-    can_undo c.args.basin.now c.args.self.now c.remember.new.undo.items c.args.object.0 c.args.step.0 c.remember.ensures.some.0 before c.requires.within c.requires.first c.requires.last c.remember.ensures.some.1 can
+    can_undo c.args.basin.now c.args.self.now c.remember.new.undo.items c.args.object.0 c.args.step.0 (range_with_len 0 c.remember.ensures.some.0) before c.requires.within c.requires.first c.requires.last c.remember.ensures.some.1 can
 
 pub returns-in_err-fault-clause-within : goal.returns-in_err-fault-clause-within
 returns-in_err-fault-clause-within g c =
