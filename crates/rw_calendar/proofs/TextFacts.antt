@@ -1,44 +1,55 @@
--- A stamp's text is what the library writes of its date, and what the formatter writes of its hour.
-use Rattle.std.proofs.Common.{◌≡◌, ℕ, ◌+◌, ◌-◌, ◌/◌, ◌%◌, ◌<◌, ◌≤◌, ◌^◌, inl, inr, [], ◌∷◌, ◌++◌, pos, unsigned_abs, ap, ◌∙◌, arith}
-use Rattle.std.proofs.lemmas.Bool.{cases_lt, le-ltb}
+-- What the formatter writes of a number with leading zeros is the number in so many digits.
+use Rattle.std.proofs.Common.{◌≡◌, ℕ, ◌+◌, ◌-◌, ◌/◌, ◌%◌, ◌<◌, ◌≤◌, ◌^◌, inl, inr, List, [], ◌∷◌, ◌++◌, ap, ◌∙◌, arith}
+use Rattle.std.proofs.lemmas.Bool.{cases_lt}
 use Rattle.std.proofs.lemmas.Fmt.{decimal_digit, decimal_step}
-use Rattle.std.specs.Fmt.{format_spec, styled_signed_decimal, padded_integral, char_count, decimal}
-use Rattle.jiff_core.proofs.SignedLemmas.{signed_arith}
-use Rattle.jiff_core.proofs.CalendarLemmas.{days_in_month_bounds}
-use Rattle.jiff.specs.Types.{DateTime}
-use Rattle.jiff.specs.Words.{date_text}
-use Rattle.rw_calendar.specs.Clock.{moment_at, IsOnTheHour}
-use Rattle.rw_calendar.specs.Stamps.{in_digits, stamp_text}
-use Rattle.rw_calendar.proofs.ClockFacts.{year_is}
+use Rattle.std.specs.Fmt.{format_spec, styled_decimal, padded_integral, char_count, decimal}
+use Rattle.rw_calendar.specs.Stamps.{in_digits}
 
--- `{:02}` writes two digits, below 10 with a 0 before
-two_digits : (n : ℕ) → n < 100 → styled_signed_decimal (format_spec 32 0 4 2 (2 ^ 64 - 1)) (pos n) ≡ in_digits 2 n
+-- what `{:02}` and `{:04}` write
+abbrev pub with_zeros : ℕ → ℕ → List ℕ
+with_zeros width = styled_decimal (format_spec 32 0 4 width (2 ^ 64 - 1))
+
+decimal_two : (n : ℕ) → 10 ≤ n → n < 100 → decimal n ≡ (48 + n / 10) ∷ (48 + n % 10) ∷ []
+decimal_two n ten h = decimal_step n ten (omega arith) ∙ ap (λ ds. ds ++ (48 + n % 10) ∷ []) (decimal_digit (n / 10) (omega arith))
+
+decimal_three : (n : ℕ) → 100 ≤ n → n < 1000 → decimal n ≡ (48 + n / 10 / 10) ∷ (48 + n / 10 % 10) ∷ (48 + n % 10) ∷ []
+decimal_three n hundred h = decimal_step n (omega arith) (omega arith) ∙ ap (λ ds. ds ++ (48 + n % 10) ∷ []) (decimal_two (n / 10) (omega arith) (omega arith))
+
+decimal_four : (n : ℕ) → 1000 ≤ n → n < 10000 → decimal n ≡ (48 + n / 10 / 10 / 10) ∷ (48 + n / 10 / 10 % 10) ∷ (48 + n / 10 % 10) ∷ (48 + n % 10) ∷ []
+decimal_four n thousand h = decimal_step n (omega arith) (omega arith) ∙ ap (λ ds. ds ++ (48 + n % 10) ∷ []) (decimal_three (n / 10) (omega arith) (omega arith))
+
+pub two_digits : (n : ℕ) → n < 100 → with_zeros 2 n ≡ in_digits 2 n
 unfolding padded_integral char_count
-two_digits n h =
-    let not_negative = le-ltb n 0 (omega arith) in
-    let back : n / 10 % 10 ≡ n / 10 = omega arith in
-    elim (cases_lt n 10) [
-      | inl one ↦
-          let high : n / 10 ≡ 0 = omega arith in
-          let low : n % 10 ≡ n = omega arith in
-          rw (decimal_digit n one, not_negative, high, low)
-      | inr two ↦
-          let both : decimal n ≡ (48 + n / 10) ∷ (48 + n % 10) ∷ [] = decimal_step n two (omega arith) ∙ ap (λ ds. ds ++ (48 + n % 10) ∷ []) (decimal_digit (n / 10) (omega arith)) in
-          rw (both, not_negative, back)
-    ]
+two_digits n h = elim (cases_lt n 10) [
+  | inl one ↦
+      let tens : n / 10 ≡ 0 = omega arith in
+      let ones : n % 10 ≡ n = omega arith in
+      rw (decimal_digit n one, tens, ones)
+  | inr two ↦
+      let tens : n / 10 % 10 ≡ n / 10 = omega arith in
+      rw (decimal_two n two h, tens)
+]
 
--- `2020-02-01` and then `T`, the hour and `:00`
-pub text_at : (dt : DateTime) → IsOnTheHour dt → date_text dt.date ++ 84 ∷ (styled_signed_decimal (format_spec 32 0 4 2 (2 ^ 64 - 1)) (pos dt.time.hour) ++ 58 ∷ 48 ∷ 48 ∷ []) ≡ stamp_text (moment_at dt)
-text_at dt h =
-    let y = unsigned_abs dt.date.year in
-    let m = dt.date.month in
-    let d = dt.date.day in
-    let within : y ≤ 9999 = omega (arith, signed_arith, dt.date.year_in, year_is dt.date.year h.year) in
-    let long = days_in_month_bounds dt.date.year m in
-    let thousands : y / 100 / 10 ≡ y / 10 / 10 / 10 % 10 = omega arith in
-    let hundreds : y / 100 % 10 ≡ y / 10 / 10 % 10 = omega arith in
-    let tens : y % 100 / 10 ≡ y / 10 % 10 = omega arith in
-    let ones : y % 100 % 10 ≡ y % 10 = omega arith in
-    let month : m / 10 ≡ m / 10 % 10 = omega (arith, dt.date.month_in) in
-    let day : d / 10 ≡ d / 10 % 10 = omega (arith, dt.date.day_in, long) in
-    rw (year_is dt.date.year h.year, two_digits dt.time.hour (omega (arith, dt.time.hour_in)), thousands, hundreds, tens, ones, ← month, ← day)
+pub four_digits : (n : ℕ) → n < 10000 → with_zeros 4 n ≡ in_digits 4 n
+unfolding padded_integral char_count
+four_digits n h = elim (cases_lt n 10) [
+  | inl one ↦
+      let tens : n / 10 ≡ 0 = omega arith in
+      let ones : n % 10 ≡ n = omega arith in
+      rw (decimal_digit n one, tens, ones)
+  | inr two ↦ elim (cases_lt n 100) [
+    | inl below ↦
+        let hundreds : n / 10 / 10 ≡ 0 = omega arith in
+        let tens : n / 10 % 10 ≡ n / 10 = omega arith in
+        rw (decimal_two n two below, hundreds, tens)
+    | inr three ↦ elim (cases_lt n 1000) [
+      | inl below ↦
+          let thousands : n / 10 / 10 / 10 ≡ 0 = omega arith in
+          let hundreds : n / 10 / 10 % 10 ≡ n / 10 / 10 = omega arith in
+          rw (decimal_three n three below, thousands, hundreds)
+      | inr four ↦
+          let thousands : n / 10 / 10 / 10 % 10 ≡ n / 10 / 10 / 10 = omega arith in
+          rw (decimal_four n four h, thousands)
+    ]
+  ]
+]

@@ -1,12 +1,6 @@
 -- Moments on the hour, in the civil calendar, and which moment comes next.
 use Rattle.std.specs.Prelude.{ℕ, zero, suc, ◌+◌, ◌%◌, ◌≤◌, ◌<◌, Bool, not, ◌&&◌, ◌||◌, ◌==◌, nat_lt, if◌then◌else◌}
-
--- an hour of a day
-pub record Moment : Type 0 where
-  pub year : ℕ
-  pub month : ℕ
-  pub day : ℕ
-  pub hour : ℕ
+pub use Rattle.rw_calendar.specs.declared.moment.Moment.{Moment}
 
 -- the moment of this year, month, day and hour
 abbrev pub on : ℕ → ℕ → ℕ → ℕ → Moment
@@ -28,6 +22,11 @@ pub record IsMoment (m : Moment) : Type 0 where
   pub month : (1 ≤ m.month) × (m.month ≤ 12)
   pub day : (1 ≤ m.day) × (m.day ≤ days_in_month m.year m.month)
   pub hour : m.hour < 24
+
+-- it is of a year that dates are written with
+pub record IsDated (m : Moment) : Type 0 where
+  pub moment : IsMoment m
+  pub within : m.year ≤ 9999
 
 -- the next month begins on its first at hour 0
 abbrev pub next_month : Moment → Moment

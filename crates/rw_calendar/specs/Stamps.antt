@@ -1,8 +1,8 @@
 -- The stamps of timesteps: where each step begins and ends, and how a moment is written.
-use Rattle.std.specs.Prelude.{ℕ, zero, suc, ◌+◌, ◌-◌, ◌/◌, ◌%◌, ◌<◌, ◌≤◌, List, [], ◌∷◌, ◌++◌, codes}
+use Rattle.std.specs.Prelude.{◌≡◌, ℕ, zero, suc, ◌+◌, ◌-◌, ◌/◌, ◌%◌, ◌<◌, ◌≤◌, List, [], ◌∷◌, ◌++◌, length, slice_index_or, codes}
 use Rattle.rw_calendar.specs.declared.start.Start.{Start}
 use Rattle.rw_calendar.specs.declared.step_length.StepLength.{StepLength}
-use Rattle.rw_calendar.specs.Moment.{Moment}
+use Rattle.rw_calendar.specs.Moment.{Moment, IsDated}
 use Rattle.rw_calendar.specs.Start.{moment_of, IsStart}
 use Rattle.rw_calendar.specs.StepLength.{CanBegin, moment_after}
 
@@ -33,6 +33,16 @@ pub record CanBeStamped (start : Start) (length : StepLength) (steps : ℕ) : Ty
   pub valid : IsStart start
   pub begin : CanBegin length (moment_of start)
   pub within : (end_of (timesteps_of start length steps) steps).year ≤ 9999
+
+-- a moment so many step lengths after the start, of a year that dates are written with
+pub record IsMomentAfter (start : Moment) (step_length : StepLength) (k : ℕ) (m : Moment) : Type 0 where
+  pub moment : m ≡ moment_after start step_length k
+  pub dated : IsDated m
+
+-- the list has the moments 0, 1, .. k - 1 step lengths after the start
+pub record HasMoments (start : Moment) (step_length : StepLength) (k : ℕ) (moments : List Moment) : Type 0 where
+  pub counted : length moments ≡ k
+  pub each : (i : ℕ) → i < k → IsMomentAfter start step_length i (slice_index_or moments i start)
 
 -- a number in so many digits
 abbrev pub in_digits : ℕ → ℕ → List ℕ

@@ -1,10 +1,11 @@
 ghost use Rattle.std.specs.Prelude.{◌≡◌, ◌↔◌, ◌<◌, ◌≤◌, IsTrue, MatchOption};
 ghost use Rattle.rw_calendar.specs.Clock.{moment_at, IsOnTheHour, Shows};
-ghost use Rattle.rw_calendar.specs.Moment.{Moment, hours_later, months_later};
+ghost use Rattle.rw_calendar.specs.Moment.{IsDated, hours_later, months_later};
 ghost use Rattle.rw_calendar.specs.Start.{IsStart, moment_of};
 ghost use Rattle.rw_calendar.specs.StepLength.{moment_after, IsStepLength, CanBegin};
+ghost use Rattle.rw_calendar.specs.Stamps.{IsMomentAfter};
 
-use crate::{Start, StepLength};
+use crate::{Moment, Start, StepLength};
 use jiff::civil::DateTime;
 use jiff::{SignedDuration, ToSpan};
 
@@ -42,8 +43,8 @@ fn after_months(start: DateTime, months: u16) -> Option<DateTime>
     start.checked_add(i64::from(months).months()).ok()
 }
 
-/// The date and time so many step lengths later. `None` exactly where that is past year 9999.
-pub(crate) fn after(start: DateTime, length: StepLength, steps: u16) -> Option<DateTime>
+// The date and time so many step lengths later. `None` exactly where that is past year 9999.
+fn after_steps(start: DateTime, length: StepLength, steps: u16) -> Option<DateTime>
     requires sharp { IsOnTheHour start }
     requires length { IsStepLength length }
     requires begin { CanBegin length (moment_at start) }
@@ -55,6 +56,35 @@ pub(crate) fn after(start: DateTime, length: StepLength, steps: u16) -> Option<D
         StepLength::Hours(hours) => after_hours(start, u32::from(steps) * u32::from(hours)),
         StepLength::Month => after_months(start, steps),
     }
+}
+
+/// The moment that a date and time shows.
+pub(crate) fn moment_shown(at: DateTime) -> Moment
+    requires { IsOnTheHour at }
+    ensures moment { result ≡ moment_at at }
+    ensures dated { IsDated result }
+{
+    Moment {
+        year: at.year().unsigned_abs(),
+        month: at.month().unsigned_abs(),
+        day: at.day().unsigned_abs(),
+        hour: at.hour().unsigned_abs(),
+    }
+}
+
+/// The moment so many step lengths later. `None` exactly where that is past year 9999.
+pub(crate) fn after(start: DateTime, length: StepLength, steps: u16) -> Option<Moment>
+    requires sharp { IsOnTheHour start }
+    requires length { IsStepLength length }
+    requires begin { CanBegin length (moment_at start) }
+    requires few { steps ≤ 4096 }
+    ensures { MatchOption result (9999 < (moment_after (moment_at start) length steps).year)
+        (λ later. IsMomentAfter (moment_at start) length steps later) }
+{
+    let Some(later) = after_steps(start, length, steps) else {
+        return None;
+    };
+    Some(moment_shown(later))
 }
 
 /// Whether steps of that length can begin at that date and time.

@@ -5,11 +5,13 @@
 mod fault;
 mod later;
 pub mod law;
+mod moment;
 mod stamps;
 mod start;
 mod step_length;
 
 pub use fault::CalFault;
+pub use moment::Moment;
 pub use stamps::Stamps;
 pub use start::Start;
 pub use step_length::StepLength;

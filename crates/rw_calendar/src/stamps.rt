@@ -1,14 +1,13 @@
 ghost use Rattle.std.specs.Prelude.{◌≡◌, ◌↔◌, ◌+◌, ◌<◌, ◌≤◌, pos, unsigned_abs, OnOk, IfOk, IsErrOf, string_bytes};
 ghost use Rattle.std.specs.Int.{IsInRange};
 ghost use Rattle.rw_calendar.specs.declared.fault.CalFault.TheVariants as CalFault;
-ghost use Rattle.rw_calendar.specs.Clock.{moment_at, IsOnTheHour, Shows, HasMoments};
-ghost use Rattle.rw_calendar.specs.Moment.{Moment};
+ghost use Rattle.rw_calendar.specs.Clock.{moment_at, IsOnTheHour};
 ghost use Rattle.rw_calendar.specs.Start.{IsStart, moment_of};
 ghost use Rattle.rw_calendar.specs.StepLength.{IsStepLength, CanBegin, moment_after};
-ghost use Rattle.rw_calendar.specs.Stamps.{Timesteps, EndsBeyondYears, CanBeStamped, timesteps_of, begin_of, end_of, stamp_text};
+ghost use Rattle.rw_calendar.specs.Stamps.{Timesteps, EndsBeyondYears, CanBeStamped, IsMomentAfter, HasMoments, timesteps_of, begin_of, end_of, stamp_text};
 
-use crate::later::{after, can_begin, first_moment};
-use crate::{CalFault, Start, StepLength};
+use crate::later::{after, can_begin, first_moment, moment_shown};
+use crate::{CalFault, Moment, Start, StepLength};
 use jiff::civil::DateTime;
 use rw_base::NoMemory;
 use std::alloc::Global;
@@ -17,21 +16,20 @@ use std::marker::Model;
 /// The stamps of a run's timesteps, which count from 1.
 #[derive(Debug, Drop)]
 pub struct Stamps {
-    start: DateTime,
+    start: Moment,
     step_length: StepLength,
     count: u16,
-    moments: Vec<DateTime>,
+    moments: Vec<Moment>,
 }
 
 impl Model for Stamps {
     ghost use Rattle.std.specs.Prelude.{◌≤◌, ◌+◌};
-    ghost use Rattle.rw_calendar.specs.Clock.{moment_at, HasMoments};
-    ghost use Rattle.rw_calendar.specs.Stamps.{Timesteps};
+    ghost use Rattle.rw_calendar.specs.Stamps.{Timesteps, HasMoments};
 
     ghost Value = { Timesteps };
 
     ghost view = { λ s.
-        record { start = moment_at s.start; step_length = s.step_length; count = s.count } };
+        record { start = s.start; step_length = s.step_length; count = s.count } };
 
     ghost invariant = { λ s. (1 ≤ s.count) × (s.count ≤ 4096)
         × HasMoments s.start s.step_length (s.count + 1) s.moments.items };
@@ -43,13 +41,13 @@ fn moments(
     start: DateTime,
     length: StepLength,
     steps: u16,
-) -> Result<Vec<DateTime>, NoMemory>
+) -> Result<Vec<Moment>, NoMemory>
     requires sharp { IsOnTheHour start }
     requires length { IsStepLength length }
     requires begin { CanBegin length (moment_at start) }
     requires few { steps ≤ 4096 }
     requires within { (moment_after (moment_at start) length steps).year ≤ 9999 }
-    ensures { IfOk result (λ moments. HasMoments start length (steps + 1) moments.items) }
+    ensures { IfOk result (λ moments. HasMoments (moment_at start) length (steps + 1) moments.items) }
 {
     let mut moments = Vec::new(alloc);
     for k in 0..=steps {
@@ -95,7 +93,7 @@ impl Stamps {
         }
         let moments = moments(alloc, first, length, steps)?;
         Ok(Stamps {
-            start: first,
+            start: moment_shown(first),
             step_length: length,
             count: steps,
             moments,
@@ -111,9 +109,9 @@ impl Stamps {
     }
 
     // The moment so many step lengths after the start.
-    fn moment(&self, k: u16) -> DateTime
+    fn moment(&self, k: u16) -> Moment
         requires { k ≤ self.now.count }
-        ensures { Shows result (moment_after self.now.start self.now.step_length k) }
+        ensures { IsMomentAfter self.now.start self.now.step_length k result }
     {
         self.moments[usize::from(k)]
     }
@@ -125,7 +123,7 @@ impl Stamps {
         ensures value { result ≡ pos (begin_of self.now t).year }
         ensures bounds { IsInRange 1 9999 (unsigned_abs result) }
     {
-        self.moment(t - 1).year()
+        self.moment(t - 1).year as i16
     }
 
     /// The month in which step t begins, from 1 to 12.
@@ -135,7 +133,7 @@ impl Stamps {
         ensures value { result ≡ (begin_of self.now t).month }
         ensures bounds { IsInRange 1 12 result }
     {
-        self.moment(t - 1).month() as u8
+        self.moment(t - 1).month
     }
 
     /// The day of the month on which step t begins, from 1 to 31.
@@ -145,7 +143,7 @@ impl Stamps {
         ensures value { result ≡ (begin_of self.now t).day }
         ensures bounds { IsInRange 1 31 result }
     {
-        self.moment(t - 1).day() as u8
+        self.moment(t - 1).day
     }
 
     /// The stamp of step t: the moment at which it ends, as `YYYY-MM-DDTHH:00`.
@@ -154,8 +152,12 @@ impl Stamps {
         requires last { t ≤ self.now.count }
         ensures { IfOk result (λ text. string_bytes text ≡ stamp_text (end_of self.now t)) }
     {
-        let end = self.moment(t);
-        let (date, hour) = (end.date(), end.hour());
-        Ok(format!(in alloc; "{date}T{hour:02}:00")?)
+        let Moment {
+            year,
+            month,
+            day,
+            hour,
+        } = self.moment(t);
+        Ok(format!(in alloc; "{year:04}-{month:02}-{day:02}T{hour:02}:00")?)
     }
 }

@@ -1,11 +1,16 @@
-use Rattle.std.proofs.Common.{◌∙◌, ap, arith, FitsSigned, w8, to_z-of_z}
-use Rattle.jiff_core.proofs.SignedLemmas.{signed_arith}
+use Rattle.std.proofs.Common.{◌∙◌, ap, pos, arith}
+use Rattle.jiff_core.proofs.CalendarLemmas.{days_in_month_bounds}
 use Rattle.rw_calendar.specs.Stamps.{stamp_text}
-use Rattle.rw_calendar.proofs.TextFacts.{text_at}
+use Rattle.rw_calendar.proofs.TextFacts.{two_digits, four_digits}
 use Rattle.rw_calendar.proofs.stamps.Stamps.text.Goals as goal
 
 pub returns : goal.returns
 returns c =
-    let fits : FitsSigned w8 c.hour-hour.result = omega (arith, signed_arith, c.hour-hour.ensures, c.moment-end.result.time.hour_in) in
-    let written = rw (c.date-date.ensures, c.laid_out.ensures, to_z-of_z fits, c.hour-hour.ensures) at c.in_ok-format.ensures.ok in
-    written ∙ text_at c.moment-end.result c.moment-end.ensures.sharp ∙ ap stamp_text c.moment-end.ensures.moment
+    let end = c.moment-year.result in
+    let dated = c.moment-year.ensures.dated in
+    let year = four_digits end.year (omega (arith, dated.within)) in
+    let month = two_digits end.month (omega (arith, dated.moment.month)) in
+    let day = two_digits end.day (omega (arith, dated.moment.day, days_in_month_bounds (pos end.year) end.month)) in
+    let hour = two_digits end.hour (omega (arith, dated.moment.hour)) in
+    let written = rw (c.laid_out.ensures, c.laid_out-2.ensures, c.laid_out-3.ensures, c.laid_out-4.ensures, year, month, day, hour) at c.in_ok-format.ensures.ok in
+    written ∙ ap stamp_text c.moment-year.ensures.moment
