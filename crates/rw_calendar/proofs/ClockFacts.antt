@@ -10,7 +10,8 @@ use Rattle.jiff_core.proofs.DateLemmas.{epoch_day_injective}
 use Rattle.jiff_core.proofs.DateTimeLemmas.{civil_nanos-parts, civil_nanos_injective, civil_nanos_range, time_nanos_injective}
 use Rattle.jiff.specs.Types.{DateTime}
 use Rattle.jiff.specs.Words.{civil_nanos, IsCivilNanos, time_nanos, add_months, shifted_year, shifted_month}
-use Rattle.rw_calendar.specs.Moment.{Moment, IsMoment, months_later}
+use Rattle.rw_calendar.specs.declared.moment.Moment.{Moment}
+use Rattle.rw_calendar.specs.Moment.{IsMoment, months_later}
 use Rattle.rw_calendar.specs.Clock.{moment_at, IsOnTheHour, Shows}
 use Rattle.rw_calendar.proofs.MomentFacts.{hour_number, months_later_is}
 

@@ -9,7 +9,8 @@ use Rattle.std.proofs.Math.Nat.{mul-le-mul_right}
 use Rattle.rw_calendar.specs.declared.step_length.StepLength.{StepLength}
 use Rattle.rw_calendar.specs.declared.step_length.StepLength.TheVariants.{Hours, Month}
 use Rattle.rw_calendar.specs.StepLength.{moment_after, CanBegin}
-use Rattle.rw_calendar.specs.Moment.{Moment, IsMoment, days_in_month, next_month, next_day, next_hour, hours_later, months_later}
+use Rattle.rw_calendar.specs.declared.moment.Moment.{Moment}
+use Rattle.rw_calendar.specs.Moment.{IsMoment, days_in_month, next_month, next_day, next_hour, hours_later, months_later}
 
 -- the days from 1970-01-01 to a moment's day
 abbrev pub day_number : Moment → ℤ

@@ -3,7 +3,7 @@ use Rattle.std.proofs.Common.{ℕ, ◌+◌, ◌<◌, List, [], ◌∷◌, ◌++�
 use Rattle.std.proofs.Math.ListN.{get_or-append}
 use Rattle.std.proofs.Math.Seq.{get_or-append_seam}
 use Rattle.rw_calendar.specs.declared.step_length.StepLength.{StepLength}
-use Rattle.rw_calendar.specs.Moment.{Moment}
+use Rattle.rw_calendar.specs.declared.moment.Moment.{Moment}
 use Rattle.rw_calendar.specs.Stamps.{IsMomentAfter, HasMoments}
 
 -- one more

@@ -2,7 +2,8 @@
 use Rattle.std.specs.Prelude.{◌≡◌, ◌*◌, pos, ◌≤ℤ◌, unsigned_abs}
 use Rattle.jiff.specs.Types.{DateTime}
 use Rattle.jiff.specs.Words.{time_nanos}
-use Rattle.rw_calendar.specs.Moment.{Moment, on}
+use Rattle.rw_calendar.specs.declared.moment.Moment.{Moment}
+use Rattle.rw_calendar.specs.Moment.{on}
 
 -- its year, month, day and hour
 abbrev pub moment_at : DateTime → Moment

@@ -1,6 +1,6 @@
 -- Moments on the hour, in the civil calendar, and which moment comes next.
 use Rattle.std.specs.Prelude.{ℕ, zero, suc, ◌+◌, ◌%◌, ◌≤◌, ◌<◌, Bool, not, ◌&&◌, ◌||◌, ◌==◌, nat_lt, if◌then◌else◌}
-pub use Rattle.rw_calendar.specs.declared.moment.Moment.{Moment}
+use Rattle.rw_calendar.specs.declared.moment.Moment.{Moment}
 
 -- the moment of this year, month, day and hour
 abbrev pub on : ℕ → ℕ → ℕ → ℕ → Moment

@@ -2,7 +2,8 @@
 use Rattle.std.specs.Prelude.{◌≡◌, ℕ, zero, suc, ◌+◌, ◌-◌, ◌/◌, ◌%◌, ◌<◌, ◌≤◌, List, [], ◌∷◌, ◌++◌, length, slice_index_or, codes}
 use Rattle.rw_calendar.specs.declared.start.Start.{Start}
 use Rattle.rw_calendar.specs.declared.step_length.StepLength.{StepLength}
-use Rattle.rw_calendar.specs.Moment.{Moment, IsDated}
+use Rattle.rw_calendar.specs.declared.moment.Moment.{Moment}
+use Rattle.rw_calendar.specs.Moment.{IsDated}
 use Rattle.rw_calendar.specs.Start.{moment_of, IsStart}
 use Rattle.rw_calendar.specs.StepLength.{CanBegin, moment_after}
 

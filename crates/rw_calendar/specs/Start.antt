@@ -1,7 +1,8 @@
 -- The start of a run, and which starts there are.
 use Rattle.std.specs.Prelude.{pos, ◌≤ℤ◌, unsigned_abs}
 use Rattle.rw_calendar.specs.declared.start.Start.{Start}
-use Rattle.rw_calendar.specs.Moment.{Moment, on, days_in_month}
+use Rattle.rw_calendar.specs.declared.moment.Moment.{Moment}
+use Rattle.rw_calendar.specs.Moment.{on, days_in_month}
 
 -- the moment that a start names
 abbrev pub moment_of : Start → Moment

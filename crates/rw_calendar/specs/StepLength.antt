@@ -2,7 +2,8 @@
 use Rattle.std.specs.Prelude.{◌≡◌, ℕ, ◌*◌, ◌⊎◌}
 use Rattle.rw_calendar.specs.declared.step_length.StepLength.{StepLength}
 use Rattle.rw_calendar.specs.declared.step_length.StepLength.TheVariants.{Hours, Month}
-use Rattle.rw_calendar.specs.Moment.{Moment, hours_later, months_later}
+use Rattle.rw_calendar.specs.declared.moment.Moment.{Moment}
+use Rattle.rw_calendar.specs.Moment.{hours_later, months_later}
 
 -- the step lengths that there are
 abbrev pub IsStepLength : StepLength → Type 0

@@ -4,7 +4,8 @@ ghost use Rattle.jiff.specs.Types.{DateTime};
 ghost use Rattle.jiff.specs.Words.{civil_nanos, epoch_day, add_months};
 ghost use Rattle.rw_calendar.specs.declared.step_length.StepLength.TheVariants.{Hours, Month};
 ghost use Rattle.rw_calendar.specs.Clock.{moment_at, IsOnTheHour, Shows};
-ghost use Rattle.rw_calendar.specs.Moment.{Moment, IsMoment, on, next_month, next_day, next_hour, hours_later, months_later};
+ghost use Rattle.rw_calendar.specs.declared.moment.Moment.{Moment};
+ghost use Rattle.rw_calendar.specs.Moment.{IsMoment, on, next_month, next_day, next_hour, hours_later, months_later};
 ghost use Rattle.rw_calendar.specs.StepLength.{moment_after};
 ghost use Rattle.rw_calendar.specs.Stamps.{Timesteps, begin_of, end_of};
 

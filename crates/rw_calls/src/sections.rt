@@ -1,30 +1,22 @@
 //! The sections of two gages: the faults that no run without rules ends in, and a run with values of each length.
-use crate::shared::{TWO_GAGES, basin, cell};
-use rw_base::{ObjectNo, Qty, RuleNo, SlotNo, StepNo};
+use crate::shared::{TWO_GAGES, basin, cell, given};
+use rw_base::{ObjectNo, RuleNo, SlotNo, StepNo};
 use rw_log::{Run, RunEnd, RunFault, Trace};
-use rw_model::{Basin, Content, Writer};
+use rw_model::Basin;
 use rw_report::section;
 use rw_series::Series;
 use std::alloc::Global;
 use std::process::Abort;
 
-fn content(rt: &impl Abort, value: i64) -> Content {
-    Content {
-        value: Qty::of(value).expect(rt, "a quantity"),
-        number: 0,
-        writer: Writer::Input,
-    }
-}
-
 // What passes on the first two days.
 fn passing(rt: &impl Abort, alloc: Global, basin: &Basin) -> Series {
     let mut series = Series::sized(alloc, basin).expect(rt, "memory");
     let comes = cell(rt, basin, "Up", "GageInflow", 1);
-    series.restore(basin, comes, Some(content(rt, 70)));
+    series.restore(basin, comes, Some(given(rt, 70)));
     let passes = cell(rt, basin, "Low", "GageInflow", 1);
-    series.restore(basin, passes, Some(content(rt, -5)));
+    series.restore(basin, passes, Some(given(rt, -5)));
     let leaves = cell(rt, basin, "Low", "GageOutflow", 2);
-    series.restore(basin, leaves, Some(content(rt, 100_000_000_000_000_000)));
+    series.restore(basin, leaves, Some(given(rt, 100_000_000_000_000_000)));
     series
 }
 

@@ -1,17 +1,9 @@
 //! Values that are put into a series, restored, and copied.
-use crate::shared::{TWO_GAGES, basin, cell};
-use rw_base::{ObjectNo, Qty, RuleNo};
+use crate::shared::{TWO_GAGES, basin, cell, content};
+use rw_base::{ObjectNo, RuleNo};
 use rw_model::{Content, PutEnd, Writer};
 use rw_series::Series;
 use std::process::Abort;
-
-fn content(rt: &impl Abort, value: i64, number: u16, writer: Writer) -> Content {
-    Content {
-        value: Qty::of(value).expect(rt, "a quantity"),
-        number,
-        writer,
-    }
-}
 
 fn ruled(rt: &impl Abort) -> Content {
     content(rt, 5, 2, Writer::Rule(RuleNo(2)))

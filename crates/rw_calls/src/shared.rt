@@ -1,8 +1,8 @@
-//! What the tests share: basins from the texts of their models, and the cells of their slots.
+//! What the tests share: basins from the texts of their models, the cells of their slots, and what cells hold.
 ghost use Rattle.rw_series.specs.Series.{IsCell};
 
-use rw_base::{Cell, StepNo};
-use rw_model::Basin;
+use rw_base::{Cell, Qty, StepNo};
+use rw_model::{Basin, Content, Writer};
 use rw_model_toml::read_model;
 use std::alloc::Global;
 use std::process::Abort;
@@ -41,4 +41,18 @@ pub(crate) fn cell(rt: &impl Abort, basin: &Basin, object: &str, slot: &str, ste
         slot: basin.find_slot(object, slot).expect(rt, "a slot"),
         step: StepNo(step),
     }
+}
+
+/// A value with its number and its writer.
+pub(crate) fn content(rt: &impl Abort, value: i64, number: u16, writer: Writer) -> Content {
+    Content {
+        value: Qty::of(value).expect(rt, "a quantity"),
+        number,
+        writer,
+    }
+}
+
+/// A value of the inputs.
+pub(crate) fn given(rt: &impl Abort, value: i64) -> Content {
+    content(rt, value, 0, Writer::Input)
 }

@@ -8,7 +8,8 @@ use Rattle.rw_calendar.specs.declared.fault.CalFault.TheVariants.{BadStart, NotF
 use Rattle.rw_calendar.specs.declared.start.Start.{Start}
 use Rattle.rw_calendar.specs.declared.step_length.StepLength.{StepLength}
 use Rattle.rw_calendar.specs.declared.step_length.StepLength.TheVariants.{Hours, Month}
-use Rattle.rw_calendar.specs.Moment.{Moment, days_in_month}
+use Rattle.rw_calendar.specs.declared.moment.Moment.{Moment}
+use Rattle.rw_calendar.specs.Moment.{days_in_month}
 use Rattle.rw_calendar.specs.Start.{moment_of, IsStart}
 use Rattle.rw_calendar.specs.StepLength.{CanBegin}
 use Rattle.rw_calendar.specs.Stamps.{timesteps_of, end_of, EndsBeyondYears, CanBeStamped}

@@ -1,13 +1,6 @@
 //! What one timestep leaves to the next, and what one object passes on.
+use crate::objects::DAM;
 use crate::runs::Example;
-
-// A reservoir without a table, and 1000 in it.
-const DAM: &str = r#"
-[[object]]
-name = "Dam"
-kind = "reservoir"
-initial_storage = 1000
-"#;
 
 // At most 79 flow out of it.
 const BOUNDED_DAM: &str = r#"

@@ -1,8 +1,8 @@
 //! One object that solves what it doesn't know.
 use crate::runs::Example;
 
-// A reservoir without a table, and 1000 in it.
-const DAM: &str = r#"
+/// A reservoir without a table, and 1000 in it.
+pub(crate) const DAM: &str = r#"
 [[object]]
 name = "Dam"
 kind = "reservoir"
