@@ -14,6 +14,7 @@ use crate::before::before_in;
 use crate::links::Links;
 use crate::objects::Objects;
 use crate::own_bounds::OwnBounds;
+use crate::tables::Tables;
 use crate::{Kind, Role, RunControl};
 use rw_base::{Dim, ObjectNo, Qty, SlotNo};
 use std::marker::Model;
@@ -26,9 +27,7 @@ pub struct Basin {
     pub(crate) objects: Objects,
     pub(crate) links: Links,
     pub(crate) given: OwnBounds,
-    pub(crate) slots: Vec<SlotNo>,
-    pub(crate) groups: Vec<Vec<SlotNo>>,
-    pub(crate) bounds: Vec<(i64, i64)>,
+    pub(crate) tables: Tables,
 }
 
 impl Model for Basin {
@@ -40,7 +39,7 @@ impl Model for Basin {
     ghost view = { λ b. record { control = b.control; objects = b.objects; links = b.links; bounds = b.given } };
 
     ghost invariant = { λ b. KeepsBasin (record { control = b.control; objects = b.objects; links = b.links; bounds = b.given })
-        (numbers_of b.slots.items) (links_of b.groups.items) b.bounds.items };
+        (numbers_of b.tables.slots.items) (links_of b.tables.groups.items) b.tables.bounds.items };
 }
 
 impl Basin {
@@ -146,7 +145,7 @@ impl Basin {
         ensures widest { IsWithinWidest self.now.objects s.0 result }
         ensures quantities { IsInside result all_quantities }
     {
-        self.bounds[usize::from(s.0) - 1]
+        self.tables.bounds[usize::from(s.0) - 1]
     }
 
     /// The slots that carry one value with a slot, rising, itself included.
@@ -156,8 +155,8 @@ impl Basin {
         ensures known { All (λ (slot : SlotNo). IsSlot self.now.objects slot.0) result.now }
     {
         match self.links.place(s.0) {
-            Some(place) => self.groups[place].as_slice(),
-            None => std::slice::from_ref(&self.slots[usize::from(s.0) - 1]),
+            Some(place) => self.tables.groups[place].as_slice(),
+            None => std::slice::from_ref(&self.tables.slots[usize::from(s.0) - 1]),
         }
     }
 

@@ -6,12 +6,12 @@ ghost use Rattle.rw_model.specs.Links.{link_fault, IsLinkFault};
 ghost use Rattle.rw_model.specs.Draft.{IsControl, CanAdd, IsObjectFault, CanBound, IsBoundFault};
 
 use crate::basin::Basin;
-use crate::bounds::{all_bounds, has_crossed_bounds};
-use crate::groups::{groups_of, slots_up_to};
+use crate::bounds::has_crossed_bounds;
 use crate::judge::{judge_bound, judge_link, judge_object};
 use crate::links::Links;
 use crate::objects::Objects;
 use crate::own_bounds::OwnBounds;
+use crate::tables::Tables;
 use crate::{BuildFault, Kind, RunControl};
 use rw_base::{NoMemory, ObjectNo, SlotNo};
 use std::alloc::Global;
@@ -178,18 +178,13 @@ impl BasinBuilder {
         requires { IsBasin self }
         ensures { IfOk result (λ basin. basin ≡ self) }
     {
-        let count = self.objects.slot_count();
-        let slots = slots_up_to(self.alloc, count)?;
-        let groups = groups_of(self.alloc, &self.links, count)?;
-        let bounds = all_bounds(self.alloc, &self.objects, &self.links, &self.bounds)?;
+        let tables = Tables::of(self.alloc, &self.objects, &self.links, &self.bounds)?;
         Ok(Basin {
             control: self.control,
             objects: self.objects,
             links: self.links,
             given: self.bounds,
-            slots,
-            groups,
-            bounds,
+            tables,
         })
     }
 

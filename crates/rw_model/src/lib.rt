@@ -30,6 +30,7 @@ mod put;
 mod role;
 mod slot;
 mod slots;
+mod tables;
 mod writer;
 
 pub use basin::Basin;

@@ -22,7 +22,7 @@ use Rattle.rw_model_toml.specs.Kinds.{kind_of}
 use Rattle.rw_model_toml.specs.Added.{object_fault, bound_fault}
 use Rattle.rw_model_toml.specs.Told as told
 use Rattle.rw_model_toml.specs.Told.{built, object_of, link_of, slot_in, few_linked, slot_number}
-use Rattle.rw_model_toml.specs.Model.{in_turn, control_in, empty_draft, filled, file_keys, draft_of, basin_of, toml_of, table_or, model_of}
+use Rattle.rw_model_toml.specs.Model.{in_turn, control_in, empty_draft, objects_from, links_from, bounds_from, filled, file_keys, draft_of, basin_of, toml_of, table_or, model_of}
 use Rattle.rw_model_toml.proofs.AddedFacts.{object-judged, bound-judged}
 use Rattle.rw_model_toml.proofs.Deciding.{not-below}
 use Rattle.std.proofs.lemmas.Int.{ints}
@@ -167,14 +167,23 @@ turn-keeps step path number (item d ds) draft keeps is =
 
 -- ---- the file
 
-filled-keeps : GrowsByObject → GrowsByLink → GrowsByBound → (control : RunControl) (ms : Members) → IsDraft (empty_draft control) → IfOk (filled control ms) IsDraft
+objects-keep : GrowsByObject → (ms : Members) (draft : Draft) → IsDraft draft → IfOk (objects_from ms draft) IsDraft
+objects-keep by_object ms draft is = next IsDraft (required items_of [] (codes "object") ms) _
+    (λ items. turn-keeps object_of (codes "object") 1 items draft (object-keeps by_object) is)
+
+links-keep : GrowsByLink → (ms : Members) (draft : Draft) → IsDraft draft → IfOk (links_from ms draft) IsDraft
+links-keep by_link ms draft is = next IsDraft (optional no_items items_of [] (codes "link") ms) _
+    (λ items. turn-keeps link_of (codes "link") 1 items draft (link-keeps by_link) is)
+
+bounds-keep : GrowsByBound → (ms : Members) (draft : Draft) → IsDraft draft → IfOk (bounds_from ms draft) IsDraft
+bounds-keep by_bound ms draft is = next IsDraft (optional no_items items_of [] (codes "bound") ms) _
+    (λ items. turn-keeps told.bound_of (codes "bound") 1 items draft (bound-keeps by_bound) is)
+
+filled-keeps : GrowsByObject → GrowsByLink → GrowsByBound → (ms : Members) (draft : Draft) → IsDraft draft → IfOk (filled ms draft) IsDraft
 unfolding filled
-filled-keeps by_object by_link by_bound control ms is = next IsDraft (required items_of [] (codes "object") ms) _
-    (λ objects. next-by IsDraft IsDraft (in_turn object_of (codes "object") 1 objects (empty_draft control)) _ (turn-keeps object_of (codes "object") 1 objects (empty_draft control) (object-keeps by_object) is)
-    (λ draft told_is. next IsDraft (optional no_items items_of [] (codes "link") ms) _
-    (λ links. next-by IsDraft IsDraft (in_turn link_of (codes "link") 1 links draft) _ (turn-keeps link_of (codes "link") 1 links draft (link-keeps by_link) told_is)
-    (λ linked linked_is. next IsDraft (optional no_items items_of [] (codes "bound") ms) _
-    (λ bounds. turn-keeps told.bound_of (codes "bound") 1 bounds linked (bound-keeps by_bound) linked_is)))))
+filled-keeps by_object by_link by_bound ms draft is = next-by IsDraft IsDraft (objects_from ms draft) _ (objects-keep by_object ms draft is)
+    (λ with_objects objects_are. next-by IsDraft IsDraft (links_from ms with_objects) _ (links-keep by_link ms with_objects objects_are)
+    (λ with_links links_are. bounds-keep by_bound ms with_links links_are))
 
 -- what a file says is a valid basin, where a builder keeps what it was told in order
 pub model-valid : ((control : RunControl) → IsControl control → IsDraft (empty_draft control)) → GrowsByObject → GrowsByLink → GrowsByBound
@@ -183,6 +192,6 @@ unfolding basin_of draft_of
 model-valid begun by_object by_link by_bound finished bytes = next IsBasin (table_or (toml_of bytes)) basin_of
     (λ ms. next-by IsDraft IsBasin (draft_of ms) _
     (next-by IsControl IsDraft (control_in ms) _ (in-control ms)
-    (λ control limits. next-by IsDraft IsDraft (filled control ms) _ (filled-keeps by_object by_link by_bound control ms (begun control limits))
+    (λ control limits. next-by IsDraft IsDraft (filled ms (empty_draft control)) _ (filled-keeps by_object by_link by_bound ms (empty_draft control) (begun control limits))
     (λ draft is. next IsDraft (only_listed file_keys [] ms) _ (λ listed. is))))
     (λ draft is. built-by IsBasin (codes "basin") (finish_fault draft) draft (finished draft is)))

@@ -32,7 +32,7 @@ use Rattle.rw_calendar.specs.Stamps.{timesteps_of, end_of}
 use Rattle.rw_model.specs.declared.control.RunControl.{RunControl}
 use Rattle.rw_model_toml.specs.Told as told
 use Rattle.rw_model_toml.specs.Told.{built, object_of, slot_number, slot_in, few_linked}
-use Rattle.rw_model_toml.specs.Model.{in_turn, control_in, empty_draft, filled, file_keys, draft_of, basin_of, table_or, toml_of, model_of}
+use Rattle.rw_model_toml.specs.Model.{in_turn, control_in, empty_draft, objects_from, links_from, bounds_from, filled, file_keys, draft_of, basin_of, table_or, toml_of, model_of}
 use Rattle.rw_model_toml.specs.Control.{is_start, can_begin, stamped, control_of}
 use Rattle.rw_model_toml.specs.declared.run.Run.{Run}
 use Rattle.rw_model_toml.specs.Names.{is_name, name_of}
@@ -407,18 +407,26 @@ in-plain ms = chain-required (count_of 1 1) [] (codes "format") ms _ (count-plai
     (λ format. chain-required members_of [] (codes "run") ms _ members-plain
     (λ run_table. chain (run_of run_table) _ (run-plain run_table) (λ run. control-plain run)))
 
-filled-plain : (control : RunControl) (ms : Members) → Plain (filled control ms)
+objects-plain : (ms : Members) (draft : Draft) → Plain (objects_from ms draft)
+objects-plain ms draft = chain-required items_of [] (codes "object") ms _ items-plain
+    (λ items. turn-plain object_of (codes "object") 1 items draft object-plain)
+
+links-plain : (ms : Members) (draft : Draft) → Plain (links_from ms draft)
+links-plain ms draft = chain-optional no_items items_of [] (codes "link") ms _ items-plain
+    (λ items. turn-plain told.link_of (codes "link") 1 items draft link-plain)
+
+bounds-plain : (ms : Members) (draft : Draft) → Plain (bounds_from ms draft)
+bounds-plain ms draft = chain-optional no_items items_of [] (codes "bound") ms _ items-plain
+    (λ items. turn-plain told.bound_of (codes "bound") 1 items draft bound-plain)
+
+filled-plain : (ms : Members) (draft : Draft) → Plain (filled ms draft)
 unfolding filled
-filled-plain control ms = chain-required items_of [] (codes "object") ms _ items-plain
-    (λ objects. chain (in_turn object_of (codes "object") 1 objects (empty_draft control)) _ (turn-plain object_of (codes "object") 1 objects (empty_draft control) object-plain)
-    (λ draft. chain-optional no_items items_of [] (codes "link") ms _ items-plain
-    (λ links. chain (in_turn told.link_of (codes "link") 1 links draft) _ (turn-plain told.link_of (codes "link") 1 links draft link-plain)
-    (λ linked. chain-optional no_items items_of [] (codes "bound") ms _ items-plain
-    (λ bounds. turn-plain told.bound_of (codes "bound") 1 bounds linked bound-plain)))))
+filled-plain ms draft = chain (objects_from ms draft) _ (objects-plain ms draft)
+    (λ with_objects. chain (links_from ms with_objects) _ (links-plain ms with_objects) (λ with_links. bounds-plain ms with_links))
 
 draft-plain : (ms : Members) → Plain (draft_of ms)
 unfolding draft_of
-draft-plain ms = chain (control_in ms) _ (in-plain ms) (λ control. chain (filled control ms) _ (filled-plain control ms)
+draft-plain ms = chain (control_in ms) _ (in-plain ms) (λ control. chain (filled ms (empty_draft control)) _ (filled-plain ms (empty_draft control))
     (λ draft. chain-listed file_keys [] ms _ (λ listed. tt)))
 
 pub basin-plain : (ms : Members) → Plain (basin_of ms)

@@ -31,15 +31,30 @@ control_in table = do
 abbrev pub empty_draft : RunControl → Draft
 empty_draft control = record { control = control; objects = []; links = []; bounds = [] }
 
+-- the objects that the file adds to what was built
+abbrev pub objects_from : Members → Draft → Result Draft Refusal
+objects_from table draft = do
+  items ← required items_of [] (codes "object") table
+  in_turn object_of (codes "object") 1 items draft
+
+-- the links that it adds
+abbrev pub links_from : Members → Draft → Result Draft Refusal
+links_from table draft = do
+  items ← optional no_items items_of [] (codes "link") table
+  in_turn link_of (codes "link") 1 items draft
+
+-- the bounds that it adds
+abbrev pub bounds_from : Members → Draft → Result Draft Refusal
+bounds_from table draft = do
+  items ← optional no_items items_of [] (codes "bound") table
+  in_turn bound_of (codes "bound") 1 items draft
+
 -- objects, links and bounds, in this order
-unfoldable pub filled : RunControl → Members → Result Draft Refusal
-filled control table = do
-  objects ← required items_of [] (codes "object") table
-  with_objects ← in_turn object_of (codes "object") 1 objects (empty_draft control)
-  links ← optional no_items items_of [] (codes "link") table
-  with_links ← in_turn link_of (codes "link") 1 links with_objects
-  bounds ← optional no_items items_of [] (codes "bound") table
-  in_turn bound_of (codes "bound") 1 bounds with_links
+unfoldable pub filled : Members → Draft → Result Draft Refusal
+filled table draft = do
+  with_objects ← objects_from table draft
+  with_links ← links_from table with_objects
+  bounds_from table with_links
 
 -- the keys of the file
 abbrev pub file_keys : List (List ℕ)
@@ -49,7 +64,7 @@ file_keys = codes "format" ∷ codes "run" ∷ codes "object" ∷ codes "link" �
 unfoldable pub draft_of : Members → Result Draft Refusal
 draft_of table = do
   control ← control_in table
-  draft ← filled control table
+  draft ← filled table (empty_draft control)
   listed ← only_listed file_keys [] table
   Ok draft
 

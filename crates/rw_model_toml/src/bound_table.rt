@@ -1,11 +1,11 @@
 ghost use Rattle.std.specs.Prelude.{codes};
-ghost use Rattle.toml.specs.View.{view, items_view};
+ghost use Rattle.toml.specs.View.{view, items_view, table_view};
 ghost use Rattle.rw_model_toml.specs.Fault.{Gives};
 ghost use Rattle.rw_model_toml.specs.Told.{with_bound, bound_of};
-ghost use Rattle.rw_model_toml.specs.Model.{in_turn};
+ghost use Rattle.rw_model_toml.specs.Model.{in_turn, bounds_from};
 
 use crate::ModelFault;
-use crate::key::{required_integer, required_text};
+use crate::key::{optional_items, required_integer, required_text};
 use crate::listed::only_listed;
 use crate::path::element_path;
 use crate::slot_text::slot_number;
@@ -14,7 +14,7 @@ use crate::value::table;
 use rw_base::SlotNo;
 use rw_model::BasinBuilder;
 use std::alloc::Global;
-use toml::Value;
+use toml::{Table, Value};
 
 fn add_bound(
     alloc: Global,
@@ -50,12 +50,8 @@ fn read_bound(
     add_bound(alloc, builder, at, slot, min, max)
 }
 
-/// Gives slots the bounds that the items say, one after another.
-pub fn read_bounds(
-    alloc: Global,
-    builder: &mut BasinBuilder,
-    items: &[Value],
-) -> Result<(), ModelFault>
+// Gives slots the bounds that the items say, one after another.
+fn add_bounds(alloc: Global, builder: &mut BasinBuilder, items: &[Value]) -> Result<(), ModelFault>
     ensures { Gives (λ _. builder.new) result (in_turn bound_of (codes "bound") 1 (items_view items.now) builder.old) }
 {
     for place in 0..items.len() {
@@ -63,4 +59,16 @@ pub fn read_bounds(
         read_bound(alloc, builder, at.as_str(), &items[place])?;
     }
     Ok(())
+}
+
+/// Gives slots the bounds of the file, one after another.
+pub fn read_bounds(
+    alloc: Global,
+    builder: &mut BasinBuilder,
+    table: &Table,
+) -> Result<(), ModelFault>
+    ensures { Gives (λ _. builder.new) result (bounds_from (table_view table.now) builder.old) }
+{
+    let items = optional_items(alloc, "", "bound", table)?;
+    add_bounds(alloc, builder, items)
 }

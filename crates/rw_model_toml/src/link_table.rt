@@ -1,13 +1,13 @@
 ghost use Rattle.std.specs.Prelude.{string_bytes, ◌≤◌, codes, length};
-ghost use Rattle.toml.specs.View.{view, items_view};
+ghost use Rattle.toml.specs.View.{view, items_view, table_view};
 ghost use Rattle.rw_model.specs.Kept.{numbers_of};
 ghost use Rattle.rw_model_toml.specs.Fault.{Gives};
 ghost use Rattle.rw_model_toml.specs.ListOf.{list_of};
 ghost use Rattle.rw_model_toml.specs.Told.{slot_in, with_link, link_of};
-ghost use Rattle.rw_model_toml.specs.Model.{in_turn};
+ghost use Rattle.rw_model_toml.specs.Model.{in_turn, links_from};
 
 use crate::ModelFault;
-use crate::key::required_items;
+use crate::key::{optional_items, required_items};
 use crate::listed::only_listed;
 use crate::path::{element_path, key_path};
 use crate::slot_text::slot_number;
@@ -16,7 +16,7 @@ use crate::value::{table, text};
 use rw_base::SlotNo;
 use rw_model::{BasinBuilder, BuildFault};
 use std::alloc::Global;
-use toml::Value;
+use toml::{Table, Value};
 
 // The most slots of a link.
 const SLOTS_MAX: usize = 8;
@@ -81,12 +81,8 @@ fn read_link(
     add_link(alloc, builder, at, slots.as_slice())
 }
 
-/// Links the slots that the items say, one link after another.
-pub fn read_links(
-    alloc: Global,
-    builder: &mut BasinBuilder,
-    items: &[Value],
-) -> Result<(), ModelFault>
+// Links the slots that the items say, one link after another.
+fn add_links(alloc: Global, builder: &mut BasinBuilder, items: &[Value]) -> Result<(), ModelFault>
     ensures { Gives (λ _. builder.new) result (in_turn link_of (codes "link") 1 (items_view items.now) builder.old) }
 {
     for place in 0..items.len() {
@@ -94,4 +90,16 @@ pub fn read_links(
         read_link(alloc, builder, at.as_str(), &items[place])?;
     }
     Ok(())
+}
+
+/// Links the slots that the file links, one link after another.
+pub fn read_links(
+    alloc: Global,
+    builder: &mut BasinBuilder,
+    table: &Table,
+) -> Result<(), ModelFault>
+    ensures { Gives (λ _. builder.new) result (links_from (table_view table.now) builder.old) }
+{
+    let items = optional_items(alloc, "", "link", table)?;
+    add_links(alloc, builder, items)
 }

@@ -10,7 +10,7 @@ ghost use Rattle.rw_model_toml.specs.Model.{control_in, empty_draft, filled, dra
 
 use crate::ModelFault;
 use crate::bound_table::read_bounds;
-use crate::key::{optional_items, required_count, required_items, required_table};
+use crate::key::{required_count, required_table};
 use crate::link_table::read_links;
 use crate::listed::only_listed;
 use crate::object_table::read_objects;
@@ -46,18 +46,12 @@ fn begin(alloc: Global, control: RunControl) -> BasinBuilder
 }
 
 #[tactic(auto, unfolding(crate::specs::Model::filled))]
-fn fill(alloc: Global, control: RunControl, table: &Table) -> Result<BasinBuilder, ModelFault>
-    requires { IsControl control }
-    ensures { Gives (λ builder. builder) result (filled control (table_view table.now)) }
+fn fill(alloc: Global, builder: &mut BasinBuilder, table: &Table) -> Result<(), ModelFault>
+    ensures { Gives (λ _. builder.new) result (filled (table_view table.now) builder.old) }
 {
-    let objects = required_items(alloc, "", "object", table)?;
-    let mut builder = begin(alloc, control);
-    read_objects(alloc, &mut builder, objects)?;
-    let links = optional_items(alloc, "", "link", table)?;
-    read_links(alloc, &mut builder, links)?;
-    let bounds = optional_items(alloc, "", "bound", table)?;
-    read_bounds(alloc, &mut builder, bounds)?;
-    Ok(builder)
+    read_objects(alloc, builder, table)?;
+    read_links(alloc, builder, table)?;
+    read_bounds(alloc, builder, table)
 }
 
 #[tactic(auto, unfolding(crate::specs::Model::draft_of))]
@@ -65,7 +59,8 @@ fn read_draft(alloc: Global, table: &Table) -> Result<BasinBuilder, ModelFault>
     ensures { Gives (λ builder. builder) result (draft_of (table_view table.now)) }
 {
     let control = read_control(alloc, table)?;
-    let builder = fill(alloc, control, table)?;
+    let mut builder = begin(alloc, control);
+    fill(alloc, &mut builder, table)?;
     only_listed(alloc, &KEYS, "", table)?;
     Ok(builder)
 }

@@ -1,11 +1,11 @@
 ghost use Rattle.std.specs.Prelude.{codes};
-ghost use Rattle.toml.specs.View.{view, items_view};
+ghost use Rattle.toml.specs.View.{view, items_view, table_view};
 ghost use Rattle.rw_model_toml.specs.Fault.{Gives};
 ghost use Rattle.rw_model_toml.specs.Told.{with_object, object_of};
-ghost use Rattle.rw_model_toml.specs.Model.{in_turn};
+ghost use Rattle.rw_model_toml.specs.Model.{in_turn, objects_from};
 
 use crate::ModelFault;
-use crate::key::required_text;
+use crate::key::{required_items, required_text};
 use crate::name::read_name;
 use crate::object_kind::read_kind;
 use crate::path::element_path;
@@ -13,7 +13,7 @@ use crate::told::told;
 use crate::value::table;
 use rw_model::{BasinBuilder, Kind};
 use std::alloc::Global;
-use toml::Value;
+use toml::{Table, Value};
 
 fn add_object(
     alloc: Global,
@@ -46,12 +46,8 @@ fn read_object(
     add_object(alloc, builder, at, name, kind)
 }
 
-/// Adds the objects that the items say, one after another.
-pub fn read_objects(
-    alloc: Global,
-    builder: &mut BasinBuilder,
-    items: &[Value],
-) -> Result<(), ModelFault>
+// Adds the objects that the items say, one after another.
+fn add_objects(alloc: Global, builder: &mut BasinBuilder, items: &[Value]) -> Result<(), ModelFault>
     ensures { Gives (λ _. builder.new) result (in_turn object_of (codes "object") 1 (items_view items.now) builder.old) }
 {
     for place in 0..items.len() {
@@ -59,4 +55,16 @@ pub fn read_objects(
         read_object(alloc, builder, at.as_str(), &items[place])?;
     }
     Ok(())
+}
+
+/// Adds the objects of the file, one after another.
+pub fn read_objects(
+    alloc: Global,
+    builder: &mut BasinBuilder,
+    table: &Table,
+) -> Result<(), ModelFault>
+    ensures { Gives (λ _. builder.new) result (objects_from (table_view table.now) builder.old) }
+{
+    let items = required_items(alloc, "", "object", table)?;
+    add_objects(alloc, builder, items)
 }

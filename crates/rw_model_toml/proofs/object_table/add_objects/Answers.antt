@@ -1,7 +1,7 @@
 use Rattle.std.proofs.Common.{◌∙◌, codes}
 use Rattle.rw_model_toml.specs.Told.{object_of}
 use Rattle.rw_model_toml.proofs.Lists.{turn-next, turn-fails, gives-fault}
-use Rattle.rw_model_toml.proofs.object_table.read_objects.Goals as goal
+use Rattle.rw_model_toml.proofs.object_table.add_objects.Goals as goal
 
 pub returns-in_err-read_object : goal.returns-in_err-read_object
 returns-in_err-read_object c =

@@ -1,7 +1,7 @@
 use Rattle.std.proofs.Common.{◌∙◌, codes}
 use Rattle.rw_model_toml.specs.Told.{link_of}
 use Rattle.rw_model_toml.proofs.Lists.{turn-next, turn-fails, gives-fault}
-use Rattle.rw_model_toml.proofs.link_table.read_links.Goals as goal
+use Rattle.rw_model_toml.proofs.link_table.add_links.Goals as goal
 
 pub returns-in_err-read_link : goal.returns-in_err-read_link
 returns-in_err-read_link c =

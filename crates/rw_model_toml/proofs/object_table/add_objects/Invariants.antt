@@ -2,7 +2,7 @@ use Rattle.std.proofs.Common.{◌≡◌, ◌+◌, drop, codes}
 use Rattle.toml.specs.View.{items_view}
 use Rattle.rw_model_toml.specs.Model.{in_turn}
 use Rattle.rw_model_toml.specs.Told.{object_of}
-use Rattle.rw_model_toml.proofs.object_table.read_objects.Given as goal
+use Rattle.rw_model_toml.proofs.object_table.add_objects.Given as goal
 
 abbrev pub invariant-loop-place : goal.invariant-loop-place
 invariant-loop-place l =

@@ -1,7 +1,7 @@
 use Rattle.std.proofs.Common.{◌∙◌, codes}
 use Rattle.rw_model_toml.specs.Told.{bound_of}
 use Rattle.rw_model_toml.proofs.Lists.{turn-next, turn-fails, gives-fault}
-use Rattle.rw_model_toml.proofs.bound_table.read_bounds.Goals as goal
+use Rattle.rw_model_toml.proofs.bound_table.add_bounds.Goals as goal
 
 pub returns-in_err-read_bound : goal.returns-in_err-read_bound
 returns-in_err-read_bound c =

@@ -2,7 +2,7 @@ use Rattle.std.proofs.Common.{◌≡◌, ◌+◌, drop, codes}
 use Rattle.toml.specs.View.{items_view}
 use Rattle.rw_model_toml.specs.Model.{in_turn}
 use Rattle.rw_model_toml.specs.Told.{link_of}
-use Rattle.rw_model_toml.proofs.link_table.read_links.Given as goal
+use Rattle.rw_model_toml.proofs.link_table.add_links.Given as goal
 
 abbrev pub invariant-loop-place : goal.invariant-loop-place
 invariant-loop-place l =

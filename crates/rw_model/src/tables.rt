@@ -1,0 +1,46 @@
+ghost use Rattle.std.specs.Prelude.{◌≡◌, All, IfOk, length, map};
+ghost use Rattle.rw_model.specs.Kept.{numbers_of, links_of, KeepsGroups};
+ghost use Rattle.rw_model.specs.Links.{bounds_in, slot_numbers};
+ghost use Rattle.rw_model.specs.Basin.{IsLink};
+ghost use Rattle.rw_model.specs.Objects.{all_slots};
+
+use crate::bounds::all_bounds;
+use crate::groups::{groups_of, slots_up_to};
+use crate::links::Links;
+use crate::objects::Objects;
+use crate::own_bounds::OwnBounds;
+use rw_base::{NoMemory, SlotNo};
+use std::alloc::Global;
+
+/// What a basin keeps besides what it was told: its slots, the groups that links make of them, and what bounds leave each.
+#[derive(Drop)]
+pub struct Tables {
+    pub slots: Vec<SlotNo>,
+    pub groups: Vec<Vec<SlotNo>>,
+    pub bounds: Vec<(i64, i64)>,
+}
+
+impl Tables {
+    /// The tables of these objects, links and bounds.
+    pub fn of(
+        alloc: Global,
+        objects: &Objects,
+        links: &Links,
+        given: &OwnBounds,
+    ) -> Result<Tables, NoMemory>
+        requires { All (IsLink objects.now) links.now }
+        ensures slots { IfOk result (λ tables. numbers_of tables.slots.items ≡ slot_numbers objects.now) }
+        ensures groups { IfOk result (λ tables. KeepsGroups links.now (length (all_slots objects.now)) (links_of tables.groups.items)) }
+        ensures bounds { IfOk result (λ tables. tables.bounds.items ≡ map (bounds_in objects.now links.now given.now) (slot_numbers objects.now)) }
+    {
+        let count = objects.slot_count();
+        let slots = slots_up_to(alloc, count)?;
+        let groups = groups_of(alloc, links, count)?;
+        let bounds = all_bounds(alloc, objects, links, given)?;
+        Ok(Tables {
+            slots,
+            groups,
+            bounds,
+        })
+    }
+}
