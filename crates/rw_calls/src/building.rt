@@ -59,9 +59,7 @@ fn lake_and_reach(rt: &impl Abort, alloc: Global) -> Basin {
     builder.finish().expect(rt, "a basin")
 }
 
-#[test]
-fn a_basin_holds_what_was_added(rt: HostRuntime) {
-    let basin = lake_and_reach(&rt, rt.alloc());
+fn check(rt: &impl Abort, basin: &Basin) {
     assert!(rt; basin.object_count() == 2);
     assert!(rt; basin.slot_count() == 13);
     assert_eq!(rt; basin.object_name(ObjectNo(2)), "Reach");
@@ -76,4 +74,10 @@ fn a_basin_holds_what_was_added(rt: HostRuntime) {
     assert_eq!(rt; value(4, 0), Some(502));
     assert_eq!(rt; value(12, -1), Some(7));
     assert_eq!(rt; value(12, -2), None);
+}
+
+#[test]
+fn a_basin_holds_what_was_added(rt: HostRuntime) {
+    let basin = lake_and_reach(&rt, rt.alloc());
+    check(&rt, &basin);
 }

@@ -1,7 +1,10 @@
 //! Two inflows meet in Join, whose outflow is the inflow of Mark, a gage. Notes only keeps data.
+ghost use Rattle.rw_dispatch.specs.Queue.{IsQueueOf};
+
 use crate::shared::basin;
 use rw_base::{ObjectNo, SlotNo};
 use rw_dispatch::Queue;
+use rw_model::Basin;
 use std::process::Abort;
 
 const JOIN: ObjectNo = ObjectNo(1);
@@ -35,20 +38,25 @@ initial_storage = 9
 slots = ["Join.Outflow", "Mark.GageInflow"]
 "#;
 
-#[test]
-fn owners_wait_once_in_order_of_waking(rt: HostRuntime) {
-    let alloc = rt.alloc();
-    let basin = basin(&rt, alloc, MODEL);
+fn check(rt: &impl Abort, basin: &Basin, queue: &mut Queue)
+    requires { IsQueueOf basin.now queue.old }
+{
     assert!(rt; basin.slot_count() == 9);
-    let mut queue = Queue::for_basin(alloc, &basin).expect(&rt, "memory");
-    queue.begin_step(&basin);
+    queue.begin_step(basin);
     assert_eq!(rt; queue.next(), Some(JOIN));
     assert_eq!(rt; queue.next(), Some(MARK));
-    queue.wake(&basin, &[SlotNo(6), SlotNo(8)], None);
-    queue.wake(&basin, &[SlotNo(3), SlotNo(1)], Some(JOIN));
-    queue.wake(&basin, &[SlotNo(9), SlotNo(1)], None);
+    queue.wake(basin, &[SlotNo(6), SlotNo(8)], None);
+    queue.wake(basin, &[SlotNo(3), SlotNo(1)], Some(JOIN));
+    queue.wake(basin, &[SlotNo(9), SlotNo(1)], None);
     assert_eq!(rt; queue.next(), Some(LAKE));
     assert_eq!(rt; queue.next(), Some(MARK));
     assert_eq!(rt; queue.next(), Some(JOIN));
     assert_eq!(rt; queue.next(), None);
+}
+
+#[test]
+fn owners_wait_once_in_order_of_waking(rt: HostRuntime) {
+    let basin = basin(&rt, rt.alloc(), MODEL);
+    let mut queue = Queue::for_basin(rt.alloc(), &basin).expect(&rt, "memory");
+    check(&rt, &basin, &mut queue);
 }
