@@ -111,7 +111,7 @@ fn check_conflict(rt: &impl Abort, alloc: Global, methods: &Catalogue)
     };
     assert_eq!(rt; run.end, RunEnd::Fault(fault));
     assert_eq!(rt; run.closed, 1);
-    assert_eq!(rt; run.trace.events().last(), Some(&TraceEvent::Fault(fault)));
+    assert_eq!(rt; run.trace.events().last(), Some(&TraceEvent::Fault));
     assert_eq!(rt; value_at(&run.series, 5, 1), Some(12));
     assert_eq!(rt; value_at(&run.series, 3, 2), Some(12));
     assert_eq!(rt; value_at(&run.series, 3, 3), None);

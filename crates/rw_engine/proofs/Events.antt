@@ -164,14 +164,14 @@ module _ (basin : Draft) (step object : ℕ) (rest : List ℕ) (log : Log) where
   }
   tells (fault (Conflict other slot at there here)) (IsConflict own left right) is =
       let same = conflict_is other slot at there here own left right is in record {
-        lines_are = ap (λ why. FaultLine why ∷ []) (sym same);
+        lines_are = refl;
         last = refl;
         calm = λ none. absurd (cc);
         faulted = λ why some. ap fault (same ∙ (let found : _ ≡ why = cc in found));
       }
   tells (fault (ObjectOutOfRange other slot at here)) (IsOutOfRange own right) is =
       let same = outside_is other slot at here own right is in record {
-        lines_are = ap (λ why. FaultLine why ∷ []) (sym same);
+        lines_are = refl;
         last = refl;
         calm = λ none. absurd (cc);
         faulted = λ why some. ap fault (same ∙ (let found : _ ≡ why = cc in found));

@@ -74,6 +74,7 @@ ends_step basin log old new step end reached goes before =
       events = opened step ∷ (reached.events ++ next basin no_rules step reached.log ∷ []);
       last = next basin no_rules step reached.log;
       before = reached.log;
+      within = reached.holds.open_step;
       leads = (
         first,
         leads_more basin no_rules (opened step ∷ log) reached.events (next basin no_rules step reached.log) reached.log reached.leads

@@ -3,7 +3,7 @@ use Rattle.std.specs.Prelude.{◌≡◌, ℕ, List, [], ◌∷◌}
 use Rattle.rw_model.specs.Draft.{Draft}
 use Rattle.rw_log.specs.Log.{Event, Log}
 use Rattle.rw_log.specs.Next.{no_rules}
-use Rattle.rw_log.specs.Runs.{Leads, IsRun, placed, standing, rests}
+use Rattle.rw_log.specs.Runs.{Leads, IsRun, placed, standing, rests, inside}
 use Rattle.rw_log.specs.RunOf.{IsRunOf}
 use Rattle.rw_log.specs.declared.run.Run.{Run}
 use Rattle.rw_inputs.specs.Inputs.{Inputs}
@@ -18,6 +18,7 @@ pub record Passes (basin : Draft) (log : Log) (end : StepEnd) (engine : Engine) 
   pub last : Event
   pub before : Log
   pub leads : Leads basin no_rules log events (last ∷ before)
+  pub within : standing before ≡ inside step
   pub ends : EndsBy end step last
   pub shows : Shows basin engine (last ∷ before)
 

@@ -134,7 +134,7 @@ impl State {
             step,
             count,
         };
-        self.trace.push(TraceEvent::Fault(fault))?;
+        self.trace.push(TraceEvent::Fault)?;
         self.end = RunEnd::Fault(fault);
         Ok(StepEnd::Fault(fault))
     }

@@ -46,10 +46,10 @@ fn tell_puts(
 
 // Writes the line of a fault, and hands it back.
 fn tell_fault(trace: &mut Trace, fault: RunFault) -> Result<Option<RunFault>, NoMemory>
-    ensures told { IfOk result (λ told. (trace.new ≡ trace.old ++ Line.Fault fault ∷ []) × (told ≡ Some fault)) }
+    ensures told { IfOk result (λ told. (trace.new ≡ trace.old ++ Line.Fault ∷ []) × (told ≡ Some fault)) }
     ensures grows { Grows trace.old trace.new }
 {
-    trace.push(TraceEvent::Fault(fault))?;
+    trace.push(TraceEvent::Fault)?;
     Ok(Some(fault))
 }
 

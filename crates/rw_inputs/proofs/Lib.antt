@@ -1,3 +1,4 @@
+pub mod SlotPlaces
 pub mod Same
 pub mod Keeping
 pub mod Digits

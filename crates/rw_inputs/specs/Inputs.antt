@@ -4,7 +4,7 @@ use Rattle.rw_model.specs.Objects.{all_slots}
 use Rattle.rw_model.specs.Draft.{Draft}
 use Rattle.rw_model.specs.Slot.{Bounds}
 use Rattle.rw_model.specs.Links.{group_of, bounds_in}
-use Rattle.rw_series.specs.Cells.{kept_at}
+use Rattle.rw_inputs.specs.SlotCells.{kept_at}
 use Rattle.rw_inputs.specs.declared.given.Given.{Given}
 
 -- values for so many slots at so many timesteps

@@ -1,3 +1,4 @@
+pub mod SlotCells
 pub mod Number
 pub mod Row
 pub mod Inputs

@@ -2,7 +2,7 @@
 use Rattle.std.specs.Prelude.{◌≡◌, ◌≢◌, ℕ, ◌≤◌, ℤ, List, Option, None}
 use Rattle.rw_model.specs.Draft.{Draft, IsSlot}
 use Rattle.rw_model.specs.Links.{bounds_in}
-use Rattle.rw_series.specs.Cells.{kept_at}
+use Rattle.rw_inputs.specs.SlotCells.{kept_at}
 use Rattle.rw_inputs.specs.declared.given.Given.{Given}
 use Rattle.rw_inputs.specs.Inputs.{IsWithin}
 

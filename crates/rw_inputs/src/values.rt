@@ -1,5 +1,5 @@
 ghost use Rattle.std.specs.Prelude.{◌≡◌, ◌==◌, ◌*◌, ◌≤◌, ◌&&◌, nat_le, ℕ, IsTrue, MatchBool, Some, None, if◌then◌else◌, length, vec_len};
-ghost use Rattle.rw_series.specs.Cells.{is_kept, place_of, kept_at};
+ghost use Rattle.rw_inputs.specs.SlotCells.{is_kept, place_of, kept_at};
 ghost use Rattle.rw_inputs.specs.Sound.{IsFree, IsTaken, IsKeptSpan};
 
 use rw_base::Qty;

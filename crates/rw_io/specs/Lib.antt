@@ -1,3 +1,4 @@
+pub mod Outside
 pub mod Causes
 pub mod Known
 pub mod Files

@@ -20,9 +20,10 @@ pub struct FileShelf<R: Files + Drop> {
 impl<R: Files + Drop> FileShelf<R> {
     /// A shelf of the runtime's files.
     pub fn of(files: R) -> FileShelf<R>
-        ensures no_faults { (p : List ℕ) → ⟦<FileShelf<R> as Shelf>⟧.faults result p ≡ 0 }
-        ensures not_started { ⟦<FileShelf<R> as Shelf>⟧.started result ≡ None }
-        ensures untold { (p : List ℕ) → ⟦<FileShelf<R> as Shelf>⟧.holds result p ≡ None }
+        ensures no_faults { (p : List ℕ) → (⟦<FileShelf<R> as Shelf>⟧.seen result).faults p ≡ 0 }
+        ensures not_started { (⟦<FileShelf<R> as Shelf>⟧.seen result).started ≡ None }
+        ensures none_given { (⟦<FileShelf<R> as Shelf>⟧.seen result).given ≡ 0 }
+        ensures untold { (p : List ℕ) → (⟦<FileShelf<R> as Shelf>⟧.seen result).holds p ≡ None }
     {
         FileShelf {
             files,
@@ -35,15 +36,13 @@ impl<R: Files + Drop> FileShelf<R> {
 }
 
 impl<R: Files + Drop> Shelf for FileShelf<R> {
-    ghost holds = { λ _ _. None };
-
-    ghost started = { λ s. option_map (λ path. string_bytes path) s.started };
-
-    ghost left = { λ _. None };
-
-    ghost given = { λ s. s.given };
-
-    ghost faults = { λ s _. s.faults };
+    ghost seen = { λ s. record {
+      holds = λ _. None;
+      started = option_map (λ path. string_bytes path) s.started;
+      left = None;
+      given = s.given;
+      faults = λ _. s.faults;
+    } };
 
     fn start(&mut self, path: String) -> Result<(), ShelfFault> {
         self.started = None;

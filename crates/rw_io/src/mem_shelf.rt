@@ -75,9 +75,10 @@ impl MemShelf {
         files: Vec<(String, Vec<u8>)>,
         failing: Vec<u64>,
     ) -> Result<MemShelf, NoMemory>
-        ensures held { IfOk result (λ s. (p : List ℕ) → ⟦<MemShelf as Shelf>⟧.holds s p ≡ bytes_at files.items p) }
-        ensures no_faults { IfOk result (λ s. (p : List ℕ) → ⟦<MemShelf as Shelf>⟧.faults s p ≡ 0) }
-        ensures not_started { IfOk result (λ s. ⟦<MemShelf as Shelf>⟧.started s ≡ None) }
+        ensures held { IfOk result (λ s. (p : List ℕ) → (⟦<MemShelf as Shelf>⟧.seen s).holds p ≡ bytes_at files.items p) }
+        ensures no_faults { IfOk result (λ s. (p : List ℕ) → (⟦<MemShelf as Shelf>⟧.seen s).faults p ≡ 0) }
+        ensures not_started { IfOk result (λ s. (⟦<MemShelf as Shelf>⟧.seen s).started ≡ None) }
+        ensures none_given { IfOk result (λ s. (⟦<MemShelf as Shelf>⟧.seen s).given ≡ 0) }
         ensures failing { IfOk result (λ s. failing_of s ≡ failing.items) }
         ensures no_calls { IfOk result (λ s. calls_of s ≡ 0) }
     {
@@ -104,22 +105,21 @@ impl Shelf for MemShelf {
     ghost use Rattle.rw_io.specs.Causes.{NoneFell, PathRose};
     ghost use Rattle.rw_io.specs.Known.{given_after};
 
-    ghost holds = { λ s p. bytes_at s.files.items p };
-
-    ghost started = { λ s. option_map (λ path. string_bytes path) s.started };
-
-    ghost left = { λ s. left_at s.files.items s.started s.place s.at };
-
-    ghost given = { λ s. s.given };
-
-    ghost faults = { λ s p. count_at s.files.items s.counts.items p };
+    ghost seen = { λ s. record {
+      holds = λ p. bytes_at s.files.items p;
+      started = option_map (λ path. string_bytes path) s.started;
+      left = left_at s.files.items s.started s.place s.at;
+      given = s.given;
+      faults = λ p. count_at s.files.items s.counts.items p;
+    } };
 
     fn start(&mut self, path: String) -> Result<(), ShelfFault>
         ensures held { (p : List ℕ) → holds_of self.new p ≡ holds_of self.old p }
         ensures started { OnOk result (started_of self.new ≡ Some (string_bytes path)) }
         ensures left { OnOk result (left_of self.new ≡ holds_of self.old (string_bytes path)) }
-        ensures given { OnOk result (⟦<MemShelf as Shelf>⟧.given self.new ≡ 0) }
+        ensures given { OnOk result ((⟦<MemShelf as Shelf>⟧.seen self.new).given ≡ 0) }
         ensures nothing { OnErr result (started_of self.new ≡ None) }
+        ensures stays { OnErr result ((⟦<MemShelf as Shelf>⟧.seen self.new).given ≡ (⟦<MemShelf as Shelf>⟧.seen self.old).given) }
         ensures later { NoneFell (faults_of self.old) (faults_of self.new) }
         ensures cause { OnErr result (Rose (faults_of self.old (string_bytes path)) (faults_of self.new (string_bytes path))) }
 
@@ -149,7 +149,7 @@ impl Shelf for MemShelf {
         ensures bound { ReadsAtMost result buf.new }
         ensures bytes { ReadConsumes (left_of self.old) (left_of self.new) result buf.new }
         ensures idle { started_of self.old ≡ None → result ≡ Ok 0 }
-        ensures given { ⟦<MemShelf as Shelf>⟧.given self.new ≡ given_after (⟦<MemShelf as Shelf>⟧.given self.old) result }
+        ensures given { (⟦<MemShelf as Shelf>⟧.seen self.new).given ≡ given_after (⟦<MemShelf as Shelf>⟧.seen self.old).given result }
         ensures later { NoneFell (faults_of self.old) (faults_of self.new) }
         ensures cause { OnErr result (PathRose (started_of self.old) (faults_of self.old) (faults_of self.new)) }
 

@@ -18,8 +18,8 @@ impl MemSink {
 
     /// An empty sink, of which the calls with the given numbers are to fail.
     pub fn of(alloc: Global, failing: Vec<u64>) -> MemSink
-        ensures empty { ⟦<MemSink as Sink>⟧.contents result ≡ Some [] }
-        ensures no_faults { ⟦<MemSink as Sink>⟧.faults result ≡ 0 }
+        ensures empty { (⟦<MemSink as Sink>⟧.seen result).contents ≡ Some [] }
+        ensures no_faults { (⟦<MemSink as Sink>⟧.seen result).faults ≡ 0 }
         ensures failing { failing_of result ≡ failing.items }
         ensures no_calls { calls_of result ≡ 0 }
     {
@@ -32,7 +32,7 @@ impl MemSink {
 
     /// What was kept.
     pub fn held(&self) -> &[u8]
-        ensures { ⟦<MemSink as Sink>⟧.contents self.now ≡ Some result.now }
+        ensures { (⟦<MemSink as Sink>⟧.seen self.now).contents ≡ Some result.now }
     {
         &self.bytes
     }
@@ -43,9 +43,7 @@ impl Sink for MemSink {
     ghost use Rattle.rw_io.specs.Causes.{Rose};
     ghost use Rattle.rw_io.specs.Known.{SinkAppends};
 
-    ghost contents = { λ s. Some s.bytes.items };
-
-    ghost faults = { λ s. s.faults };
+    ghost seen = { λ s. record { contents = Some s.bytes.items; faults = s.faults } };
 
     fn write(&mut self, piece: &[u8]) -> Result<usize, SinkFault>
         ensures bound { IfOk result (λ n. n ≤ length piece.now) }

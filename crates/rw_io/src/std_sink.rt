@@ -14,17 +14,15 @@ pub struct StdSink<W: Write + Drop> {
 impl<W: Write + Drop> StdSink<W> {
     /// A sink that writes to that stream.
     pub fn of(stream: W) -> StdSink<W>
-        ensures no_faults { ⟦<StdSink<W> as Sink>⟧.faults result ≡ 0 }
-        ensures untold { ⟦<StdSink<W> as Sink>⟧.contents result ≡ None }
+        ensures no_faults { (⟦<StdSink<W> as Sink>⟧.seen result).faults ≡ 0 }
+        ensures untold { (⟦<StdSink<W> as Sink>⟧.seen result).contents ≡ None }
     {
         StdSink { stream, faults: 0 }
     }
 }
 
 impl<W: Write + Drop> Sink for StdSink<W> {
-    ghost contents = { λ _. None };
-
-    ghost faults = { λ s. s.faults };
+    ghost seen = { λ s. record { contents = None; faults = s.faults } };
 
     fn write(&mut self, piece: &[u8]) -> Result<usize, SinkFault> {
         if piece.is_empty() {

@@ -24,18 +24,18 @@ pub enum ReadEnd {
 /// Reads the whole file of that path. After a refusal the file is left partly read.
 pub fn read_all<S: Shelf>(alloc: Global, shelf: &mut S, path: &str) -> Result<Vec<u8>, ReadEnd>
     // The whole file, where the shelf tells it, of at most `FILE_MAX` bytes.
-    ensures whole { IfOk result (λ bytes. IfSome (S.holds shelf.old path.now) (λ file. bytes.items ≡ file)) }
+    ensures whole { IfOk result (λ bytes. IfSome ((S.seen shelf.old).holds path.now) (λ file. bytes.items ≡ file)) }
     ensures short { IfOk result (λ bytes. length bytes.items ≤ FILE_MAX) }
-    ensures given { IfOk result (λ bytes. S.given shelf.new ≡ length bytes.items) }
+    ensures given { IfOk result (λ bytes. (S.seen shelf.new).given ≡ length bytes.items) }
 
     // Why it isn't read.
-    ensures fault { IsErrOf result ReadEnd.ReadFault → Rose (S.faults shelf.old path.now) (S.faults shelf.new path.now) }
-    ensures long { IsErrOf result ReadEnd.TooLong → FILE_MAX < S.given shelf.new }
-    ensures longer { IsErrOf result ReadEnd.TooLong → IfSome (S.holds shelf.old path.now) (λ file. FILE_MAX < length file) }
+    ensures fault { IsErrOf result ReadEnd.ReadFault → Rose ((S.seen shelf.old).faults path.now) ((S.seen shelf.new).faults path.now) }
+    ensures long { IsErrOf result ReadEnd.TooLong → FILE_MAX < (S.seen shelf.new).given }
+    ensures longer { IsErrOf result ReadEnd.TooLong → IfSome ((S.seen shelf.old).holds path.now) (λ file. FILE_MAX < length file) }
 
     // What stays.
-    ensures held { (p : List ℕ) → S.holds shelf.new p ≡ S.holds shelf.old p }
-    ensures later { NoneFell (S.faults shelf.old) (S.faults shelf.new) }
+    ensures held { (p : List ℕ) → (S.seen shelf.new).holds p ≡ (S.seen shelf.old).holds p }
+    ensures later { NoneFell (S.seen shelf.old).faults (S.seen shelf.new).faults }
 {
     let Ok(name) = String::from_str(alloc, path) else {
         return Err(ReadEnd::NoMemory);

@@ -17,7 +17,7 @@ use Rattle.rw_log.specs.declared.fault.RunFault.TheVariants.{ObjectLimit, RuleLi
 use Rattle.rw_log.specs.Log.{Asked, Cells, Log, Event, given, opened, closed, idle, solved, fired, fault, cells_of, last_put, written_by, value_in}
 use Rattle.rw_log.specs.Waiting.{waiting, since, wakes, ends_wait, numbers, is_data, first_of}
 use Rattle.rw_log.specs.Dispatch.{Past, bounds_in_place, places, cell_in, past_of, cell_of_past, cell_at, past_cell_of, value_of_past, view_of, if_cell, looked_cells, looks_at, solved_by, asked_by, end_in, is_written, puts_written, denied_by, or_fault, judged, dispatch_of, answered, dispatched}
-use Rattle.rw_log.specs.Next.{Policy, Fire, FireEnd, is_done, is_unknown, by_zero, is_outside, next, next_of, after_objects, firing_of, ended, agenda_of, count_if, dispatches, firings, last_looks, is_changed, is_same_value, first_due, is_put_again, last_ones}
+use Rattle.rw_log.specs.Next.{Policy, Fire, FireEnd, is_done, is_unknown, by_zero, is_outside, next, next_of, after_objects, firing_of, ended, agenda_of, count_if, dispatches, firings, last_looks, is_changed, is_same_value, first_due, is_put_again, last_ones, asked_of_rule}
 use Rattle.rw_log.specs.Frame.{IsFault, cells_looked, cells_asked, looked_by, looked_in, AreAlike, Goes, IsFramed}
 use Rattle.rw_log.proofs.Lists.{filter-same}
 use Rattle.rw_log.proofs.Waits.{waiting-more, opens}
@@ -261,15 +261,20 @@ last_alike basin f g (put ∷ puts) a =
 
 ended_same : (basin : Draft) (f g : Cells) (rule step : ℕ) (fire : Fire) (end : FireEnd) → AreAlike f g (looked_by (ended basin f rule step fire end))
     → ¬ IsFault (ended basin f rule step fire end)
-    → AreAlike f g (cells_looked fire.looked) × (ended basin f rule step fire end ≡ ended basin g rule step fire end)
+    → AreAlike f g fire.looked × (ended basin f rule step fire end ≡ ended basin g rule step fire end)
 ended_same basin f g rule step fire by_zero a fine = absurd (fine tt)
 ended_same basin f g rule step fire (is_outside value) a fine = absurd (fine tt)
-ended_same basin f g rule step fire is_unknown a fine = (alike_left f g (cells_looked fire.looked) [] a, refl)
+ended_same basin f g rule step fire is_unknown a fine =
+    let l : AreAlike f g fire.looked = subst (AreAlike f g) (cells_of_looks f fire.looked) (alike_left f g (cells_looked (looks_at f fire.looked)) [] a) in
+    (l, ap (λ z. fired (record { rule = rule; step = step; is_done = false; looked = z; asked = []; written = []; count = fire.count })) (looks_at_same f g fire.looked l))
 ended_same basin f g rule step fire is_done a fine =
-    let asked : AreAlike f g (cells_asked fire.puts) = alike_right f g (cells_looked fire.looked) (cells_asked fire.puts) a in (
-      alike_left f g (cells_looked fire.looked) (cells_asked fire.puts) a,
-      ap (λ w. fired (record { rule = rule; step = step; is_done = true; looked = fire.looked; asked = fire.puts; written = w; count = fire.count }))
-          (written_same f g (last_ones basin fire.puts) (last_alike basin f g fire.puts asked)),
+    let puts : List Asked = asked_of_rule basin rule step fire.puts in
+    let l : AreAlike f g fire.looked =
+    subst (AreAlike f g) (cells_of_looks f fire.looked) (alike_left f g (cells_looked (looks_at f fire.looked)) (cells_asked puts) a) in
+    let asked : AreAlike f g (cells_asked puts) = alike_right f g (cells_looked (looks_at f fire.looked)) (cells_asked puts) a in (
+      l,
+      ap₂ (λ z w. fired (record { rule = rule; step = step; is_done = true; looked = z; asked = puts; written = w; count = fire.count }))
+          (looks_at_same f g fire.looked l) (written_same f g (last_ones basin puts) (last_alike basin f g puts asked)),
     )
 
 firing_same : (basin : Draft) (policy : Policy) (f g : Cells) (rule step : ℕ) → IsFramed policy → AreAlike f g (looked_by (firing_of basin policy f rule step))
@@ -279,7 +284,7 @@ firing_same basin policy f g rule step framed a fine =
     let h = ended_same basin f g rule step fire fire.end a fine in
     h.1
     ∙ ap (λ (z : Fire). ended basin g rule step z z.end)
-    (framed rule step (value_in f) (value_in g) (alike_values f g (cells_looked fire.looked) h.0))
+    (framed rule step (value_in f) (value_in g) (alike_values f g fire.looked h.0))
 
 -- ---- what follows
 

@@ -51,7 +51,7 @@ Goes basin policy step old (event ∷ events) =
 -- a firing depends on the cells alone at which it looks
 abbrev pub IsFramed : Policy → Type 0
 IsFramed policy = (rule step : ℕ) (one other : Cell → Option ℤ)
-    → AreAlike one other (cells_looked (policy.fire rule step one).looked) → policy.fire rule step one ≡ policy.fire rule step other
+    → AreAlike one other (policy.fire rule step one).looked → policy.fire rule step one ≡ policy.fire rule step other
 
 -- events of the timestep, of which the last closes it
 abbrev pub IsStepFrom : ℕ → Event → List Event → Type 0

@@ -1,6 +1,6 @@
 -- The one event that follows in an open timestep.
-use Rattle.std.specs.Prelude.{ℕ, ◌+◌, ◌==◌, nat_le, ℤ, Bool, true, false, not, List, [], ◌∷◌, Option, Some, None, reverse, if◌then◌else◌}
-use Rattle.std.specs.List.{list_any, find}
+use Rattle.std.specs.Prelude.{ℕ, ◌+◌, ◌==◌, nat_le, ℤ, Bool, true, false, not, List, [], ◌∷◌, map, Option, Some, None, reverse, if◌then◌else◌}
+use Rattle.std.specs.List.{list_any, filter, find}
 use Rattle.std.specs.Ordering.{int_eq}
 use Rattle.rw_base.specs.declared.number.Cell.{Cell}
 use Rattle.rw_model.specs.declared.control.AgendaOrder.{AgendaOrder}
@@ -11,7 +11,8 @@ use Rattle.rw_series.specs.declared.look.Look.{Look}
 use Rattle.rw_log.specs.declared.fault.RunFault.TheVariants.{ZeroDivisor, RuleOutOfRange, ObjectLimit, RuleLimit}
 use Rattle.rw_log.specs.Log.{Asked, Cells, Event, given, opened, closed, idle, solved, fired, fault, Log, cells_of, value_in}
 use Rattle.rw_log.specs.Waiting.{numbers, first_waiting}
-use Rattle.rw_log.specs.Dispatch.{dispatched, puts_written}
+use Rattle.rw_model.specs.declared.writer.Writer.TheVariants.{Rule}
+use Rattle.rw_log.specs.Dispatch.{cell_at, dispatched, looks_at, puts_written}
 
 -- how a firing ends
 pub data FireEnd : Type 0 where
@@ -20,11 +21,17 @@ pub data FireEnd : Type 0 where
   by_zero : FireEnd
   is_outside : ℤ → FireEnd
 
--- what a firing does: how it ends, what it looked at, the puts that were executed, and how much it counts
+-- a put of a rule: to a slot, so many timesteps ahead
+pub record RulePut : Type 0 where
+  pub slot : ℕ
+  pub ahead : ℕ
+  pub value : ℤ
+
+-- what a firing does: how it ends, at which cells it looked, the puts that were executed, and how much it counts
 pub record Fire : Type 0 where
   pub end : FireEnd
-  pub looked : List Look
-  pub puts : List Asked
+  pub looked : List Cell
+  pub puts : List RulePut
   pub count : ℕ
 
 -- so many rules, and what each does at a timestep, from the values of the cells
@@ -110,6 +117,18 @@ abbrev pub last_ones : Draft → List Asked → List Asked
 last_ones basin [] = []
 last_ones basin (put ∷ puts) = if is_put_again basin put puts then last_ones basin puts else put ∷ last_ones basin puts
 
+-- a put of a rule, as the content that is asked for in a cell
+abbrev pub asked_by_rule : ℕ → ℕ → RulePut → Asked
+asked_by_rule rule step put = record {
+  cell = cell_at put.slot (step + put.ahead);
+  content = record { value = put.value; number = rule; writer = Rule (record { 0 = rule }) };
+}
+
+-- all that a rule asks for in the run's timesteps
+abbrev pub asked_of_rule : Draft → ℕ → ℕ → List RulePut → List Asked
+asked_of_rule basin rule step puts =
+    filter (λ (put : Asked). nat_le put.cell.step.0 basin.control.stamps.count) (map (asked_by_rule rule step) puts)
+
 abbrev pub ended : Draft → Cells → ℕ → ℕ → Fire → FireEnd → Event
 ended basin cells rule step fire by_zero = fault (ZeroDivisor (record { 0 = rule }) (record { 0 = step }))
 ended basin cells rule step fire (is_outside value) = fault (RuleOutOfRange (record { 0 = rule }) (record { 0 = step }) value)
@@ -117,7 +136,7 @@ ended basin cells rule step fire is_unknown = fired (record {
   rule = rule;
   step = step;
   is_done = false;
-  looked = fire.looked;
+  looked = looks_at cells fire.looked;
   asked = [];
   written = [];
   count = fire.count;
@@ -126,9 +145,9 @@ ended basin cells rule step fire is_done = fired (record {
   rule = rule;
   step = step;
   is_done = true;
-  looked = fire.looked;
-  asked = fire.puts;
-  written = puts_written cells (last_ones basin fire.puts);
+  looked = looks_at cells fire.looked;
+  asked = asked_of_rule basin rule step fire.puts;
+  written = puts_written cells (last_ones basin (asked_of_rule basin rule step fire.puts));
   count = fire.count;
 })
 

@@ -1,6 +1,5 @@
 ghost use Rattle.std.specs.Prelude.{◌≡◌, [], ◌∷◌, ◌++◌, length, take, IfOk, IfErr};
 
-use crate::RunFault;
 use rw_base::{NoMemory, ObjectNo, RuleNo, SlotNo, StepNo};
 use rw_model::Content;
 use std::alloc::Global;
@@ -35,8 +34,8 @@ pub enum TraceEvent {
     },
     /// A timestep was closed.
     Closed(StepNo),
-    /// The run ended.
-    Fault(RunFault),
+    /// The run ended by a fault, which the end of the run tells.
+    Fault,
 }
 
 /// What happened in a run, line by line, seen as the list of its lines.

@@ -1,4 +1,4 @@
-ghost use Rattle.std.specs.Prelude.{◌≡◌, ◌<◌, Bool, List, [], ◌∷◌, ◌++◌, length, None, IsTrue, IsOk, ◌↔◌, OnOk, IfOk, IfErr};
+ghost use Rattle.std.specs.Prelude.{◌≡◌, ◌<◌, Bool, List, [], ◌∷◌, ◌++◌, length, None, IsTrue, IsOk, ◌↔◌, OnOk, OnErr, IfOk, IfErr};
 ghost use Rattle.rw_method.specs.declared.solved.Solved.TheVariants as Solved;
 ghost use Rattle.rw_model.specs.Slot.{all_quantities};
 ghost use Rattle.rw_method.specs.View.{bounds_at, is_between};
@@ -57,6 +57,7 @@ pub fn add_put(
     ensures fits { IsOk result ↔ IsTrue (is_bounded view.entry.now (put place value number)) }
     ensures ok { OnOk result (puts.new ≡ puts.old ++ put place value number ∷ []) }
     ensures err { IfErr result (λ answer. answer ≡ Solved.OutOfRange place value) }
+    ensures unchanged { OnErr result (puts.new ≡ puts.old) }
 {
     if !is_bounded(view, place, value) {
         return Err(Solved::OutOfRange { place, value });

@@ -1,5 +1,5 @@
 -- What bounds leave each slot, and that what the readers answer is in range.
-use Rattle.std.proofs.Common.{◌≡◌, ℕ, zero, suc, ◌+◌, ◌-◌, ◌<◌, ◌≤◌, ◌==◌, List, [], ◌∷◌, length, Bool, true, false, Option, Some, None, refl, sym, ap, subst, ◌∙◌, arith, is_some, ◌&&◌, option_and_then, slice_index_or}
+use Rattle.std.proofs.Common.{◌≡◌, ℕ, zero, suc, ◌+◌, ◌*◌, ◌-◌, ◌<◌, ◌≤◌, ◌==◌, List, [], ◌∷◌, length, Bool, true, false, Option, Some, None, refl, sym, ap, subst, ◌∙◌, arith, is_some, ◌&&◌, option_and_then, slice_index_or}
 use Rattle.std.specs.Prelude.{All, ℤ, ◌≤ℤ◌, slice_get, option_map, unwrap_or, codes, if◌then◌else◌}
 use Rattle.std.specs.List.{list_any, range_with_len}
 use Rattle.std.specs.Option.{ForSome}
@@ -20,11 +20,12 @@ use Rattle.rw_model.specs.declared.role.Role.TheVariants.{Fixed, Derived, Neithe
 use Rattle.rw_model.specs.Slot.{Slot, Bounds, IsInside, flow, of_range, all_quantities, from_zero, lengths, rate_unit}
 use Rattle.rw_model.specs.Slots.{where_chosen, slots_of}
 use Rattle.rw_model.specs.Objects.{Object, Placed, placed_from, slots_from, all_slots, slot_at, first_from, object_named, slot_named, slot_in_place, is_in_place, is_named}
-use Rattle.rw_model.specs.Draft.{Draft, Bound, IsSlot, IsWithinWidest, bound_of}
+use Rattle.rw_model.specs.Draft.{Draft, Bound, IsObject, IsSlot, IsWithinWidest, bound_of}
 use Rattle.rw_model.specs.Links.{link_of, own_bounds, meet, meet_all, linked_with, bounds_in}
 use Rattle.rw_model.specs.Basin.{IsLink, IsBound, IsBasin, is_crossed}
-use Rattle.rw_model.specs.Kept.{KeepsBasin}
+use Rattle.rw_model.specs.Kept.{number_at, KeepsBasin}
 use Rattle.rw_model.proofs.Grouping.{range_more}
+use Rattle.rw_model.proofs.PlaceNumbers.{number_at-place}
 
 -- ---- the numbers that are found are those of slots
 
@@ -281,14 +282,29 @@ bounds_in-quantities draft slot basin known =
 
 -- ---- what is kept of them
 
-pub kept_bounds : (draft : Draft) (slots : List ℕ) (groups : List (List ℕ)) (bounds : List Bounds) (slot : ℕ) (d : Bounds)
-    → KeepsBasin draft slots groups bounds → IsSlot draft.objects slot
+pub kept_bounds : (draft : Draft) (slots : List ℕ) (groups : List (List ℕ)) (bounds : List Bounds) (numbers : List (Option ℕ)) (slot : ℕ) (d : Bounds)
+    → KeepsBasin draft slots groups bounds numbers → IsSlot draft.objects slot
     → (slot - 1 < length bounds) × (slice_index_or bounds (slot - 1) d ≡ bounds_in draft.objects draft.links draft.bounds slot)
-kept_bounds draft slots groups bounds slot d kept known =
+kept_bounds draft slots groups bounds numbers slot d kept known =
     let f = bounds_in draft.objects draft.links draft.bounds in
     let n = length (all_slots draft.objects) in
     let near : slot - 1 < n = omega (arith, known.first, known.last) in
     let at : 1 + (slot - 1) ≡ slot = omega (arith, known.first) in (
       omega (arith, near, ap length kept.bounds_are, length-map-range_with_len f 1 n),
       ap (λ bs. slice_index_or bs (slot - 1) d) kept.bounds_are ∙ get_or-map-range_with_len f 1 n (slot - 1) slot d near at,
+    )
+
+pub kept_number : (draft : Draft) (slots : List ℕ) (groups : List (List ℕ)) (bounds : List Bounds) (numbers : List (Option ℕ)) (object place : ℕ) (d : Option ℕ)
+    → KeepsBasin draft slots groups bounds numbers → IsObject draft.objects object → place < 12
+    → ((object - 1) * 12 + place < length numbers) × (slice_index_or numbers ((object - 1) * 12 + place) d ≡ slot_in_place draft.objects object place)
+kept_number draft slots groups bounds numbers object place d kept known inside =
+    let f = number_at draft.objects in
+    let n = length draft.objects * 12 in
+    let far = (object - 1) * 12 + place in
+    let near : far < n = omega (arith, known.first, known.last, inside) in
+    let same : 0 + far ≡ far = omega arith in
+    let at : (object - 1) + 1 ≡ object = omega (arith, known.first) in (
+      omega (arith, near, ap length kept.numbers_are, length-map-range_with_len f 0 n),
+      ap (λ ns. slice_index_or ns far d) kept.numbers_are ∙ get_or-map-range_with_len f 0 n far far d near same
+          ∙ number_at-place draft.objects (object - 1) place inside ∙ ap (λ o. slot_in_place draft.objects o place) at,
     )

@@ -6,5 +6,6 @@ pub mod Faults
 pub mod Linking
 pub mod Drafting
 pub mod Grouping
+pub mod PlaceNumbers
 pub mod Bounding
 pub mod Linked

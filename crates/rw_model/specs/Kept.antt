@@ -1,5 +1,5 @@
 -- How objects and slots are kept: an object by its name, and a slot by its owner and place.
-use Rattle.std.specs.Prelude.{◌≡◌, ℕ, ◌+◌, ◌≤◌, List, [], ◌∷◌, length, map, All, Bool, Option, Some, None, slice_index_or, string_bytes}
+use Rattle.std.specs.Prelude.{◌≡◌, ℕ, ◌+◌, ◌*◌, ◌/◌, ◌%◌, ◌≤◌, List, [], ◌∷◌, length, map, All, Bool, Option, Some, None, slice_index_or, string_bytes}
 use Rattle.std.specs.declared.vec.Vec.{Vec}
 use Rattle.rw_base.specs.declared.number.SlotNo.{SlotNo}
 use Rattle.std.specs.declared.string.String.{String}
@@ -11,7 +11,7 @@ use Rattle.rw_model.specs.Slots.{slots_of}
 use Rattle.rw_model.specs.Links.{link_of, is_same_link, slot_numbers, bounds_in}
 use Rattle.rw_model.specs.Basin.{IsBasin}
 use Rattle.std.specs.List.{filter, range_with_len}
-use Rattle.rw_model.specs.Objects.{Object, Placed, placed_from, all_slots}
+use Rattle.rw_model.specs.Objects.{Object, Placed, placed_from, all_slots, slot_in_place}
 
 abbrev pub objects_of : {A : Type 0} → List (String A × Kind) → List Object
 objects_of {A} entries = map (λ (entry : String A × Kind). record { name = string_bytes entry.0; kind = entry.1 }) entries
@@ -56,9 +56,18 @@ pub record KeepsGroups (links : List (List ℕ)) (count : ℕ) (groups : List (L
   pub every : length groups ≡ length links
   pub each : (place : ℕ) → slice_index_or groups place [] ≡ filter (is_in_link links place) (range_with_len 1 count)
 
--- a valid basin, its slots, the groups that its links make, and what bounds leave each slot
-pub record KeepsBasin (draft : Draft) (slots : List ℕ) (groups : List (List ℕ)) (bounds : List Bounds) : Type 0 where
+-- the slot that stands so far from the first place of the first object, where each object has twelve places
+abbrev pub number_at : List Object → ℕ → Option ℕ
+number_at objects far = slot_in_place objects (far / 12 + 1) (far % 12)
+
+-- the slots in all places of the objects, so many of them
+abbrev pub numbers_up_to : List Object → ℕ → List (Option ℕ)
+numbers_up_to objects count = map (number_at objects) (range_with_len 0 count)
+
+-- a valid basin, its slots, the groups that its links make, what bounds leave each slot, and the slots by object and place
+pub record KeepsBasin (draft : Draft) (slots : List ℕ) (groups : List (List ℕ)) (bounds : List Bounds) (numbers : List (Option ℕ)) : Type 0 where
   pub valid : IsBasin draft
   pub slots_are : slots ≡ slot_numbers draft.objects
   pub groups_are : KeepsGroups draft.links (length (all_slots draft.objects)) groups
   pub bounds_are : bounds ≡ map (bounds_in draft.objects draft.links draft.bounds) (slot_numbers draft.objects)
+  pub numbers_are : numbers ≡ numbers_up_to draft.objects (length draft.objects * 12)

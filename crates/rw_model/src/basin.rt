@@ -39,7 +39,7 @@ impl Model for Basin {
     ghost view = { λ b. record { control = b.control; objects = b.objects; links = b.links; bounds = b.given } };
 
     ghost invariant = { λ b. KeepsBasin (record { control = b.control; objects = b.objects; links = b.links; bounds = b.given })
-        (numbers_of b.tables.slots.items) (links_of b.tables.groups.items) b.tables.bounds.items };
+        (numbers_of b.tables.slots.items) (links_of b.tables.groups.items) b.tables.bounds.items b.tables.numbers.items };
 }
 
 impl Basin {
@@ -98,9 +98,21 @@ impl Basin {
         ensures number { option_map (λ slot. slot.0) result ≡ slot_in_place self.now.objects o.0 place }
         ensures known { ForSome result (λ slot. IsSlot self.now.objects slot.0) }
     {
-        match self.objects.slot_in_place(o.0, place) {
+        match self.number_at(o, place) {
             Some(number) => Some(SlotNo(number)),
             None => None,
+        }
+    }
+
+    // The number of an object's slot in a place.
+    fn number_at(&self, o: ObjectNo, place: u8) -> Option<u16>
+        requires { IsObject self.now.objects o.0 }
+        ensures { result ≡ slot_in_place self.now.objects o.0 place }
+    {
+        if place < 12 {
+            self.tables.numbers[usize::from(o.0 - 1) * 12 + usize::from(place)]
+        } else {
+            self.objects.slot_in_place(o.0, place)
         }
     }
 

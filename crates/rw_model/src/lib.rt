@@ -23,6 +23,7 @@ pub mod law;
 mod links;
 mod name;
 mod name_rule;
+mod numbers;
 mod objects;
 mod own_bounds;
 mod place;

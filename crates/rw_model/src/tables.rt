@@ -1,5 +1,5 @@
-ghost use Rattle.std.specs.Prelude.{◌≡◌, All, IfOk, length, map};
-ghost use Rattle.rw_model.specs.Kept.{numbers_of, links_of, KeepsGroups};
+ghost use Rattle.std.specs.Prelude.{◌≡◌, ◌*◌, All, IfOk, length, map};
+ghost use Rattle.rw_model.specs.Kept.{numbers_of, links_of, KeepsGroups, numbers_up_to};
 ghost use Rattle.rw_model.specs.Links.{bounds_in, slot_numbers};
 ghost use Rattle.rw_model.specs.Basin.{IsLink};
 ghost use Rattle.rw_model.specs.Objects.{all_slots};
@@ -7,6 +7,7 @@ ghost use Rattle.rw_model.specs.Objects.{all_slots};
 use crate::bounds::all_bounds;
 use crate::groups::{groups_of, slots_up_to};
 use crate::links::Links;
+use crate::numbers::all_numbers;
 use crate::objects::Objects;
 use crate::own_bounds::OwnBounds;
 use rw_base::{NoMemory, SlotNo};
@@ -18,6 +19,7 @@ pub struct Tables {
     pub slots: Vec<SlotNo>,
     pub groups: Vec<Vec<SlotNo>>,
     pub bounds: Vec<(i64, i64)>,
+    pub numbers: Vec<Option<u16>>,
 }
 
 impl Tables {
@@ -32,15 +34,18 @@ impl Tables {
         ensures slots { IfOk result (λ tables. numbers_of tables.slots.items ≡ slot_numbers objects.now) }
         ensures groups { IfOk result (λ tables. KeepsGroups links.now (length (all_slots objects.now)) (links_of tables.groups.items)) }
         ensures bounds { IfOk result (λ tables. tables.bounds.items ≡ map (bounds_in objects.now links.now given.now) (slot_numbers objects.now)) }
+        ensures numbers { IfOk result (λ tables. tables.numbers.items ≡ numbers_up_to objects.now (length objects.now * 12)) }
     {
         let count = objects.slot_count();
         let slots = slots_up_to(alloc, count)?;
         let groups = groups_of(alloc, links, count)?;
         let bounds = all_bounds(alloc, objects, links, given)?;
+        let numbers = all_numbers(alloc, objects)?;
         Ok(Tables {
             slots,
             groups,
             bounds,
+            numbers,
         })
     }
 }

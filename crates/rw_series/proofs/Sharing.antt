@@ -1,5 +1,5 @@
 -- Cells that share their value.
-use Rattle.std.proofs.Common.{◌≡◌, ℕ, ◌+◌, ◌-◌, ◌<◌, ◌==◌, ◌&&◌, Bool, true, false, if◌then◌else◌, List, length, Option, Some, None, refl, sym, ap, ap₂, ◌∙◌, arith}
+use Rattle.std.proofs.Common.{◌≡◌, ℕ, ◌+◌, ◌-◌, ◌<◌, ◌==◌, ◌&&◌, Bool, true, false, if◌then◌else◌, List, length, Option, Some, None, refl, sym, ap, ap₂, subst, ◌∙◌, arith}
 use Rattle.std.proofs.lemmas.Bool.{and_parts}
 use Rattle.std.proofs.lemmas.Cmp.{nat_eq_equiv}
 use Rattle.std.proofs.lemmas.Bool.Decides.{nat_tests}
@@ -10,17 +10,18 @@ use Rattle.rw_model.specs.Objects.{Object, all_slots}
 use Rattle.rw_model.specs.Draft.{Draft, IsSlot}
 use Rattle.rw_model.specs.Links.{link_of, is_same_link, is_together, is_among, slot_numbers, group_of}
 use Rattle.rw_model.proofs.Bounding.{some_crossed}
+use Rattle.rw_series.specs.Columns.{AreColumns}
 use Rattle.rw_series.specs.Series.{Series, IsCell, is_shared, IsSeriesOf, Sets}
 
 -- ---- a slot in a group
 
-known_number : (objects : List Object) (slot : ℕ) → IsSlot objects slot → is_among slot (slot_numbers objects) ≡ true
+pub known_number : (objects : List Object) (slot : ℕ) → IsSlot objects slot → is_among slot (slot_numbers objects) ≡ true
 known_number objects slot known =
     let near : slot - 1 < length (all_slots objects) = omega (arith, known.first, known.last) in
     let at : (slot - 1) + 1 ≡ slot = omega (arith, known.first) in
     some_crossed (λ other. slot == other) (length (all_slots objects)) (slot - 1) near (ap (λ other. slot == other) at ∙ nat_eq_equiv.refl slot)
 
-among_group : (objects : List Object) (links : List (List ℕ)) (slot other : ℕ)
+pub among_group : (objects : List Object) (links : List (List ℕ)) (slot other : ℕ)
     → is_among other (group_of objects links slot) ≡ (is_together links slot other && is_among other (slot_numbers objects))
 among_group objects links slot other =
     any-filter_same (λ k. other == k) (is_together links slot) (is_together links slot other)
@@ -74,10 +75,11 @@ shared_alike basin cell one other known shared =
     (ap (λ step. step == cell.step.0) (sym is.step))
 
 pub Sets-made : (basin : Draft) (cell : Cell) (content : Option Content) (old new : Series) → IsSeriesOf basin old → Sets basin cell content old new
-    → new.slots ≡ old.slots → new.steps ≡ old.steps → IsSeriesOf basin new
-Sets-made basin cell content old new made sets slots steps = record {
+    → new.slots ≡ old.slots → new.steps ≡ old.steps → new.columns ≡ old.columns → new.width ≡ old.width → IsSeriesOf basin new
+Sets-made basin cell content old new made sets slots steps columns width = record {
   slots = slots ∙ made.slots;
   steps = steps ∙ made.steps;
+  columns = subst (λ n. AreColumns basin n new.width new.columns) (sym slots) (subst (λ n. AreColumns basin old.slots n new.columns) (sym width) (subst (AreColumns basin old.slots old.width) (sym columns) made.columns));
   shared = λ one other known shared.
       sets one
       ∙ ap₂ (λ test there. if test then content else there) (shared_alike basin cell one other known shared) (made.shared one other known shared)

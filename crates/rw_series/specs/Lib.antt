@@ -1,2 +1,4 @@
+pub mod Kept
+pub mod Columns
 pub mod Cells
 pub mod Series

@@ -6,16 +6,19 @@ use Rattle.rw_model.specs.Objects.{all_slots}
 use Rattle.rw_model.specs.Draft.{Draft, IsSlot}
 use Rattle.rw_model.specs.Links.{is_among, group_of}
 use Rattle.rw_series.specs.Cells.{kept_at}
+use Rattle.rw_series.specs.Columns.{column_of, AreColumns}
 
--- contents for so many slots at so many timesteps
+-- contents for so many slots at so many timesteps, in so many columns
 pub record Series : Type 0 where
   pub slots : ℕ
   pub steps : ℕ
+  pub columns : List ℕ
+  pub width : ℕ
   pub cells : List (Option Content)
 
 -- what a cell holds, which is nothing where it is unknown
 abbrev pub held : Series → Cell → Option Content
-held series cell = kept_at series.slots series.steps series.cells cell.slot.0 cell.step.0
+held series cell = kept_at series.width series.steps series.cells (column_of series.columns cell.slot.0) cell.step.0
 
 -- a slot of the basin at a timestep of its run
 pub record IsCell (basin : Draft) (cell : Cell) : Type 0 where
@@ -31,6 +34,7 @@ is_shared basin cell other = is_among other.slot.0 (group_of basin.objects basin
 pub record IsSeriesOf (basin : Draft) (series : Series) : Type 0 where
   pub slots : series.slots ≡ length (all_slots basin.objects)
   pub steps : series.steps ≡ basin.control.stamps.count
+  pub columns : AreColumns basin series.slots series.width series.columns
   pub shared : (cell other : Cell) → IsCell basin cell → IsTrue (is_shared basin cell other) → held series cell ≡ held series other
 
 -- every cell that shares its value with this one holds the content, and all others hold what they held

@@ -4,6 +4,8 @@
 #![tactic(auto)]
 
 mod cells;
+mod columns;
+mod kept;
 mod look;
 mod series;
 

@@ -5,7 +5,9 @@ ghost use Rattle.std.specs.Prelude.{None, Some};
 ghost use Rattle.rw_model.specs.Put.{end_of_put};
 ghost use Rattle.rw_series.specs.Series.{held, IsCell, IsSeriesOf, Sets};
 
-use crate::cells::{hold_all, kept_at};
+use crate::cells::{hold, kept_at};
+use crate::columns::{column_of, columns_of};
+use crate::kept::{Kept, unknown};
 use rw_base::{Cell, NoMemory};
 use rw_model::{Basin, Content, PutEnd, put_end};
 use std::alloc::Global;
@@ -16,18 +18,21 @@ use std::marker::Model;
 pub struct Series {
     slots: u16,
     steps: u16,
-    cells: Vec<Option<Content>>,
+    columns: Vec<u16>,
+    width: u16,
+    cells: Vec<Kept>,
 }
 
 impl Model for Series {
-    ghost use Rattle.std.specs.Prelude.{◌≡◌, ◌*◌, length};
+    ghost use Rattle.std.specs.Prelude.{◌≡◌, ◌*◌, length, map};
+    ghost use Rattle.rw_series.specs.Kept.{content_of};
     ghost use Rattle.rw_series.specs.Series as specs;
 
     ghost Value = { specs.Series };
 
-    ghost view = { λ s. record { slots = s.slots; steps = s.steps; cells = s.cells.items } };
+    ghost view = { λ s. record { slots = s.slots; steps = s.steps; columns = s.columns.items; width = s.width; cells = map content_of s.cells.items } };
 
-    ghost invariant = { λ s. length s.cells.items ≡ s.slots * s.steps };
+    ghost invariant = { λ s. length s.cells.items ≡ s.width * s.steps };
 }
 
 // What becomes of a put of the content to a cell that holds this.
@@ -45,11 +50,14 @@ impl Series {
     {
         let slots = basin.slot_count();
         let steps = basin.control().stamps.count();
+        let made = columns_of(alloc, basin)?;
         let mut cells = Vec::new(alloc);
-        cells.resize(usize::from(slots) * usize::from(steps), None)?;
+        cells.resize(usize::from(made.width) * usize::from(steps), unknown())?;
         Ok(Series {
             slots,
             steps,
+            columns: made.columns,
+            width: made.width,
             cells,
         })
     }
@@ -60,9 +68,9 @@ impl Series {
     {
         kept_at(
             self.cells.as_slice(),
-            self.slots,
+            self.width,
             self.steps,
-            c.slot.0,
+            column_of(self.columns.as_slice(), c.slot.0),
             c.step.0,
         )
     }
@@ -93,13 +101,15 @@ impl Series {
         ensures cells { Sets basin.now c held self.old self.new }
         ensures made { IsSeriesOf basin.now self.new }
     {
-        hold_all(
+        let _slots = basin.slot_count();
+        let column = column_of(self.columns.as_slice(), c.slot.0);
+        hold(
             &mut self.cells,
-            self.slots,
+            self.width,
             self.steps,
-            basin.group(c.slot),
+            column,
             c.step.0,
-            &held,
+            held,
         );
     }
 
@@ -110,6 +120,8 @@ impl Series {
         Ok(Series {
             slots: self.slots,
             steps: self.steps,
+            columns: self.columns.as_slice().to_vec(alloc)?,
+            width: self.width,
             cells: self.cells.as_slice().to_vec(alloc)?,
         })
     }

@@ -1,6 +1,9 @@
+pub mod CommandLemmas
 pub mod CauseLemmas
 pub mod DueLemmas
 pub mod OneReading
 pub mod OneText
 pub mod TellLemmas
 pub mod WordsLemmas
+pub mod PromiseLemmas
+pub mod StatusLemmas

@@ -1,5 +1,5 @@
 -- What is read of a text is one thing.
-use Rattle.std.proofs.Common.{◌≡◌, ℕ, ◌+◌, List, Ok, Err, sym, ap, ◌∙◌, ℤ}
+use Rattle.std.proofs.Common.{◌≡◌, ℕ, List, Ok, Err, sym, ap, ◌∙◌}
 use Rattle.rw_inputs.proofs.Same.{one_list}
 use Rattle.rw_model.specs.Draft.{Draft}
 use Rattle.rw_inputs.specs.declared.fault.InputFault.{InputFault}

@@ -1,6 +1,6 @@
 -- A run has one end and one text.
 use Rattle.std.proofs.Common.{◌≡◌, ℕ, zero, suc, ◌++◌, List, refl, sym, ap, ap₂, ◌∙◌, subst}
-use Rattle.std.specs.Prelude.{ℤ, Option, option_map, length}
+use Rattle.std.specs.Prelude.{ℤ, option_map, length}
 use Rattle.rw_base.specs.declared.number.Cell.{Cell}
 use Rattle.rw_model.specs.declared.content.Content.{Content}
 use Rattle.rw_model.specs.Draft.{Draft}
@@ -13,7 +13,7 @@ use Rattle.rw_log.specs.Log.{Log, cells_of}
 use Rattle.rw_log.specs.Dispatch.{cell_at}
 use Rattle.rw_log.specs.Next.{Policy, no_rules}
 use Rattle.rw_log.specs.Runs.{IsRun}
-use Rattle.rw_log.specs.RunOf.{end_of, last_closed, IsRunOf}
+use Rattle.rw_log.specs.RunOf.{end_of}
 use Rattle.rw_report.specs.Section.{section_of, values_in}
 use Rattle.rw_engine.specs.Givens.{if_given, givens_of, givens_to, givens}
 use Rattle.rw_engine.specs.Passing.{ComesTo}

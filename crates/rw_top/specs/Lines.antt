@@ -11,7 +11,7 @@ use Rattle.rw_model_toml.specs.declared.fault.ModelFault.{ModelFault}
 use Rattle.rw_model_toml.specs.declared.fault.ModelFault.TheVariants.{NotToml, Missing, WrongKind, UnknownKey, UnknownKind, Build, Table, Calendar, NoMemory as NoMemoryForModel}
 use Rattle.rw_inputs.specs.declared.fault.InputKind.{InputKind}
 use Rattle.rw_inputs.specs.declared.fault.InputKind.TheVariants.{Header, UnknownSlot, NotSettable, NotANumber, OutOfBounds, StepOutside, Twice, Ragged}
-use Rattle.rw_top.specs.Reading.{path_of}
+use Rattle.rw_top.specs.Command.{word_for}
 use Rattle.rw_top.specs.declared.refusal.Refusal.{Refusal}
 use Rattle.rw_top.specs.declared.refusal.Refusal.TheVariants.{Words, CannotRead, CannotWrite, NoMemory, Model, Inputs, TooLong}
 
@@ -73,9 +73,9 @@ inputs_line kind row column =
 -- the line that says why nothing more was written
 abbrev pub line_of : List (List ℕ) → Refusal → List ℕ
 line_of words Words = codes "basin: words refused\n"
-line_of words (CannotRead file) = (codes "basin: cannot read " ++ path_of words file) ++ codes "\n"
+line_of words (CannotRead file) = (codes "basin: cannot read " ++ word_for words file) ++ codes "\n"
 line_of words CannotWrite = codes "basin: cannot write\n"
 line_of words NoMemory = codes "basin: want of memory\n"
 line_of words (Model fault) = model_line fault
 line_of words (Inputs kind row column) = inputs_line kind row column
-line_of words (TooLong file) = (codes "basin: too long " ++ path_of words file) ++ codes "\n"
+line_of words (TooLong file) = (codes "basin: too long " ++ word_for words file) ++ codes "\n"

@@ -1,5 +1,5 @@
--- What the words and the files that they name are found to be.
-use Rattle.std.specs.Prelude.{◌≡◌, ℕ, ◌<◌, ◌≤◌, List, Option, Ok, Err, length, IfSome, IsSome}
+-- What the files that a command names are found to be.
+use Rattle.std.specs.Prelude.{◌≡◌, ℕ, ◌<◌, ◌≤◌, List, Ok, Err, length, IfSome, IsSome, ⊤}
 use Rattle.rw_io.specs.Causes.{Rose}
 use Rattle.rw_model.specs.Draft.{Draft}
 use Rattle.rw_model_toml.specs.Model.{model_of}
@@ -7,67 +7,58 @@ use Rattle.rw_model_toml.specs.Refusal.{Refusal}
 use Rattle.rw_inputs.specs.declared.fault.InputFault.{InputFault}
 use Rattle.rw_inputs.specs.Inputs.{Inputs as Given}
 use Rattle.rw_inputs.specs.Reading.{Reads, Refuses}
-use Rattle.rw_top.specs.Command.{IsCommand, inputs_path, model_path}
+use Rattle.rw_io.specs.Outside.{Change, Holds, ShelfView}
+use Rattle.rw_top.specs.Command.{Command, path_of}
 use Rattle.rw_top.specs.declared.refusal.File.{File}
 use Rattle.rw_top.specs.declared.refusal.File.TheVariants.{Model, Inputs}
 
 -- the text is all that the path holds, where that is told, and no longer than a file may be
-pub record WasRead (holds : List ℕ → Option (List ℕ)) (path text : List ℕ) : Type 0 where
+pub record WasRead (holds : Holds) (path text : List ℕ) : Type 0 where
   pub told : IfSome (holds path) (λ file. text ≡ file)
   pub short : length text ≤ 16777216
 
 -- the path holds more than a file may, where that is told
-abbrev pub IsTooLong : (List ℕ → Option (List ℕ)) → List ℕ → Type 0
+abbrev pub IsTooLong : Holds → List ℕ → Type 0
 IsTooLong holds path = IfSome (holds path) (λ file. 16777216 < length file)
 
--- the words name a model of this basin
-pub record ReadsModel (words : List (List ℕ)) (holds : List ℕ → Option (List ℕ)) (basin : Draft) : Type 0 where
-  pub command : IsCommand words
+-- the command names a model of this basin
+pub record ReadsModel (command : Command) (holds : Holds) (basin : Draft) : Type 0 where
   pub text : List ℕ
-  pub read : WasRead holds (model_path words) text
+  pub read : WasRead holds (path_of command Model) text
   pub is : model_of text ≡ Ok basin
 
--- the words name a model of this basin, and these inputs for it
-pub record ReadsBoth (words : List (List ℕ)) (holds : List ℕ → Option (List ℕ)) (basin : Draft) (inputs : Given) : Type 0 where
-  pub model : ReadsModel words holds basin
+-- the command names a model of this basin, and these inputs for it
+pub record ReadsBoth (command : Command) (holds : Holds) (basin : Draft) (inputs : Given) : Type 0 where
+  pub model : ReadsModel command holds basin
   pub text : List ℕ
-  pub read : WasRead holds (inputs_path words) text
+  pub read : WasRead holds (path_of command Inputs) text
   pub are : Reads basin text inputs
 
--- the words name a model that is refused for this
-pub record RefusesModel (words : List (List ℕ)) (holds : List ℕ → Option (List ℕ)) (why : Refusal) : Type 0 where
-  pub command : IsCommand words
+-- the command names a model that is refused for this
+pub record RefusesModel (command : Command) (holds : Holds) (why : Refusal) : Type 0 where
   pub text : List ℕ
-  pub read : WasRead holds (model_path words) text
+  pub read : WasRead holds (path_of command Model) text
   pub is : model_of text ≡ Err why
 
--- the words name a model, and inputs that are refused for this
-pub record RefusesInputs (words : List (List ℕ)) (holds : List ℕ → Option (List ℕ)) (why : InputFault) : Type 0 where
+-- the command names a model, and inputs that are refused for this
+pub record RefusesInputs (command : Command) (holds : Holds) (why : InputFault) : Type 0 where
   pub basin : Draft
-  pub model : ReadsModel words holds basin
+  pub model : ReadsModel command holds basin
   pub text : List ℕ
-  pub read : WasRead holds (inputs_path words) text
+  pub read : WasRead holds (path_of command Inputs) text
   pub are : Refuses basin text why
 
--- the words name a file that is read once what stands before it is accepted
-abbrev pub Reaches : List (List ℕ) → (List ℕ → Option (List ℕ)) → File → Type 0
-Reaches words holds Model = IsCommand words
-Reaches words holds Inputs = (basin : Draft) × ReadsModel words holds basin
+-- the command names a file that is read once what stands before it is accepted
+abbrev pub Reaches : Command → Holds → File → Type 0
+Reaches command holds Model = ⊤
+Reaches command holds Inputs = (basin : Draft) × ReadsModel command holds basin
 
--- the path of a file
-abbrev pub path_of : List (List ℕ) → File → List ℕ
-path_of words Model = model_path words
-path_of words Inputs = inputs_path words
+-- the shelf tells what the path holds, and has had no fault of it in the call
+pub record IsHonest (shelf : Change ShelfView) (path : List ℕ) : Type 0 where
+  pub told : IsSome (shelf.before.holds path)
+  pub stands : ¬ Rose (shelf.before.faults path) (shelf.after.faults path)
 
--- the shelf tells what the path holds, and has had no fault of it
-pub record IsHonest (holds : List ℕ → Option (List ℕ)) (before now : List ℕ → ℕ) (path : List ℕ) : Type 0 where
-  pub told : IsSome (holds path)
-  pub stands : ¬ Rose (before path) (now path)
-
--- it is honest of the model, and of the model and its inputs
-abbrev pub IsHonestOfModel : List (List ℕ) → (List ℕ → Option (List ℕ)) → (List ℕ → ℕ) → (List ℕ → ℕ) → Type 0
-IsHonestOfModel words holds before now = IsHonest holds before now (model_path words)
-
-pub record IsHonestOfBoth (words : List (List ℕ)) (holds : List ℕ → Option (List ℕ)) (before now : List ℕ → ℕ) : Type 0 where
-  pub model : IsHonestOfModel words holds before now
-  pub inputs : IsHonest holds before now (inputs_path words)
+-- it is honest of that file, and of each that is read before it
+abbrev pub IsHonestUpTo : Command → Change ShelfView → File → Type 0
+IsHonestUpTo command shelf Model = IsHonest shelf (path_of command Model)
+IsHonestUpTo command shelf Inputs = IsHonest shelf (path_of command Model) × IsHonest shelf (path_of command Inputs)

@@ -1,15 +1,24 @@
 //! What the definitions of this crate speak of is one thing. Each law is the `ensures` of a function that does nothing.
-ghost use Rattle.std.specs.Prelude.{◌≡◌, ◌↔◌, ℕ, ℤ, List, Option, None};
+ghost use Rattle.std.specs.Prelude.{◌≡◌, ◌≢◌, ◌≤◌, ◌↔◌, ℕ, ℤ, List, Option, None};
 ghost use Rattle.rw_first.specs.FirstForm.{FirstModel, IsFirstForm, IsFirstFlows};
 ghost use Rattle.rw_first.specs.Table.{IsRunText as IsFirstText};
-ghost use Rattle.rw_log.specs.declared.run.RunEnd.TheVariants.{Settled};
+ghost use Rattle.rw_io.specs.Causes.{Rose};
+ghost use Rattle.rw_log.specs.declared.fault.RunFault.{RunFault};
+ghost use Rattle.rw_log.specs.declared.run.RunEnd.TheVariants.{Settled, Fault};
 ghost use Rattle.rw_model.specs.Basin.{IsBasin};
 ghost use Rattle.rw_model.specs.Draft.{Draft};
 ghost use Rattle.rw_inputs.specs.declared.fault.InputFault.{InputFault};
 ghost use Rattle.rw_inputs.specs.Inputs.{Inputs, value_at};
 ghost use Rattle.rw_inputs.specs.Reading.{Reads, Refuses};
 ghost use Rattle.rw_log.specs.declared.run.RunEnd.{RunEnd};
+ghost use Rattle.rw_model_toml.specs.Refusal.{Refusal as Why};
+ghost use Rattle.rw_top.specs.Call.{Call};
+ghost use Rattle.rw_top.specs.Command.{AskFor, AskNothing};
+ghost use Rattle.rw_top.specs.Promise.{Promise, WroteRun};
+ghost use Rattle.rw_top.specs.Reading.{RefusesInputs, RefusesModel};
+ghost use Rattle.rw_top.specs.Refusal.{FailsToRead, FindsTooLong, WritesFront};
 ghost use Rattle.rw_top.specs.RunText.{IsRunText};
+ghost use Rattle.rw_top.specs.declared.refusal.File.{File};
 
 use rw_first::law::first_text;
 use rw_log::law::one_run;
@@ -40,3 +49,18 @@ pub fn first_form()
 {
     first_text();
 }
+
+/// What each status says of a call that keeps its promise. 5 says nothing: want of memory may always come.
+pub fn statuses()
+    ensures settled { (call : Call) → Promise call 0 → WroteRun call Settled }
+    ensures faulted { (call : Call) → Promise call 1 → (why : RunFault) × WroteRun call (Fault why) }
+    ensures words { (call : Call) → Promise call 2 → AskNothing call.words }
+    ensures read_fault { (call : Call) → Promise call 3 → AskFor call.words (λ command. (file : File) × FailsToRead command call.shelf file) }
+    ensures write_fault { (call : Call) → Promise call 4 → Rose call.out.before.faults call.out.after.faults }
+    ensures write_front { (call : Call) → Promise call 4 → AskFor call.words (λ command. WritesFront command call.shelf.before.holds call.out) }
+    ensures model { (call : Call) → Promise call 6 → AskFor call.words (λ command. (why : Why) × RefusesModel command call.shelf.before.holds why) }
+    ensures inputs { (call : Call) → Promise call 8 → AskFor call.words (λ command. (fault : InputFault) × RefusesInputs command call.shelf.before.holds fault) }
+    ensures too_long { (call : Call) → Promise call 10 → AskFor call.words (λ command. (file : File) × FindsTooLong command call.shelf file) }
+    ensures untouched { (call : Call) (status : ℕ) → Promise call status → 2 ≤ status → status ≢ 4
+        → call.out.after.contents ≡ call.out.before.contents }
+{}

@@ -4,10 +4,11 @@ ghost use Rattle.rw_inputs.specs.Reading.{Reads};
 ghost use Rattle.rw_io.specs.Causes.{NoneFell};
 ghost use Rattle.rw_model_toml.specs.Fault.{IsWhy};
 ghost use Rattle.rw_model_toml.specs.Model.{model_of};
-ghost use Rattle.rw_top.specs.Command.{IsCommand, texts_of, model_path, inputs_path};
+ghost use Rattle.rw_io.specs.Outside.{change};
+ghost use Rattle.rw_top.specs.Command.{AskFor, texts_of, model_path, inputs_path, simulated};
 ghost use Rattle.rw_method.specs.Catalogue.{AreInOrder};
 ghost use Rattle.rw_top.specs.Reading.{ReadsModel, ReadsBoth};
-ghost use Rattle.rw_top.specs.Refusal.{Cause, IsModelRefusal, IsInputRefusal, ReadCause, WritesAll};
+ghost use Rattle.rw_top.specs.Refusal.{Cause, FileCause, IsModelRefusal, IsInputRefusal, ReadCause, WritesAll};
 ghost use Rattle.rw_top.specs.RunText.{IsRunText};
 
 use crate::words::read_words;
@@ -65,12 +66,11 @@ fn read_basin<S: Shelf>(
     path: &str,
     shelf: &mut S,
 ) -> Result<Basin, Refusal>
-    requires command { IsCommand (texts_of words.now) }
     requires path { path.now ≡ model_path (texts_of words.now) }
-    ensures read { MatchResult result (ReadsModel (texts_of words.now) (S.holds shelf.old))
-        (ReadCause (texts_of words.now) (S.holds shelf.old) (S.faults shelf.old) (S.faults shelf.new) (S.given shelf.new)) }
-    ensures held { (p : List ℕ) → S.holds shelf.new p ≡ S.holds shelf.old p }
-    ensures later { NoneFell (S.faults shelf.old) (S.faults shelf.new) }
+    ensures read { MatchResult result (ReadsModel (simulated (texts_of words.now)) (S.seen shelf.old).holds)
+        (FileCause (simulated (texts_of words.now)) (change (S.seen shelf.old) (S.seen shelf.new))) }
+    ensures held { (p : List ℕ) → (S.seen shelf.new).holds p ≡ (S.seen shelf.old).holds p }
+    ensures later { NoneFell (S.seen shelf.old).faults (S.seen shelf.new).faults }
 {
     match read_all(alloc, shelf, path) {
         Ok(text) => judge_model(alloc, &text),
@@ -86,11 +86,11 @@ fn read_given<S: Shelf>(
     path: &str,
     shelf: &mut S,
 ) -> Result<Inputs, Refusal>
-    requires model { ReadsModel (texts_of words.now) (S.holds shelf.old) basin.now }
+    requires model { ReadsModel (simulated (texts_of words.now)) (S.seen shelf.old).holds basin.now }
     requires path { path.now ≡ inputs_path (texts_of words.now) }
-    ensures read { MatchResult result (ReadsBoth (texts_of words.now) (S.holds shelf.old) basin.now)
-        (ReadCause (texts_of words.now) (S.holds shelf.old) (S.faults shelf.old) (S.faults shelf.new) (S.given shelf.new)) }
-    ensures held { (p : List ℕ) → S.holds shelf.new p ≡ S.holds shelf.old p }
+    ensures read { MatchResult result (ReadsBoth (simulated (texts_of words.now)) (S.seen shelf.old).holds basin.now)
+        (FileCause (simulated (texts_of words.now)) (change (S.seen shelf.old) (S.seen shelf.new))) }
+    ensures held { (p : List ℕ) → (S.seen shelf.new).holds p ≡ (S.seen shelf.old).holds p }
 {
     match read_all(alloc, shelf, path) {
         Ok(text) => judge_inputs(alloc, basin, &text),
@@ -100,9 +100,10 @@ fn read_given<S: Shelf>(
 
 // Reads and judges the files that the words name, each before the next.
 fn read_files<S: Shelf>(alloc: Global, words: &[String], shelf: &mut S) -> Result<Files, Refusal>
-    ensures read { MatchResult result (λ files. ReadsBoth (texts_of words.now) (S.holds shelf.old) files.basin files.inputs)
-        (ReadCause (texts_of words.now) (S.holds shelf.old) (S.faults shelf.old) (S.faults shelf.new) (S.given shelf.new)) }
-    ensures held { (p : List ℕ) → S.holds shelf.new p ≡ S.holds shelf.old p }
+    ensures read { MatchResult result
+        (λ files. AskFor (texts_of words.now) (λ command. ReadsBoth command (S.seen shelf.old).holds files.basin files.inputs))
+        (ReadCause (texts_of words.now) (change (S.seen shelf.old) (S.seen shelf.new))) }
+    ensures held { (p : List ℕ) → (S.seen shelf.new).holds p ≡ (S.seen shelf.old).holds p }
 {
     let Some(command) = read_words(words) else {
         return Err(Refusal::Words);
@@ -141,10 +142,10 @@ pub(crate) fn simulate<S: Shelf, K: Sink>(
     methods: &Catalogue,
 ) -> Result<RunEnd, Refusal>
     requires order { AreInOrder (map (λ b. code (b.vtable, b.value)) methods.now.methods.items) }
-    ensures wrote { IfOk result (WritesAll (texts_of words.now) (S.holds shelf.old) (K.contents out.old) (K.contents out.new)) }
-    ensures cause { IfErr result (Cause (texts_of words.now) (S.holds shelf.old) (S.faults shelf.old) (S.faults shelf.new) (S.given shelf.new)
-        (K.contents out.old) (K.contents out.new) (K.faults out.old) (K.faults out.new)) }
-    ensures held { (p : List ℕ) → S.holds shelf.new p ≡ S.holds shelf.old p }
+    ensures wrote { IfOk result (λ end. AskFor (texts_of words.now)
+        (λ command. WritesAll command (S.seen shelf.old).holds (change (K.seen out.old) (K.seen out.new)) end)) }
+    ensures cause { IfErr result (Cause (texts_of words.now) (change (S.seen shelf.old) (S.seen shelf.new)) (change (K.seen out.old) (K.seen out.new))) }
+    ensures held { (p : List ℕ) → (S.seen shelf.new).holds p ≡ (S.seen shelf.old).holds p }
 {
     let files = match read_files(alloc, words, shelf) {
         Ok(files) => files,

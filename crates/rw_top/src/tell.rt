@@ -1,8 +1,8 @@
 ghost use Rattle.std.specs.Prelude.{◌≡◌, ◌≤◌, ◌++◌, codes, MatchBool};
 ghost use Rattle.rw_io.specs.Causes.{Rose};
 ghost use Rattle.rw_io.specs.Known.{GrowsBy, PrefixGrew};
-ghost use Rattle.rw_top.specs.Command.{texts_of};
-ghost use Rattle.rw_top.specs.Reading.{path_of};
+ghost use Rattle.rw_top.specs.Command.{texts_of, word_for};
+ghost use Rattle.rw_io.specs.Outside.{change};
 ghost use Rattle.rw_top.specs.Refusal.{Tells};
 ghost use Rattle.rw_top.specs.Lines.{inputs_line, line_of, model_line};
 
@@ -15,7 +15,7 @@ use rw_model_toml::ModelFault;
 
 // The path of a file, as the words give it.
 fn path_in(words: &[String], file: File) -> &str
-    ensures { result.now ≡ path_of (texts_of words.entry.now) file }
+    ensures { result.now ≡ word_for (texts_of words.entry.now) file }
 {
     let place = match file {
         File::Model => 1,
@@ -29,18 +29,18 @@ fn path_in(words: &[String], file: File) -> &str
 
 // Writes a part of a line, and says whether all of it was taken.
 fn tell_part<E: Sink>(err: &mut E, part: &str) -> bool
-    ensures later { E.faults err.old ≤ E.faults err.new }
-    ensures told { MatchBool result (GrowsBy (E.contents err.old) (E.contents err.new) part.now)
-        (PrefixGrew (E.contents err.old) (E.contents err.new) part.now × Rose (E.faults err.old) (E.faults err.new)) }
+    ensures later { (E.seen err.old).faults ≤ (E.seen err.new).faults }
+    ensures told { MatchBool result (GrowsBy (E.seen err.old).contents (E.seen err.new).contents part.now)
+        (PrefixGrew (E.seen err.old).contents (E.seen err.new).contents part.now × Rose (E.seen err.old).faults (E.seen err.new).faults) }
 {
     write_all(err, part.as_bytes()).is_ok()
 }
 
 // The same, of two parts one after the other.
 fn tell_two<E: Sink>(err: &mut E, first: &str, second: &str) -> bool
-    ensures later { E.faults err.old ≤ E.faults err.new }
-    ensures told { MatchBool result (GrowsBy (E.contents err.old) (E.contents err.new) (first.now ++ second.now))
-        (PrefixGrew (E.contents err.old) (E.contents err.new) (first.now ++ second.now) × Rose (E.faults err.old) (E.faults err.new)) }
+    ensures later { (E.seen err.old).faults ≤ (E.seen err.new).faults }
+    ensures told { MatchBool result (GrowsBy (E.seen err.old).contents (E.seen err.new).contents (first.now ++ second.now))
+        (PrefixGrew (E.seen err.old).contents (E.seen err.new).contents (first.now ++ second.now) × Rose (E.seen err.old).faults (E.seen err.new).faults) }
 {
     if tell_part(err, first) {
         tell_part(err, second)
@@ -51,7 +51,7 @@ fn tell_two<E: Sink>(err: &mut E, first: &str, second: &str) -> bool
 
 // Writes a line of two parts, as far as the sink takes it.
 fn tell_line<E: Sink>(err: &mut E, first: &str, second: &str)
-    ensures { Tells (E.contents err.old) (E.contents err.new) (E.faults err.old) (E.faults err.new) ((first.now ++ second.now) ++ codes "\n") }
+    ensures { Tells (change (E.seen err.old) (E.seen err.new)) ((first.now ++ second.now) ++ codes "\n") }
 {
     if !tell_two(err, first, second) {
         return;
@@ -61,7 +61,7 @@ fn tell_line<E: Sink>(err: &mut E, first: &str, second: &str)
 
 // Writes a line of a path and what is wrong there.
 fn tell_wrong<E: Sink>(err: &mut E, first: &str, path: &str, wrong: &str)
-    ensures { Tells (E.contents err.old) (E.contents err.new) (E.faults err.old) (E.faults err.new)
+    ensures { Tells (change (E.seen err.old) (E.seen err.new))
         ((first.now ++ path.now) ++ ((codes ": " ++ wrong.now) ++ codes "\n")) }
 {
     if tell_two(err, first, path) {
@@ -70,7 +70,7 @@ fn tell_wrong<E: Sink>(err: &mut E, first: &str, path: &str, wrong: &str)
 }
 
 fn tell_model<E: Sink>(err: &mut E, fault: &ModelFault)
-    ensures { Tells (E.contents err.old) (E.contents err.new) (E.faults err.old) (E.faults err.new) (model_line fault.now) }
+    ensures { Tells (change (E.seen err.old) (E.seen err.new)) (model_line fault.now) }
 {
     match fault {
         ModelFault::NotToml => tell_line(err, "basin: model: not TOML", ""),
@@ -105,7 +105,7 @@ fn tell_model<E: Sink>(err: &mut E, fault: &ModelFault)
 
 // Writes a line of a row, a column and what is wrong there.
 fn tell_place<E: Sink>(err: &mut E, row: &str, column: &str, wrong: &str)
-    ensures { Tells (E.contents err.old) (E.contents err.new) (E.faults err.old) (E.faults err.new)
+    ensures { Tells (change (E.seen err.old) (E.seen err.new))
         ((codes "basin: inputs: row " ++ row.now) ++ ((codes " column " ++ column.now) ++ ((codes ": " ++ wrong.now) ++ codes "\n"))) }
 {
     if tell_two(err, "basin: inputs: row ", row) {
@@ -114,7 +114,7 @@ fn tell_place<E: Sink>(err: &mut E, row: &str, column: &str, wrong: &str)
 }
 
 fn tell_inputs<E: Sink>(err: &mut E, kind: InputKind, row: u32, column: u8)
-    ensures { Tells (E.contents err.old) (E.contents err.new) (E.faults err.old) (E.faults err.new) (inputs_line kind row column) }
+    ensures { Tells (change (E.seen err.old) (E.seen err.new)) (inputs_line kind row column) }
 {
     let mut row_buffer = Buffer::new();
     let mut column_buffer = Buffer::new();
@@ -125,7 +125,7 @@ fn tell_inputs<E: Sink>(err: &mut E, kind: InputKind, row: u32, column: u8)
 
 /// Writes the line on a refusal, as far as the sink takes it. It takes no memory.
 pub(crate) fn tell<E: Sink>(err: &mut E, words: &[String], refusal: &Refusal)
-    ensures { Tells (E.contents err.old) (E.contents err.new) (E.faults err.old) (E.faults err.new) (line_of (texts_of words.now) refusal.now) }
+    ensures { Tells (change (E.seen err.old) (E.seen err.new)) (line_of (texts_of words.now) refusal.now) }
 {
     match refusal {
         Refusal::Words => tell_line(err, "basin: words refused", ""),

@@ -1,3 +1,7 @@
+use Rattle.std.proofs.Common.{◌≡◌, ap, ◌∙◌, arith}
+use Rattle.rw_log.specs.Log.{cells_of}
+use Rattle.rw_log.specs.Runs.{placed}
+use Rattle.rw_engine.specs.Givens.{givens_to}
 use Rattle.rw_engine.proofs.Places.{slot-more}
 use Rattle.rw_engine.proofs.placing.place.Goals as goal
 
@@ -7,3 +11,9 @@ loop-before-preserved c = record {
   bounded = c.place_slot.ensures.bounded;
   placed_so_far = slot-more c.args.basin.now c.args.inputs.now c.loop-before.before c.args.basin.now.control.stamps.count c.args.series.now c.loop-before.series c.place_slot.new.series c.loop-before.invariant.placed_so_far c.place_slot.ensures.placed;
 }
+
+pub returns-clause-placed : goal.returns-clause-placed
+returns-clause-placed c log holds cell =
+    let all : c.loop-before.before ≡ c.slot_count-before-end.result = omega (arith, c.loop-before-test.false, c.loop-before.auto.before-end) in
+    c.loop-before.invariant.placed_so_far log holds cell
+    ∙ ap (λ n. cells_of c.args.basin.now (placed log (givens_to c.args.inputs.now n c.args.basin.now.control.stamps.count)) cell) (all ∙ c.slot_count-before-end.ensures.count)

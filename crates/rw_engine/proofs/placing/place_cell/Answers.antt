@@ -1,7 +1,18 @@
-use Rattle.std.proofs.Common.{sym, ◌∙◌}
+use Rattle.std.proofs.Common.{[], ◌∷◌, sym, ap, ◌∙◌}
+use Rattle.std.specs.Option.{option_or}
+use Rattle.rw_dispatch.proofs.Makes.{put-set}
+use Rattle.rw_log.specs.Log.{last_put, cells_of, input_content}
+use Rattle.rw_log.specs.Runs.{placed}
+use Rattle.rw_engine.specs.Givens.{if_given}
 use Rattle.rw_engine.proofs.Places.{given-bounded}
 use Rattle.rw_engine.proofs.placing.place_cell.Goals as goal
 
 pub returns-in-Some-clause-bounded : goal.returns-in-Some-clause-bounded
 returns-in-Some-clause-bounded c =
     given-bounded c.args.basin.now c.args.inputs.now c.args.cell _ c.args.series.now c.restore.new.self c.requires.inputs (sym c.value.ensures ∙ c.in-Some.is) c.requires.bounded c.restore.ensures.cells
+
+pub returns-in-Some-clause-placed : goal.returns-in-Some-clause-placed
+returns-in-Some-clause-placed c log holds cell =
+    put-set c.args.basin.now (record { cell = c.args.cell; content = input_content c.in-Some.value }) c.args.series.now c.restore.new.self c.restore.ensures.cells cell
+    ∙ ap (option_or (last_put c.args.basin.now (record { cell = c.args.cell; content = input_content c.in-Some.value } ∷ []) cell)) (holds cell)
+    ∙ ap (λ given. cells_of c.args.basin.now (placed log (if_given c.args.cell.slot.0 c.args.cell.step.0 given)) cell) (sym (sym c.value.ensures ∙ c.in-Some.is))

@@ -1,3 +1,8 @@
+use Rattle.std.proofs.Common.{◌≡◌, ap, sym, ◌∙◌, arith}
+use Rattle.rw_model.specs.declared.control.RunControl.{RunControl}
+use Rattle.rw_log.specs.Log.{cells_of}
+use Rattle.rw_log.specs.Runs.{placed}
+use Rattle.rw_engine.specs.Givens.{givens_of}
 use Rattle.rw_engine.proofs.Places.{one-more}
 use Rattle.rw_engine.proofs.placing.place_slot.Goals as goal
 
@@ -7,3 +12,10 @@ loop-before-preserved c = record {
   bounded = c.place_cell.ensures.bounded;
   placed_so_far = one-more c.args.basin.now c.args.inputs.now c.args.slot.0 c.loop-before.before c.args.series.now c.loop-before.series c.place_cell.new.series c.loop-before.invariant.placed_so_far c.place_cell.ensures.placed;
 }
+
+pub returns-clause-placed : goal.returns-clause-placed
+returns-clause-placed c log holds cell =
+    let all : c.loop-before.before ≡ c.count-steps.result = omega (arith, c.loop-before-test.false, c.loop-before.auto.before-end) in
+    let steps = all ∙ c.count-steps.ensures.value ∙ ap (λ (control : RunControl). control.stamps.count) c.control.ensures in
+    c.loop-before.invariant.placed_so_far log holds cell
+    ∙ ap (λ n. cells_of c.args.basin.now (placed log (givens_of c.args.inputs.now c.args.slot.0 n)) cell) steps

@@ -1,5 +1,5 @@
 use Rattle.std.proofs.Common.{◌≡◌, ◌*◌, length, arith, rules, Some}
-use Rattle.rw_series.proofs.Places.{Kept-of, within, kept_at-set}
+use Rattle.rw_inputs.proofs.SlotPlaces.{Kept-of, within, kept_at-set}
 use Rattle.rw_inputs.proofs.values.keep.Goals as goal
 
 pub index_mut-requires : goal.index_mut-requires

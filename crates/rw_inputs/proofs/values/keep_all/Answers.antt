@@ -1,6 +1,6 @@
 use Rattle.std.proofs.Common.{◌≡◌, ◌==◌, ◌&&◌, Some, if◌then◌else◌, ap, ◌∙◌, arith}
 use Rattle.std.specs.Prelude.{nat_le}
-use Rattle.rw_series.specs.Cells.{kept_at}
+use Rattle.rw_inputs.specs.SlotCells.{kept_at}
 use Rattle.rw_inputs.proofs.values.keep_all.Goals as goal
 
 pub returns-clause-values : goal.returns-clause-values

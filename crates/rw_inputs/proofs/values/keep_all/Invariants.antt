@@ -1,6 +1,6 @@
 use Rattle.std.proofs.Common.{◌≡◌, ◌==◌, ◌&&◌, ℕ, vec_len, Some, if◌then◌else◌}
 use Rattle.std.specs.Prelude.{nat_le}
-use Rattle.rw_series.specs.Cells.{kept_at}
+use Rattle.rw_inputs.specs.SlotCells.{kept_at}
 use Rattle.rw_inputs.proofs.values.keep_all.Given as goal
 
 -- the value is kept of the timesteps so far

@@ -1,6 +1,6 @@
 use Rattle.std.proofs.Common.{◌∙◌, ◌≡◌, ◌<◌, true, length, sym, arith}
-use Rattle.rw_series.specs.Cells.{is_kept}
-use Rattle.rw_series.proofs.Places.{Kept-of, within, kept_at-at}
+use Rattle.rw_inputs.specs.SlotCells.{is_kept}
+use Rattle.rw_inputs.proofs.SlotPlaces.{Kept-of, within, kept_at-at}
 use Rattle.rw_inputs.proofs.values.kept_at.Goals as goal
 
 pub bounds-values-place_of : goal.bounds-values-place_of

@@ -1,4 +1,7 @@
-use Rattle.std.proofs.Common.{◌∙◌, ◌≡◌, ◌<◌, true, length, sym, arith}
+use Rattle.std.proofs.Common.{◌∙◌, ◌≡◌, ◌<◌, true, length, sym, ap, arith}
+use Rattle.std.specs.Prelude.{map}
+use Rattle.std.proofs.lemmas.List.{get_or-map, length-map}
+use Rattle.rw_series.specs.Kept.{content_of}
 use Rattle.rw_series.specs.Cells.{is_kept}
 use Rattle.rw_series.proofs.Places.{Kept-of, within, kept_at-at}
 use Rattle.rw_series.proofs.cells.kept_at.Goals as goal
@@ -14,6 +17,10 @@ returns-then-is_kept c =
     let kept = Kept-of c.args.slots c.args.steps c.args.slot c.args.step there in
     let near : c.place_of.result < length c.args.cells.now =
     omega (arith, within c.args.slots c.args.steps c.args.slot c.args.step kept, c.place_of.ensures, c.requires) in
-    c.index-cells-place_of.is
-    ∙ kept_at-at c.args.slots c.args.steps c.args.cells.now c.args.slot c.args.step c.place_of.result c.index-cells-place_of.result
-    there c.place_of.ensures near
+    let items = c.args.cells.now in
+    let inside : c.place_of.result < length (map content_of items) = omega (arith, near, length-map items content_of) in
+    c.content_of.ensures
+    ∙ ap content_of c.index-cells-place_of.is
+    ∙ sym (get_or-map content_of items c.place_of.result c.index-cells-place_of.result (content_of c.index-cells-place_of.result) near)
+    ∙ kept_at-at c.args.slots c.args.steps (map content_of items) c.args.slot c.args.step c.place_of.result (content_of c.index-cells-place_of.result)
+    there c.place_of.ensures inside

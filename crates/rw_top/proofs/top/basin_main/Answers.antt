@@ -1,40 +1,18 @@
-use Rattle.std.proofs.Common.{inr, ◌∙◌}
-use Rattle.rw_top.proofs.DueLemmas.{complete, inputs_clash, inputs_due, inputs_too_long_due, long_clash, model_clash, model_due}
+use Rattle.std.proofs.Common.{ap, refl, sym}
+use Rattle.rw_top.specs.Promise.{status_of_end}
+use Rattle.rw_top.proofs.PromiseLemmas.{promised_refusal, promised_run}
 use Rattle.rw_top.proofs.top.basin_main.Goals as goal
 
-pub returns-in-Ok-Fault-clause-model_due : goal.returns-in-Ok-Fault-clause-model_due
-returns-in-Ok-Fault-clause-model_due g c = λ why due h. absurd (model_clash _ _ why _ h.told due c.in-Ok-Fault.ensures.wrote.read.model)
+pub returns-in-Ok-Settled : goal.returns-in-Ok-Settled
+returns-in-Ok-Settled g c =
+    let wrote = c.in-Ok-Settled.ensures.wrote in
+    promised_run _ c.in-Ok-Settled.ensures.held _ 0 (ap status_of_end (sym c.in-Ok-Settled.field-0-is)) (record { command = wrote.0; asked = wrote.1; text = wrote.2; silent = refl })
 
-pub returns-in-Ok-Fault-clause-inputs_due : goal.returns-in-Ok-Fault-clause-inputs_due
-returns-in-Ok-Fault-clause-inputs_due g c = λ why due h. absurd (inputs_clash _ _ why _ _ h.model.told h.inputs.told due c.in-Ok-Fault.ensures.wrote.read)
+pub returns-in-Ok-Fault : goal.returns-in-Ok-Fault
+returns-in-Ok-Fault g c =
+    let wrote = c.in-Ok-Fault.ensures.wrote in
+    promised_run _ c.in-Ok-Fault.ensures.held _ 1 (ap status_of_end (sym c.in-Ok-Fault.field-0-is)) (record { command = wrote.0; asked = wrote.1; text = wrote.2; silent = refl })
 
-pub returns-in-Ok-Fault-clause-model_too_long_due : goal.returns-in-Ok-Fault-clause-model_too_long_due
-returns-in-Ok-Fault-clause-model_too_long_due g c = λ due h. absurd (long_clash _ _ _ h.told due.longer c.in-Ok-Fault.ensures.wrote.read.model.read)
-
-pub returns-in-Ok-Fault-clause-inputs_too_long_due : goal.returns-in-Ok-Fault-clause-inputs_too_long_due
-returns-in-Ok-Fault-clause-inputs_too_long_due g c = λ due h. absurd (long_clash _ _ _ h.inputs.told due.longer c.in-Ok-Fault.ensures.wrote.read.read)
-
-pub returns-in-Ok-Settled-clause-model_due : goal.returns-in-Ok-Settled-clause-model_due
-returns-in-Ok-Settled-clause-model_due g c = λ why due h. absurd (model_clash _ _ why _ h.told due c.in-Ok-Settled.ensures.wrote.read.model)
-
-pub returns-in-Ok-Settled-clause-inputs_due : goal.returns-in-Ok-Settled-clause-inputs_due
-returns-in-Ok-Settled-clause-inputs_due g c = λ why due h. absurd (inputs_clash _ _ why _ _ h.model.told h.inputs.told due c.in-Ok-Settled.ensures.wrote.read)
-
-pub returns-in-Ok-Settled-clause-model_too_long_due : goal.returns-in-Ok-Settled-clause-model_too_long_due
-returns-in-Ok-Settled-clause-model_too_long_due g c = λ due h. absurd (long_clash _ _ _ h.told due.longer c.in-Ok-Settled.ensures.wrote.read.model.read)
-
-pub returns-in-Ok-Settled-clause-inputs_too_long_due : goal.returns-in-Ok-Settled-clause-inputs_too_long_due
-returns-in-Ok-Settled-clause-inputs_too_long_due g c = λ due h. absurd (long_clash _ _ _ h.inputs.told due.longer c.in-Ok-Settled.ensures.wrote.read.read)
-
-pub returns-in-Err-clause-model_due : goal.returns-in-Err-clause-model_due
-returns-in-Err-clause-model_due g c = λ why due h. rw c.status.ensures (model_due _ _ _ _ _ _ _ _ _ c.in-Err.refusal c.in-Err.ensures.cause why due h)
-
-pub returns-in-Err-clause-inputs_due : goal.returns-in-Err-clause-inputs_due
-returns-in-Err-clause-inputs_due g c = λ why due h. rw c.status.ensures (inputs_due _ _ _ _ _ _ _ _ _ c.in-Err.refusal c.in-Err.ensures.cause why due h)
-
-pub returns-in-Err-clause-inputs_too_long_due : goal.returns-in-Err-clause-inputs_too_long_due
-returns-in-Err-clause-inputs_too_long_due g c = λ due h. rw c.status.ensures (inputs_too_long_due _ _ _ _ _ _ _ _ _ c.in-Err.refusal c.in-Err.ensures.cause due h)
-
-pub returns-in-Err-clause-complete : goal.returns-in-Err-clause-complete
-returns-in-Err-clause-complete g c = λ basin inputs due h stands.
-    inr (c.status.ensures ∙ complete _ _ _ _ _ _ _ _ _ c.in-Err.refusal c.in-Err.ensures.cause basin inputs due h stands)
+pub returns-in-Err : goal.returns-in-Err
+returns-in-Err g c =
+    promised_refusal _ c.in-Err.ensures.held c.in-Err.refusal _ c.status.ensures (record { cause = c.in-Err.ensures.cause; told = c.tell.ensures })

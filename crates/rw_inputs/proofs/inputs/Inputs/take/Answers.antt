@@ -1,6 +1,6 @@
 use Rattle.std.proofs.Common.{◌==◌, ◌&&◌, Some, if◌then◌else◌, sym, ap, subst, ◌∙◌, refl}
 use Rattle.std.specs.Prelude.{nat_le}
-use Rattle.rw_series.specs.Cells.{kept_at}
+use Rattle.rw_inputs.specs.SlotCells.{kept_at}
 use Rattle.rw_inputs.specs.Inputs.{Inputs, kept_slot, IsInputsOf, Keeps}
 use Rattle.rw_inputs.specs.Sound.{IsFree, IsTaken}
 use Rattle.rw_inputs.proofs.Keeping.{made-more, Keeps-more, taken-shares}

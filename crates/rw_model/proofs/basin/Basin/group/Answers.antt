@@ -13,14 +13,14 @@ use Rattle.rw_model.proofs.basin.Basin.group.Goals as goal
 
 pub index-requires-in-None : goal.index-requires-in-None
 index-requires-in-None c =
-    let kept : KeepsBasin c.args.self.now (numbers_of c.self.inside.tables.slots.items) (links_of c.self.inside.tables.groups.items) c.self.inside.tables.bounds.items =
-    subst (λ draft. KeepsBasin draft (numbers_of c.self.inside.tables.slots.items) (links_of c.self.inside.tables.groups.items) c.self.inside.tables.bounds.items) c.self.view_is c.self.invariant in
+    let kept : KeepsBasin c.args.self.now (numbers_of c.self.inside.tables.slots.items) (links_of c.self.inside.tables.groups.items) c.self.inside.tables.bounds.items c.self.inside.tables.numbers.items =
+    subst (λ draft. KeepsBasin draft (numbers_of c.self.inside.tables.slots.items) (links_of c.self.inside.tables.groups.items) c.self.inside.tables.bounds.items c.self.inside.tables.numbers.items) c.self.view_is c.self.invariant in
     omega (arith, c.from.ensures, c.requires.first, c.requires.last, ap length kept.slots_are, length-map c.self.inside.tables.slots.items (λ (slot : SlotNo). slot.0), length-range_with_len 1 (length (all_slots c.args.self.now.objects)))
 
 pub returns-in-Some-clause-group : goal.returns-in-Some-clause-group
 returns-in-Some-clause-group c =
-    let kept : KeepsBasin c.args.self.now (numbers_of c.self.inside.tables.slots.items) (links_of c.self.inside.tables.groups.items) c.self.inside.tables.bounds.items =
-    subst (λ draft. KeepsBasin draft (numbers_of c.self.inside.tables.slots.items) (links_of c.self.inside.tables.groups.items) c.self.inside.tables.bounds.items) c.self.view_is c.self.invariant in
+    let kept : KeepsBasin c.args.self.now (numbers_of c.self.inside.tables.slots.items) (links_of c.self.inside.tables.groups.items) c.self.inside.tables.bounds.items c.self.inside.tables.numbers.items =
+    subst (λ draft. KeepsBasin draft (numbers_of c.self.inside.tables.slots.items) (links_of c.self.inside.tables.groups.items) c.self.inside.tables.bounds.items c.self.inside.tables.numbers.items) c.self.view_is c.self.invariant in
     let linked : link_of c.args.self.now.links c.args.s.0 ≡ Some c.in-Some.place =
     ap (λ draft. link_of draft.links c.args.s.0) (sym c.self.view_is) ∙ sym c.place.ensures.place ∙ c.in-Some.is in
     let inside = c.place.ensures.within c.in-Some.place c.in-Some.is in
@@ -39,8 +39,8 @@ returns-in-Some-clause-known c =
 
 pub returns-in-None-clause-group : goal.returns-in-None-clause-group
 returns-in-None-clause-group c =
-    let kept : KeepsBasin c.args.self.now (numbers_of c.self.inside.tables.slots.items) (links_of c.self.inside.tables.groups.items) c.self.inside.tables.bounds.items =
-    subst (λ draft. KeepsBasin draft (numbers_of c.self.inside.tables.slots.items) (links_of c.self.inside.tables.groups.items) c.self.inside.tables.bounds.items) c.self.view_is c.self.invariant in
+    let kept : KeepsBasin c.args.self.now (numbers_of c.self.inside.tables.slots.items) (links_of c.self.inside.tables.groups.items) c.self.inside.tables.bounds.items c.self.inside.tables.numbers.items =
+    subst (λ draft. KeepsBasin draft (numbers_of c.self.inside.tables.slots.items) (links_of c.self.inside.tables.groups.items) c.self.inside.tables.bounds.items c.self.inside.tables.numbers.items) c.self.view_is c.self.invariant in
     let n = length (all_slots c.args.self.now.objects) in
     let near : c.args.s.0 - 1 < n = omega (arith, c.requires.first, c.requires.last) in
     let at : 1 + (c.args.s.0 - 1) ≡ c.args.s.0 = omega (arith, c.requires.first) in

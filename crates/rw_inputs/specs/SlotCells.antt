@@ -1,0 +1,15 @@
+-- What is kept of cells, side by side: slot by slot, and for each slot timestep by timestep.
+use Rattle.std.specs.Prelude.{ℕ, ◌+◌, ◌-◌, ◌*◌, nat_le, Bool, ◌&&◌, if◌then◌else◌, List, Option, None, slice_index_or}
+
+-- there is such a slot and such a timestep
+abbrev pub is_kept : ℕ → ℕ → ℕ → ℕ → Bool
+is_kept slots steps slot step = (nat_le 1 slot && nat_le slot slots) && (nat_le 1 step && nat_le step steps)
+
+-- the place of a cell, counted from 0
+abbrev pub place_of : ℕ → ℕ → ℕ → ℕ
+place_of steps slot step = (slot - 1) * steps + (step - 1)
+
+-- what is kept of a slot at a timestep, which is nothing where there is no such cell
+abbrev pub kept_at : {A : Type 0} → ℕ → ℕ → List (Option A) → ℕ → ℕ → Option A
+kept_at slots steps cells slot step =
+    if is_kept slots steps slot step then slice_index_or cells (place_of steps slot step) None else None

@@ -1,0 +1,58 @@
+ghost use Rattle.std.specs.Prelude.{◌≡◌, None};
+ghost use Rattle.rw_series.specs.Kept.{content_of};
+
+use rw_base::Qty;
+use rw_model::{Content, Writer};
+
+/// What is kept of a cell. Where nobody wrote it, it is unknown, and the value doesn't count.
+#[derive(Clone, Copy, Debug)]
+pub struct Kept {
+    /// The value.
+    pub value: Qty,
+    /// Its priority.
+    pub number: u16,
+    /// Who wrote it.
+    pub writer: Option<Writer>,
+}
+
+/// What an unknown cell keeps.
+pub fn unknown() -> Kept
+    ensures { content_of result ≡ None }
+{
+    match Qty::of(0) {
+        Some(value) => Kept {
+            value,
+            number: 0,
+            writer: None,
+        },
+        None => unreachable!(),
+    }
+}
+
+/// The content that is kept.
+pub fn content_of(kept: &Kept) -> Option<Content>
+    ensures { result ≡ content_of kept.now }
+{
+    match kept.writer {
+        Some(writer) => Some(Content {
+            value: kept.value,
+            number: kept.number,
+            writer,
+        }),
+        None => None,
+    }
+}
+
+/// How a content is kept.
+pub fn kept_of(content: Option<Content>) -> Kept
+    ensures { content_of result ≡ content }
+{
+    match content {
+        Some(content) => Kept {
+            value: content.value,
+            number: content.number,
+            writer: Some(content.writer),
+        },
+        None => unknown(),
+    }
+}

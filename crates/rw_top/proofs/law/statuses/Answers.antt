@@ -1,0 +1,32 @@
+use Rattle.rw_top.proofs.StatusLemmas as status
+use Rattle.rw_top.proofs.law.statuses.Goals as goal
+
+pub returns-clause-settled : goal.returns-clause-settled
+returns-clause-settled c = status.settled
+
+pub returns-clause-faulted : goal.returns-clause-faulted
+returns-clause-faulted c = status.faulted
+
+pub returns-clause-words : goal.returns-clause-words
+returns-clause-words c = status.words
+
+pub returns-clause-read_fault : goal.returns-clause-read_fault
+returns-clause-read_fault c = status.read_fault
+
+pub returns-clause-model : goal.returns-clause-model
+returns-clause-model c = status.model
+
+pub returns-clause-inputs : goal.returns-clause-inputs
+returns-clause-inputs c = status.inputs
+
+pub returns-clause-too_long : goal.returns-clause-too_long
+returns-clause-too_long c = status.too_long
+
+pub returns-clause-untouched : goal.returns-clause-untouched
+returns-clause-untouched c = status.untouched
+
+pub returns-clause-write_fault : goal.returns-clause-write_fault
+returns-clause-write_fault c = λ call promise. (status.write call promise).1
+
+pub returns-clause-write_front : goal.returns-clause-write_front
+returns-clause-write_front c = λ call promise. (status.write call promise).0

@@ -1,0 +1,34 @@
+-- Grounds on which a command has to be refused, in the definitions' own terms.
+use Rattle.std.specs.Prelude.{ℕ}
+use Rattle.rw_inputs.specs.declared.fault.InputFault.{InputFault}
+use Rattle.rw_model_toml.specs.Refusal.{Refusal as Why}
+use Rattle.rw_io.specs.Outside.{Change, Holds, ShelfView}
+use Rattle.rw_top.specs.Command.{Command}
+use Rattle.rw_top.specs.Reading.{IsHonestUpTo, RefusesInputs, RefusesModel}
+use Rattle.rw_top.specs.Refusal.{HoldsTooLong}
+use Rattle.rw_top.specs.declared.refusal.File.{File}
+use Rattle.rw_top.specs.declared.refusal.File.TheVariants.{Model, Inputs}
+
+-- its model, its inputs, or a file that is too long
+pub data Ground : Type 0 where
+  BadModel : Why → Ground
+  BadInputs : InputFault → Ground
+  LongFile : File → Ground
+
+-- the status of a call that is refused on that ground
+abbrev pub status_by : Ground → ℕ
+status_by (BadModel why) = 6
+status_by (BadInputs fault) = 8
+status_by (LongFile file) = 10
+
+-- it is found, of a command and what the shelf holds
+abbrev pub IsFound : Command → Holds → Ground → Type 0
+IsFound command holds (BadModel why) = RefusesModel command holds why
+IsFound command holds (BadInputs fault) = RefusesInputs command holds fault
+IsFound command holds (LongFile file) = HoldsTooLong command holds file
+
+-- the shelf is honest of each file that is read up to there
+abbrev pub IsHonestFor : Command → Change ShelfView → Ground → Type 0
+IsHonestFor command shelf (BadModel why) = IsHonestUpTo command shelf Model
+IsHonestFor command shelf (BadInputs fault) = IsHonestUpTo command shelf Inputs
+IsHonestFor command shelf (LongFile file) = IsHonestUpTo command shelf file

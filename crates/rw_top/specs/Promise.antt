@@ -1,0 +1,54 @@
+-- What is promised of each call of the program.
+use Rattle.std.specs.Prelude.{◌≡◌, ◌⊎◌, ℕ, ◌≤◌, List}
+use Rattle.rw_inputs.specs.Inputs.{Inputs as Given}
+use Rattle.rw_io.specs.Causes.{Rose}
+use Rattle.rw_log.specs.declared.run.RunEnd.{RunEnd}
+use Rattle.rw_log.specs.declared.run.RunEnd.TheVariants.{Settled, Fault}
+use Rattle.rw_model.specs.Draft.{Draft}
+use Rattle.rw_top.specs.Call.{Call}
+use Rattle.rw_top.specs.Command.{AskNothing, Asks, Command}
+use Rattle.rw_top.specs.Ground.{Ground, IsFound, IsHonestFor, status_by}
+use Rattle.rw_top.specs.Lines.{line_of}
+use Rattle.rw_top.specs.Reading.{IsHonestUpTo, ReadsBoth}
+use Rattle.rw_top.specs.Refusal.{Cause, EndsWith, Tells, WritesAll, status_of}
+use Rattle.rw_top.specs.declared.refusal.File.TheVariants.{Inputs}
+use Rattle.rw_top.specs.declared.refusal.Refusal.{Refusal}
+
+-- the status of a run that was written: 0 where it settled
+abbrev pub status_of_end : RunEnd → ℕ
+status_of_end Settled = 0
+status_of_end (Fault why) = 1
+
+-- exactly the text of a run with this end was written, and nothing on the error stream
+pub record WroteRun (call : Call) (end : RunEnd) : Type 0 where
+  pub command : Command
+  pub asked : Asks call.words command
+  pub text : WritesAll command call.shelf.before.holds call.out end
+  pub silent : call.err.after ≡ call.err.before
+
+-- the call refuses for this, has its cause, and told it in its line
+pub record WasRefused (call : Call) (why : Refusal) : Type 0 where
+  pub cause : Cause call.words call.shelf call.out why
+  pub told : Tells call.err (line_of call.words why)
+
+-- no file of the command had a fault, and the output had none
+pub record IsCalm (command : Command) (call : Call) : Type 0 where
+  pub honest : IsHonestUpTo command call.shelf Inputs
+  pub stands : ¬ Rose call.out.before.faults call.out.after.faults
+
+-- a call that answers this status
+pub record Promise (call : Call) (status : ℕ) : Type 0 where
+  -- 0 and 1 come only with the text of the run
+  pub done : status ≤ 1 → (end : RunEnd) × (status ≡ status_of_end end) × WroteRun call end
+  -- and each other status only with a refusal
+  pub refused : 2 ≤ status → (why : Refusal) × (status ≡ status_of why) × WasRefused call why
+  -- words that ask for nothing are refused
+  pub words : AskNothing call.words → status ≡ 2
+  -- what has to be refused of a command is, of an honest shelf, unless memory is wanting
+  pub due : (command : Command) → Asks call.words command → (ground : Ground) → IsFound command call.shelf.before.holds ground
+      → IsHonestFor command call.shelf ground → EndsWith (status_by ground) status
+  -- where both files are read and nothing fails, only memory can be wanting
+  pub complete : (command : Command) → Asks call.words command → (basin : Draft) (inputs : Given)
+      → ReadsBoth command call.shelf.before.holds basin inputs → IsCalm command call → (status ≤ 1) ⊎ (status ≡ 5)
+  -- no file is changed
+  pub held : (path : List ℕ) → call.shelf.after.holds path ≡ call.shelf.before.holds path
