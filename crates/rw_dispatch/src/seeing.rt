@@ -1,4 +1,4 @@
-ghost use Rattle.std.specs.Prelude.{◌≡◌, ◌≤◌, IfSome, map};
+ghost use Rattle.std.specs.Prelude.{◌≡◌, ◌≤◌, IfSome, None, map, pos, replicate};
 ghost use Rattle.rw_model.specs.Draft.{IsObject};
 ghost use Rattle.rw_series.specs.Series.{held, IsCell};
 ghost use Rattle.rw_log.specs.Dispatch.{slot_or_none, cell_in, content_in, bounds_in_place, view_of, places};
@@ -58,30 +58,34 @@ fn bounds_in_place(basin: &Basin, o: ObjectNo, place: u8) -> (i64, i64)
     }
 }
 
-// What the object's slots hold, by place.
-fn contents(basin: &Basin, series: &Series, o: ObjectNo, t: StepNo) -> [Option<Content>; 12]
+// Fills in what the object's slots hold, by place.
+fn see_contents(
+    now: &mut [Option<Content>; 12],
+    basin: &Basin,
+    series: &Series,
+    o: ObjectNo,
+    t: StepNo,
+)
+    requires blank { now.old ≡ replicate 12 None }
     requires object { IsObject basin.now.objects o.0 }
     requires first { 1 ≤ t.0 }
     requires last { t.0 ≤ basin.now.control.stamps.count }
-    ensures { result ≡ map (content_in basin.now (held series.now) o.0 t.0) places }
+    ensures { now.new ≡ map (content_in basin.now (held series.now) o.0 t.0) places }
 {
-    let mut now = [None; 12];
     for place in 0..12u8 {
         now[usize::from(place)] = content_in(basin, series, o, t, place);
     }
-    now
 }
 
-// The bounds of the object's slots, by place.
-fn all_bounds(basin: &Basin, o: ObjectNo) -> [(i64, i64); 12]
-    requires { IsObject basin.now.objects o.0 }
-    ensures { result ≡ map (bounds_in_place basin.now o.0) places }
+// Fills in the bounds of the object's slots, by place.
+fn see_bounds(bounds: &mut [(i64, i64); 12], basin: &Basin, o: ObjectNo)
+    requires blank { bounds.old ≡ replicate 12 (pos 0, pos 0) }
+    requires object { IsObject basin.now.objects o.0 }
+    ensures { bounds.new ≡ map (bounds_in_place basin.now o.0) places }
 {
-    let mut bounds = [(0, 0); 12];
     for place in 0..12u8 {
         bounds[usize::from(place)] = bounds_in_place(basin, o, place);
     }
-    bounds
 }
 
 /// What an object sees in a dispatch.
@@ -91,10 +95,13 @@ pub(crate) fn view_of(basin: &Basin, series: &Series, o: ObjectNo, t: StepNo) ->
     requires last { t.0 ≤ basin.now.control.stamps.count }
     ensures { result ≡ view_of basin.now (held series.now) o.0 t.0 }
 {
-    View {
+    let mut view = View {
         own: o,
-        now: contents(basin, series, o, t),
+        now: [None; 12],
         past: past_value(basin, series, o, t),
-        bounds: all_bounds(basin, o),
-    }
+        bounds: [(0, 0); 12],
+    };
+    see_contents(&mut view.now, basin, series, o, t);
+    see_bounds(&mut view.bounds, basin, o);
+    view
 }

@@ -35,10 +35,10 @@ use Rattle.rw_engine.specs.State.{seen, Holds, room}
 
 -- the first that waits is dispatched, below the limit
 pub next_is : (basin : Draft) (cells : Cells) (step : ℕ) (log : Log) (object : ℕ) (rest : List ℕ) → waiting basin log ≡ object ∷ rest
-    → cells ≡ cells_of basin log → dispatches log object < basin.control.object_limit → next basin no_rules step log ≡ dispatched basin cells object step
+    → cells ≡ cells_of basin log → dispatches log object < basin.control.object_limit → next basin no_rules step log ≡ Some (dispatched basin cells object step)
 next_is basin cells step log object rest waits same below =
     ap (λ queue. next_of basin no_rules (cells_of basin log) log step (first_of queue)) waits
-    ∙ often (nat_le basin.control.object_limit (dispatches log object)) refl ∙ ap (λ z. dispatched basin z object step) (sym same)
+    ∙ ap Some (often (nat_le basin.control.object_limit (dispatches log object)) refl ∙ ap (λ z. dispatched basin z object step) (sym same))
   where
     often : (reached : Bool) → nat_le basin.control.object_limit (dispatches log object) ≡ reached
         → (if reached then fault (ObjectLimit (record { 0 = object }) (record { 0 = step }) (dispatches log object)) else dispatched basin (cells_of basin log) object step)
@@ -49,10 +49,10 @@ next_is basin cells step log object rest waits same below =
 -- at the limit that is the fault
 pub next_limit : (basin : Draft) (step : ℕ) (log : Log) (object : ℕ) (rest : List ℕ) → waiting basin log ≡ object ∷ rest
     → basin.control.object_limit ≤ dispatches log object
-    → next basin no_rules step log ≡ fault (ObjectLimit (record { 0 = object }) (record { 0 = step }) (dispatches log object))
+    → next basin no_rules step log ≡ Some (fault (ObjectLimit (record { 0 = object }) (record { 0 = step }) (dispatches log object)))
 next_limit basin step log object rest waits reached =
     ap (λ queue. next_of basin no_rules (cells_of basin log) log step (first_of queue)) waits
-    ∙ often (nat_le basin.control.object_limit (dispatches log object)) refl
+    ∙ ap Some (often (nat_le basin.control.object_limit (dispatches log object)) refl)
   where
     often : (test : Bool) → nat_le basin.control.object_limit (dispatches log object) ≡ test
         → (if test then fault (ObjectLimit (record { 0 = object }) (record { 0 = step }) (dispatches log object)) else dispatched basin (cells_of basin log) object step)
@@ -61,11 +61,11 @@ next_limit basin step log object rest waits reached =
     often false is = absurd (grind (arith, nat_tests))
 
 -- where none waits the timestep is closed
-pub next_closes : (basin : Draft) (step : ℕ) (log : Log) → waiting basin log ≡ [] → next basin no_rules step log ≡ closed step
+pub next_closes : (basin : Draft) (step : ℕ) (log : Log) → waiting basin log ≡ [] → next basin no_rules step log ≡ Some (closed step)
 next_closes basin step log waits =
     ap (λ queue. next_of basin no_rules (cells_of basin log) log step (first_of queue)) waits ∙ none basin.control.agenda
   where
-    none : (order : AgendaOrder) → after_objects basin no_rules (cells_of basin log) log step (find (is_due (cells_of basin log) log) (agenda_of order 0)) ≡ closed step
+    none : (order : AgendaOrder) → after_objects basin no_rules (cells_of basin log) log step (find (is_due (cells_of basin log) log) (agenda_of order 0)) ≡ Some (closed step)
     none HighFirst = refl
     none LowFirst = refl
 
@@ -164,14 +164,14 @@ module _ (basin : Draft) (step object : ℕ) (rest : List ℕ) (log : Log) where
   }
   tells (fault (Conflict other slot at there here)) (IsConflict own left right) is =
       let same = conflict_is other slot at there here own left right is in record {
-        lines_are = refl;
+        lines_are = ap (λ why. FaultLine why ∷ []) (sym same);
         last = refl;
         calm = λ none. absurd (cc);
         faulted = λ why some. ap fault (same ∙ (let found : _ ≡ why = cc in found));
       }
   tells (fault (ObjectOutOfRange other slot at here)) (IsOutOfRange own right) is =
       let same = outside_is other slot at here own right is in record {
-        lines_are = refl;
+        lines_are = ap (λ why. FaultLine why ∷ []) (sym same);
         last = refl;
         calm = λ none. absurd (cc);
         faulted = λ why some. ap fault (same ∙ (let found : _ ≡ why = cc in found));

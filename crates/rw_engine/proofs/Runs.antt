@@ -1,14 +1,12 @@
 -- A run, timestep by timestep.
-use Rattle.std.proofs.Common.{◌≡◌, ◌<◌, ◌+◌, ℕ, Bool, true, false, [], ◌∷◌, ◌++◌, Some, None, nat_lt, refl, ap, ◌∙◌, arith}
-use Rattle.std.proofs.lemmas.Bool.Decides.{nat_tests}
-use Rattle.std.specs.Prelude.{if◌then◌else◌}
+use Rattle.std.proofs.Common.{◌≡◌, ◌<◌, ◌+◌, ℕ, [], ◌∷◌, ◌++◌, refl, sym, ap, subst, ◌∙◌, arith}
 use Rattle.rw_model.specs.Draft.{Draft}
 use Rattle.rw_inputs.specs.Inputs.{Inputs}
 use Rattle.rw_log.specs.declared.fault.RunFault.{RunFault}
 use Rattle.rw_log.specs.declared.run.Run.{Run}
-use Rattle.rw_log.specs.Log.{opened, Log}
+use Rattle.rw_log.specs.Log.{Log}
 use Rattle.rw_log.specs.Next.{no_rules}
-use Rattle.rw_log.specs.Runs.{rests, standing, follows, follows_in, placed}
+use Rattle.rw_log.specs.Runs.{rests, standing, placed, IsOver}
 use Rattle.rw_log.specs.RunOf.{IsRunOf}
 use Rattle.rw_engine.specs.Engine.{Engine}
 use Rattle.rw_engine.specs.declared.step_end.StepEnd.TheVariants.{Closed as IsClosed, Fault as IsFault}
@@ -41,10 +39,6 @@ stands_next basin inputs old new step stands passes = record {
   rest = ap (λ event. standing (event ∷ passes.before)) passes.ends;
 }
 
-none_left : (steps : ℕ) (test : Bool) → nat_lt steps steps ≡ test → (if test then Some (opened (steps + 1)) else None) ≡ None
-none_left steps true is = absurd (grind (arith, nat_tests))
-none_left steps false is = refl
-
 -- after the last timestep the run is whole
 pub comes_settled : (basin : Draft) (inputs : Inputs) (engine : Engine) (step : ℕ) (run : Run) → (stands : Stands basin inputs engine step)
     → step ≡ basin.control.stamps.count → IsRunOf basin stands.log run → ComesTo basin inputs run
@@ -53,7 +47,7 @@ comes_settled basin inputs engine step run stands last is = record {
   whole = record {
     events = stands.events;
     leads = stands.leads;
-    end = ap (follows_in basin no_rules stands.log) (stands.rest ∙ ap rests last) ∙ none_left basin.control.stamps.count (nat_lt basin.control.stamps.count basin.control.stamps.count) refl;
+    end = subst (IsOver basin) (sym (stands.rest ∙ ap rests last)) (omega arith);
   };
   is = is;
 }
@@ -66,7 +60,7 @@ comes_faulted basin inputs old new step at why run stands passes is = record {
   whole = record {
     events = stands.events ++ passes.events;
     leads = leads_on basin no_rules (placed [] (givens basin inputs)) stands.events passes.events stands.log (passes.last ∷ passes.before) stands.leads passes.leads;
-    end = ap (λ event. follows basin no_rules (event ∷ passes.before)) passes.ends;
+    end = subst (λ event. IsOver basin (standing (event ∷ passes.before))) (sym passes.ends) tt;
   };
   is = is;
 }

@@ -30,7 +30,7 @@ leads_on basin policy old [] last mid new one other = subst (λ log. Leads basin
 leads_on basin policy old (event ∷ first) last mid new one other = (one.0, leads_on basin policy (event ∷ old) first last mid new one.1 other)
 
 follows_inside : (basin : Draft) (state : State) (step : ℕ) (log : Log) (waits : List ℕ) → Holds basin state step log waits
-    → follows basin no_rules log ≡ Some (next basin no_rules step log)
+    → follows basin no_rules log ≡ next basin no_rules step log
 follows_inside basin state step log waits holds = ap (follows_in basin no_rules log) holds.open_step
 
 pub opens_step : (basin : Draft) (old new : State) (step : ℕ) (log : Log) → Shows basin (seen old) log → new.series ≡ old.series
@@ -51,13 +51,14 @@ opens_step basin old new step log shows series queue count counts trace last end
 
 pub reached_more : (basin : Draft) (start : Log) (old new : State) (step : ℕ) → Reached basin start old step
     → ((log : Log) → Holds basin old step log old.queue.waiting → Goes basin None new step log) → Reached basin start new step
-reached_more basin start old new step reached goes = record {
-  events = reached.events ++ next basin no_rules step reached.log ∷ [];
-  log = next basin no_rules step reached.log ∷ reached.log;
-  leads = leads_more basin no_rules start reached.events (next basin no_rules step reached.log) reached.log reached.leads
-      (follows_inside basin old step reached.log old.queue.waiting reached.holds);
-  holds = goes reached.log reached.holds;
-}
+reached_more basin start old new step reached goes =
+    let went = goes reached.log reached.holds in record {
+      events = reached.events ++ went.event ∷ [];
+      log = went.event ∷ reached.log;
+      leads = leads_more basin no_rules start reached.events went.event reached.log reached.leads
+          (follows_inside basin old step reached.log old.queue.waiting reached.holds ∙ went.follows);
+      holds = went.goes;
+    }
 
 opened_next : (basin : Draft) (step last : ℕ) (test : Bool) → nat_lt last basin.control.stamps.count ≡ test → step ≡ last + 1 → step ≤ basin.control.stamps.count
     → (if test then Some (opened (last + 1)) else None) ≡ Some (opened step)
@@ -71,17 +72,17 @@ ends_step basin log old new step end reached goes before =
     let first : follows basin no_rules log ≡ Some (opened step) =
     ap (follows_in basin no_rules log) before.rest ∙ opened_next basin step before.last (nat_lt before.last basin.control.stamps.count) refl before.next_one before.exists in
     record {
-      events = opened step ∷ (reached.events ++ next basin no_rules step reached.log ∷ []);
-      last = next basin no_rules step reached.log;
+      events = opened step ∷ (reached.events ++ went.event ∷ []);
+      last = went.event;
       before = reached.log;
       within = reached.holds.open_step;
       leads = (
         first,
-        leads_more basin no_rules (opened step ∷ log) reached.events (next basin no_rules step reached.log) reached.log reached.leads
-            (follows_inside basin old step reached.log old.queue.waiting reached.holds),
+        leads_more basin no_rules (opened step ∷ log) reached.events went.event reached.log reached.leads
+            (follows_inside basin old step reached.log old.queue.waiting reached.holds ∙ went.follows),
       );
-      ends = went.0;
-      shows = went.1;
+      ends = went.goes.0;
+      shows = went.goes.1;
     }
 
 pub grows_more : {A : Type 0} (x y z : List A) → Grows x y → Grows y z → Grows x z

@@ -46,8 +46,10 @@ GoesTo basin None state step log event = Holds basin state step (event ∷ log) 
 GoesTo basin (Some end) state step log event = EndsBy end step event × Shows basin (seen state) (event ∷ log)
 
 -- after the event that follows
-abbrev pub Goes : Draft → Option StepEnd → State → ℕ → Log → Type 0
-Goes basin end state step log = GoesTo basin end state step log (next basin no_rules step log)
+pub record Goes (basin : Draft) (end : Option StepEnd) (state : State) (step : ℕ) (log : Log) : Type 0 where
+  pub event : Event
+  pub follows : next basin no_rules step log ≡ Some event
+  pub goes : GoesTo basin end state step log event
 
 -- within the timestep, on the way
 pub record Reached (basin : Draft) (start : Log) (state : State) (step : ℕ) : Type 0 where

@@ -24,7 +24,7 @@ fault_by object step (IsOutOfRange slot value) = Some (ObjectOutOfRange (record 
 
 abbrev pub fault_line : Option RunFault → List TraceEvent
 fault_line None = []
-fault_line (Some fault) = Fault ∷ []
+fault_line (Some fault) = Fault fault ∷ []
 
 -- the lines of an answer
 abbrev pub lines_by : Draft → ℕ → ℕ → Dispatched → List TraceEvent

@@ -134,7 +134,7 @@ impl State {
             step,
             count,
         };
-        self.trace.push(TraceEvent::Fault)?;
+        self.trace.push(TraceEvent::Fault(fault))?;
         self.end = RunEnd::Fault(fault);
         Ok(StepEnd::Fault(fault))
     }
@@ -180,7 +180,7 @@ impl State {
             object,
             step,
         );
-        let Some(fault) = tell(&mut self.trace, basin, object, step, answer)? else {
+        let Some(fault) = tell(&mut self.trace, basin, object, step, &answer)? else {
             return Ok(None);
         };
         self.end = RunEnd::Fault(fault);

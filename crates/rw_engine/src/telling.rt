@@ -46,10 +46,10 @@ fn tell_puts(
 
 // Writes the line of a fault, and hands it back.
 fn tell_fault(trace: &mut Trace, fault: RunFault) -> Result<Option<RunFault>, NoMemory>
-    ensures told { IfOk result (λ told. (trace.new ≡ trace.old ++ Line.Fault ∷ []) × (told ≡ Some fault)) }
+    ensures told { IfOk result (λ told. (trace.new ≡ trace.old ++ Line.Fault fault ∷ []) × (told ≡ Some fault)) }
     ensures grows { Grows trace.old trace.new }
 {
-    trace.push(TraceEvent::Fault)?;
+    trace.push(TraceEvent::Fault(fault))?;
     Ok(Some(fault))
 }
 
@@ -59,10 +59,10 @@ pub(crate) fn tell(
     basin: &Basin,
     object: ObjectNo,
     step: StepNo,
-    answer: Dispatched,
+    answer: &Dispatched,
 ) -> Result<Option<RunFault>, NoMemory>
     requires { IsObject basin.now.objects object.0 }
-    ensures told { IfOk result (λ fault. (trace.new ≡ trace.old ++ lines_by basin.now object.0 step.0 answer) × (fault ≡ fault_by object.0 step.0 answer)) }
+    ensures told { IfOk result (λ fault. (trace.new ≡ trace.old ++ lines_by basin.now object.0 step.0 answer.now) × (fault ≡ fault_by object.0 step.0 answer.now)) }
     ensures grows { Grows trace.old trace.new }
 {
     match answer {
@@ -79,19 +79,19 @@ pub(crate) fn tell(
             trace,
             RunFault::Conflict {
                 object,
-                slot,
+                slot: *slot,
                 step,
-                held,
-                solved,
+                held: *held,
+                solved: *solved,
             },
         ),
         Dispatched::OutOfRange { slot, value } => tell_fault(
             trace,
             RunFault::ObjectOutOfRange {
                 object,
-                slot,
+                slot: *slot,
                 step,
-                value,
+                value: *value,
             },
         ),
     }

@@ -21,7 +21,7 @@ use Rattle.rw_log.specs.Log.{Cells, Event, Log, opened, closed, solved, fault, c
 use Rattle.rw_log.specs.Waiting.{first_waiting, first_of}
 use Rattle.rw_log.specs.Dispatch.{cell_at, dispatched, looked_cells, looks_at, past_value}
 use Rattle.rw_log.specs.Next.{no_rules, next_of, after_objects, agenda_of, is_due, first_due}
-use Rattle.rw_log.specs.Runs.{Leads, follows, follows_in, standing, rests}
+use Rattle.rw_log.specs.Runs.{Leads, IsOver, follows, follows_in, standing, rests}
 use Rattle.rw_log.specs.RunOf.{end_of, last_closed}
 use Rattle.rw_log.proofs.Waits.{opens, solves}
 use Rattle.rw_first.specs.FirstForm.{plain_reservoir}
@@ -81,11 +81,8 @@ opens_next s step log at lt =
     let more : nat_lt step (count_of s) ≡ true = grind (arith, nat_tests, lt) in
     ap (follows_in (basin_of s) no_rules log) at ∙ ap (λ t. if t then Some (opened (step + 1)) else None) more
 
-opens_none : (s : Case) (step : ℕ) (log : Log) → standing log ≡ rests step → count_of s ≤ step
-    → follows (basin_of s) no_rules log ≡ None
-opens_none s step log at le =
-    let none : nat_lt step (count_of s) ≡ false = grind (arith, nat_tests, le) in
-    ap (follows_in (basin_of s) no_rules log) at ∙ ap (λ t. if t then Some (opened (step + 1)) else None) none
+is_over : (s : Case) (step : ℕ) (log : Log) → standing log ≡ rests step → count_of s ≤ step → IsOver (basin_of s) (standing log)
+is_over s step log at le = subst (IsOver (basin_of s)) (sym at) le
 
 -- ---- the reservoir is dispatched
 
@@ -97,7 +94,7 @@ dispatches_next s step log is =
     let first : first_waiting basin now ≡ Some 1 = ap first_of (opens basin log step) in
     let least = is.limit in
     let below : nat_le s.control.object_limit 0 ≡ false = grind (arith, nat_tests, least) in
-    ap (λ o. Some (next_of basin no_rules (cells_of basin now) now step o)) first
+    ap (next_of basin no_rules (cells_of basin now) now step) first
     ∙ ap (λ t. Some (if t then fault (ObjectLimit (record { 0 = 1 }) (record { 0 = step }) 0) else dispatched basin (cells_of basin now) 1 step)) below
 
 past_later : (s : Case) (cells : Cells) (step at : ℕ) → nat_lt 1 step ≡ true → step - 1 ≡ at
@@ -128,8 +125,8 @@ closes_next s step log looked z =
     let now : Log = event ∷ opened step ∷ log in
     let none : first_waiting basin now ≡ None = ap first_of (solves basin (opened step ∷ log) (stores_at looked step z) [] (opens basin log step)) in
     let undue : first_due basin no_rules (cells_of basin now) now ≡ None = ap (find (is_due (cells_of basin now) now)) (no_agenda s.control.agenda) in
-    ap (λ o. Some (next_of basin no_rules (cells_of basin now) now step o)) none
-    ∙ ap (λ o. Some (after_objects basin no_rules (cells_of basin now) now step o)) undue
+    ap (next_of basin no_rules (cells_of basin now) now step) none
+    ∙ ap (after_objects basin no_rules (cells_of basin now) now step) undue
 
 -- the log of a timestep that was closed
 abbrev log_after : List Look → ℕ → ℤ → Log → Log
@@ -249,7 +246,7 @@ pub record Comes (s : Case) (old : Log) : Type 0 where
   pub events : List Event
   pub log : Log
   pub leads : Leads (basin_of s) no_rules old events log
-  pub over : follows (basin_of s) no_rules log ≡ None
+  pub over : IsOver (basin_of s) (standing log)
   pub ends : Ends s log
 
 pub runs_on : (s : Case) (left step : ℕ) (log : Log) → IsCase s → step + left ≡ count_of s → Stands s step log → Comes s log
@@ -257,7 +254,7 @@ runs_on s zero step log is all h = record {
   events = [];
   log = log;
   leads = refl;
-  over = opens_none s step log h.standing (omega (arith, all));
+  over = is_over s step log h.standing (omega (arith, all));
   ends = settles s step log h (omega (arith, all));
 }
 runs_on s (suc left) step log is all h =
@@ -281,7 +278,7 @@ runs_on s (suc left) step log is all h =
             events = opened (step + 1) ∷ why ∷ [];
             log = why ∷ opened (step + 1) ∷ log;
             leads = (opening, (faults_next s step log is h more beyond, refl));
-            over = refl;
+            over = tt;
             ends = faults s step log h more beyond;
           }
     ]

@@ -3,6 +3,7 @@ use Rattle.std.proofs.Common.{◌≡◌, ℕ, ◌-◌, ◌==◌, ℤ, pos, ◌-�
 use Rattle.std.specs.Prelude.{is_some, if◌then◌else◌, option_and_then, option_map, unwrap_or}
 use Rattle.std.specs.Option.{option_or}
 use Rattle.std.specs.List.{cons_option, filter, filter_map, find}
+use Rattle.std.proofs.lemmas.Option.{same_Some, none-some}
 use Rattle.rw_base.specs.declared.number.Cell.{Cell}
 use Rattle.rw_model.specs.declared.content.Content.{Content}
 use Rattle.rw_model.specs.Before.{before_of}
@@ -12,12 +13,15 @@ use Rattle.rw_model.specs.Put.{end_of_put}
 use Rattle.rw_method.specs.declared.solved.Solved.{Solved}
 use Rattle.rw_method.specs.declared.solved.Solved.TheVariants.{Idle, Puts, Conflict, OutOfRange}
 use Rattle.rw_method.specs.Solve.{solve_of}
+use Rattle.rw_series.specs.Fire.{Fire}
+use Rattle.rw_series.specs.declared.fire.FireEnd.{FireEnd}
+use Rattle.rw_series.specs.declared.fire.FireEnd.TheVariants.{Done, Unknown, ZeroDivisor as DividesByZero, OutOfRange as EndsOutside}
 use Rattle.rw_series.specs.declared.look.Look.{Look}
 use Rattle.rw_log.specs.declared.fault.RunFault.TheVariants.{ObjectLimit, RuleLimit}
-use Rattle.rw_log.specs.Log.{Asked, Cells, Log, Event, given, opened, closed, idle, solved, fired, fault, cells_of, last_put, written_by, value_in}
+use Rattle.rw_log.specs.Log.{Asked, Cells, Log, Event, Firing, given, opened, closed, idle, solved, fired, fault, cells_of, last_put, written_by, value_in}
 use Rattle.rw_log.specs.Waiting.{waiting, since, wakes, ends_wait, numbers, is_data, first_of}
 use Rattle.rw_log.specs.Dispatch.{Past, bounds_in_place, places, cell_in, past_of, cell_of_past, cell_at, past_cell_of, value_of_past, view_of, if_cell, looked_cells, looks_at, solved_by, asked_by, end_in, is_written, puts_written, denied_by, or_fault, judged, dispatch_of, answered, dispatched}
-use Rattle.rw_log.specs.Next.{Policy, Fire, FireEnd, is_done, is_unknown, by_zero, is_outside, next, next_of, after_objects, firing_of, ended, agenda_of, count_if, dispatches, firings, last_looks, is_changed, is_same_value, first_due, is_put_again, last_ones, asked_of_rule}
+use Rattle.rw_log.specs.Next.{Policy, next, next_of, after_objects, asked_next, firing_of, ended, agenda_of, count_if, dispatches, firings, last_firing, last_looks, is_changed, is_same_value, first_due, is_put_again, last_ones, asked_of_rule}
 use Rattle.rw_log.specs.Frame.{IsFault, cells_looked, cells_asked, looked_by, looked_in, AreAlike, Goes, IsFramed}
 use Rattle.rw_log.proofs.Lists.{filter-same}
 use Rattle.rw_log.proofs.Waits.{waiting-more, opens}
@@ -44,15 +48,18 @@ firings_same (solved dispatch ∷ events) step x y rule = firings_same events st
 firings_same (fired firing ∷ events) step x y rule = ap (count_if (firing.rule == rule)) (firings_same events step x y rule)
 firings_same (fault why ∷ events) step x y rule = firings_same events step x y rule
 
+last_same : (events : Log) (step : ℕ) (x y : Log) (rule : ℕ) → last_firing (events ++ opened step ∷ x) rule ≡ last_firing (events ++ opened step ∷ y) rule
+last_same [] step x y rule = refl
+last_same (given cell value ∷ events) step x y rule = last_same events step x y rule
+last_same (opened s ∷ events) step x y rule = refl
+last_same (closed s ∷ events) step x y rule = last_same events step x y rule
+last_same (idle object s looked ∷ events) step x y rule = last_same events step x y rule
+last_same (solved dispatch ∷ events) step x y rule = last_same events step x y rule
+last_same (fired firing ∷ events) step x y rule = ap (λ last. if firing.rule == rule then Some firing else last) (last_same events step x y rule)
+last_same (fault why ∷ events) step x y rule = last_same events step x y rule
+
 looks_same : (events : Log) (step : ℕ) (x y : Log) (rule : ℕ) → last_looks (events ++ opened step ∷ x) rule ≡ last_looks (events ++ opened step ∷ y) rule
-looks_same [] step x y rule = refl
-looks_same (given cell value ∷ events) step x y rule = looks_same events step x y rule
-looks_same (opened s ∷ events) step x y rule = refl
-looks_same (closed s ∷ events) step x y rule = looks_same events step x y rule
-looks_same (idle object s looked ∷ events) step x y rule = looks_same events step x y rule
-looks_same (solved dispatch ∷ events) step x y rule = looks_same events step x y rule
-looks_same (fired firing ∷ events) step x y rule = ap (λ looks. if firing.rule == rule then Some firing.looked else looks) (looks_same events step x y rule)
-looks_same (fault why ∷ events) step x y rule = looks_same events step x y rule
+looks_same events step x y rule = ap (option_map (λ (firing : Firing). firing.looked)) (last_same events step x y rule)
 
 some_if : (w : Bool) (m n : ℕ) → is_some (if w then Some m else None) ≡ is_some (if w then Some n else None)
 some_if true m n = refl
@@ -127,10 +134,14 @@ changed_same f g [] a = refl
 changed_same f g (look ∷ looks) a =
     ap₂ (λ z w. not (is_same_value look.seen (option_map (λ (content : Content). content.value) z)) || w) a.0 (changed_same f g looks a.1)
 
-if_changed : (f g : Cells) (test : Bool) (looks : List Look) (rest : Option (List Look)) → is_changed f rest ≡ is_changed g rest
-    → is_changed f (Some looks) ≡ is_changed g (Some looks) → is_changed f (if test then Some looks else rest) ≡ is_changed g (if test then Some looks else rest)
-if_changed f g true looks rest u v = v
-if_changed f g false looks rest u v = u
+abbrev looks_of : Option Firing → Option (List Look)
+looks_of = option_map (λ (firing : Firing). firing.looked)
+
+if_changed : (f g : Cells) (test : Bool) (firing : Firing) (rest : Option Firing) → is_changed f (looks_of rest) ≡ is_changed g (looks_of rest)
+    → is_changed f (Some firing.looked) ≡ is_changed g (Some firing.looked)
+    → is_changed f (looks_of (if test then Some firing else rest)) ≡ is_changed g (looks_of (if test then Some firing else rest))
+if_changed f g true firing rest u v = v
+if_changed f g false firing rest u v = u
 
 -- the looks of the last firing are among those of the timestep
 due_same : (f g : Cells) (events : Log) (step : ℕ) (x : Log) (rule : ℕ) → AreAlike f g (looked_in events)
@@ -145,7 +156,7 @@ due_same f g (solved dispatch ∷ events) step x rule a =
     due_same f g events step x rule (alike_right f g (looked_by (solved dispatch)) (looked_in events) a)
 due_same f g (fault why ∷ events) step x rule a = due_same f g events step x rule a
 due_same f g (fired firing ∷ events) step x rule a =
-    if_changed f g (firing.rule == rule) firing.looked (last_looks (events ++ opened step ∷ x) rule)
+    if_changed f g (firing.rule == rule) firing (last_firing (events ++ opened step ∷ x) rule)
     (due_same f g events step x rule (alike_right f g (looked_by (fired firing)) (looked_in events) a))
     (changed_same f g firing.looked (alike_left f g _ (cells_asked firing.asked) (alike_left f g (looked_by (fired firing)) (looked_in events) a)))
 
@@ -262,12 +273,12 @@ last_alike basin f g (put ∷ puts) a =
 ended_same : (basin : Draft) (f g : Cells) (rule step : ℕ) (fire : Fire) (end : FireEnd) → AreAlike f g (looked_by (ended basin f rule step fire end))
     → ¬ IsFault (ended basin f rule step fire end)
     → AreAlike f g fire.looked × (ended basin f rule step fire end ≡ ended basin g rule step fire end)
-ended_same basin f g rule step fire by_zero a fine = absurd (fine tt)
-ended_same basin f g rule step fire (is_outside value) a fine = absurd (fine tt)
-ended_same basin f g rule step fire is_unknown a fine =
+ended_same basin f g rule step fire DividesByZero a fine = absurd (fine tt)
+ended_same basin f g rule step fire (EndsOutside value) a fine = absurd (fine tt)
+ended_same basin f g rule step fire Unknown a fine =
     let l : AreAlike f g fire.looked = subst (AreAlike f g) (cells_of_looks f fire.looked) (alike_left f g (cells_looked (looks_at f fire.looked)) [] a) in
     (l, ap (λ z. fired (record { rule = rule; step = step; is_done = false; looked = z; asked = []; written = []; count = fire.count })) (looks_at_same f g fire.looked l))
-ended_same basin f g rule step fire is_done a fine =
+ended_same basin f g rule step fire Done a fine =
     let puts : List Asked = asked_of_rule basin rule step fire.puts in
     let l : AreAlike f g fire.looked =
     subst (AreAlike f g) (cells_of_looks f fire.looked) (alike_left f g (cells_looked (looks_at f fire.looked)) (cells_asked puts) a) in
@@ -277,14 +288,16 @@ ended_same basin f g rule step fire is_done a fine =
           (looks_at_same f g fire.looked l) (written_same f g (last_ones basin puts) (last_alike basin f g puts asked)),
     )
 
-firing_same : (basin : Draft) (policy : Policy) (f g : Cells) (rule step : ℕ) → IsFramed policy → AreAlike f g (looked_by (firing_of basin policy f rule step))
-    → ¬ IsFault (firing_of basin policy f rule step) → firing_of basin policy f rule step ≡ firing_of basin policy g rule step
-firing_same basin policy f g rule step framed a fine =
-    let fire : Fire = policy.fire rule step (value_in f) in
-    let h = ended_same basin f g rule step fire fire.end a fine in
-    h.1
-    ∙ ap (λ (z : Fire). ended basin g rule step z z.end)
-    (framed rule step (value_in f) (value_in g) (alike_values f g fire.looked h.0))
+firing_same : (basin : Draft) (policy : Policy) (f g : Cells) (rule step : ℕ) (found : Option Fire) (event : Event) → IsFramed policy
+    → policy.fire rule step (value_in f) ≡ found → option_map (λ (fire : Fire). ended basin f rule step fire fire.end) found ≡ Some event
+    → AreAlike f g (looked_by event) → ¬ IsFault event → firing_of basin policy g rule step ≡ Some event
+firing_same basin policy f g rule step None event framed by is a fine = absurd (none-some _ is)
+firing_same basin policy f g rule step (Some fire) event framed by is a fine =
+    let same : event ≡ ended basin f rule step fire fire.end = sym (same_Some _ _ is) in
+    let h = ended_same basin f g rule step fire fire.end (subst (λ e. AreAlike f g (looked_by e)) same a) (subst (λ e. ¬ IsFault e) same fine) in
+    ap (option_map (λ (z : Fire). ended basin g rule step z z.end))
+    (framed rule step (value_in f) (value_in g) fire by (alike_values f g fire.looked h.0))
+    ∙ ap Some (sym h.1 ∙ sym same)
 
 -- ---- what follows
 
@@ -294,25 +307,40 @@ either_same : (f g : Cells) (test : Bool) (limit d e : Event) → (AreAlike f g 
 either_same f g true limit d e h a fine = refl
 either_same f g false limit d e h a fine = h a fine
 
-after_same : (basin : Draft) (policy : Policy) (f g : Cells) (x y : Log) (step : ℕ) (due : Option ℕ) → IsFramed policy → ((rule : ℕ) → firings x rule ≡ firings y rule)
-    → AreAlike f g (looked_by (after_objects basin policy f x step due)) → ¬ IsFault (after_objects basin policy f x step due)
-    → after_objects basin policy f x step due ≡ after_objects basin policy g y step due
-after_same basin policy f g x y step None framed count a fine = refl
-after_same basin policy f g x y step (Some rule) framed count a fine =
-    either_same f g (nat_le basin.control.rule_limit (firings x rule)) (fault (RuleLimit (record { 0 = rule }) (record { 0 = step }) (firings x rule))) _ _
-    (firing_same basin policy f g rule step framed) a fine
-    ∙ ap (λ k. if nat_le basin.control.rule_limit k then fault (RuleLimit (record { 0 = rule }) (record { 0 = step }) k) else firing_of basin policy g rule step) (count rule)
+either_follows : (test : Bool) (limit event : Event) (d e : Option Event) → (d ≡ Some event → e ≡ Some event)
+    → (if test then Some limit else d) ≡ Some event → (if test then Some limit else e) ≡ Some event
+either_follows true limit event d e h is = is
+either_follows false limit event d e h is = h is
 
-next_of_same : (basin : Draft) (policy : Policy) (f g : Cells) (x y : Log) (step : ℕ) (waits : Option ℕ) → IsFramed policy
-    → ((object : ℕ) → dispatches x object ≡ dispatches y object) → ((rule : ℕ) → firings x rule ≡ firings y rule)
-    → first_due basin policy f x ≡ first_due basin policy g y → AreAlike f g (looked_by (next_of basin policy f x step waits))
-    → ¬ IsFault (next_of basin policy f x step waits) → next_of basin policy f x step waits ≡ next_of basin policy g y step waits
-next_of_same basin policy f g x y step None framed count fires due a fine =
-    after_same basin policy f g x y step (first_due basin policy f x) framed fires a fine ∙ ap (after_objects basin policy g y step) due
-next_of_same basin policy f g x y step (Some object) framed count fires due a fine =
+after_same : (basin : Draft) (policy : Policy) (f g : Cells) (x y : Log) (step : ℕ) (due : Option ℕ) (event : Event) → IsFramed policy
+    → ((rule : ℕ) → firings x rule ≡ firings y rule) → after_objects basin policy f x step due ≡ Some event
+    → AreAlike f g (looked_by event) → ¬ IsFault event → after_objects basin policy g y step due ≡ Some event
+after_same basin policy f g x y step None event framed count is a fine = is
+after_same basin policy f g x y step (Some rule) event framed count is a fine =
+    ap (λ k. if nat_le basin.control.rule_limit k then Some (fault (RuleLimit (record { 0 = rule }) (record { 0 = step }) k)) else firing_of basin policy g rule step)
+    (sym (count rule))
+    ∙ either_follows (nat_le basin.control.rule_limit (firings x rule)) (fault (RuleLimit (record { 0 = rule }) (record { 0 = step }) (firings x rule))) event
+    (firing_of basin policy f rule step) (firing_of basin policy g rule step)
+    (λ fires. firing_same basin policy f g rule step (policy.fire rule step (value_in f)) event framed refl fires a fine) is
+
+asked_same : (basin : Draft) (f g : Cells) (x y : Log) (step object : ℕ) → dispatches x object ≡ dispatches y object
+    → AreAlike f g (looked_by (asked_next basin f x step object)) → ¬ IsFault (asked_next basin f x step object)
+    → asked_next basin f x step object ≡ asked_next basin g y step object
+asked_same basin f g x y step object count a fine =
     either_same f g (nat_le basin.control.object_limit (dispatches x object)) (fault (ObjectLimit (record { 0 = object }) (record { 0 = step }) (dispatches x object))) _ _
     (dispatched_same basin f g object step) a fine
-    ∙ ap (λ k. if nat_le basin.control.object_limit k then fault (ObjectLimit (record { 0 = object }) (record { 0 = step }) k) else dispatched basin g object step) (count object)
+    ∙ ap (λ k. if nat_le basin.control.object_limit k then fault (ObjectLimit (record { 0 = object }) (record { 0 = step }) k) else dispatched basin g object step) count
+
+next_of_same : (basin : Draft) (policy : Policy) (f g : Cells) (x y : Log) (step : ℕ) (waits : Option ℕ) (event : Event) → IsFramed policy
+    → ((object : ℕ) → dispatches x object ≡ dispatches y object) → ((rule : ℕ) → firings x rule ≡ firings y rule)
+    → first_due basin policy f x ≡ first_due basin policy g y → next_of basin policy f x step waits ≡ Some event
+    → AreAlike f g (looked_by event) → ¬ IsFault event → next_of basin policy g y step waits ≡ Some event
+next_of_same basin policy f g x y step None event framed count fires due is a fine =
+    ap (after_objects basin policy g y step) (sym due) ∙ after_same basin policy f g x y step (first_due basin policy f x) event framed fires is a fine
+next_of_same basin policy f g x y step (Some object) event framed count fires due is a fine =
+    let same : event ≡ asked_next basin f x step object = sym (same_Some _ _ is) in
+    ap Some
+    (sym (asked_same basin f g x y step object (count object) (subst (λ e. AreAlike f g (looked_by e)) same a) (subst (λ e. ¬ IsFault e) same fine)) ∙ sym same)
 
 going : (basin : Draft) (policy : Policy) (step : ℕ) (x y : Log) → IsFramed policy → (done : Log) (events : List Event)
     → Goes basin policy step (done ++ opened step ∷ x) events → AreAlike (cells_of basin x) (cells_of basin y) (looked_in done)
@@ -323,14 +351,12 @@ going basin policy step x y framed done (event ∷ events) goes a c =
     let v : Log = done ++ opened step ∷ y in
     let own = alike_left (cells_of basin x) (cells_of basin y) (looked_by event) (looked_in events) c in
     let later = alike_right (cells_of basin x) (cells_of basin y) (looked_by event) (looked_in events) c in
-    let here : AreAlike (cells_of basin u) (cells_of basin v) (looked_by (next basin policy step u)) =
-    subst (λ z. AreAlike (cells_of basin u) (cells_of basin v) (looked_by z)) (sym goes.0) (alike_over basin done step x y (looked_by event) own) in
-    let same : next basin policy step u ≡ next basin policy step v =
-    next_of_same basin policy (cells_of basin u) (cells_of basin v) u v step (first_of (waiting basin u)) framed (counts_same done step x y) (firings_same done step x y)
+    let same : next basin policy step v ≡ Some event =
+    ap (λ q. next_of basin policy (cells_of basin v) v step (first_of q)) (sym (waiting_same basin done step x y))
+    ∙ next_of_same basin policy (cells_of basin u) (cells_of basin v) u v step (first_of (waiting basin u)) event framed (counts_same done step x y) (firings_same done step x y)
     (first_due_same basin policy (cells_of basin u) (cells_of basin v) done step x y (alike_over basin done step x y (looked_in done) a))
-    here (subst (λ z. ¬ IsFault z) (sym goes.0) goes.1)
-    ∙ ap (λ q. next_of basin policy (cells_of basin v) v step (first_of q)) (waiting_same basin done step x y) in
-    (sym same ∙ goes.0, goes.1, going basin policy step x y framed (event ∷ done) events goes.2 (alike_both (cells_of basin x) (cells_of basin y) (looked_by event) (looked_in done) own a) later)
+    goes.0 (alike_over basin done step x y (looked_by event) own) goes.1 in
+    (same, goes.1, going basin policy step x y framed (event ∷ done) events goes.2 (alike_both (cells_of basin x) (cells_of basin y) (looked_by event) (looked_in done) own a) later)
 
 pub frame : (basin : Draft) (policy : Policy) (step : ℕ) (x y : Log) (events : List Event) → IsFramed policy
     → Goes basin policy step (opened step ∷ x) events → AreAlike (cells_of basin x) (cells_of basin y) (looked_in events)

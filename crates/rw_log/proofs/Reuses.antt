@@ -3,7 +3,6 @@ use Rattle.std.proofs.Common.{◌≡◌, ℕ, Bool, true, false, not, ◌||◌, 
 use Rattle.std.specs.Prelude.{if◌then◌else◌, option_map}
 use Rattle.std.specs.Option.{option_or}
 use Rattle.std.specs.List.{list_any}
-use Rattle.std.proofs.lemmas.Option.{same_Some}
 use Rattle.rw_base.specs.declared.number.Cell.{Cell}
 use Rattle.rw_model.specs.declared.content.Content.{Content}
 use Rattle.rw_model.specs.Draft.{Draft}
@@ -45,7 +44,7 @@ no_fault : (event : Event) (step : ℕ) → standing (event ∷ []) ≡ inside s
 no_fault event step s why = subst IsGoingOn (sym s ∙ fault_is_over event why) tt
 
 inside_next : (basin : Draft) (policy : Policy) (old : Log) (step : ℕ) → standing old ≡ inside step
-    → follows basin policy old ≡ Some (next basin policy step old)
+    → follows basin policy old ≡ next basin policy step old
 inside_next basin policy old step s = ap (follows_in basin policy old) s
 
 closes_fine : (step : ℕ) (event : Event) → event ≡ closed step → ¬ IsFault event
@@ -54,18 +53,18 @@ closes_fine step event is why = subst IsFault is why
 to_goes : (basin : Draft) (policy : Policy) (step : ℕ) (old : Log) (event : Event) (events : List Event) (end : Log) → standing old ≡ inside step
     → IsStepFrom step event events → Leads basin policy old (event ∷ events) end → Goes basin policy step old (event ∷ events)
 to_goes basin policy step old event [] end s i l =
-    (same_Some _ _ (sym (inside_next basin policy old step s) ∙ l.0), closes_fine step event i, tt)
+    (sym (inside_next basin policy old step s) ∙ l.0, closes_fine step event i, tt)
 to_goes basin policy step old event (later ∷ events) end s i l = (
-  same_Some _ _ (sym (inside_next basin policy old step s) ∙ l.0),
+  sym (inside_next basin policy old step s) ∙ l.0,
   no_fault event step i.0,
   to_goes basin policy step (event ∷ old) later events end (stands_by event old ∙ i.0) i.1 l.1,
 )
 
 from_goes : (basin : Draft) (policy : Policy) (step : ℕ) (old : Log) (event : Event) (events : List Event) → standing old ≡ inside step
     → IsStepFrom step event events → Goes basin policy step old (event ∷ events) → Leads basin policy old (event ∷ events) (log_after (event ∷ events) old)
-from_goes basin policy step old event [] s i g = (inside_next basin policy old step s ∙ ap Some g.0, refl)
+from_goes basin policy step old event [] s i g = (inside_next basin policy old step s ∙ g.0, refl)
 from_goes basin policy step old event (later ∷ events) s i g =
-    (inside_next basin policy old step s ∙ ap Some g.0, from_goes basin policy step (event ∷ old) later events (stands_by event old ∙ i.0) i.1 g.2)
+    (inside_next basin policy old step s ∙ g.0, from_goes basin policy step (event ∷ old) later events (stands_by event old ∙ i.0) i.1 g.2)
 
 pub reuse : (basin : Draft) (policy : Policy) (step : ℕ) (x y end : Log) (event : Event) (events : List Event) → IsFramed policy → IsStepFrom step event events
     → Leads basin policy (opened step ∷ x) (event ∷ events) end → AreAlike (cells_of basin x) (cells_of basin y) (looked_in (event ∷ events))

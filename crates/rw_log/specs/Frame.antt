@@ -1,7 +1,8 @@
 -- In what a timestep's events depend on the cells: in what they look at.
-use Rattle.std.specs.Prelude.{◌≡◌, ℕ, ℤ, List, [], ◌∷◌, ◌++◌, map, Option}
+use Rattle.std.specs.Prelude.{◌≡◌, ℕ, ℤ, List, [], ◌∷◌, ◌++◌, map, Option, Some}
 use Rattle.rw_base.specs.declared.number.Cell.{Cell}
 use Rattle.rw_model.specs.Draft.{Draft}
+use Rattle.rw_series.specs.Fire.{Fire}
 use Rattle.rw_series.specs.declared.look.Look.{Look}
 use Rattle.rw_log.specs.Log.{Asked, Event, given, opened, closed, idle, solved, fired, fault, Log}
 use Rattle.rw_log.specs.Next.{Policy, next}
@@ -46,12 +47,12 @@ AreAlike one other (cell ∷ cells) = (one cell ≡ other cell) × AreAlike one 
 abbrev pub Goes : Draft → Policy → ℕ → Log → List Event → Type 0
 Goes basin policy step old [] = Unit {0}
 Goes basin policy step old (event ∷ events) =
-    (next basin policy step old ≡ event) × (¬ IsFault event) × Goes basin policy step (event ∷ old) events
+    (next basin policy step old ≡ Some event) × (¬ IsFault event) × Goes basin policy step (event ∷ old) events
 
 -- a firing depends on the cells alone at which it looks
 abbrev pub IsFramed : Policy → Type 0
-IsFramed policy = (rule step : ℕ) (one other : Cell → Option ℤ)
-    → AreAlike one other (policy.fire rule step one).looked → policy.fire rule step one ≡ policy.fire rule step other
+IsFramed policy = (rule step : ℕ) (one other : Cell → Option ℤ) (fire : Fire) → policy.fire rule step one ≡ Some fire
+    → AreAlike one other fire.looked → policy.fire rule step other ≡ Some fire
 
 -- events of the timestep, of which the last closes it
 abbrev pub IsStepFrom : ℕ → Event → List Event → Type 0

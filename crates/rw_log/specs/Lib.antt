@@ -4,6 +4,8 @@ pub mod Times
 pub mod Dispatch
 pub mod Next
 pub mod Runs
+pub mod Choice
+pub mod Line
 pub mod RunOf
 pub mod Since
 pub mod Frame

@@ -1,47 +1,32 @@
 -- The one event that follows in an open timestep.
-use Rattle.std.specs.Prelude.{ℕ, ◌+◌, ◌==◌, nat_le, ℤ, Bool, true, false, not, List, [], ◌∷◌, map, Option, Some, None, reverse, if◌then◌else◌}
+use Rattle.std.specs.Prelude.{ℕ, ◌+◌, ◌==◌, nat_le, ℤ, Bool, true, false, not, List, [], ◌∷◌, map, Option, Some, None, option_map, reverse, if◌then◌else◌}
 use Rattle.std.specs.List.{list_any, filter, find}
 use Rattle.std.specs.Ordering.{int_eq}
 use Rattle.rw_base.specs.declared.number.Cell.{Cell}
 use Rattle.rw_model.specs.declared.control.AgendaOrder.{AgendaOrder}
 use Rattle.rw_model.specs.declared.control.AgendaOrder.TheVariants.{HighFirst, LowFirst}
 use Rattle.rw_model.specs.Draft.{Draft}
+use Rattle.rw_series.specs.Fire.{Fire}
 use Rattle.rw_series.specs.Series.{is_shared}
+use Rattle.rw_series.specs.declared.fire.FireEnd.{FireEnd}
+use Rattle.rw_series.specs.declared.fire.FireEnd.TheVariants.{Done, Unknown, ZeroDivisor as DividesByZero, OutOfRange}
+use Rattle.rw_series.specs.declared.fire.RulePut.{RulePut}
 use Rattle.rw_series.specs.declared.look.Look.{Look}
 use Rattle.rw_log.specs.declared.fault.RunFault.TheVariants.{ZeroDivisor, RuleOutOfRange, ObjectLimit, RuleLimit}
-use Rattle.rw_log.specs.Log.{Asked, Cells, Event, given, opened, closed, idle, solved, fired, fault, Log, cells_of, value_in}
+use Rattle.rw_log.specs.Log.{Asked, Cells, Event, Firing, given, opened, closed, idle, solved, fired, fault, Log, cells_of, value_in}
 use Rattle.rw_log.specs.Waiting.{numbers, first_waiting}
 use Rattle.rw_model.specs.declared.writer.Writer.TheVariants.{Rule}
 use Rattle.rw_log.specs.Dispatch.{cell_at, dispatched, looks_at, puts_written}
 
--- how a firing ends
-pub data FireEnd : Type 0 where
-  is_done : FireEnd
-  is_unknown : FireEnd
-  by_zero : FireEnd
-  is_outside : ℤ → FireEnd
-
--- a put of a rule: to a slot, so many timesteps ahead
-pub record RulePut : Type 0 where
-  pub slot : ℕ
-  pub ahead : ℕ
-  pub value : ℤ
-
--- what a firing does: how it ends, at which cells it looked, the puts that were executed, and how much it counts
-pub record Fire : Type 0 where
-  pub end : FireEnd
-  pub looked : List Cell
-  pub puts : List RulePut
-  pub count : ℕ
-
--- so many rules, and what each does at a timestep, from the values of the cells
+-- so many rules, and what each does at a timestep, by the values of the cells: nothing where its code is stuck, as no code is
+-- that was verified
 pub record Policy : Type 0 where
   pub rules : ℕ
-  pub fire : ℕ → ℕ → (Cell → Option ℤ) → Fire
+  pub fire : ℕ → ℕ → (Cell → Option ℤ) → Option Fire
 
 -- no rule
 abbrev pub no_rules : Policy
-no_rules = record { rules = 0; fire = λ rule step values. record { end = is_unknown; looked = []; puts = []; count = 0 } }
+no_rules = record { rules = 0; fire = λ rule step values. None }
 
 -- the rules in the order of the agenda
 abbrev pub agenda_of : AgendaOrder → ℕ → List ℕ
@@ -75,16 +60,20 @@ firings (solved dispatch ∷ log) rule = firings log rule
 firings (fired firing ∷ log) rule = count_if (firing.rule == rule) (firings log rule)
 firings (fault why ∷ log) rule = firings log rule
 
--- what the last firing of the rule looked at, if it fired
+-- the last firing of the rule, if it fired
+abbrev pub last_firing : Log → ℕ → Option Firing
+last_firing [] rule = None
+last_firing (given cell value ∷ log) rule = last_firing log rule
+last_firing (opened step ∷ log) rule = None
+last_firing (closed step ∷ log) rule = last_firing log rule
+last_firing (idle object step looked ∷ log) rule = last_firing log rule
+last_firing (solved dispatch ∷ log) rule = last_firing log rule
+last_firing (fired firing ∷ log) rule = if firing.rule == rule then Some firing else last_firing log rule
+last_firing (fault why ∷ log) rule = last_firing log rule
+
+-- what it looked at
 abbrev pub last_looks : Log → ℕ → Option (List Look)
-last_looks [] rule = None
-last_looks (given cell value ∷ log) rule = last_looks log rule
-last_looks (opened step ∷ log) rule = None
-last_looks (closed step ∷ log) rule = last_looks log rule
-last_looks (idle object step looked ∷ log) rule = last_looks log rule
-last_looks (solved dispatch ∷ log) rule = last_looks log rule
-last_looks (fired firing ∷ log) rule = if firing.rule == rule then Some firing.looked else last_looks log rule
-last_looks (fault why ∷ log) rule = last_looks log rule
+last_looks log rule = option_map (λ (firing : Firing). firing.looked) (last_firing log rule)
 
 -- ---- which rule is due
 
@@ -120,7 +109,7 @@ last_ones basin (put ∷ puts) = if is_put_again basin put puts then last_ones b
 -- a put of a rule, as the content that is asked for in a cell
 abbrev pub asked_by_rule : ℕ → ℕ → RulePut → Asked
 asked_by_rule rule step put = record {
-  cell = cell_at put.slot (step + put.ahead);
+  cell = cell_at put.slot.0 (step + put.ahead);
   content = record { value = put.value; number = rule; writer = Rule (record { 0 = rule }) };
 }
 
@@ -129,10 +118,11 @@ abbrev pub asked_of_rule : Draft → ℕ → ℕ → List RulePut → List Asked
 asked_of_rule basin rule step puts =
     filter (λ (put : Asked). nat_le put.cell.step.0 basin.control.stamps.count) (map (asked_by_rule rule step) puts)
 
+-- the event of a firing that ends so
 abbrev pub ended : Draft → Cells → ℕ → ℕ → Fire → FireEnd → Event
-ended basin cells rule step fire by_zero = fault (ZeroDivisor (record { 0 = rule }) (record { 0 = step }))
-ended basin cells rule step fire (is_outside value) = fault (RuleOutOfRange (record { 0 = rule }) (record { 0 = step }) value)
-ended basin cells rule step fire is_unknown = fired (record {
+ended basin cells rule step fire DividesByZero = fault (ZeroDivisor (record { 0 = rule }) (record { 0 = step }))
+ended basin cells rule step fire (OutOfRange value) = fault (RuleOutOfRange (record { 0 = rule }) (record { 0 = step }) value)
+ended basin cells rule step fire Unknown = fired (record {
   rule = rule;
   step = step;
   is_done = false;
@@ -141,7 +131,7 @@ ended basin cells rule step fire is_unknown = fired (record {
   written = [];
   count = fire.count;
 })
-ended basin cells rule step fire is_done = fired (record {
+ended basin cells rule step fire Done = fired (record {
   rule = rule;
   step = step;
   is_done = true;
@@ -151,29 +141,33 @@ ended basin cells rule step fire is_done = fired (record {
   count = fire.count;
 })
 
--- the event that a firing of the rule is
-abbrev pub firing_of : Draft → Policy → Cells → ℕ → ℕ → Event
+-- the event that a firing of the rule is. None follows where its code is stuck
+abbrev pub firing_of : Draft → Policy → Cells → ℕ → ℕ → Option Event
 firing_of basin policy cells rule step =
-    ended basin cells rule step (policy.fire rule step (value_in cells)) (policy.fire rule step (value_in cells)).end
+    option_map (λ (fire : Fire). ended basin cells rule step fire fire.end) (policy.fire rule step (value_in cells))
 
 -- ---- what follows
 
 -- where no object waits, the first rule that is due fires; where none is due, the timestep is closed
-abbrev pub after_objects : Draft → Policy → Cells → Log → ℕ → Option ℕ → Event
-after_objects basin policy cells log step None = closed step
+abbrev pub after_objects : Draft → Policy → Cells → Log → ℕ → Option ℕ → Option Event
+after_objects basin policy cells log step None = Some (closed step)
 after_objects basin policy cells log step (Some rule) =
     if nat_le basin.control.rule_limit (firings log rule)
-    then fault (RuleLimit (record { 0 = rule }) (record { 0 = step }) (firings log rule))
+    then Some (fault (RuleLimit (record { 0 = rule }) (record { 0 = step }) (firings log rule)))
     else firing_of basin policy cells rule step
 
--- the first object that waits is dispatched
-abbrev pub next_of : Draft → Policy → Cells → Log → ℕ → Option ℕ → Event
-next_of basin policy cells log step None = after_objects basin policy cells log step (first_due basin policy cells log)
-next_of basin policy cells log step (Some object) =
+-- the object that is chosen is dispatched, unless it was as often as it may
+abbrev pub asked_next : Draft → Cells → Log → ℕ → ℕ → Event
+asked_next basin cells log step object =
     if nat_le basin.control.object_limit (dispatches log object)
     then fault (ObjectLimit (record { 0 = object }) (record { 0 = step }) (dispatches log object))
     else dispatched basin cells object step
 
--- the event that follows a log in an open timestep
-abbrev pub next : Draft → Policy → ℕ → Log → Event
+-- the event where this object is chosen, or none where none waits
+abbrev pub next_of : Draft → Policy → Cells → Log → ℕ → Option ℕ → Option Event
+next_of basin policy cells log step None = after_objects basin policy cells log step (first_due basin policy cells log)
+next_of basin policy cells log step (Some object) = Some (asked_next basin cells log step object)
+
+-- the event that follows a log in an open timestep: the first object that waits is chosen
+abbrev pub next : Draft → Policy → ℕ → Log → Option Event
 next basin policy step log = next_of basin policy (cells_of basin log) log step (first_waiting basin log)

@@ -23,7 +23,7 @@ lines (closed step) = Closed (record { 0 = step }) ∷ []
 lines (idle object step looked) = Idle (record { 0 = object }) ∷ []
 lines (solved dispatch) = Solve (record { 0 = dispatch.object }) ∷ map line_of dispatch.written
 lines (fired firing) = Fire (record { 0 = firing.rule }) firing.is_done firing.count ∷ map line_of firing.written
-lines (fault why) = FaultLine ∷ []
+lines (fault why) = FaultLine why ∷ []
 
 abbrev pub trace_of : Log → List TraceEvent
 trace_of [] = []

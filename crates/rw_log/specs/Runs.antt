@@ -1,9 +1,10 @@
 -- Runs, as a relation: each event is the one that follows what stands before it.
-use Rattle.std.specs.Prelude.{◌≡◌, ℕ, ◌+◌, ℤ, nat_lt, List, [], ◌∷◌, Option, Some, None, if◌then◌else◌}
+use Rattle.std.specs.Prelude.{◌≡◌, ℕ, ◌+◌, ◌≤◌, ℤ, nat_lt, List, [], ◌∷◌, Option, Some, None, if◌then◌else◌}
 use Rattle.rw_base.specs.declared.number.Cell.{Cell}
 use Rattle.rw_model.specs.Draft.{Draft}
-use Rattle.rw_log.specs.Log.{Event, given, opened, closed, idle, solved, fired, fault, Log}
-use Rattle.rw_log.specs.Next.{Policy, next}
+use Rattle.rw_log.specs.Log.{Event, given, opened, closed, idle, solved, fired, fault, Log, cells_of}
+use Rattle.rw_log.specs.Next.{Policy, next_of}
+use Rattle.rw_log.specs.Waiting.{first_waiting}
 
 -- where a run stands: it rests after the last closed timestep, it is inside an open one, or it is over by a fault
 pub data Standing : Type 0 where
@@ -22,10 +23,15 @@ standing (solved dispatch ∷ log) = inside dispatch.step
 standing (fired firing ∷ log) = inside firing.step
 standing (fault why ∷ log) = over
 
+-- the event that follows where the run stands so, and this object is chosen to be dispatched next
+abbrev pub follows_by : Draft → Policy → Log → Option ℕ → Standing → Option Event
+follows_by basin policy log object (rests step) = if nat_lt step basin.control.stamps.count then Some (opened (step + 1)) else None
+follows_by basin policy log object (inside step) = next_of basin policy (cells_of basin log) log step object
+follows_by basin policy log object over = None
+
+-- the one that has waited longest is chosen
 abbrev pub follows_in : Draft → Policy → Log → Standing → Option Event
-follows_in basin policy log (rests step) = if nat_lt step basin.control.stamps.count then Some (opened (step + 1)) else None
-follows_in basin policy log (inside step) = Some (next basin policy step log)
-follows_in basin policy log over = None
+follows_in basin policy log = follows_by basin policy log (first_waiting basin log)
 
 -- the event that follows a log, if one does
 abbrev pub follows : Draft → Policy → Log → Option Event
@@ -41,8 +47,14 @@ abbrev pub placed : Log → List (Cell × ℤ) → Log
 placed log [] = log
 placed log (input ∷ inputs) = placed (given input.0 input.1 ∷ log) inputs
 
--- the whole run of these inputs: they are placed, and event follows event until none does
+-- a run is over once the last timestep is closed, or by a fault. Where a rule's code is stuck it isn't
+abbrev pub IsOver : Draft → Standing → Type 0
+IsOver basin (rests step) = basin.control.stamps.count ≤ step
+IsOver basin (inside step) = ⊥
+IsOver basin over = Unit {0}
+
+-- the whole run of these inputs: they are placed, and event follows event until it is over
 pub record IsRun (basin : Draft) (policy : Policy) (inputs : List (Cell × ℤ)) (log : Log) : Type 0 where
   pub events : List Event
   pub leads : Leads basin policy (placed [] inputs) events log
-  pub end : follows basin policy log ≡ None
+  pub end : IsOver basin (standing log)

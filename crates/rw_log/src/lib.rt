@@ -7,6 +7,7 @@
 
 mod fault;
 pub mod law;
+mod line;
 mod run;
 mod trace;
 

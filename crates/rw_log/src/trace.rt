@@ -1,5 +1,8 @@
-ghost use Rattle.std.specs.Prelude.{◌≡◌, [], ◌∷◌, ◌++◌, length, take, IfOk, IfErr};
+ghost use Rattle.std.specs.Prelude.{◌≡◌, [], ◌∷◌, ◌++◌, length, take, slice_get, IfOk, IfErr};
+ghost use Rattle.rw_log.specs.Line.{event_of};
 
+use crate::RunFault;
+use crate::line::{Line, event_of, line_of};
 use rw_base::{NoMemory, ObjectNo, RuleNo, SlotNo, StepNo};
 use rw_model::Content;
 use std::alloc::Global;
@@ -34,23 +37,25 @@ pub enum TraceEvent {
     },
     /// A timestep was closed.
     Closed(StepNo),
-    /// The run ended by a fault, which the end of the run tells.
-    Fault,
+    /// The run ended by this fault.
+    Fault(RunFault),
 }
 
-/// What happened in a run, line by line, seen as the list of its lines.
+/// What happened in a run, line by line, seen as the list of its lines. It keeps 24 bytes for a line.
 #[derive(Drop)]
 pub struct Trace {
-    events: Vec<TraceEvent>,
+    alloc: Global,
+    lines: Vec<Line>,
 }
 
 impl Model for Trace {
-    ghost use Rattle.std.specs.Prelude.{List};
+    ghost use Rattle.std.specs.Prelude.{List, map};
     ghost use Rattle.rw_log.specs.declared.trace.TraceEvent.{TraceEvent};
+    ghost use Rattle.rw_log.specs.Line.{event_of};
 
     ghost Value = { List TraceEvent };
 
-    ghost view = { λ t. t.events.items };
+    ghost view = { λ t. map event_of t.lines.items };
 }
 
 impl Trace {
@@ -59,7 +64,8 @@ impl Trace {
         ensures { result ≡ [] }
     {
         Trace {
-            events: Vec::new(alloc),
+            alloc,
+            lines: Vec::new(alloc),
         }
     }
 
@@ -68,28 +74,31 @@ impl Trace {
         ensures pushed { IfOk result (λ _. self.new ≡ self.old ++ event ∷ []) }
         ensures unchanged { IfErr result (λ _. self.new ≡ self.old) }
     {
-        self.events.push(event)?;
+        self.lines.push(line_of(self.alloc, event)?)?;
         Ok(())
     }
 
-    /// Its lines.
-    pub fn events(&self) -> &[TraceEvent]
-        ensures { result.now ≡ self.now }
+    /// The line in a place, counted from 0. `None` exactly where there is none.
+    pub fn line(&self, place: usize) -> Option<TraceEvent>
+        ensures { result ≡ slice_get self.now place }
     {
-        self.events.as_slice()
+        match self.lines.get(place) {
+            Some(line) => Some(event_of(line)),
+            None => None,
+        }
     }
 
     /// How many lines there are.
     pub fn len(&self) -> usize
         ensures { result ≡ length self.now }
     {
-        self.events.len()
+        self.lines.len()
     }
 
     /// Leaves the first lines alone, so many of them.
     pub fn truncate(&mut self, count: usize)
         ensures { self.new ≡ take count self.old }
     {
-        self.events.truncate(count);
+        self.lines.truncate(count);
     }
 }

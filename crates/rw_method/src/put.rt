@@ -3,21 +3,21 @@ use rw_base::Qty;
 /// A value that an object asks for in one of its slots.
 #[derive(Clone, Copy, Debug, PartialEq, Eq)]
 pub struct Put {
-    /// The slot's place among those of the object, counted from 0.
-    pub place: u8,
     /// The value, in the base units of the slot's dimension.
     pub value: Qty,
     /// Its priority: a smaller number is stronger.
     pub number: u16,
+    /// The slot's place among those of the object, counted from 0.
+    pub place: u8,
 }
 
 impl Default for Put {
     fn default() -> Put {
         match Qty::of(0) {
             Some(value) => Put {
-                place: 0,
                 value,
                 number: 0,
+                place: 0,
             },
             None => unreachable!(),
         }

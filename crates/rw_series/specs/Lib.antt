@@ -2,3 +2,4 @@ pub mod Kept
 pub mod Columns
 pub mod Cells
 pub mod Series
+pub mod Fire

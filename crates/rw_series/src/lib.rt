@@ -1,14 +1,17 @@
 //! The values of a run, cell by cell. `Series` keeps what each slot of a basin holds at each timestep, and `put` takes a
 //! new content by the put rules: a cell is written together with every cell that a link joins to it, or nothing changes.
-//! `restore` takes a put back. `Look` says what was seen at a cell. Only `sized` and `copy` take memory.
+//! `restore` takes a put back. Only `sized` and `copy` take memory. Beside it stand the types that a firing of a rule and its
+//! meaning share: what was seen at a cell, how a firing ends, and what it asks for.
 #![tactic(auto)]
 
 mod cells;
 mod columns;
+mod fire;
 mod kept;
 mod look;
 mod series;
 
+pub use fire::{FireEnd, RulePut};
 pub use look::Look;
 pub use rw_model::{Content, PutEnd, Writer};
 pub use series::Series;

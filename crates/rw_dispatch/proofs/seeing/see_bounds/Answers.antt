@@ -1,7 +1,7 @@
 use Rattle.std.specs.Prelude.{pos}
 use Rattle.rw_log.specs.Dispatch.{bounds_in_place}
 use Rattle.rw_dispatch.proofs.Filling.{filled-more}
-use Rattle.rw_dispatch.proofs.seeing.all_bounds.Goals as goal
+use Rattle.rw_dispatch.proofs.seeing.see_bounds.Goals as goal
 
 pub loop-place-preserved : goal.loop-place-preserved
 loop-place-preserved c =

@@ -2,7 +2,7 @@ use Rattle.std.specs.Prelude.{None}
 use Rattle.rw_series.specs.Series.{held}
 use Rattle.rw_log.specs.Dispatch.{content_in}
 use Rattle.rw_dispatch.proofs.Filling.{filled-more}
-use Rattle.rw_dispatch.proofs.seeing.contents.Goals as goal
+use Rattle.rw_dispatch.proofs.seeing.see_contents.Goals as goal
 
 pub loop-place-preserved : goal.loop-place-preserved
 loop-place-preserved c =
