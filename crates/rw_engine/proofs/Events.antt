@@ -146,7 +146,7 @@ module _ (basin : Draft) (step object : ℕ) (rest : List ℕ) (log : Log) where
     calm = λ none. (
       refl,
       ap inside is.1,
-      λ waits. idles basin log other at looked rest (waits ∙ ap (λ o. o ∷ rest) (sym is.0)),
+      λ waits. idles basin log other at looked [] rest (waits ∙ ap (λ o. o ∷ rest) (sym is.0)),
       λ o. ap (λ z. count_if (z == o) (dispatches log o)) is.0,
     );
     faulted = λ why some. absurd (cc);
@@ -157,7 +157,7 @@ module _ (basin : Draft) (step object : ℕ) (rest : List ℕ) (log : Log) where
     calm = λ none. (
       refl,
       ap inside is.now,
-      λ waits. solves basin log dispatch rest (waits ∙ ap (λ o. o ∷ rest) (sym is.own)),
+      λ waits. solves basin log dispatch [] rest (waits ∙ ap (λ o. o ∷ rest) (sym is.own)),
       λ o. ap (λ z. count_if (z == o) (dispatches log o)) is.own,
     );
     faulted = λ why some. absurd (cc);

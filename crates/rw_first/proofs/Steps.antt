@@ -123,7 +123,7 @@ closes_next s step log looked z =
     let basin = basin_of s in
     let event : Event = solved (stores_at looked step z) in
     let now : Log = event ∷ opened step ∷ log in
-    let none : first_waiting basin now ≡ None = ap first_of (solves basin (opened step ∷ log) (stores_at looked step z) [] (opens basin log step)) in
+    let none : first_waiting basin now ≡ None = ap first_of (solves basin (opened step ∷ log) (stores_at looked step z) [] [] (opens basin log step)) in
     let undue : first_due basin no_rules (cells_of basin now) now ≡ None = ap (find (is_due (cells_of basin now) now)) (no_agenda s.control.agenda) in
     ap (next_of basin no_rules (cells_of basin now) now step) none
     ∙ ap (after_objects basin no_rules (cells_of basin now) now step) undue

@@ -129,15 +129,20 @@ pub waiting-once : (basin : Draft) (log : Log) (a : ℕ) → times a (waiting ba
 waiting-once basin log a =
     at_most (is_some (since basin log a)) _ _ (once a (length basin.objects)) (times-waiting basin log a)
 
-first_out : (o : ℕ) (rest : List ℕ) → times o rest ≡ 0 → filter (λ a. not (o == a)) (o ∷ rest) ≡ rest
-first_out o rest none = let e : (o == o) ≡ true = grind (arith, nat_tests) in rw e (without o rest none)
+all_but : (o : ℕ) (before after : List ℕ) → times o before ≡ 0 → times o after ≡ 0 → filter (λ a. not (o == a)) (before ++ o ∷ after) ≡ before ++ after
+all_but o before after front back =
+    let e : (o == o) ≡ true = grind (arith, nat_tests) in
+    filter-append (λ a. not (o == a)) before (o ∷ after)
+    ∙ ap₂ (λ xs ys. xs ++ ys) (without o before front) (rw e (without o after back))
 
-pub taken_out : (basin : Draft) (log : Log) (o : ℕ) (rest : List ℕ) → waiting basin log ≡ o ∷ rest
-    → filter (λ a. not (o == a)) (waiting basin log) ≡ rest
-taken_out basin log o rest e =
-    let k : times o (o ∷ rest) ≤ 1 = rw e at (waiting-once basin log o) in
-    let none : times o rest ≡ 0 = grind (arith, nat_tests) in
-    rw e (first_out o rest none)
+pub taken_out : (basin : Draft) (log : Log) (o : ℕ) (before after : List ℕ) → waiting basin log ≡ before ++ o ∷ after
+    → filter (λ a. not (o == a)) (waiting basin log) ≡ before ++ after
+taken_out basin log o before after e =
+    let k : times o (before ++ o ∷ after) ≤ 1 = rw e at (waiting-once basin log o) in
+    let parts = times-append o before (o ∷ after) in
+    let own : (o == o) ≡ true = grind (arith, nat_tests) in
+    let here : times o (o ∷ after) ≡ 1 + times o after = rw own refl in
+    rw e (all_but o before after (omega (arith, k, parts, here)) (omega (arith, k, parts, here)))
 
 -- ---- event by event
 
@@ -168,12 +173,12 @@ faults basin log why =
     ∙ ap₂ (λ xs ys. xs ++ ys) (all-kept (waiting basin log)) (none-kept (numbers (length basin.objects)))
     ∙ append-nil (waiting basin log)
 
-pub idles : (basin : Draft) (log : Log) (o step : ℕ) (looked : List Look) (rest : List ℕ) → waiting basin log ≡ o ∷ rest
-    → waiting basin (idle o step looked ∷ log) ≡ rest
-idles basin log o step looked rest e =
+pub idles : (basin : Draft) (log : Log) (o step : ℕ) (looked : List Look) (before after : List ℕ) → waiting basin log ≡ before ++ o ∷ after
+    → waiting basin (idle o step looked ∷ log) ≡ before ++ after
+idles basin log o step looked before after e =
     waiting-more basin (idle o step looked) log
-    ∙ ap₂ (λ xs ys. xs ++ ys) (taken_out basin log o rest e) (none-kept (numbers (length basin.objects)))
-    ∙ append-nil rest
+    ∙ ap₂ (λ xs ys. xs ++ ys) (taken_out basin log o before after e) (none-kept (numbers (length basin.objects)))
+    ∙ append-nil (before ++ after)
 
 owners_step : (basin : Draft) (o slot : ℕ) (x v : Bool) (slots : List ℕ) → is_owner basin slots o ≡ v
     → is_owner basin (if x then slot ∷ slots else slots) o ≡ (x && is_at basin o slot) || v
@@ -202,20 +207,31 @@ same_all false false p = sym (and_true p)
 turned : (a o : ℕ) → (a == o) ≡ (o == a)
 turned a o = grind (arith, nat_tests)
 
-pub solves : (basin : Draft) (log : Log) (d : Dispatch) (rest : List ℕ) → waiting basin log ≡ d.object ∷ rest
-    → waiting basin (solved d ∷ log) ≡ rest ++ woken basin (Some d.object) rest (slots_at d.step d.written)
-solves basin log d rest e =
+-- an element in the middle may as well stand first
+any_middle : (p : ℕ → Bool) (before : List ℕ) (o : ℕ) (after : List ℕ) → list_any p (before ++ o ∷ after) ≡ p o || list_any p (before ++ after)
+any_middle p [] o after = refl
+any_middle p (x ∷ before) o after = ap (λ t. p x || t) (any_middle p before o after) ∙ swapped (p x) (p o) (list_any p (before ++ after))
+  where
+    swapped : (a b c : Bool) → a || (b || c) ≡ b || (a || c)
+    swapped true true c = refl
+    swapped true false c = refl
+    swapped false b c = refl
+
+pub solves : (basin : Draft) (log : Log) (d : Dispatch) (before after : List ℕ) → waiting basin log ≡ before ++ d.object ∷ after
+    → waiting basin (solved d ∷ log) ≡ (before ++ after) ++ woken basin (Some d.object) (before ++ after) (slots_at d.step d.written)
+solves basin log d before after e =
     waiting-more basin (solved d) log
-    ∙ ap₂ (λ xs ys. xs ++ ys) (taken_out basin log d.object rest e) (filter-within _ _ (numbers (length basin.objects)) at)
+    ∙ ap₂ (λ xs ys. xs ++ ys) (taken_out basin log d.object before after e) (filter-within _ _ (numbers (length basin.objects)) at)
   where
     at : (a : ℕ) → 0 < times a (numbers (length basin.objects))
         → (not (is_data basin a) && (not (d.object == a) && is_put_at basin a d.step d.written)) && ((d.object == a) || not (is_some (since basin log a)))
-        ≡ not (is_data basin a) && (not (d.object == a) && (not (list_any (λ x. a == x) rest) && is_owner basin (slots_at d.step d.written) a))
+        ≡ not (is_data basin a) && (not (d.object == a) && (not (list_any (λ x. a == x) (before ++ after)) && is_owner basin (slots_at d.step d.written) a))
     at a l =
-        let listed : (d.object == a) || list_any (λ x. a == x) rest ≡ is_some (since basin log a) =
-        ap (λ t. t || list_any (λ x. a == x) rest) (sym (turned a d.object)) ∙ sym (ap (list_any (λ x. a == x)) e) ∙ is_listed basin log a l in
+        let listed : (d.object == a) || list_any (λ x. a == x) (before ++ after) ≡ is_some (since basin log a) =
+        ap (λ t. t || list_any (λ x. a == x) (before ++ after)) (sym (turned a d.object)) ∙ sym (any_middle (λ x. a == x) before d.object after)
+        ∙ sym (ap (list_any (λ x. a == x)) e) ∙ is_listed basin log a l in
         rw (owners basin a d.step d.written, ← listed)
-        (sym (same_but (is_data basin a) (d.object == a) (list_any (λ x. a == x) rest) (is_put_at basin a d.step d.written)))
+        (sym (same_but (is_data basin a) (d.object == a) (list_any (λ x. a == x) (before ++ after)) (is_put_at basin a d.step d.written)))
 
 pub fires : (basin : Draft) (log : Log) (f : Firing)
     → waiting basin (fired f ∷ log) ≡ waiting basin log ++ woken basin None (waiting basin log) (slots_at f.step f.written)
@@ -248,8 +264,8 @@ pub queues : (basin : Draft) (log : Log) (event : Event) (o : ℕ) (rest : List 
 queues basin log (given cell value) o rest done e = absurd done
 queues basin log (opened step) o rest done e = absurd done
 queues basin log (closed step) o rest done e = absurd done
-queues basin log (idle other step looked) o rest done e = idles basin log other step looked rest (e ∙ ap (λ q. q ∷ rest) (sym done))
-queues basin log (solved dispatch) o rest done e = solves basin log dispatch rest (e ∙ ap (λ q. q ∷ rest) (sym done))
+queues basin log (idle other step looked) o rest done e = idles basin log other step looked [] rest (e ∙ ap (λ q. q ∷ rest) (sym done))
+queues basin log (solved dispatch) o rest done e = solves basin log dispatch [] rest (e ∙ ap (λ q. q ∷ rest) (sym done))
 queues basin log (fired firing) o rest done e = absurd done
 queues basin log (fault why) o rest done e = absurd done
 

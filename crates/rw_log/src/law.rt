@@ -47,15 +47,16 @@ pub fn one_run()
 {}
 
 /// Which objects wait after an event, by those that waited before it. A timestep begins with all but the data objects. A
-/// dispatch takes the first one out. What is written puts others at the end, in order of number: each that owns a slot
-/// which it reaches and doesn't wait already, but no data object and not the one that wrote it.
+/// dispatch takes its object out, wherever that stands. What is written puts others at the end, in order of number: each
+/// that owns a slot which it reaches and doesn't wait already, but no data object and not the one that wrote it.
 pub fn waiting_after()
     ensures opened { (basin : Draft) (log : Log) (step : ℕ) → waiting basin (opened step ∷ log) ≡ all_waiting basin }
-    ensures idle { (basin : Draft) (log : Log) (object step : ℕ) (looked : List Look) (rest : List ℕ)
-        → waiting basin log ≡ object ∷ rest → waiting basin (idle object step looked ∷ log) ≡ rest }
-    ensures solved { (basin : Draft) (log : Log) (dispatch : Dispatch) (rest : List ℕ)
-        → waiting basin log ≡ dispatch.object ∷ rest → waiting basin (solved dispatch ∷ log)
-        ≡ rest ++ woken basin (Some dispatch.object) rest (slots_at dispatch.step dispatch.written) }
+    ensures idle { (basin : Draft) (log : Log) (object step : ℕ) (looked : List Look) (before after : List ℕ)
+        → waiting basin log ≡ before ++ object ∷ after
+        → waiting basin (idle object step looked ∷ log) ≡ before ++ after }
+    ensures solved { (basin : Draft) (log : Log) (dispatch : Dispatch) (before after : List ℕ)
+        → waiting basin log ≡ before ++ dispatch.object ∷ after → waiting basin (solved dispatch ∷ log)
+        ≡ (before ++ after) ++ woken basin (Some dispatch.object) (before ++ after) (slots_at dispatch.step dispatch.written) }
     ensures fired { (basin : Draft) (log : Log) (firing : Firing) → waiting basin (fired firing ∷ log)
         ≡ waiting basin log ++ woken basin None (waiting basin log) (slots_at firing.step firing.written) }
     ensures closed { (basin : Draft) (log : Log) (step : ℕ) → waiting basin (closed step ∷ log) ≡ waiting basin log }
