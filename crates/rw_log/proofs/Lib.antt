@@ -7,3 +7,6 @@ mod Sinces
 mod Frames
 mod Reuses
 mod Lasts
+mod SameRuns
+mod SomeRun
+mod Choices

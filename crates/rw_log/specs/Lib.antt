@@ -10,3 +10,7 @@ pub mod RunOf
 pub mod Since
 pub mod Frame
 pub mod Index
+pub mod Policy
+pub mod Step
+pub mod Reuse
+pub mod Worked

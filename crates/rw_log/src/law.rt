@@ -10,8 +10,13 @@ ghost use Rattle.rw_log.specs.declared.fault.RunFault.{RunFault};
 ghost use Rattle.rw_log.specs.Log.{Asked, Cells, Dispatch, Event, Firing, Log, given, opened, closed, idle, solved, fired, fault, cells_of, input_content, last_put, written_by};
 ghost use Rattle.rw_log.specs.Waiting.{all_waiting, since, slots_at, waiting, woken};
 ghost use Rattle.rw_log.specs.Since.{WaitsSince};
-ghost use Rattle.rw_log.specs.Next.{Policy};
-ghost use Rattle.rw_log.specs.Runs.{IsRun, Leads, follows};
+ghost use Rattle.rw_log.specs.Next.{Policy, no_rules};
+ghost use Rattle.rw_log.specs.Policy.{FireAlike, IsPolicyOf};
+ghost use Rattle.rw_log.specs.Runs.{IsRun, Leads, follows, placed};
+ghost use Rattle.rw_log.specs.Choice.{MayFollow, MayLead};
+ghost use Rattle.rw_log.specs.Step.{before_closing, before_opening, cell_count, events_of, line_count, looked_at};
+ghost use Rattle.rw_log.specs.Worked.{ahead, ahead_run, basin_of, counted, counted_run, divided, divided_run, five, first_of_ahead, followed, followed_run, given_run, outranked, outranked_run, put_twice, put_twice_run, raised, raised_run, three};
+ghost use Rattle.rw_model.specs.declared.control.AgendaOrder.TheVariants.{HighFirst, LowFirst};
 ghost use Rattle.rw_log.specs.Frame.{AreAlike, Goes, IsFramed, IsStepFrom, looked_in, log_after};
 ghost use Rattle.rw_log.specs.Index.{IsIndex, MarksTouched};
 
@@ -44,6 +49,54 @@ pub fn timesteps()
 pub fn one_run()
     ensures { (basin : Draft) (policy : Policy) (inputs : List (Cell × ℤ)) (log other : Log)
         → IsRun basin policy inputs log → IsRun basin policy inputs other → log ≡ other }
+{}
+
+/// A policy that keeps its promises has a run: no event is without a next one, and limits end each timestep. That of no rules
+/// promises nothing that it could break.
+pub fn some_run()
+    ensures exists { (basin : Draft) (policy : Policy) (inputs : List (Cell × ℤ)) → IsPolicyOf basin policy
+        → (log : Log) × IsRun basin policy inputs log }
+    ensures no_rules { (basin : Draft) → IsPolicyOf basin no_rules }
+{}
+
+/// Policies of as many rules that do the same have the same runs, and so have all policies without rules.
+pub fn same_runs()
+    ensures alike { (basin : Draft) (one other : Policy) (inputs : List (Cell × ℤ)) (log : Log) → FireAlike one other
+        → IsRun basin one inputs log → IsRun basin other inputs log }
+    ensures no_rules { (other : Policy) → other.rules ≡ 0 → FireAlike no_rules other }
+{}
+
+/// Where any object that waits may be dispatched next, the one that has waited longest is such a one.
+pub fn choices()
+    ensures event { (basin : Draft) (policy : Policy) (log : Log) (event : Event)
+        → follows basin policy log ≡ Some event → MayFollow basin policy log event }
+    ensures events { (basin : Draft) (policy : Policy) (old : Log) (events : List Event) (new : Log)
+        → Leads basin policy old events new → MayLead basin policy old events new }
+{}
+
+/// Small runs of rules, each worked out by hand, come out of the definitions: on the agenda, on rules that fire again, on their
+/// limit, on puts that are denied, left out, or a day ahead.
+pub fn worked_runs()
+    ensures raised { IsRun (basin_of HighFirst 1) raised [] (log_after raised_run []) }
+    ensures counted { IsRun (basin_of LowFirst 1) counted [] (log_after counted_run []) }
+    ensures followed { IsRun (basin_of HighFirst 1) followed [] (log_after followed_run []) }
+    ensures outranked { IsRun (basin_of HighFirst 1) outranked [] (log_after outranked_run []) }
+    ensures divided { IsRun (basin_of HighFirst 2) divided three (log_after divided_run (placed [] three)) }
+    ensures ahead { IsRun (basin_of HighFirst 3) ahead [] (log_after ahead_run []) }
+    ensures put_twice { IsRun (basin_of HighFirst 1) put_twice [] (log_after put_twice_run []) }
+    ensures given { IsRun (basin_of HighFirst 1) put_twice five (log_after given_run (placed [] five)) }
+{}
+
+/// What is said of a timestep within a log comes to this in two of them: what stood before it, how many cells it looked at
+/// or reached, and how many lines it has.
+pub fn worked_timesteps()
+    ensures opening { before_opening 1 (log_after raised_run []) ≡ Some [] }
+    ensures whole { events_of 1 (log_after raised_run []) ≡ log_after raised_run [] }
+    ensures closing { before_closing 1 (log_after ahead_run []) ≡ Some (log_after first_of_ahead []) }
+    ensures open { before_closing 1 (log_after counted_run []) ≡ None }
+    ensures cells { cell_count (looked_at (basin_of HighFirst 1) 1 (log_after raised_run [])) ≡ 1 }
+    ensures both { cell_count (looked_at (basin_of HighFirst 1) 1 (log_after followed_run [])) ≡ 2 }
+    ensures lines { line_count 1 (log_after raised_run []) ≡ 8 }
 {}
 
 /// Which objects wait after an event, by those that waited before it. A timestep begins with all but the data objects. A
