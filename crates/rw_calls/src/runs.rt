@@ -92,7 +92,9 @@ fn check_lines(rt: &impl Abort, alloc: Global, methods: &Catalogue)
         TraceEvent::Idle(G),
         TraceEvent::Closed(StepNo(2)),
     ];
-    assert!(rt; run.trace.events().starts_with(&wanted));
+    for (place, line) in wanted.iter().enumerate() {
+        assert_eq!(rt; run.trace.line(place), Some(*line));
+    }
     assert_eq!(rt; run.trace.len(), 14);
 }
 
@@ -111,7 +113,7 @@ fn check_conflict(rt: &impl Abort, alloc: Global, methods: &Catalogue)
     };
     assert_eq!(rt; run.end, RunEnd::Fault(fault));
     assert_eq!(rt; run.closed, 1);
-    assert_eq!(rt; run.trace.events().last(), Some(&TraceEvent::Fault));
+    assert_eq!(rt; run.trace.line(run.trace.len() - 1), Some(TraceEvent::Fault(fault)));
     assert_eq!(rt; value_at(&run.series, 5, 1), Some(12));
     assert_eq!(rt; value_at(&run.series, 3, 2), Some(12));
     assert_eq!(rt; value_at(&run.series, 3, 3), None);

@@ -133,7 +133,7 @@ module _ (basin : Draft) (policy : Policy) (step : ℕ) (log : Log) where
   -- an object that waits is dispatched
   asked_outcome : (o : ℕ) (reached : Bool) → nat_le basin.control.object_limit (dispatches log o) ≡ reached → 1 ≤ o → o ≤ length basin.objects
       → Outcome basin policy step log
-          (if reached then fault (ObjectLimit (record { 0 = o }) (record { 0 = step }) (dispatches log o)) else dispatched basin (cells_of basin log) o step)
+      (if reached then fault (ObjectLimit (record { 0 = o }) (record { 0 = step }) (dispatches log o)) else dispatched basin (cells_of basin log) o step)
   asked_outcome o true is first last = inl tt
   asked_outcome o false is first last =
       let cells = cells_of basin log in

@@ -2,7 +2,7 @@ ghost use Rattle.std.specs.Prelude.{◌≡◌, IfOk};
 ghost use Rattle.rw_log.specs.Line.{event_of};
 
 use crate::{RunFault, TraceEvent};
-use rw_base::{NoMemory, ObjectNo, RuleNo, SlotNo, StepNo, Qty};
+use rw_base::{NoMemory, ObjectNo, Qty, RuleNo, SlotNo, StepNo};
 use rw_model::{Content, Writer};
 use std::alloc::Global;
 
