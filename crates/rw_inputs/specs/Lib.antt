@@ -1,6 +1,6 @@
-pub mod SlotCells
 pub mod Number
 pub mod Row
+pub mod Records
 pub mod Inputs
 pub mod Sound
 pub mod Reading
