@@ -3,8 +3,8 @@ use Rattle.std.proofs.Common.{◌≡◌, ◌≢◌, ℕ, ◌<◌, ◌==◌, ◌&
 use Rattle.std.specs.Prelude.{ℤ, nat_le, slice_set}
 use Rattle.std.proofs.lemmas.Bool.Decides.{nat_tests}
 use Rattle.std.proofs.lemmas.List.{get_or-set_same, get_or-set_other}
-use Rattle.rw_inputs.specs.Inputs.{Column, IsColumn, column_of, value_in}
-use Rattle.rw_inputs.specs.Sound.{HasMore}
+use Rattle.rw_inputs.specs.Inputs.{column_of}
+use Rattle.rw_inputs.specs.Column.{Column, HasMore, IsColumn, value_in}
 
 module _ (columns : List Column) (slot : ℕ) (column : Column) (near : slot < length columns) where
   set_here : (other : ℕ) → (other == slot) ≡ true → column_of (slice_set columns slot column) other ≡ column

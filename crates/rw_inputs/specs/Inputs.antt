@@ -1,22 +1,15 @@
 -- Inputs: a value for each of some cells. Slots that carry one value have one cell at a timestep, that of the least of them.
-use Rattle.std.specs.Prelude.{◌≡◌, ◌⊎◌, ℕ, ◌+◌, ◌==◌, nat_le, ℤ, ◌≤ℤ◌, Bool, ◌&&◌, if◌then◌else◌, List, [], ◌∷◌, length, Option, Some, None, slice_index_or}
+use Rattle.std.specs.Prelude.{◌≡◌, ℕ, ◌+◌, ◌==◌, nat_le, ℤ, ◌≤ℤ◌, Bool, ◌&&◌, if◌then◌else◌, List, [], ◌∷◌, length, Option, Some, None, slice_index_or}
 use Rattle.rw_model.specs.Objects.{all_slots}
 use Rattle.rw_model.specs.Draft.{Draft}
 use Rattle.rw_model.specs.Slot.{Bounds}
 use Rattle.rw_model.specs.Links.{group_of, bounds_in}
 use Rattle.rw_inputs.specs.declared.given.Given.{Given}
-
--- what is kept of a slot: a value or none for each timestep. These count from 1, so none stands in the first place
-abbrev pub Column : Type 0
-Column = List (Option ℤ)
+use Rattle.rw_inputs.specs.Column.{Column, IsColumn, value_in}
 
 -- a column for each slot. These count from 1, so an empty one stands in the first place
 pub record Inputs : Type 0 where
   pub columns : List Column
-
--- what a column has for a timestep
-abbrev pub value_in : Column → ℕ → Option ℤ
-value_in column step = slice_index_or column step None
 
 -- the column of a slot
 abbrev pub column_of : List Column → ℕ → Column
@@ -48,10 +41,6 @@ pub record IsWithin (bounds : Bounds) (value : ℤ) : Type 0 where
 pub record IsKeptValue (basin : Draft) (slot : ℕ) (value : ℤ) : Type 0 where
   pub least : kept_slot basin slot ≡ slot
   pub within : IsWithin (bounds_in basin.objects basin.links basin.bounds slot) value
-
--- a column that has a place for each of so many timesteps, or none at all
-abbrev pub IsColumn : ℕ → Column → Type 0
-IsColumn steps column = (column ≡ []) ⊎ (length column ≡ steps + 1)
 
 -- inputs made for the basin: they have its slots and timesteps, and keep values where and as the basin can have them
 pub record IsInputsOf (basin : Draft) (inputs : Inputs) : Type 0 where

@@ -1,6 +1,5 @@
 ghost use Rattle.std.specs.Prelude.{◌≡◌, ◌⊎◌, ℕ, ◌+◌, ◌≤◌, ◌<◌, [], true, false, Ok, OnOk, OnErr, MatchBool, length, vec_len};
-ghost use Rattle.rw_inputs.specs.Inputs.{IsColumn, value_in};
-ghost use Rattle.rw_inputs.specs.Sound.{IsFree, IsTaken, HasMore};
+ghost use Rattle.rw_inputs.specs.Column.{HasMore, IsColumn, IsFree, IsTaken, value_in};
 
 use crate::given::Given;
 use rw_base::{NoMemory, Qty};
@@ -15,7 +14,7 @@ pub struct Column {
 }
 
 impl Model for Column {
-    ghost use Rattle.rw_inputs.specs.Inputs as specs;
+    ghost use Rattle.rw_inputs.specs.Column as specs;
 
     ghost Value = { specs.Column };
 
@@ -49,7 +48,8 @@ fn is_free(values: &[Option<Qty>], first: u16, last: u16) -> bool
 fn widen(values: &mut Vec<Option<Qty>>, steps: u16) -> Result<(), NoMemory>
     requires { IsColumn steps values.old.items }
     ensures wide { OnOk result (length values.new.items ≡ steps + 1) }
-    ensures same { OnOk result ((step : ℕ) → value_in values.new.items step ≡ value_in values.old.items step) }
+    ensures same { OnOk result ((step : ℕ)
+        → value_in values.new.items step ≡ value_in values.old.items step) }
     ensures unchanged { OnErr result (values.new.items ≡ values.old.items) }
 {
     if values.is_empty() {
@@ -95,7 +95,8 @@ impl Column {
         requires last { given.now.last ≤ steps }
         ensures column { IsColumn steps self.new }
         ensures free { result ≡ Ok true → IsFree self.old given.now.first given.now.last }
-        ensures taken { result ≡ Ok true → HasMore given.now.value given.now.first given.now.last self.old self.new }
+        ensures taken { result ≡ Ok true
+            → HasMore given.now.value given.now.first given.now.last self.old self.new }
         ensures twice { result ≡ Ok false → IsTaken self.old given.now.first given.now.last }
         ensures unchanged { (result ≡ Ok true) ⊎ (self.new ≡ self.old) }
     {

@@ -1,9 +1,8 @@
-ghost use Rattle.std.specs.Prelude.{◌≡◌, ◌⊎◌, [], ◌∷◌, ◌++◌, ℕ, List, true, false, Ok, IfOk, length};
-ghost use Rattle.std.specs.List.{list_any};
+ghost use Rattle.std.specs.Prelude.{◌≡◌, ◌⊎◌, [], ℕ, true, false, Ok, IfOk, length};
 ghost use Rattle.rw_inputs.specs.Inputs.{column_of, value_at, kept_slot, IsInputsOf, Keeps};
 ghost use Rattle.rw_model.specs.Draft.{IsSlot};
-ghost use Rattle.rw_inputs.specs.Reading.{shares_cell};
 ghost use Rattle.rw_inputs.specs.Sound.{IsGiven};
+ghost use Rattle.rw_inputs.specs.Taking.{Takes, IsTwice};
 
 use crate::column::Column;
 use crate::given::Given;
@@ -77,10 +76,8 @@ impl Inputs {
         requires made { IsInputsOf basin.now self.old }
         requires given { IsGiven basin.now given.now }
         ensures made { IsInputsOf basin.now self.new }
-        ensures taken { result ≡ Ok true → (rows : List Given) → Keeps basin.now rows self.old
-            → (list_any (shares_cell basin.now given.now) rows ≡ false) × Keeps basin.now (rows ++ given.now ∷ []) self.new }
-        ensures twice { result ≡ Ok false → (rows : List Given) → Keeps basin.now rows self.old
-            → list_any (shares_cell basin.now given.now) rows ≡ true }
+        ensures taken { result ≡ Ok true → Takes basin.now given.now self.old self.new }
+        ensures twice { result ≡ Ok false → IsTwice basin.now given.now self.old }
         ensures unchanged { (result ≡ Ok true) ⊎ (self.new ≡ self.old) }
     {
         let slot = kept_slot(basin, given.slot);

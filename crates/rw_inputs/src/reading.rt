@@ -1,13 +1,12 @@
-ghost use Rattle.std.specs.Prelude.{◌≡◌, ◌⊎◌, [], ◌∷◌, ◌++◌, true, List, Option, None, Some, IfOk, IfErr, OnOk, Err};
+ghost use Rattle.std.specs.Prelude.{◌≡◌, ◌⊎◌, [], ◌∷◌, true, None, Some, IfOk, IfErr, OnOk, Err};
 ghost use Rattle.csv.specs.Records.{fields_of};
 ghost use Rattle.rw_inputs.specs.declared.fault.InputFault.TheVariants as InputFault;
-ghost use Rattle.rw_inputs.specs.declared.fault.InputFault.{InputFault as Fault};
 ghost use Rattle.rw_inputs.specs.declared.fault.InputKind.TheVariants as InputKind;
 ghost use Rattle.rw_model.specs.Draft.{Draft};
 ghost use Rattle.rw_inputs.specs.Records.{Fields};
-ghost use Rattle.rw_inputs.specs.Row.{read_row};
 ghost use Rattle.rw_inputs.specs.Inputs.{IsInputsOf, Keeps};
-ghost use Rattle.rw_inputs.specs.Reading.{givens, wrong_behind, refused_or, first_refusal, is_header, read_records, Reads, Refuses, Answers};
+ghost use Rattle.rw_inputs.specs.Reading.{givens, first_refusal, is_header, read_records, Reads, Refuses, Answers};
+ghost use Rattle.rw_inputs.specs.Taking.{TakesRow, RefusesRow};
 
 use crate::inputs::Inputs;
 use crate::records::Records;
@@ -53,15 +52,17 @@ fn refused(number: u32, wrong: Wrong) -> InputFault
 }
 
 // Takes what the row of a number gives, or answers what is wrong with it.
-fn take_row(inputs: &mut Inputs, basin: &Basin, number: u32, row: &ByteRecord) -> Result<(), InputFault>
+fn take_row(
+    inputs: &mut Inputs,
+    basin: &Basin,
+    number: u32,
+    row: &ByteRecord,
+) -> Result<(), InputFault>
     requires { IsInputsOf basin.now inputs.old }
     ensures made { IsInputsOf basin.now inputs.new }
-    ensures taken { OnOk result ((before : List Fields) → Keeps basin.now (givens basin.now before) inputs.old
-        → (wrong_behind basin.now before (read_row basin.now (fields_of row.now)) ≡ None)
-        × Keeps basin.now (givens basin.now (before ++ fields_of row.now ∷ [])) inputs.new) }
+    ensures taken { OnOk result (TakesRow basin.now (fields_of row.now) inputs.old inputs.new) }
     ensures refused { IfErr result (λ fault. (fault ≡ InputFault.NoMemory)
-        ⊎ ((before : List Fields) → Keeps basin.now (givens basin.now before) inputs.old → (later : Option Fault)
-        → refused_or number (wrong_behind basin.now before (read_row basin.now (fields_of row.now))) later ≡ Some fault)) }
+        ⊎ RefusesRow basin.now number (fields_of row.now) inputs.old fault) }
 {
     let given = match read_row(basin, row) {
         Ok(given) => given,
@@ -81,7 +82,12 @@ fn take_row(inputs: &mut Inputs, basin: &Basin, number: u32, row: &ByteRecord) -
 }
 
 // Takes what the rows behind the header give, one after another, up to the first one that is refused.
-fn take_rows(alloc: Global, inputs: &mut Inputs, basin: &Basin, rows: &mut Records<'_>) -> Result<(), InputFault>
+fn take_rows(
+    alloc: Global,
+    inputs: &mut Inputs,
+    basin: &Basin,
+    rows: &mut Records<'_>,
+) -> Result<(), InputFault>
     requires { Keeps basin.now [] inputs.old }
     ensures taken { OnOk result (first_refusal basin.now 2 [] rows.old ≡ None) }
     ensures kept { OnOk result (Keeps basin.now (givens basin.now rows.old) inputs.new) }
@@ -102,7 +108,8 @@ fn take_rows(alloc: Global, inputs: &mut Inputs, basin: &Basin, rows: &mut Recor
 
 // Reads the row that names the columns.
 fn read_header(alloc: Global, records: &mut Records<'_>) -> Result<(), InputFault>
-    ensures named { OnOk result ((header : Fields) × (records.old ≡ header ∷ records.new) × (is_header header ≡ true)) }
+    ensures named { OnOk result ((header : Fields) × (records.old ≡ header ∷ records.new)
+        × (is_header header ≡ true)) }
     ensures refused { IfErr result (λ fault. (fault ≡ InputFault.NoMemory)
         ⊎ ((basin : Draft) → read_records basin records.old ≡ Err fault)) }
 {
@@ -119,17 +126,19 @@ fn read_header(alloc: Global, records: &mut Records<'_>) -> Result<(), InputFaul
 }
 
 // What the records give, or the first refusal.
-fn read_records(alloc: Global, basin: &Basin, records: &mut Records<'_>) -> Result<Inputs, InputFault>
+fn read_records(
+    alloc: Global,
+    basin: &Basin,
+    records: &mut Records<'_>,
+) -> Result<Inputs, InputFault>
     ensures { Answers basin.now result (read_records basin.now records.old) }
 {
     read_header(alloc, records)?;
     let Ok(mut inputs) = Inputs::none(alloc, basin) else {
         return Err(InputFault::NoMemory);
     };
-    match take_rows(alloc, &mut inputs, basin, records) {
-        Ok(()) => Ok(inputs),
-        Err(fault) => Err(fault),
-    }
+    take_rows(alloc, &mut inputs, basin, records)?;
+    Ok(inputs)
 }
 
 /// Reads the inputs of a basin from a text of comma-separated fields.
@@ -142,7 +151,8 @@ fn read_records(alloc: Global, basin: &Basin, records: &mut Records<'_>) -> Resu
 pub fn read_inputs(alloc: Global, basin: &Basin, text: &[u8]) -> Result<Inputs, InputFault>
     ensures read { IfOk result (Reads basin.now text.now) }
     ensures made { IfOk result (IsInputsOf basin.now) }
-    ensures refused { IfErr result (λ fault. (fault ≡ InputFault.NoMemory) ⊎ Refuses basin.now text.now fault) }
+    ensures refused { IfErr result (λ fault. (fault ≡ InputFault.NoMemory)
+        ⊎ Refuses basin.now text.now fault) }
 {
     let mut records = Records::of(alloc, text);
     read_records(alloc, basin, &mut records)

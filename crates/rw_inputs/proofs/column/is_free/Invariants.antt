@@ -1,4 +1,4 @@
-use Rattle.rw_inputs.specs.Sound.{IsFree}
+use Rattle.rw_inputs.specs.Column.{IsFree}
 use Rattle.rw_inputs.proofs.column.is_free.Given as goal
 
 -- nothing is kept at the timesteps so far

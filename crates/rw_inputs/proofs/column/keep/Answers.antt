@@ -1,6 +1,6 @@
 use Rattle.std.proofs.Common.{◌≡◌, ◌&&◌, Some, if◌then◌else◌, ap, ◌∙◌, arith}
 use Rattle.std.specs.Prelude.{nat_le}
-use Rattle.rw_inputs.specs.Inputs.{value_in}
+use Rattle.rw_inputs.specs.Column.{value_in}
 use Rattle.rw_inputs.proofs.column.keep.Goals as goal
 
 pub returns : goal.returns

@@ -1,4 +1,4 @@
-use Rattle.rw_inputs.specs.Sound.{HasMore}
+use Rattle.rw_inputs.specs.Column.{HasMore}
 use Rattle.rw_inputs.proofs.column.keep.Given as goal
 
 -- the value is kept at the timesteps so far

@@ -1,4 +1,4 @@
-use Rattle.std.proofs.Common.{◌≡◌, true, Ok, inl, inr, refl, rules, sym, ap, subst, ◌∙◌}
+use Rattle.std.proofs.Common.{◌≡◌, inl, inr, refl, rules, sym, ap, subst, ◌∙◌}
 use Rattle.rw_model.specs.Draft.{IsSlot}
 use Rattle.rw_inputs.specs.Inputs.{Inputs, IsInputsOf, Keeps, kept_slot}
 use Rattle.rw_inputs.proofs.Keeping.{take-made, take-more, take-none, take-twice}

@@ -1,7 +1,7 @@
-use Rattle.std.proofs.Common.{List, ◌≡◌, sym, ap, subst, ◌∙◌}
+use Rattle.std.proofs.Common.{sym, ap, subst, ◌∙◌}
 use Rattle.csv.specs.Reading.{source_of, strip_bom}
 use Rattle.csv.specs.declared.parser.State.TheVariants as st
-use Rattle.rw_inputs.specs.Records.{AreRows, Fields, records_in}
+use Rattle.rw_inputs.specs.Records.{AreRows, records_in}
 use Rattle.rw_inputs.proofs.Left.{all_left, rest_of}
 use Rattle.rw_inputs.proofs.records.Records.of.Goals as goal
 
