@@ -1,14 +1,17 @@
 -- What is kept where a row gives values to cells that none has.
-use Rattle.std.proofs.Common.{◌≡◌, ◌≢◌, ℕ, ◌≤◌, Bool, true, false, if◌then◌else◌, List, [], ◌∷◌, ◌++◌, Option, Some, None, refl, sym, ap, subst, ◌∙◌, arith}
-use Rattle.std.specs.Prelude.{ℤ, max, min, ◌||◌}
+use Rattle.std.proofs.Common.{◌≡◌, ◌≢◌, ℕ, ◌≤◌, ◌<◌, Bool, true, false, if◌then◌else◌, List, [], ◌∷◌, ◌++◌, length, Option, Some, None, refl, sym, ap, subst, ◌∙◌, arith}
+use Rattle.std.specs.Prelude.{ℤ, max, min, ◌||◌, slice_index_or, slice_set}
 use Rattle.std.specs.List.{list_any}
 use Rattle.std.proofs.lemmas.Bool.Decides.{nat_tests}
-use Rattle.rw_model.specs.Draft.{Draft}
+use Rattle.std.proofs.lemmas.List.{get_or_default, length-set, set-get_or}
+use Rattle.rw_model.specs.Draft.{Draft, IsSlot}
 use Rattle.rw_series.proofs.Bounds.{bounds-alike}
 use Rattle.rw_inputs.specs.declared.given.Given.{Given}
-use Rattle.rw_inputs.specs.Inputs.{Inputs, value_at, kept_slot, gives, given_at, IsWithin, IsKeptValue, IsInputsOf, Keeps}
+use Rattle.rw_inputs.specs.Inputs.{Inputs, IsInputsOf, IsKeptValue, IsWithin, Keeps, column_of, given_at, gives, kept_slot, value_at}
+use Rattle.rw_inputs.specs.Column.{Column, HasMore, IsColumn, IsFree, IsTaken, value_in}
 use Rattle.rw_inputs.specs.Reading.{shares_cell}
-use Rattle.rw_inputs.specs.Sound.{IsGiven, IsFree, IsTaken}
+use Rattle.rw_inputs.specs.Sound.{IsGiven}
+use Rattle.rw_inputs.proofs.Columns.{set-column, set-more}
 use Rattle.rw_inputs.proofs.Groups.{kept_slot-together, kept_slot-again}
 
 -- ---- what rows give
@@ -98,10 +101,10 @@ module _ (basin : Draft) (given : Given) where
 -- ---- what is kept
 
 -- where a row gives a value to a slot, the slot can have it
-kept_at-sound : (basin : Draft) (given : Given) (old new : Inputs) (slot step : ℕ) (value : ℤ) → IsInputsOf basin old → IsGiven basin given
+kept_at-sound : (basin : Draft) (given : Given) (old : Inputs) (slot step : ℕ) (value : ℤ) → IsInputsOf basin old → IsGiven basin given
     → (here : Bool) → gives basin given slot step ≡ here → (if here then Some given.value else value_at old slot step) ≡ Some value
     → IsKeptValue basin slot value
-kept_at-sound basin given old new slot step value made sound true here is =
+kept_at-sound basin given old slot step value made sound true here is =
     let parts = gives-parts basin given given slot step here in
     let same : given.value ≡ value = cc in
     let kept : IsKeptValue basin (kept_slot basin given.slot) given.value = record {
@@ -109,45 +112,90 @@ kept_at-sound basin given old new slot step value made sound true here is =
       within = subst (λ bounds. IsWithin bounds given.value) (bounds-alike basin given.slot (kept_slot basin given.slot) (kept_slot-together basin given.slot)) sound.within;
     } in
     subst (IsKeptValue basin slot) same (subst (λ s. IsKeptValue basin s given.value) (sym parts.0) kept)
-kept_at-sound basin given old new slot step value made sound false here is = made.sound slot step value is
+kept_at-sound basin given old slot step value made sound false here is = made.sound slot step value is
 
-pub made-more : (basin : Draft) (given : Given) (old new : Inputs) → IsInputsOf basin old → IsGiven basin given
-    → new.slots ≡ old.slots → new.steps ≡ old.steps
-    → ((s t : ℕ) → value_at new s t ≡ (if gives basin given s t then Some given.value else value_at old s t))
-    → IsInputsOf basin new
-made-more basin given old new made sound slots steps sets = record {
-  slots = slots ∙ made.slots;
-  steps = steps ∙ made.steps;
-  sound = λ slot step value is.
-      kept_at-sound basin given old new slot step value made sound (gives basin given slot step) refl (sym (sets slot step) ∙ is);
-}
+-- a row's values are put in the column at which they are kept
+module _ (basin : Draft) (given : Given) (old new : Inputs) (column : Column) (made : IsInputsOf basin old) (sound : IsGiven basin given)
+    (near : kept_slot basin given.slot < length old.columns) (set : new.columns ≡ slice_set old.columns (kept_slot basin given.slot) column)
+    (more : HasMore given.value given.first given.last (column_of old.columns (kept_slot basin given.slot)) column) where
+  value-more : (slot step : ℕ) → value_at new slot step ≡ (if gives basin given slot step then Some given.value else value_at old slot step)
+  value-more slot step =
+      ap (λ columns. value_in (column_of columns slot) step) set
+      ∙ set-more old.columns (kept_slot basin given.slot) column near given.first given.last given.value more slot step
 
--- values that nothing kept yet, for the cells of a row
-pub Keeps-more : (basin : Draft) (given : Given) (rows : List Given) (old new : Inputs) → Keeps basin rows old → IsInputsOf basin new
-    → IsFree old.slots old.steps old.values (kept_slot basin given.slot) given.first given.last
-    → ((s t : ℕ) → value_at new s t ≡ (if gives basin given s t then Some given.value else value_at old s t))
-    → (list_any (shares_cell basin given) rows ≡ false) × Keeps basin (rows ++ given ∷ []) new
-Keeps-more basin given rows old new kept made free sets =
-    let unkept : ((step : ℕ) → given.first ≤ step → step ≤ given.last → given_at basin rows (kept_slot basin given.slot) step ≡ None) =
-    λ step from to. sym (kept.values (kept_slot basin given.slot) step) ∙ free step from to in
-    let none : ((slot step : ℕ) → gives basin given slot step ≡ true → given_at basin rows slot step ≡ None) =
-    λ slot step passes.
-    let parts = gives-parts basin given given slot step passes in
-    ap (λ s. given_at basin rows s step) parts.0 ∙ unkept step parts.1 parts.2 in (
-      free_shares basin given rows unkept,
-      record {
-        made = made;
-        values = λ slot step.
-            sets slot step
-            ∙ ap (λ value. if gives basin given slot step then Some given.value else value) (kept.values slot step)
-            ∙ sym (given_at-append basin given slot step rows (none slot step));
-      },
-    )
+  made-more : IsColumn basin.control.stamps.count column → IsInputsOf basin new
+  made-more whole = record {
+    slots = ap length set ∙ length-set old.columns (kept_slot basin given.slot) column ∙ made.slots;
+    steps = λ slot.
+        subst (λ columns. IsColumn basin.control.stamps.count (column_of columns slot)) (sym set)
+        (set-column old.columns (kept_slot basin given.slot) column near basin.control.stamps.count whole made.steps slot);
+    sound = λ slot step value is.
+        kept_at-sound basin given old slot step value made sound (gives basin given slot step) refl (sym (value-more slot step) ∙ is);
+  }
+
+  -- nothing was kept there yet
+  Keeps-more : (rows : List Given) → IsColumn basin.control.stamps.count column → Keeps basin rows old
+      → IsFree (column_of old.columns (kept_slot basin given.slot)) given.first given.last
+      → (list_any (shares_cell basin given) rows ≡ false) × Keeps basin (rows ++ given ∷ []) new
+  Keeps-more rows whole kept free =
+      let unkept : ((step : ℕ) → given.first ≤ step → step ≤ given.last → given_at basin rows (kept_slot basin given.slot) step ≡ None) =
+      λ step from to. sym (kept.values (kept_slot basin given.slot) step) ∙ free step from to in
+      let none : ((slot step : ℕ) → gives basin given slot step ≡ true → given_at basin rows slot step ≡ None) =
+      λ slot step passes.
+      let parts = gives-parts basin given given slot step passes in
+      ap (λ s. given_at basin rows s step) parts.0 ∙ unkept step parts.1 parts.2 in (
+        free_shares basin given rows unkept,
+        record {
+          made = made-more whole;
+          values = λ slot step.
+              value-more slot step
+              ∙ ap (λ value. if gives basin given slot step then Some given.value else value) (kept.values slot step)
+              ∙ sym (given_at-append basin given slot step rows (none slot step));
+        },
+      )
 
 -- a cell of a row that has a value already
-pub taken-shares : (basin : Draft) (given : Given) (rows : List Given) (old : Inputs) → Keeps basin rows old
-    → IsTaken old.slots old.steps old.values (kept_slot basin given.slot) given.first given.last
+taken-shares : (basin : Draft) (given : Given) (rows : List Given) (old : Inputs) → Keeps basin rows old
+    → IsTaken (column_of old.columns (kept_slot basin given.slot)) given.first given.last
     → list_any (shares_cell basin given) rows ≡ true
 taken-shares basin given rows old kept taken =
     taken_shares basin given rows taken.step taken.from taken.to
     (λ none. taken.taken (kept.values (kept_slot basin given.slot) taken.step ∙ none))
+
+-- what `take` does: the column at which a row's values are kept, before and after
+module _ (basin : Draft) (given : Given) (old new : Inputs) (slot steps : ℕ) (before after : Column) (made : IsInputsOf basin old) (sound : IsGiven basin given)
+    (at : slot ≡ kept_slot basin given.slot) (known : IsSlot basin.objects slot) (run : steps ≡ basin.control.stamps.count)
+    (was : before ≡ slice_index_or old.columns slot before) (set : new.columns ≡ slice_set old.columns slot after) where
+  near : kept_slot basin given.slot < length old.columns
+  near = omega (arith, at, known.last, made.slots)
+
+  was_there : before ≡ column_of old.columns slot
+  was_there = was ∙ get_or_default old.columns slot before [] (omega (arith, at, near))
+
+  was_kept : before ≡ column_of old.columns (kept_slot basin given.slot)
+  was_kept = was_there ∙ ap (column_of old.columns) at
+
+  now_kept : new.columns ≡ slice_set old.columns (kept_slot basin given.slot) after
+  now_kept = set ∙ ap (λ s. slice_set old.columns s after) at
+
+  more_kept : HasMore given.value given.first given.last before after
+      → HasMore given.value given.first given.last (column_of old.columns (kept_slot basin given.slot)) after
+  more_kept more = subst (λ column. HasMore given.value given.first given.last column after) was_kept more
+
+  -- a column is put back as it was
+  pub take-none : after ≡ before → new.columns ≡ old.columns
+  take-none same = set ∙ ap (slice_set old.columns slot) (same ∙ was_there) ∙ set-get_or old.columns slot []
+
+  pub take-made : IsColumn steps after → HasMore given.value given.first given.last before after → IsInputsOf basin new
+  take-made whole more = made-more basin given old new after made sound near now_kept (more_kept more) (subst (λ n. IsColumn n after) run whole)
+
+  pub take-more : (rows : List Given) → IsColumn steps after → Keeps basin rows old → IsFree before given.first given.last
+      → HasMore given.value given.first given.last before after
+      → (list_any (shares_cell basin given) rows ≡ false) × Keeps basin (rows ++ given ∷ []) new
+  take-more rows whole kept free more =
+      Keeps-more basin given old new after made sound near now_kept (more_kept more) rows (subst (λ n. IsColumn n after) run whole) kept
+      (subst (λ column. IsFree column given.first given.last) was_kept free)
+
+  pub take-twice : (rows : List Given) → Keeps basin rows old → IsTaken before given.first given.last
+      → list_any (shares_cell basin given) rows ≡ true
+  take-twice rows kept taken = taken-shares basin given rows old kept (subst (λ column. IsTaken column given.first given.last) was_kept taken)

@@ -1,5 +1,6 @@
-pub mod SlotPlaces
+pub mod Left
 pub mod Same
+pub mod Columns
 pub mod Keeping
 pub mod Digits
 pub mod Rows

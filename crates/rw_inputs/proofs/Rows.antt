@@ -7,7 +7,8 @@ use Rattle.rw_model.specs.Draft.{Draft}
 use Rattle.rw_inputs.specs.declared.given.Given.{Given}
 use Rattle.rw_inputs.specs.Row.{three_fields, read_row}
 use Rattle.rw_inputs.specs.Inputs.{Inputs, Keeps}
-use Rattle.rw_inputs.specs.Reading.{Fields, good, givens, shares_cell, wrong_behind}
+use Rattle.rw_inputs.specs.Records.{Fields}
+use Rattle.rw_inputs.specs.Reading.{good, givens, shares_cell, wrong_behind}
 
 -- ---- three fields
 

@@ -1,21 +1,23 @@
 -- Inputs: a value for each of some cells. Slots that carry one value have one cell at a timestep, that of the least of them.
-use Rattle.std.specs.Prelude.{◌≡◌, ℕ, ◌==◌, nat_le, ℤ, ◌≤ℤ◌, Bool, ◌&&◌, if◌then◌else◌, List, [], ◌∷◌, length, Option, Some, None, slice_index_or}
+use Rattle.std.specs.Prelude.{◌≡◌, ℕ, ◌+◌, ◌==◌, nat_le, ℤ, ◌≤ℤ◌, Bool, ◌&&◌, if◌then◌else◌, List, [], ◌∷◌, length, Option, Some, None, slice_index_or}
 use Rattle.rw_model.specs.Objects.{all_slots}
 use Rattle.rw_model.specs.Draft.{Draft}
 use Rattle.rw_model.specs.Slot.{Bounds}
 use Rattle.rw_model.specs.Links.{group_of, bounds_in}
-use Rattle.rw_inputs.specs.SlotCells.{kept_at}
 use Rattle.rw_inputs.specs.declared.given.Given.{Given}
+use Rattle.rw_inputs.specs.Column.{Column, IsColumn, value_in}
 
--- values for so many slots at so many timesteps
+-- a column for each slot. These count from 1, so an empty one stands in the first place
 pub record Inputs : Type 0 where
-  pub slots : ℕ
-  pub steps : ℕ
-  pub values : List (Option ℤ)
+  pub columns : List Column
+
+-- the column of a slot
+abbrev pub column_of : List Column → ℕ → Column
+column_of columns slot = slice_index_or columns slot []
 
 -- what is kept of a slot at a timestep
 abbrev pub value_at : Inputs → ℕ → ℕ → Option ℤ
-value_at inputs slot step = kept_at inputs.slots inputs.steps inputs.values slot step
+value_at inputs slot step = value_in (column_of inputs.columns slot) step
 
 -- the slot at which a slot's values are kept: the least of those that carry one value with it
 abbrev pub kept_slot : Draft → ℕ → ℕ
@@ -42,8 +44,8 @@ pub record IsKeptValue (basin : Draft) (slot : ℕ) (value : ℤ) : Type 0 where
 
 -- inputs made for the basin: they have its slots and timesteps, and keep values where and as the basin can have them
 pub record IsInputsOf (basin : Draft) (inputs : Inputs) : Type 0 where
-  pub slots : inputs.slots ≡ length (all_slots basin.objects)
-  pub steps : inputs.steps ≡ basin.control.stamps.count
+  pub slots : length inputs.columns ≡ length (all_slots basin.objects) + 1
+  pub steps : (slot : ℕ) → IsColumn basin.control.stamps.count (column_of inputs.columns slot)
   pub sound : (slot step : ℕ) (value : ℤ) → value_at inputs slot step ≡ Some value → IsKeptValue basin slot value
 
 -- inputs made for the basin, which keep what the rows give, and nothing else

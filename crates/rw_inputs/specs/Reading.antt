@@ -1,20 +1,15 @@
 -- What the records of a text of inputs come to: what its rows give, or the first refusal.
 use Rattle.std.specs.Prelude.{◌≡◌, ◌⊎◌, ℕ, ◌+◌, ◌==◌, nat_le, max, min, Bool, false, ◌&&◌, if◌then◌else◌, List, [], ◌∷◌, ◌++◌, Option, Some, None, Result, Ok, Err, bytes_eq, codes}
 use Rattle.std.specs.List.{list_any}
-use Rattle.csv.specs.Reading.{default_config, strip_bom, AreRecords}
-use Rattle.csv.specs.declared.parser.State.TheVariants as st
 use Rattle.rw_model.specs.Draft.{Draft}
 use Rattle.rw_inputs.specs.declared.fault.InputKind.TheVariants.{Header, Twice}
 use Rattle.rw_inputs.specs.declared.fault.InputFault.{InputFault}
 use Rattle.rw_inputs.specs.declared.fault.InputFault.TheVariants.{Refused, NoMemory}
 use Rattle.rw_inputs.specs.declared.wrong.Wrong.{Wrong}
 use Rattle.rw_inputs.specs.declared.given.Given.{Given}
+use Rattle.rw_inputs.specs.Records.{Fields, AreRows}
 use Rattle.rw_inputs.specs.Row.{three_fields, read_row}
 use Rattle.rw_inputs.specs.Inputs.{Inputs, kept_slot, Keeps}
-
--- a record of fields
-abbrev pub Fields : Type 0
-Fields = List (List ℕ)
 
 -- what is in a row, if nothing is wrong with it by itself
 abbrev pub good : Result Given Wrong → List Given
@@ -66,10 +61,6 @@ abbrev pub read_records : Draft → List Fields → Result (List Given) InputFau
 read_records basin [] = Err (Refused Header 1 0)
 read_records basin (header ∷ rows) =
     if is_header header then given_or (givens basin rows) (first_refusal basin 2 [] rows) else Err (Refused Header 1 0)
-
--- the records of a text, behind its byte order mark if it has one
-abbrev pub AreRows : List ℕ → List Fields → Type 0
-AreRows text records = AreRecords default_config st.StartRecord (strip_bom text) records
 
 -- an answer is what the records come to, or want of memory
 abbrev pub Answers : Draft → Result Inputs InputFault → Result (List Given) InputFault → Type 0

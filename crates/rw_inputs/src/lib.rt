@@ -4,6 +4,7 @@
 //! kept at a cell: slots that carry one value have one cell at a timestep, that of the least of them.
 #![tactic(auto)]
 
+mod column;
 mod fault;
 mod given;
 mod inputs;
@@ -13,7 +14,6 @@ mod reading;
 mod records;
 mod row;
 mod span;
-mod values;
 mod wrong;
 
 pub use fault::{InputFault, InputKind};

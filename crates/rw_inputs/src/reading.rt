@@ -1,17 +1,20 @@
-ghost use Rattle.std.specs.Prelude.{◌≡◌, ◌⊎◌, ◌+◌, [], ◌∷◌, ◌++◌, List, map, None, Some, IfOk, IfErr, OnOk};
+ghost use Rattle.std.specs.Prelude.{◌≡◌, ◌⊎◌, [], ◌∷◌, true, None, Some, IfOk, IfErr, OnOk, Err};
 ghost use Rattle.csv.specs.Records.{fields_of};
 ghost use Rattle.rw_inputs.specs.declared.fault.InputFault.TheVariants as InputFault;
 ghost use Rattle.rw_inputs.specs.declared.fault.InputKind.TheVariants as InputKind;
-ghost use Rattle.rw_inputs.specs.Row.{read_row};
+ghost use Rattle.rw_model.specs.Draft.{Draft};
+ghost use Rattle.rw_inputs.specs.Records.{Fields};
 ghost use Rattle.rw_inputs.specs.Inputs.{IsInputsOf, Keeps};
-ghost use Rattle.rw_inputs.specs.Reading.{Fields, givens, wrong_behind, first_refusal, is_header, read_records, Reads, Refuses, Answers};
+ghost use Rattle.rw_inputs.specs.Reading.{givens, first_refusal, is_header, read_records, Reads, Refuses, Answers};
+ghost use Rattle.rw_inputs.specs.Taking.{TakesRow, RefusesRow};
 
 use crate::inputs::Inputs;
-use crate::records::all_records;
+use crate::records::Records;
 use crate::row::{read_row, three_fields};
 use crate::wrong::Wrong;
 use crate::{InputFault, InputKind};
 use csv::ByteRecord;
+use rw_base::NoMemory;
 use rw_model::Basin;
 use std::alloc::Global;
 
@@ -37,74 +40,105 @@ fn is_header(row: &ByteRecord) -> bool
     }
 }
 
-// Takes what a row gives, or answers what is wrong with it.
-fn take_row(inputs: &mut Inputs, basin: &Basin, row: &ByteRecord) -> Result<(), Wrong>
+// The refusal of the row of a number.
+fn refused(number: u32, wrong: Wrong) -> InputFault
+    ensures { result ≡ InputFault.Refused wrong.kind number wrong.column }
+{
+    InputFault::Refused {
+        kind: wrong.kind,
+        row: number,
+        column: wrong.column,
+    }
+}
+
+// Takes what the row of a number gives, or answers what is wrong with it.
+fn take_row(
+    inputs: &mut Inputs,
+    basin: &Basin,
+    number: u32,
+    row: &ByteRecord,
+) -> Result<(), InputFault>
     requires { IsInputsOf basin.now inputs.old }
     ensures made { IsInputsOf basin.now inputs.new }
-    ensures taken { OnOk result ((before : List Fields) → Keeps basin.now (givens basin.now before) inputs.old
-        → (wrong_behind basin.now before (read_row basin.now (fields_of row.now)) ≡ None)
-        × Keeps basin.now (givens basin.now (before ++ fields_of row.now ∷ [])) inputs.new) }
-    ensures refused { IfErr result (λ wrong. (before : List Fields) → Keeps basin.now (givens basin.now before) inputs.old
-        → wrong_behind basin.now before (read_row basin.now (fields_of row.now)) ≡ Some wrong) }
-{
-    let given = read_row(basin, row)?;
-    if inputs.take(basin, &given) {
-        Ok(())
-    } else {
-        Err(Wrong {
-            kind: InputKind::Twice,
-            column: 0,
-        })
-    }
-}
-
-// The refusal of the row in a place, counted from 0, behind the header.
-fn refused(place: usize, wrong: Wrong) -> InputFault
-    ensures { (result ≡ InputFault.NoMemory) ⊎ (result ≡ InputFault.Refused wrong.kind (place + 2) wrong.column) }
-{
-    match u32::try_from(place) {
-        Ok(place) if place <= u32::MAX - 2 => InputFault::Refused {
-            kind: wrong.kind,
-            row: place + 2,
-            column: wrong.column,
-        },
-        _ => InputFault::NoMemory,
-    }
-}
-
-// Takes what the rows give, up to the first one that is refused.
-fn take_rows(inputs: &mut Inputs, basin: &Basin, rows: &[ByteRecord]) -> Result<(), InputFault>
-    requires { Keeps basin.now [] inputs.old }
-    ensures taken { OnOk result (first_refusal basin.now 2 [] (map fields_of rows.now) ≡ None) }
-    ensures kept { OnOk result (Keeps basin.now (givens basin.now (map fields_of rows.now)) inputs.new) }
+    ensures taken { OnOk result (TakesRow basin.now (fields_of row.now) inputs.old inputs.new) }
     ensures refused { IfErr result (λ fault. (fault ≡ InputFault.NoMemory)
-        ⊎ (first_refusal basin.now 2 [] (map fields_of rows.now) ≡ Some fault)) }
+        ⊎ RefusesRow basin.now number (fields_of row.now) inputs.old fault) }
 {
-    for place in 0..rows.len() {
-        if let Err(wrong) = take_row(inputs, basin, &rows[place]) {
-            return Err(refused(place, wrong));
+    let given = match read_row(basin, row) {
+        Ok(given) => given,
+        Err(wrong) => return Err(refused(number, wrong)),
+    };
+    match inputs.take(basin, &given) {
+        Ok(true) => Ok(()),
+        Ok(false) => Err(refused(
+            number,
+            Wrong {
+                kind: InputKind::Twice,
+                column: 0,
+            },
+        )),
+        Err(NoMemory) => Err(InputFault::NoMemory),
+    }
+}
+
+// Takes what the rows behind the header give, one after another, up to the first one that is refused.
+fn take_rows(
+    alloc: Global,
+    inputs: &mut Inputs,
+    basin: &Basin,
+    rows: &mut Records<'_>,
+) -> Result<(), InputFault>
+    requires { Keeps basin.now [] inputs.old }
+    ensures taken { OnOk result (first_refusal basin.now 2 [] rows.old ≡ None) }
+    ensures kept { OnOk result (Keeps basin.now (givens basin.now rows.old) inputs.new) }
+    ensures refused { IfErr result (λ fault. (fault ≡ InputFault.NoMemory)
+        ⊎ (first_refusal basin.now 2 [] rows.old ≡ Some fault)) }
+{
+    let mut row = ByteRecord::new(alloc);
+    for number in 2..u32::MAX {
+        match rows.read(&mut row) {
+            Ok(true) => take_row(inputs, basin, number, &row)?,
+            Ok(false) => return Ok(()),
+            Err(NoMemory) => return Err(InputFault::NoMemory),
         }
     }
-    Ok(())
+    // There are more rows than numbers for them.
+    Err(InputFault::NoMemory)
+}
+
+// Reads the row that names the columns.
+fn read_header(alloc: Global, records: &mut Records<'_>) -> Result<(), InputFault>
+    ensures named { OnOk result ((header : Fields) × (records.old ≡ header ∷ records.new)
+        × (is_header header ≡ true)) }
+    ensures refused { IfErr result (λ fault. (fault ≡ InputFault.NoMemory)
+        ⊎ ((basin : Draft) → read_records basin records.old ≡ Err fault)) }
+{
+    let mut row = ByteRecord::new(alloc);
+    match records.read(&mut row) {
+        Ok(true) => if is_header(&row) {
+            Ok(())
+        } else {
+            Err(no_header())
+        },
+        Ok(false) => Err(no_header()),
+        Err(NoMemory) => Err(InputFault::NoMemory),
+    }
 }
 
 // What the records give, or the first refusal.
-fn read_records(alloc: Global, basin: &Basin, records: &[ByteRecord]) -> Result<Inputs, InputFault>
-    ensures { Answers basin.now result (read_records basin.now (map fields_of records.now)) }
+fn read_records(
+    alloc: Global,
+    basin: &Basin,
+    records: &mut Records<'_>,
+) -> Result<Inputs, InputFault>
+    ensures { Answers basin.now result (read_records basin.now records.old) }
 {
-    let Some((header, rows)) = records.split_first() else {
-        return Err(no_header());
-    };
-    if !is_header(header) {
-        return Err(no_header());
-    }
+    read_header(alloc, records)?;
     let Ok(mut inputs) = Inputs::none(alloc, basin) else {
         return Err(InputFault::NoMemory);
     };
-    match take_rows(&mut inputs, basin, rows) {
-        Ok(()) => Ok(inputs),
-        Err(fault) => Err(fault),
-    }
+    take_rows(alloc, &mut inputs, basin, records)?;
+    Ok(inputs)
 }
 
 /// Reads the inputs of a basin from a text of comma-separated fields.
@@ -117,10 +151,9 @@ fn read_records(alloc: Global, basin: &Basin, records: &[ByteRecord]) -> Result<
 pub fn read_inputs(alloc: Global, basin: &Basin, text: &[u8]) -> Result<Inputs, InputFault>
     ensures read { IfOk result (Reads basin.now text.now) }
     ensures made { IfOk result (IsInputsOf basin.now) }
-    ensures refused { IfErr result (λ fault. (fault ≡ InputFault.NoMemory) ⊎ Refuses basin.now text.now fault) }
+    ensures refused { IfErr result (λ fault. (fault ≡ InputFault.NoMemory)
+        ⊎ Refuses basin.now text.now fault) }
 {
-    let Ok(records) = all_records(alloc, text) else {
-        return Err(InputFault::NoMemory);
-    };
-    read_records(alloc, basin, records.as_slice())
+    let mut records = Records::of(alloc, text);
+    read_records(alloc, basin, &mut records)
 }

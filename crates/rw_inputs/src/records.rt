@@ -1,28 +1,51 @@
-ghost use Rattle.std.specs.Prelude.{◌≡◌, [], IfOk, map};
+ghost use Rattle.std.specs.Prelude.{◌≡◌, [], ◌∷◌, true, false, Ok};
 ghost use Rattle.csv.specs.Records.{fields_of};
-ghost use Rattle.rw_inputs.specs.Reading.{AreRows};
+ghost use Rattle.rw_inputs.specs.Records.{AreRows};
 
-use csv::{ByteRecord, ReaderBuilder};
+use csv::{ByteRecord, Reader, ReaderBuilder};
 use rw_base::NoMemory;
 use std::alloc::Global;
+use std::marker::Model;
 
-/// The records of a text, behind its byte order mark if it has one. They may have any numbers of fields, and the first
-/// one is like the others.
-pub fn all_records(alloc: Global, text: &[u8]) -> Result<Vec<ByteRecord>, NoMemory>
-    ensures { IfOk result (λ records. AreRows text.now (map fields_of records.items)) }
-{
-    let reader = ReaderBuilder::new()
-        .has_headers(false)
-        .flexible(true)
-        .from_reader(alloc, text);
-    let mut records = Vec::new(alloc);
-    for record in reader.into_byte_records() {
-        let Ok(record) = record else {
-            return Err(NoMemory);
-        };
-        if records.push(record).is_err() {
-            return Err(NoMemory);
+/// The records of a text that are left to be read, seen as a list of lists of fields.
+#[derive(Drop)]
+pub struct Records<'a> {
+    reader: Reader<&'a [u8]>,
+}
+
+impl<'a> Model for Records<'a> {
+    ghost use Rattle.std.specs.Prelude.{List};
+    ghost use Rattle.rw_inputs.specs.Records.{Fields, IsPlainOrFailed, records_left};
+
+    ghost Value = { List Fields };
+
+    ghost view = { λ r. records_left r.reader };
+
+    ghost invariant = { λ r. IsPlainOrFailed r.reader };
+}
+
+impl<'a> Records<'a> {
+    /// All records of a text, behind its byte order mark if it has one. They may have any numbers of fields, and the first
+    /// one is like the others.
+    pub fn of(alloc: Global, text: &'a [u8]) -> Records<'a>
+        ensures { AreRows text.now result }
+    {
+        Records {
+            reader: ReaderBuilder::new()
+                .has_headers(false)
+                .flexible(true)
+                .from_reader(alloc, text),
         }
     }
-    Ok(records)
+
+    /// Reads the next record into `row`, and answers whether there was one.
+    pub fn read(&mut self, row: &mut ByteRecord) -> Result<bool, NoMemory>
+        ensures next { result ≡ Ok true → self.old ≡ fields_of row.new ∷ self.new }
+        ensures end { result ≡ Ok false → self.old ≡ [] }
+    {
+        let Ok(found) = self.reader.read_byte_record(row) else {
+            return Err(NoMemory);
+        };
+        Ok(found)
+    }
 }

@@ -27,7 +27,8 @@ fn wrong(kind: InputKind, column: u8) -> Wrong
 
 // The text that the bytes are, if they are UTF-8.
 fn text_of(bytes: &[u8]) -> Option<&str>
-    ensures { MatchOption result (is_utf8 bytes.now ≡ false) (λ text. (is_utf8 bytes.now ≡ true) × (text.now ≡ bytes.now)) }
+    ensures { MatchOption result (is_utf8 bytes.now ≡ false)
+        (λ text. (is_utf8 bytes.now ≡ true) × (text.now ≡ bytes.now)) }
 {
     match str::from_utf8(bytes) {
         Ok(text) => Some(text),
@@ -37,7 +38,8 @@ fn text_of(bytes: &[u8]) -> Option<&str>
 
 // The slot of these names, which are UTF-8.
 fn slot_of_names(basin: &Basin, object: &[u8], slot: &[u8]) -> Option<SlotNo>
-    ensures number { option_map (λ number. number.0) result ≡ slot_of_names basin.now object.now slot.now }
+    ensures number { option_map (λ number. number.0) result
+        ≡ slot_of_names basin.now object.now slot.now }
     ensures known { ForSome result (λ number. IsSlot basin.now.objects number.0) }
 {
     let object = text_of(object)?;
@@ -109,7 +111,8 @@ fn read_span(basin: &Basin, text: &[u8]) -> Result<Span, Wrong>
 fn within_bounds(bounds: (i64, i64), value: i64) -> Option<Qty>
     requires { IsInside bounds all_quantities }
     ensures within { ForSome result (IsWithin bounds) }
-    ensures value { result ≡ (if int_le bounds.0 value && int_le value bounds.1 then Some value else None) }
+    ensures value { result
+        ≡ (if int_le bounds.0 value && int_le value bounds.1 then Some value else None) }
 {
     if bounds.0 <= value && value <= bounds.1 {
         Qty::of(value)
@@ -122,7 +125,8 @@ fn within_bounds(bounds: (i64, i64), value: i64) -> Option<Qty>
 fn read_value(basin: &Basin, slot: u16, text: &[u8]) -> Result<Qty, Wrong>
     requires { IsSlot basin.now.objects slot }
     ensures read { result ≡ read_value basin.now slot text.now }
-    ensures within { IfOk result (IsWithin (bounds_in basin.now.objects basin.now.links basin.now.bounds slot)) }
+    ensures within { IfOk result
+        (IsWithin (bounds_in basin.now.objects basin.now.links basin.now.bounds slot)) }
 {
     let Some(value) = read_signed(text) else {
         return Err(wrong(InputKind::NotANumber, 3));
@@ -151,7 +155,8 @@ fn read_fields(basin: &Basin, slot: &[u8], span: &[u8], value: &[u8]) -> Result<
 
 /// The fields of a record of three.
 pub fn three_fields(row: &ByteRecord) -> Option<(&[u8], &[u8], &[u8])>
-    ensures { option_map (λ fields. (fields.0.now, fields.1.now, fields.2.now)) result ≡ three_fields (fields_of row.now) }
+    ensures { option_map (λ fields. (fields.0.now, fields.1.now, fields.2.now)) result
+        ≡ three_fields (fields_of row.now) }
 {
     let Some(first) = row.get(0) else {
         return None;

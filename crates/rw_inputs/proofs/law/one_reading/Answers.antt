@@ -5,7 +5,8 @@ use Rattle.csv.specs.declared.parser.State.TheVariants as st
 use Rattle.rw_model.specs.Draft.{Draft}
 use Rattle.rw_inputs.specs.declared.given.Given.{Given}
 use Rattle.rw_inputs.specs.Inputs.{given_at}
-use Rattle.rw_inputs.specs.Reading.{Fields, AreRows, read_records}
+use Rattle.rw_inputs.specs.Records.{Fields, AreRows}
+use Rattle.rw_inputs.specs.Reading.{read_records}
 use Rattle.rw_inputs.proofs.Same.{one_list}
 use Rattle.rw_inputs.proofs.law.one_reading.Goals as goal
 

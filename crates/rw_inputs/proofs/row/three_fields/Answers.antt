@@ -2,7 +2,7 @@ use Rattle.std.proofs.Common.{◌≡◌, List, Option, Some, None, refl, sym}
 use Rattle.std.specs.Prelude.{ℕ}
 use Rattle.csv.specs.Records.{fields_of, field_at}
 use Rattle.rw_inputs.specs.Row.{three_fields}
-use Rattle.rw_inputs.specs.Reading.{Fields}
+use Rattle.rw_inputs.specs.Records.{Fields}
 use Rattle.rw_inputs.proofs.Rows.{three_from, three-by_place}
 use Rattle.rw_inputs.proofs.row.three_fields.Goals as goal
 

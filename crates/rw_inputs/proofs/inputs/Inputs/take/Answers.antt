@@ -1,35 +1,54 @@
-use Rattle.std.proofs.Common.{◌==◌, ◌&&◌, Some, if◌then◌else◌, sym, ap, subst, ◌∙◌, refl}
-use Rattle.std.specs.Prelude.{nat_le}
-use Rattle.rw_inputs.specs.SlotCells.{kept_at}
-use Rattle.rw_inputs.specs.Inputs.{Inputs, kept_slot, IsInputsOf, Keeps}
-use Rattle.rw_inputs.specs.Sound.{IsFree, IsTaken}
-use Rattle.rw_inputs.proofs.Keeping.{made-more, Keeps-more, taken-shares}
+use Rattle.std.proofs.Common.{◌≡◌, inl, inr, refl, rules, sym, ap, subst, ◌∙◌}
+use Rattle.rw_model.specs.Draft.{IsSlot}
+use Rattle.rw_inputs.specs.Inputs.{Inputs, IsInputsOf, Keeps, kept_slot}
+use Rattle.rw_inputs.proofs.Keeping.{take-made, take-more, take-none, take-twice}
 use Rattle.rw_inputs.proofs.inputs.Inputs.take.Goals as goal
 
-pub returns-then-free-clause-made : goal.returns-then-free-clause-made
-returns-then-free-clause-made c =
-    let held : Inputs = record { slots = c.self.inside.slots; steps = c.self.inside.steps; values = c.self.inside.values.items } in
+pub returns-clause-unchanged : goal.returns-clause-unchanged
+returns-clause-unchanged c =
+    let held : Inputs = record { columns = c.self.inside.columns.items } in
     let made = subst (IsInputsOf c.args.basin.now) (sym c.self.view_is) c.requires.made in
-    made-more c.args.basin.now c.args.given.now held _ made c.requires.given refl refl
-    (λ s t.
-    c.keep_all.ensures.values s t
-    ∙ ap (λ slot. if s == slot && (nat_le c.args.given.now.first t && nat_le t c.args.given.now.last) then Some c.args.given.now.value else kept_at c.self.inside.slots c.self.inside.steps c.self.inside.values.items s t) c.kept_slot-slot.ensures.least)
+    let at : c.from.result ≡ kept_slot c.args.basin.now c.args.given.now.slot = c.from.ensures ∙ c.kept_slot-slot.ensures.least in
+    let known = subst (IsSlot c.args.basin.now.objects) (sym c.from.ensures) c.kept_slot-slot.ensures.known in
+    let run : c.count-steps.result ≡ c.args.basin.now.control.stamps.count = search rules in
+    let put_back = take-none c.args.basin.now c.args.given.now held _ c.from.result c.count-steps.result c.index_mut.result.now c.take.new.self made c.requires.given
+    at known run c.index_mut.ensures.value refl in
+    elim c.take.ensures.unchanged [
+      | inl taken ↦ inl taken
+      | inr same ↦ inr (ap (λ columns. record { columns = columns }) (put_back same) ∙ c.self.view_is)
+    ]
 
-pub returns-then-free-clause-taken : goal.returns-then-free-clause-taken
-returns-then-free-clause-taken c is rows kept =
-    let held : Inputs = record { slots = c.self.inside.slots; steps = c.self.inside.steps; values = c.self.inside.values.items } in
-    let free = subst (λ values. IsFree c.self.inside.slots c.self.inside.steps values (kept_slot c.args.basin.now c.args.given.now.slot) c.args.given.now.first c.args.given.now.last) c.as_slice.ensures.value
-    (subst (λ slot. IsFree c.self.inside.slots c.self.inside.steps c.as_slice.result.now slot c.args.given.now.first c.args.given.now.last) c.kept_slot-slot.ensures.least c.if-free.ensures) in
-    Keeps-more c.args.basin.now c.args.given.now rows held _ (subst (Keeps c.args.basin.now rows) (sym c.self.view_is) kept)
-    (returns-then-free-clause-made c)
-    free
-    (λ s t.
-    c.keep_all.ensures.values s t
-    ∙ ap (λ slot. if s == slot && (nat_le c.args.given.now.first t && nat_le t c.args.given.now.last) then Some c.args.given.now.value else kept_at c.self.inside.slots c.self.inside.steps c.self.inside.values.items s t) c.kept_slot-slot.ensures.least)
+pub returns-clause-made : goal.returns-clause-made
+returns-clause-made c =
+    let held : Inputs = record { columns = c.self.inside.columns.items } in
+    let made = subst (IsInputsOf c.args.basin.now) (sym c.self.view_is) c.requires.made in
+    let at : c.from.result ≡ kept_slot c.args.basin.now c.args.given.now.slot = c.from.ensures ∙ c.kept_slot-slot.ensures.least in
+    let known = subst (IsSlot c.args.basin.now.objects) (sym c.from.ensures) c.kept_slot-slot.ensures.known in
+    let run : c.count-steps.result ≡ c.args.basin.now.control.stamps.count = search rules in
+    let more = take-made c.args.basin.now c.args.given.now held _ c.from.result c.count-steps.result c.index_mut.result.now c.take.new.self made c.requires.given
+    at known run c.index_mut.ensures.value refl c.take.ensures.column in
+    elim (returns-clause-unchanged c) [
+      | inl taken ↦ more (c.take.ensures.taken taken)
+      | inr same ↦ subst (IsInputsOf c.args.basin.now) (sym same) c.requires.made
+    ]
 
-pub returns-else-free-clause-twice : goal.returns-else-free-clause-twice
-returns-else-free-clause-twice c is rows kept =
-    let held : Inputs = record { slots = c.self.inside.slots; steps = c.self.inside.steps; values = c.self.inside.values.items } in
-    let taken = subst (λ values. IsTaken c.self.inside.slots c.self.inside.steps values (kept_slot c.args.basin.now c.args.given.now.slot) c.args.given.now.first c.args.given.now.last) c.as_slice.ensures.value
-    (subst (λ slot. IsTaken c.self.inside.slots c.self.inside.steps c.as_slice.result.now slot c.args.given.now.first c.args.given.now.last) c.kept_slot-slot.ensures.least c.if-free.ensures) in
-    taken-shares c.args.basin.now c.args.given.now rows held (subst (Keeps c.args.basin.now rows) (sym c.self.view_is) kept) taken
+pub returns-clause-taken : goal.returns-clause-taken
+returns-clause-taken c is rows kept =
+    let held : Inputs = record { columns = c.self.inside.columns.items } in
+    let made = subst (IsInputsOf c.args.basin.now) (sym c.self.view_is) c.requires.made in
+    let at : c.from.result ≡ kept_slot c.args.basin.now c.args.given.now.slot = c.from.ensures ∙ c.kept_slot-slot.ensures.least in
+    let known = subst (IsSlot c.args.basin.now.objects) (sym c.from.ensures) c.kept_slot-slot.ensures.known in
+    let run : c.count-steps.result ≡ c.args.basin.now.control.stamps.count = search rules in
+    take-more c.args.basin.now c.args.given.now held _ c.from.result c.count-steps.result c.index_mut.result.now c.take.new.self made c.requires.given
+    at known run c.index_mut.ensures.value refl rows c.take.ensures.column (subst (Keeps c.args.basin.now rows) (sym c.self.view_is) kept)
+    (c.take.ensures.free is) (c.take.ensures.taken is)
+
+pub returns-clause-twice : goal.returns-clause-twice
+returns-clause-twice c is rows kept =
+    let held : Inputs = record { columns = c.self.inside.columns.items } in
+    let made = subst (IsInputsOf c.args.basin.now) (sym c.self.view_is) c.requires.made in
+    let at : c.from.result ≡ kept_slot c.args.basin.now c.args.given.now.slot = c.from.ensures ∙ c.kept_slot-slot.ensures.least in
+    let known = subst (IsSlot c.args.basin.now.objects) (sym c.from.ensures) c.kept_slot-slot.ensures.known in
+    let run : c.count-steps.result ≡ c.args.basin.now.control.stamps.count = search rules in
+    take-twice c.args.basin.now c.args.given.now held _ c.from.result c.count-steps.result c.index_mut.result.now c.take.new.self made c.requires.given
+    at known run c.index_mut.ensures.value refl rows (subst (Keeps c.args.basin.now rows) (sym c.self.view_is) kept) (c.take.ensures.twice is)

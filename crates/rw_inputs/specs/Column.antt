@@ -1,0 +1,30 @@
+-- What is kept of a slot: a value or none for each timestep.
+use Rattle.std.specs.Prelude.{◌≡◌, ◌≢◌, ◌⊎◌, ℕ, ◌+◌, ◌≤◌, nat_le, ℤ, ◌&&◌, if◌then◌else◌, List, [], length, Option, Some, None, slice_index_or}
+
+-- a place for each timestep. These count from 1, so nothing stands in the first place
+abbrev pub Column : Type 0
+Column = List (Option ℤ)
+
+-- what is kept at a timestep
+abbrev pub value_in : Column → ℕ → Option ℤ
+value_in column step = slice_index_or column step None
+
+-- a column of a run of so many timesteps: it has a place for each, or none at all
+abbrev pub IsColumn : ℕ → Column → Type 0
+IsColumn steps column = (column ≡ []) ⊎ (length column ≡ steps + 1)
+
+-- nothing is kept from one timestep to another
+abbrev pub IsFree : Column → ℕ → ℕ → Type 0
+IsFree column first last = (step : ℕ) → first ≤ step → step ≤ last → value_in column step ≡ None
+
+-- something is kept there
+pub record IsTaken (column : Column) (first last : ℕ) : Type 0 where
+  pub step : ℕ
+  pub from : first ≤ step
+  pub to : step ≤ last
+  pub taken : value_in column step ≢ None
+
+-- the value is kept from one timestep to another, and else what was kept before
+abbrev pub HasMore : ℤ → ℕ → ℕ → Column → Column → Type 0
+HasMore value first last old new =
+    (step : ℕ) → value_in new step ≡ (if nat_le first step && nat_le step last then Some value else value_in old step)
