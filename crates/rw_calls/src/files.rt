@@ -70,15 +70,13 @@ struct Endless {
 }
 
 impl Shelf for Endless {
-    ghost holds = { λ _ _. None };
-
-    ghost started = { λ s. option_map (λ path. string_bytes path) s.started };
-
-    ghost left = { λ _. None };
-
-    ghost given = { λ s. s.given };
-
-    ghost faults = { λ _ _. 0 };
+    ghost seen = { λ s. record {
+      holds = λ _. None;
+      started = option_map (λ path. string_bytes path) s.started;
+      left = None;
+      given = s.given;
+      faults = λ _. 0;
+    } };
 
     fn start(&mut self, path: String) -> Result<(), ShelfFault> {
         self.started = Some(path);

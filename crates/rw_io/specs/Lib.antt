@@ -1,6 +1,7 @@
 pub mod Outside
 pub mod Causes
 pub mod Known
+pub mod Calls
 pub mod Files
 pub mod MemShelf
 pub mod MemSink

@@ -1,14 +1,11 @@
 -- What a sink in memory means.
-use Rattle.std.specs.Prelude.{ℕ, List}
+use Rattle.std.specs.Prelude.{ℕ, List, Some}
+use Rattle.rw_io.specs.Outside.{SinkView}
 use Rattle.rw_io.specs.declared.mem_sink.MemSink.{MemSink}
 
--- what it holds
-abbrev pub bytes_of : MemSink → List ℕ
-bytes_of sink = sink.bytes.items
-
--- how many faults it has had
-abbrev pub faults_of : MemSink → ℕ
-faults_of sink = sink.faults
+-- what it is seen as
+abbrev pub seen_of : MemSink → SinkView
+seen_of sink = record { contents = Some sink.bytes.items; faults = sink.faults }
 
 -- the numbers of the calls that are to fail, and how many calls there were
 abbrev pub failing_of : MemSink → List ℕ

@@ -1,5 +1,7 @@
-ghost use Rattle.std.specs.Prelude.{◌≡◌, ℕ, List, None, is_some, string_bytes};
+ghost use Rattle.std.specs.Prelude.{◌≡◌, ℕ, List, None, OnOk, is_some, string_bytes};
 ghost use Rattle.std.specs.Option.{option_map};
+ghost use Rattle.rw_io.specs.Calls.{Gives, SameFaults, Starts};
+ghost use Rattle.rw_io.specs.Outside.{change};
 
 use crate::{Shelf, ShelfFault};
 use std::fs;
@@ -44,7 +46,14 @@ impl<R: Files + Drop> Shelf for FileShelf<R> {
       faults = λ _. s.faults;
     } };
 
-    fn start(&mut self, path: String) -> Result<(), ShelfFault> {
+    fn start(&mut self, path: String) -> Result<(), ShelfFault>
+        ensures starts { let seen = ⟦<FileShelf<R> as Shelf>⟧.seen in
+            Starts (string_bytes path) (change (seen self.old) (seen self.new)) result }
+
+        // The count rises in failing calls alone.
+        ensures calm { let seen = ⟦<FileShelf<R> as Shelf>⟧.seen in
+            OnOk result (SameFaults (change (seen self.old) (seen self.new))) }
+    {
         self.started = None;
         self.opened = None;
         match fs::open(&self.files, path.as_str()) {
@@ -61,7 +70,14 @@ impl<R: Files + Drop> Shelf for FileShelf<R> {
         }
     }
 
-    fn read(&mut self, buf: &mut [u8]) -> Result<usize, ShelfFault> {
+    fn read(&mut self, buf: &mut [u8]) -> Result<usize, ShelfFault>
+        ensures gives { let seen = ⟦<FileShelf<R> as Shelf>⟧.seen in
+            Gives buf.new (change (seen self.old) (seen self.new)) result }
+
+        // The count rises in failing calls alone.
+        ensures calm { let seen = ⟦<FileShelf<R> as Shelf>⟧.seen in
+            OnOk result (SameFaults (change (seen self.old) (seen self.new))) }
+    {
         let _given = self.given;
         let Some(file) = &mut self.opened else {
             return Ok(0);

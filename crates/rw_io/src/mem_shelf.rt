@@ -44,7 +44,8 @@ fn raise(counts: &mut Vec<u64>, place: usize)
     ensures len { length counts.new.items ≡ length counts.old.items }
     ensures rose { Rose (slice_index counts.old.items place) (slice_index counts.new.items place) }
     ensures later { (k : ℕ) → slice_index counts.old.items k ≤ slice_index counts.new.items k }
-    ensures alone { (k : ℕ) → k ≢ place → slice_index counts.new.items k ≡ slice_index counts.old.items k }
+    ensures alone { (k : ℕ) → k ≢ place
+        → slice_index counts.new.items k ≡ slice_index counts.old.items k }
 {
     let count = counts[place].saturating_add(1);
     counts[place] = count;
@@ -67,7 +68,7 @@ fn copy_from(bytes: &[u8], at: usize, buf: &mut [u8]) -> usize
 }
 
 impl MemShelf {
-    ghost use Rattle.rw_io.specs.MemShelf.{calls_of, failing_of};
+    ghost use Rattle.rw_io.specs.MemShelf.{calls_of, failing_of, seen_of};
 
     /// A shelf of these files by path, of which the calls with the given numbers are to fail.
     pub fn of(
@@ -75,12 +76,14 @@ impl MemShelf {
         files: Vec<(String, Vec<u8>)>,
         failing: Vec<u64>,
     ) -> Result<MemShelf, NoMemory>
-        ensures held { IfOk result (λ s. (p : List ℕ) → (⟦<MemShelf as Shelf>⟧.seen s).holds p ≡ bytes_at files.items p) }
-        ensures no_faults { IfOk result (λ s. (p : List ℕ) → (⟦<MemShelf as Shelf>⟧.seen s).faults p ≡ 0) }
-        ensures not_started { IfOk result (λ s. (⟦<MemShelf as Shelf>⟧.seen s).started ≡ None) }
-        ensures none_given { IfOk result (λ s. (⟦<MemShelf as Shelf>⟧.seen s).given ≡ 0) }
-        ensures failing { IfOk result (λ s. failing_of s ≡ failing.items) }
-        ensures no_calls { IfOk result (λ s. calls_of s ≡ 0) }
+        ensures held { IfOk result
+            (λ shelf. (path : List ℕ) → (seen_of shelf).holds path ≡ bytes_at files.items path) }
+        ensures no_faults { IfOk result
+            (λ shelf. (path : List ℕ) → (seen_of shelf).faults path ≡ 0) }
+        ensures not_started { IfOk result (λ shelf. (seen_of shelf).started ≡ None) }
+        ensures none_given { IfOk result (λ shelf. (seen_of shelf).given ≡ 0) }
+        ensures failing { IfOk result (λ shelf. failing_of shelf ≡ failing.items) }
+        ensures no_calls { IfOk result (λ shelf. calls_of shelf ≡ 0) }
     {
         if files.len() == usize::MAX {
             return Err(NoMemory);
@@ -99,34 +102,21 @@ impl MemShelf {
 }
 
 impl Shelf for MemShelf {
-    ghost use Rattle.rw_io.specs.MemShelf.{calls_of, failing_of, faults_of, holds_of, left_of, started_of, ShareCount};
-    ghost use Rattle.std.specs.Io.{ReadsAtMost};
-    ghost use Rattle.std.specs.Io.KnownBytes.{ReadConsumes};
-    ghost use Rattle.rw_io.specs.Causes.{NoneFell, PathRose};
-    ghost use Rattle.rw_io.specs.Known.{given_after};
+    ghost use Rattle.rw_io.specs.MemShelf.{calls_of, failing_of, seen_of, ShareCount};
+    ghost use Rattle.rw_io.specs.Calls.{Gives, SameFaults, Starts};
+    ghost use Rattle.rw_io.specs.Outside.{change};
 
-    ghost seen = { λ s. record {
-      holds = λ p. bytes_at s.files.items p;
-      started = option_map (λ path. string_bytes path) s.started;
-      left = left_at s.files.items s.started s.place s.at;
-      given = s.given;
-      faults = λ p. count_at s.files.items s.counts.items p;
-    } };
+    ghost seen = { seen_of };
 
     fn start(&mut self, path: String) -> Result<(), ShelfFault>
-        ensures held { (p : List ℕ) → holds_of self.new p ≡ holds_of self.old p }
-        ensures started { OnOk result (started_of self.new ≡ Some (string_bytes path)) }
-        ensures left { OnOk result (left_of self.new ≡ holds_of self.old (string_bytes path)) }
-        ensures given { OnOk result ((⟦<MemShelf as Shelf>⟧.seen self.new).given ≡ 0) }
-        ensures nothing { OnErr result (started_of self.new ≡ None) }
-        ensures stays { OnErr result ((⟦<MemShelf as Shelf>⟧.seen self.new).given ≡ (⟦<MemShelf as Shelf>⟧.seen self.old).given) }
-        ensures later { NoneFell (faults_of self.old) (faults_of self.new) }
-        ensures cause { OnErr result (Rose (faults_of self.old (string_bytes path)) (faults_of self.new (string_bytes path))) }
+        ensures starts { Starts (string_bytes path) (change (seen_of self.old) (seen_of self.new)) result }
 
         // A call fails exactly where it is to fail or the path isn't held, and raises one count alone.
-        ensures fails { IsErr result ↔ (Contains (failing_of self.old) (calls_of self.new) ⊎ (holds_of self.old (string_bytes path) ≡ None)) }
-        ensures calm { OnOk result ((p : List ℕ) → faults_of self.new p ≡ faults_of self.old p) }
-        ensures alone { (p : List ℕ) → ¬ ShareCount self.old p (string_bytes path) → faults_of self.new p ≡ faults_of self.old p }
+        ensures fails { IsErr result ↔ (Contains (failing_of self.old) (calls_of self.new)
+            ⊎ ((seen_of self.old).holds (string_bytes path) ≡ None)) }
+        ensures calm { OnOk result (SameFaults (change (seen_of self.old) (seen_of self.new))) }
+        ensures alone { (other : List ℕ) → ¬ ShareCount self.old other (string_bytes path)
+            → (seen_of self.new).faults other ≡ (seen_of self.old).faults other }
         ensures calls { calls_of self.new ≡ min (calls_of self.old + 1) (2 ^ 64 - 1) }
         ensures plan { failing_of self.new ≡ failing_of self.old }
     {
@@ -144,19 +134,15 @@ impl Shelf for MemShelf {
     }
 
     fn read(&mut self, buf: &mut [u8]) -> Result<usize, ShelfFault>
-        ensures held { (p : List ℕ) → holds_of self.new p ≡ holds_of self.old p }
-        ensures started { started_of self.new ≡ started_of self.old }
-        ensures bound { ReadsAtMost result buf.new }
-        ensures bytes { ReadConsumes (left_of self.old) (left_of self.new) result buf.new }
-        ensures idle { started_of self.old ≡ None → result ≡ Ok 0 }
-        ensures given { (⟦<MemShelf as Shelf>⟧.seen self.new).given ≡ given_after (⟦<MemShelf as Shelf>⟧.seen self.old).given result }
-        ensures later { NoneFell (faults_of self.old) (faults_of self.new) }
-        ensures cause { OnErr result (PathRose (started_of self.old) (faults_of self.old) (faults_of self.new)) }
+        ensures gives { Gives buf.new (change (seen_of self.old) (seen_of self.new)) result }
 
         // A call fails exactly where it is to fail and a path is started, and raises the count of that path alone.
-        ensures fails { IsErr result ↔ (Contains (failing_of self.old) (calls_of self.new) × IsSome (started_of self.old)) }
-        ensures calm { OnOk result ((p : List ℕ) → faults_of self.new p ≡ faults_of self.old p) }
-        ensures alone { (p path : List ℕ) → started_of self.old ≡ Some path → ¬ ShareCount self.old p path → faults_of self.new p ≡ faults_of self.old p }
+        ensures fails { IsErr result ↔ (Contains (failing_of self.old) (calls_of self.new)
+            × IsSome (seen_of self.old).started) }
+        ensures calm { OnOk result (SameFaults (change (seen_of self.old) (seen_of self.new))) }
+        ensures alone { (other path : List ℕ) → (seen_of self.old).started ≡ Some path
+            → ¬ ShareCount self.old other path
+            → (seen_of self.new).faults other ≡ (seen_of self.old).faults other }
         ensures calls { calls_of self.new ≡ min (calls_of self.old + 1) (2 ^ 64 - 1) }
         ensures plan { failing_of self.new ≡ failing_of self.old }
     {

@@ -14,12 +14,12 @@ pub struct MemSink {
 }
 
 impl MemSink {
-    ghost use Rattle.rw_io.specs.MemSink.{calls_of, failing_of};
+    ghost use Rattle.rw_io.specs.MemSink.{calls_of, failing_of, seen_of};
 
     /// An empty sink, of which the calls with the given numbers are to fail.
     pub fn of(alloc: Global, failing: Vec<u64>) -> MemSink
-        ensures empty { (⟦<MemSink as Sink>⟧.seen result).contents ≡ Some [] }
-        ensures no_faults { (⟦<MemSink as Sink>⟧.seen result).faults ≡ 0 }
+        ensures empty { (seen_of result).contents ≡ Some [] }
+        ensures no_faults { (seen_of result).faults ≡ 0 }
         ensures failing { failing_of result ≡ failing.items }
         ensures no_calls { calls_of result ≡ 0 }
     {
@@ -32,35 +32,27 @@ impl MemSink {
 
     /// What was kept.
     pub fn held(&self) -> &[u8]
-        ensures { (⟦<MemSink as Sink>⟧.seen self.now).contents ≡ Some result.now }
+        ensures { (seen_of self.now).contents ≡ Some result.now }
     {
         &self.bytes
     }
 }
 
 impl Sink for MemSink {
-    ghost use Rattle.rw_io.specs.MemSink.{bytes_of, calls_of, failing_of, faults_of};
-    ghost use Rattle.rw_io.specs.Causes.{Rose};
-    ghost use Rattle.rw_io.specs.Known.{SinkAppends};
+    ghost use Rattle.rw_io.specs.MemSink.{calls_of, failing_of, seen_of};
+    ghost use Rattle.rw_io.specs.Calls.{Takes};
+    ghost use Rattle.rw_io.specs.Outside.{change};
 
-    ghost seen = { λ s. record { contents = Some s.bytes.items; faults = s.faults } };
+    ghost seen = { seen_of };
 
     fn write(&mut self, piece: &[u8]) -> Result<usize, SinkFault>
-        ensures bound { IfOk result (λ n. n ≤ length piece.now) }
-        ensures some { 0 < length piece.now → IfOk result (λ n. 0 < n) }
-        ensures bytes { SinkAppends (Some (bytes_of self.old)) (Some (bytes_of self.new)) result piece.now }
-        ensures later { faults_of self.old ≤ faults_of self.new }
-        ensures cause { OnErr result (Rose (faults_of self.old) (faults_of self.new)) }
-
-        // An empty piece.
-        ensures empty { length piece.now ≡ 0 → result ≡ Ok 0 }
-        ensures still { length piece.now ≡ 0 → Some (bytes_of self.new) ≡ Some (bytes_of self.old) }
-        ensures calm { length piece.now ≡ 0 → faults_of self.new ≡ faults_of self.old }
+        ensures takes { Takes piece.now (change (seen_of self.old) (seen_of self.new)) result }
 
         // A piece is taken whole, and a call that is to fail does.
         ensures whole { IfOk result (λ n. n ≡ length piece.now) }
-        ensures no_fault { OnOk result (faults_of self.new ≡ faults_of self.old) }
-        ensures fails { Contains (failing_of self.old) (calls_of self.new) → 0 < length piece.now → IsErr result }
+        ensures no_fault { OnOk result ((seen_of self.new).faults ≡ (seen_of self.old).faults) }
+        ensures fails { Contains (failing_of self.old) (calls_of self.new)
+            → 0 < length piece.now → IsErr result }
         ensures calls { calls_of self.new ≡ min (calls_of self.old + 1) (2 ^ 64 - 1) }
         ensures plan { failing_of self.new ≡ failing_of self.old }
     {

@@ -1,7 +1,5 @@
-ghost use Rattle.std.specs.Prelude.{◌≡◌, ℕ, ◌<◌, ◌≤◌, List, Option, length, OnErr, IfOk};
-ghost use Rattle.rw_io.specs.Causes.{Rose};
-ghost use Rattle.rw_io.specs.Known.{SinkAppends};
-ghost use Rattle.rw_io.specs.Outside.{SinkView};
+ghost use Rattle.rw_io.specs.Calls.{Takes};
+ghost use Rattle.rw_io.specs.Outside.{SinkView, change};
 
 /// A write failed, and the sink's count of faults has risen.
 #[derive(Clone, Copy, Debug, PartialEq, Eq)]
@@ -18,14 +16,5 @@ pub trait Sink {
     /// Appends the front of the piece, at least one byte of it, and answers how many. After a fault nothing was
     /// appended. An empty piece changes nothing, and is answered by `Ok(0)`.
     fn write(&mut self, piece: &[u8]) -> Result<usize, SinkFault>
-        ensures bound { IfOk result (λ n. n ≤ length piece.now) }
-        ensures some { 0 < length piece.now → IfOk result (λ n. 0 < n) }
-        ensures bytes { SinkAppends (seen self.old).contents (seen self.new).contents result piece.now }
-        ensures later { (seen self.old).faults ≤ (seen self.new).faults }
-        ensures cause { OnErr result (Rose (seen self.old).faults (seen self.new).faults) }
-
-        // An empty piece.
-        ensures empty { length piece.now ≡ 0 → result ≡ Ok 0 }
-        ensures still { length piece.now ≡ 0 → (seen self.new).contents ≡ (seen self.old).contents }
-        ensures calm { length piece.now ≡ 0 → (seen self.new).faults ≡ (seen self.old).faults };
+        ensures { Takes piece.now (change (seen self.old) (seen self.new)) result };
 }

@@ -1,4 +1,6 @@
-ghost use Rattle.std.specs.Prelude.{◌≡◌, None};
+ghost use Rattle.std.specs.Prelude.{◌≡◌, None, OnOk};
+ghost use Rattle.rw_io.specs.Calls.{Takes};
+ghost use Rattle.rw_io.specs.Outside.{change};
 
 use crate::{Sink, SinkFault};
 use std::io::Write;
@@ -24,7 +26,14 @@ impl<W: Write + Drop> StdSink<W> {
 impl<W: Write + Drop> Sink for StdSink<W> {
     ghost seen = { λ s. record { contents = None; faults = s.faults } };
 
-    fn write(&mut self, piece: &[u8]) -> Result<usize, SinkFault> {
+    fn write(&mut self, piece: &[u8]) -> Result<usize, SinkFault>
+        ensures takes { let seen = ⟦<StdSink<W> as Sink>⟧.seen in
+            Takes piece.now (change (seen self.old) (seen self.new)) result }
+
+        // The count rises in failing calls alone.
+        ensures no_fault { let seen = ⟦<StdSink<W> as Sink>⟧.seen in
+            OnOk result ((seen self.new).faults ≡ (seen self.old).faults) }
+    {
         if piece.is_empty() {
             return Ok(0);
         }

@@ -24,14 +24,17 @@ pub enum ReadEnd {
 /// Reads the whole file of that path. After a refusal the file is left partly read.
 pub fn read_all<S: Shelf>(alloc: Global, shelf: &mut S, path: &str) -> Result<Vec<u8>, ReadEnd>
     // The whole file, where the shelf tells it, of at most `FILE_MAX` bytes.
-    ensures whole { IfOk result (λ bytes. IfSome ((S.seen shelf.old).holds path.now) (λ file. bytes.items ≡ file)) }
+    ensures whole { IfOk result
+        (λ bytes. IfSome ((S.seen shelf.old).holds path.now) (λ file. bytes.items ≡ file)) }
     ensures short { IfOk result (λ bytes. length bytes.items ≤ FILE_MAX) }
     ensures given { IfOk result (λ bytes. (S.seen shelf.new).given ≡ length bytes.items) }
 
     // Why it isn't read.
-    ensures fault { IsErrOf result ReadEnd.ReadFault → Rose ((S.seen shelf.old).faults path.now) ((S.seen shelf.new).faults path.now) }
+    ensures fault { IsErrOf result ReadEnd.ReadFault
+        → Rose ((S.seen shelf.old).faults path.now) ((S.seen shelf.new).faults path.now) }
     ensures long { IsErrOf result ReadEnd.TooLong → FILE_MAX < (S.seen shelf.new).given }
-    ensures longer { IsErrOf result ReadEnd.TooLong → IfSome ((S.seen shelf.old).holds path.now) (λ file. FILE_MAX < length file) }
+    ensures longer { IsErrOf result ReadEnd.TooLong
+        → IfSome ((S.seen shelf.old).holds path.now) (λ file. FILE_MAX < length file) }
 
     // What stays.
     ensures held { (p : List ℕ) → (S.seen shelf.new).holds p ≡ (S.seen shelf.old).holds p }

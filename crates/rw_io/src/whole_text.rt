@@ -10,8 +10,10 @@ pub struct WriteFault;
 
 /// Appends the whole text. It takes no memory.
 pub fn write_all<K: Sink>(sink: &mut K, text: &[u8]) -> Result<(), WriteFault>
-    ensures whole { OnOk result (GrowsBy (K.seen sink.old).contents (K.seen sink.new).contents text.now) }
-    ensures prefix { OnErr result (PrefixGrew (K.seen sink.old).contents (K.seen sink.new).contents text.now) }
+    ensures whole { OnOk result
+        (GrowsBy (K.seen sink.old).contents (K.seen sink.new).contents text.now) }
+    ensures prefix { OnErr result
+        (PrefixGrew (K.seen sink.old).contents (K.seen sink.new).contents text.now) }
     ensures cause { OnErr result (Rose (K.seen sink.old).faults (K.seen sink.new).faults) }
     ensures later { (K.seen sink.old).faults ≤ (K.seen sink.new).faults }
 {

@@ -1,0 +1,56 @@
+-- What a call does to a shelf or to a sink, by what it answers.
+use Rattle.std.specs.Prelude.{◌≡◌, ℕ, ◌<◌, ◌≤◌, List, length, None, Some, Result, Ok, IfOk, OnOk, OnErr, ⊤}
+use Rattle.std.specs.Io.{ReadsAtMost}
+use Rattle.std.specs.Io.KnownBytes.{ReadConsumes}
+use Rattle.rw_io.specs.Causes.{Rose, NoneFell, PathRose}
+use Rattle.rw_io.specs.Known.{SinkAppends, given_after}
+use Rattle.rw_io.specs.Outside.{Change, ShelfView, SinkView}
+use Rattle.rw_io.specs.declared.shelf.ShelfFault.{ShelfFault}
+use Rattle.rw_io.specs.declared.sink.SinkFault.{SinkFault}
+
+-- `start` of the file of this path
+pub record Starts (path : List ℕ) (shelf : Change ShelfView) (result : Result ⊤ ShelfFault) : Type 0 where
+  -- what the paths hold stays
+  pub held : (p : List ℕ) → shelf.after.holds p ≡ shelf.before.holds p
+  -- the file is started, and the whole of it is left
+  pub started : OnOk result (shelf.after.started ≡ Some path)
+  pub left : OnOk result (shelf.after.left ≡ shelf.before.holds path)
+  pub given : OnOk result (shelf.after.given ≡ 0)
+  -- after a fault nothing is started, and what was given before still counts
+  pub nothing : OnErr result (shelf.after.started ≡ None)
+  pub stays : OnErr result (shelf.after.given ≡ shelf.before.given)
+  -- a fault is one of this path
+  pub later : NoneFell shelf.before.faults shelf.after.faults
+  pub cause : OnErr result (Rose (shelf.before.faults path) (shelf.after.faults path))
+
+-- `read` into a buffer, which is seen as it is afterwards
+pub record Gives (buffer : List ℕ) (shelf : Change ShelfView) (result : Result ℕ ShelfFault) : Type 0 where
+  -- what the paths hold stays, and which is started
+  pub held : (p : List ℕ) → shelf.after.holds p ≡ shelf.before.holds p
+  pub started : shelf.after.started ≡ shelf.before.started
+  -- the front of what is left went into the front of the buffer
+  pub bound : ReadsAtMost result buffer
+  pub bytes : ReadConsumes shelf.before.left shelf.after.left result buffer
+  pub idle : shelf.before.started ≡ None → result ≡ Ok 0
+  pub given : shelf.after.given ≡ given_after shelf.before.given result
+  -- a fault is one of the started path
+  pub later : NoneFell shelf.before.faults shelf.after.faults
+  pub cause : OnErr result (PathRose shelf.before.started shelf.before.faults shelf.after.faults)
+
+-- `write` of this piece
+pub record Takes (piece : List ℕ) (sink : Change SinkView) (result : Result ℕ SinkFault) : Type 0 where
+  -- a front of the piece was appended, at least a byte of it
+  pub bound : IfOk result (λ n. n ≤ length piece)
+  pub some : 0 < length piece → IfOk result (λ n. 0 < n)
+  pub bytes : SinkAppends sink.before.contents sink.after.contents result piece
+  -- a fault was counted
+  pub later : sink.before.faults ≤ sink.after.faults
+  pub cause : OnErr result (Rose sink.before.faults sink.after.faults)
+  -- an empty piece changes nothing
+  pub empty : length piece ≡ 0 → result ≡ Ok 0
+  pub still : length piece ≡ 0 → sink.after.contents ≡ sink.before.contents
+  pub calm : length piece ≡ 0 → sink.after.faults ≡ sink.before.faults
+
+-- no path's count of faults has changed
+abbrev pub SameFaults : Change ShelfView → Type 0
+SameFaults shelf = (path : List ℕ) → shelf.after.faults path ≡ shelf.before.faults path
