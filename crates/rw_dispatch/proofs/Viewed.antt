@@ -1,6 +1,6 @@
 -- What an object sees is a view of its kind.
 use Rattle.std.proofs.Common.{◌≡◌, ◌≤◌, ◌<◌, ◌+◌, ◌-◌, ◌==◌, ◌&&◌, ℕ, zero, suc, Bool, true, false, List, [], ◌∷◌, length, Option, Some, None, refl, sym, ap, subst, ◌∙◌, arith, slice_index_or, if◌then◌else◌}
-use Rattle.std.specs.Prelude.{ℤ, pos, ◌≤ℤ◌, slice_get, option_map, option_and_then, unwrap_or, take}
+use Rattle.std.specs.Prelude.{ℤ, pos, ◌≤ℤ◌, map, slice_get, option_map, option_and_then, unwrap_or, take}
 use Rattle.std.proofs.lemmas.Bool.Decides.{nat_tests}
 use Rattle.std.proofs.lemmas.List.FromFn.{get_or-map-range_with_len}
 use Rattle.rw_model.specs.declared.content.Content.{Content}
@@ -15,9 +15,10 @@ use Rattle.rw_model.specs.Links.{IsBetween, bounds_in}
 use Rattle.rw_model.specs.Basin.{IsBasin}
 use Rattle.rw_model.proofs.Numbering.{StandsAt-stored, first_from-all_slots, IsOfOwner-is_in_place}
 use Rattle.rw_model.proofs.Bounding.{known_in_place, bounds_in-within}
+use Rattle.rw_method.specs.declared.view.View.{View}
 use Rattle.rw_method.specs.View.{known, known_value, bounds_at, IsBounded, IsViewOf}
 use Rattle.rw_log.specs.Log.{Cells}
-use Rattle.rw_log.specs.Dispatch.{cell_at, content_in, bounds_in_place, view_of}
+use Rattle.rw_log.specs.Dispatch.{cell_at, content_in, bounds_in_place, past_value, places, view_of}
 use Rattle.rw_dispatch.specs.Answer.{AreBounded}
 
 -- ---- an object's slot in a place is its kind's
@@ -159,3 +160,13 @@ IsViewOf-view basin cells object step kind valid own is sound first last bounded
       (value_bounded (cells (cell_at at.0 step)) bounds
       (λ content held. bounded (cell_at at.0 step) content (record { slot = known_slot; first = first; last = last }) held));
 }
+
+-- ---- a view that is filled place by place
+
+pub filled-view : (basin : Draft) (cells : Cells) (object step : ℕ) (view : View) → view.own.0 ≡ object → view.now ≡ map (content_in basin cells object step) places
+    → view.past ≡ past_value basin cells object step → view.bounds ≡ map (bounds_in_place basin object) places → view ≡ view_of basin cells object step
+filled-view basin cells object step view own now past bounds =
+    ap (λ o. record view { own = record { 0 = o } }) own
+    ∙ ap (λ z. record view { own = record { 0 = object }; now = z }) now
+    ∙ ap (λ z. record view { own = record { 0 = object }; now = map (content_in basin cells object step) places; past = z }) past
+    ∙ ap (λ z. record view { own = record { 0 = object }; now = map (content_in basin cells object step) places; past = past_value basin cells object step; bounds = z }) bounds

@@ -9,9 +9,10 @@ ghost use Rattle.rw_log.specs.Dispatch.{solved_by};
 ghost use Rattle.rw_dispatch.specs.Answer.{AreBounded};
 ghost use Rattle.rw_dispatch.specs.Putting.{CanPut};
 
-use crate::seeing::view_of;
+use crate::past::past_value;
+use crate::seeing::see_slots;
 use rw_base::{ObjectNo, StepNo};
-use rw_method::{Catalogue, Solved};
+use rw_method::{Catalogue, Solved, View};
 use rw_model::Basin;
 use rw_series::Series;
 
@@ -35,6 +36,12 @@ pub(crate) fn solve(
 {
     let _objects = basin.object_count();
     let kind = basin.kind(o);
-    let view = view_of(basin, series, o, t);
+    let mut view = View {
+        own: o,
+        now: [None; 12],
+        past: past_value(basin, series, o, t),
+        bounds: [(0, 0); 12],
+    };
+    see_slots(&mut view.now, &mut view.bounds, basin, series, o, t);
     methods.solve(kind, &view)
 }
