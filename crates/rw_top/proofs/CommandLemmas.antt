@@ -1,28 +1,13 @@
 -- Words ask for one command.
-use Rattle.std.proofs.Common.{◌≡◌, ℕ, List, [], ◌∷◌, refl, sym, ap, ◌∙◌, subst, arith}
-use Rattle.rw_top.specs.Command.{Asks, Command, IsCommand, IsPath, Simulate, path_of, simulated, words_of}
-use Rattle.rw_top.specs.declared.refusal.File.{File}
-use Rattle.rw_top.specs.declared.refusal.File.TheVariants.{Model, Inputs}
-
-named : (a b c : List ℕ) → IsCommand (a ∷ b ∷ c ∷ []) → (file : File) → IsPath (path_of (Simulate b c) file)
-named a b c is Model = is.model
-named a b c is Inputs = is.inputs
-
-pub asked : (words : List (List ℕ)) → IsCommand words → Asks words (simulated words)
-asked [] is = absurd (omega (arith, is.three))
-asked (a ∷ []) is = absurd (omega (arith, is.three))
-asked (a ∷ b ∷ []) is = absurd (omega (arith, is.three))
-asked (a ∷ b ∷ c ∷ []) is = record {
-  are = ap (λ (name : List ℕ). name ∷ b ∷ c ∷ []) is.simulate;
-  paths = λ file. named a b c is file;
-}
-asked (a ∷ b ∷ c ∷ d ∷ more) is = absurd (omega (arith, is.three))
-
-pub asks_words : (words : List (List ℕ)) (command : Command) → Asks words command → IsCommand words
-asks_words words (Simulate model inputs) h =
-    subst IsCommand (sym h.are) (record { three = refl; simulate = refl; model = h.paths Model; inputs = h.paths Inputs })
+use Rattle.std.proofs.Common.{◌≡◌, ℕ, List, sym, ◌∙◌, subst}
+use Rattle.rw_top.specs.Command.{Asks, Command, Simulate, words_of}
 
 pub one_command : (words : List (List ℕ)) (a b : Command) → Asks words a → Asks words b → a ≡ b
 one_command words (Simulate model inputs) (Simulate other more) h k =
     let same : words_of (Simulate model inputs) ≡ words_of (Simulate other more) = sym h.are ∙ k.are in
     cc
+
+-- what holds of a command that the words ask for holds of each
+pub of_command : (words : List (List ℕ)) (a b : Command) → Asks words a → Asks words b
+    → (P : Command → Type 0) → P a → P b
+of_command words a b h k P holds = subst P (one_command words a b h k) holds

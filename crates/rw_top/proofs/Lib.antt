@@ -1,9 +1,11 @@
 pub mod CommandLemmas
-pub mod CauseLemmas
-pub mod DueLemmas
+pub mod WordsLemmas
 pub mod OneReading
 pub mod OneText
-pub mod TellLemmas
-pub mod WordsLemmas
+pub mod Findings
+pub mod CauseLemmas
+pub mod DueLemmas
 pub mod PromiseLemmas
 pub mod StatusLemmas
+pub mod TellLemmas
+pub mod FirstCall

@@ -28,6 +28,12 @@ module _ (inputs others : Inputs) (same : (slot step : ℕ) → value_at inputs 
   same_to zero steps = refl
   same_to (suc slots) steps = ap₂ (λ xs ys. xs ++ ys) (same_to slots steps) (same_of (suc slots) steps)
 
+  -- all that counts of inputs are their values
+  pub of_values : (basin : Draft) (end : RunEnd) (text : List ℕ) → IsRunText basin inputs end text → IsRunText basin others end text
+  of_values basin end text is =
+      let given = same_to (length (all_slots basin.objects)) basin.control.stamps.count in
+      record { log = is.log; run = subst (λ xs. IsRun basin no_rules xs is.log) given is.run; end_is = is.end_is; text_is = is.text_is }
+
 -- two texts of one basin and of inputs with the same values
 pub one_text : ((basin : Draft) (policy : Policy) (inputs : List (Cell × ℤ)) (log other : Log) → IsRun basin policy inputs log → IsRun basin policy inputs other → log ≡ other)
     → (basin : Draft) (inputs others : Inputs) (end other : RunEnd) (text more : List ℕ) → ((slot step : ℕ) → value_at inputs slot step ≡ value_at others slot step)

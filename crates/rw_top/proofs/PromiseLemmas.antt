@@ -1,15 +1,15 @@
 -- A call that wrote its run, or was refused, keeps the promise.
-use Rattle.std.proofs.Common.{◌≡◌, inl, inr, ℕ, ◌≤◌, List, ap, subst, ◌∙◌, arith}
+use Rattle.std.proofs.Common.{◌≡◌, inl, inr, ℕ, ◌≤◌, List, None, Some, ◌∙◌, arith}
 use Rattle.rw_log.specs.declared.run.RunEnd.{RunEnd}
 use Rattle.rw_log.specs.declared.run.RunEnd.TheVariants.{Settled, Fault}
-use Rattle.rw_io.specs.Outside.{Change, ShelfView, SinkView}
 use Rattle.rw_top.specs.Call.{Call}
-use Rattle.rw_top.specs.Command.{AskNothing, Asks, Command}
-use Rattle.rw_top.specs.Promise.{Promise, WasRefused, WroteRun, status_of_end}
-use Rattle.rw_top.specs.Refusal.{Cause, CommandCause, WritesAll, status_of}
+use Rattle.rw_top.specs.Command.{Asks, Command}
+use Rattle.rw_top.specs.Promise.{Promise, RefusedCommand, RefusedWords, WasRefused, WroteRun, status_of_end}
+use Rattle.rw_top.specs.Refusal.{Cause, status_of}
+use Rattle.rw_top.specs.Written.{WritesAll}
 use Rattle.rw_top.specs.declared.refusal.Refusal.{Refusal}
-use Rattle.rw_top.specs.declared.refusal.Refusal.TheVariants.{Words, CannotRead, CannotWrite, NoMemory, Model, Inputs, TooLong}
-use Rattle.rw_top.proofs.CommandLemmas.{one_command}
+use Rattle.rw_top.specs.declared.refusal.Refusal.TheVariants.{Words}
+use Rattle.rw_top.proofs.CommandLemmas.{of_command}
 use Rattle.rw_top.proofs.DueLemmas.{complete, due, none_due}
 
 at_most_1 : (end : RunEnd) → status_of_end end ≤ 1
@@ -18,24 +18,11 @@ at_most_1 (Fault why) = omega arith
 
 at_least_2 : (why : Refusal) → 2 ≤ status_of why
 at_least_2 Words = omega arith
-at_least_2 (CannotRead file) = omega arith
-at_least_2 CannotWrite = omega arith
-at_least_2 NoMemory = omega arith
-at_least_2 (Model fault) = omega arith
-at_least_2 (Inputs kind row column) = omega arith
-at_least_2 (TooLong file) = omega arith
+at_least_2 why = omega arith
 
--- the cause of a refusal, of the command that the words ask for
-at : (words : List (List ℕ)) (shelf : Change ShelfView) (out : Change SinkView) (why : Refusal) (command : Command)
-    → Asks words command → Cause words shelf out why → CommandCause command shelf out why
-at words shelf out why command asks (inl none) = absurd (none.0 command asks)
-at words shelf out why command asks (inr there) =
-    subst (λ it. CommandCause it shelf out why) (one_command words there.0 command there.1 asks) there.2
-
-no_words : (words : List (List ℕ)) (shelf : Change ShelfView) (out : Change SinkView) (why : Refusal)
-    → AskNothing words → Cause words shelf out why → status_of why ≡ 2
-no_words words shelf out why nothing (inl none) = ap status_of none.1
-no_words words shelf out why nothing (inr there) = absurd (nothing there.0 there.1)
+was_refused : (call : Call) (why : Refusal) → RefusedCommand call why → WasRefused call why
+was_refused call Words was = let tells : None ≡ Some was.cause.0.reason = was.cause.0.tells in absurd cc
+was_refused call why was = was
 
 module _ (call : Call) (held : (path : List ℕ) → call.shelf.after.holds path ≡ call.shelf.before.holds path) where
   pub promised_run : (end : RunEnd) (status : ℕ) → status ≡ status_of_end end → WroteRun call end → Promise call status
@@ -46,23 +33,35 @@ module _ (call : Call) (held : (path : List ℕ) → call.shelf.after.holds path
         done = λ below. (end, is, wrote);
         refused = λ above. absurd (omega arith);
         words = λ nothing. absurd (nothing wrote.command wrote.asked);
-        due = λ command asks ground found honest.
-            let text = subst (λ it. WritesAll it call.shelf.before.holds call.out end) (one_command call.words wrote.command command wrote.asked asks) wrote.text in
-            absurd (none_due command call.shelf call.out end text ground found honest);
-        complete = λ command asks basin inputs both calm. inl low;
+        due = λ command asks reason found honest.
+            let wrote_all = of_command call.words wrote.command command wrote.asked asks (λ it. WritesAll it call.shelf.before.holds call.out end) wrote.text in
+            absurd (none_due command call.shelf end wrote_all.text wrote_all.is reason found honest);
+        complete = λ command asks accepted calm. inl low;
         held = held;
       }
 
-  pub promised_refusal : (why : Refusal) (status : ℕ) → status ≡ status_of why → WasRefused call why → Promise call status
+  pub promised_words : (status : ℕ) → status ≡ 2 → RefusedWords call → Promise call status
+  promised_words status is was = record {
+    done = λ below. absurd (omega arith);
+    refused = λ above. (Words, is, was);
+    words = λ nothing. is;
+    due = λ command asks reason found honest. absurd (was.nothing command asks);
+    complete = λ command asks accepted calm. absurd (was.nothing command asks);
+    held = held;
+  }
+
+  pub promised_refusal : (why : Refusal) (status : ℕ) → status ≡ status_of why → RefusedCommand call why → Promise call status
   promised_refusal why status is was =
       let least = at_least_2 why in
+      let cause : (command : Command) → Asks call.words command → Cause command call.shelf call.out why =
+      λ command asks. of_command call.words was.command command was.asked asks (λ it. Cause it call.shelf call.out why) was.cause in
       record {
         done = λ below. absurd (omega arith);
-        refused = λ above. (why, is, was);
-        words = λ nothing. is ∙ no_words call.words call.shelf call.out why nothing was.cause;
-        due = λ command asks ground found honest.
-            rw is (due command call.shelf call.out why (at call.words call.shelf call.out why command asks was.cause) ground found honest);
-        complete = λ command asks basin inputs both calm.
-            inr (is ∙ complete command call.shelf call.out why (at call.words call.shelf call.out why command asks was.cause) basin inputs both calm.honest calm.stands);
+        refused = λ above. (why, is, was_refused call why was);
+        words = λ nothing. absurd (nothing was.command was.asked);
+        due = λ command asks reason found honest.
+            rw is (due command call.shelf call.out why (cause command asks) reason found honest);
+        complete = λ command asks accepted calm.
+            inr (is ∙ complete command call.shelf call.out why (cause command asks) accepted calm.honest calm.stands);
         held = held;
       }

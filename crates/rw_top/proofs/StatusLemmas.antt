@@ -1,5 +1,5 @@
 -- What each status says of a call that keeps its promise.
-use Rattle.std.proofs.Common.{◌≡◌, ◌≢◌, inl, inr, ℕ, ◌≤◌, List, ap, ◌∙◌, arith}
+use Rattle.std.proofs.Common.{◌≡◌, ◌≢◌, ℕ, ◌≤◌, refl, ◌∙◌, arith}
 use Rattle.rw_inputs.specs.declared.fault.InputFault.{InputFault}
 use Rattle.rw_io.specs.Causes.{Rose}
 use Rattle.rw_log.specs.declared.fault.RunFault.{RunFault}
@@ -7,14 +7,16 @@ use Rattle.rw_log.specs.declared.run.RunEnd.{RunEnd}
 use Rattle.rw_log.specs.declared.run.RunEnd.TheVariants.{Settled, Fault}
 use Rattle.rw_model_toml.specs.Refusal.{Refusal as Why}
 use Rattle.rw_top.specs.Call.{Call}
-use Rattle.rw_top.specs.Command.{AskFor, AskNothing}
-use Rattle.rw_io.specs.Outside.{Change, ShelfView, SinkView}
-use Rattle.rw_top.specs.Promise.{Promise, WroteRun, status_of_end}
+use Rattle.rw_top.specs.Command.{AskFor, AskNothing, Command}
+use Rattle.rw_top.specs.Reason.{Reason, BadModel, BadInputs, LongFile, status_by}
+use Rattle.rw_top.specs.Promise.{Promise, RefusedCommand, WasRefused, WroteRun, status_of_end}
 use Rattle.rw_top.specs.Reading.{RefusesInputs, RefusesModel}
-use Rattle.rw_top.specs.Refusal.{Cause, FailsToRead, FindsTooLong, WritesFront, status_of}
+use Rattle.rw_top.specs.Refusal.{FailsToRead, FindsTooLong, WasFound, status_of}
+use Rattle.rw_top.specs.Written.{WritesFront}
 use Rattle.rw_top.specs.declared.refusal.File.{File}
 use Rattle.rw_top.specs.declared.refusal.Refusal.{Refusal}
-use Rattle.rw_top.specs.declared.refusal.Refusal.TheVariants.{Words, CannotRead, CannotWrite, NoMemory, Model, Inputs, TooLong}
+use Rattle.rw_top.specs.declared.refusal.Refusal.TheVariants.{Words, CannotRead, CannotWrite, NoMemory}
+use Rattle.rw_top.proofs.CauseLemmas.{told_status}
 
 settles : (call : Call) (end : RunEnd) → 0 ≡ status_of_end end → WroteRun call end → WroteRun call Settled
 settles call Settled is wrote = wrote
@@ -30,75 +32,84 @@ faults call (Fault why) is wrote = (why, wrote)
 pub faulted : (call : Call) → Promise call 1 → (why : RunFault) × WroteRun call (Fault why)
 faulted call promise = let done = promise.done (omega arith) in faults call done.0 done.1 done.2
 
--- the cause of a call with this status
-of_status : (call : Call) (status : ℕ) → 2 ≤ status → Promise call status → (why : Refusal) × (status ≡ status_of why) × Cause call.words call.shelf call.out why
-of_status call status low promise = let refused = promise.refused low in (refused.0, refused.1, refused.2.cause)
+module _ (call : Call) where
+  by_words : (why : Refusal) → 2 ≡ status_of why → WasRefused call why → AskNothing call.words
+  by_words Words is was = was.nothing
+  by_words why is was = absurd (omega (arith, is))
 
--- where the words ask for nothing, the status is 2
-not_words : (words : List (List ℕ)) (out : Change SinkView) (why : Refusal) (status : ℕ) → status ≡ status_of why → status ≢ 2
-    → AskNothing words × (why ≡ Words) × (out.after.contents ≡ out.before.contents) → ⊥
-not_words words out why status is other none = other (is ∙ ap status_of none.1)
+  -- each other status is that of a command
+  by_command : (why : Refusal) → status_of why ≢ 2 → WasRefused call why → RefusedCommand call why
+  by_command Words other was = absurd (other refl)
+  by_command why other was = was
 
-module _ (words : List (List ℕ)) (shelf : Change ShelfView) (out : Change SinkView) where
-  by_words : (why : Refusal) → 2 ≡ status_of why → Cause words shelf out why → AskNothing words
-  by_words why is (inl none) = none.0
-  by_words Words is (inr there) = absurd there.2.0
-  by_words why is (inr there) = absurd (omega arith)
+  by_read : (why : Refusal) → 3 ≡ status_of why → RefusedCommand call why → AskFor call.words (λ command. (file : File) × FailsToRead command call.shelf file)
+  by_read (CannotRead file) is was = (was.command, was.asked, (file, was.cause.0))
+  by_read why is was = absurd (omega (arith, is))
 
-  by_read : (why : Refusal) → 3 ≡ status_of why → Cause words shelf out why → AskFor words (λ command. (file : File) × FailsToRead command shelf file)
-  by_read why is (inl none) = absurd (not_words words out why 3 is (omega arith) none)
-  by_read (CannotRead file) is (inr there) = (there.0, there.1, (file, there.2.0))
-  by_read why is (inr there) = absurd (omega arith)
+  by_write : (why : Refusal) → 4 ≡ status_of why → RefusedCommand call why
+      → AskFor call.words (λ command. WritesFront command call.shelf.before.holds call.out) × Rose call.out.before.faults call.out.after.faults
+  by_write CannotWrite is was = ((was.command, was.asked, was.cause.0), was.cause.1)
+  by_write why is was = absurd (omega (arith, is))
 
-  by_write : (why : Refusal) → 4 ≡ status_of why → Cause words shelf out why
-      → AskFor words (λ command. WritesFront command shelf.before.holds out) × Rose out.before.faults out.after.faults
-  by_write why is (inl none) = absurd (not_words words out why 4 is (omega arith) none)
-  by_write CannotWrite is (inr there) = ((there.0, there.1, there.2.0), there.2.1)
-  by_write why is (inr there) = absurd (omega arith)
+  -- from 6 on, that of a reason that was found
+  by_reason : (why : Refusal) → 6 ≤ status_of why → RefusedCommand call why
+      → AskFor call.words (λ command. (reason : Reason) × (status_of why ≡ status_by reason) × WasFound command call.shelf reason)
+  by_reason Words high was = absurd (omega (arith, high))
+  by_reason (CannotRead file) high was = absurd (omega (arith, high))
+  by_reason CannotWrite high was = absurd (omega (arith, high))
+  by_reason NoMemory high was = absurd (omega (arith, high))
+  by_reason why high was =
+      let told = was.cause.0 in (was.command, was.asked, (told.reason, told_status why told.reason told.tells, told.found))
 
-  by_model : (why : Refusal) → 6 ≡ status_of why → Cause words shelf out why → AskFor words (λ command. (ground : Why) × RefusesModel command shelf.before.holds ground)
-  by_model why is (inl none) = absurd (not_words words out why 6 is (omega arith) none)
-  by_model (Model fault) is (inr there) = (there.0, there.1, (there.2.0.0, there.2.0.2))
-  by_model why is (inr there) = absurd (omega arith)
+  untouched_by : (why : Refusal) → status_of why ≢ 4 → WasRefused call why → call.out.after.contents ≡ call.out.before.contents
+  untouched_by Words other was = was.still
+  untouched_by CannotWrite other was = absurd (other refl)
+  untouched_by why other was = was.cause.1
 
-  by_inputs : (why : Refusal) → 8 ≡ status_of why → Cause words shelf out why → AskFor words (λ command. (fault : InputFault) × RefusesInputs command shelf.before.holds fault)
-  by_inputs why is (inl none) = absurd (not_words words out why 8 is (omega arith) none)
-  by_inputs (Inputs kind row column) is (inr there) = (there.0, there.1, (_, there.2.0))
-  by_inputs why is (inr there) = absurd (omega arith)
+  -- the command that is refused, where the status isn't 2
+  of_status : (status : ℕ) → 3 ≤ status → Promise call status → (why : Refusal) × (status ≡ status_of why) × RefusedCommand call why
+  of_status status high promise =
+      let refused = promise.refused (omega (arith, high)) in
+      (refused.0, refused.1, by_command refused.0 (omega (arith, high, refused.1)) refused.2)
 
-  by_length : (why : Refusal) → 10 ≡ status_of why → Cause words shelf out why → AskFor words (λ command. (file : File) × FindsTooLong command shelf file)
-  by_length why is (inl none) = absurd (not_words words out why 10 is (omega arith) none)
-  by_length (TooLong file) is (inr there) = (there.0, there.1, (file, there.2.0))
-  by_length why is (inr there) = absurd (omega arith)
+  pub words : Promise call 2 → AskNothing call.words
+  words promise = let refused = promise.refused (omega arith) in by_words refused.0 refused.1 refused.2
 
-  by_others : (why : Refusal) (status : ℕ) → status ≡ status_of why → status ≢ 4 → Cause words shelf out why → out.after.contents ≡ out.before.contents
-  by_others why status is other (inl none) = none.2
-  by_others CannotWrite status is other (inr there) = absurd (other is)
-  by_others Words status is other (inr there) = there.2.1
-  by_others (CannotRead file) status is other (inr there) = there.2.1
-  by_others NoMemory status is other (inr there) = there.2.1
-  by_others (Model fault) status is other (inr there) = there.2.1
-  by_others (Inputs kind row column) status is other (inr there) = there.2.1
-  by_others (TooLong file) status is other (inr there) = there.2.1
+  pub read_fault : Promise call 3 → AskFor call.words (λ command. (file : File) × FailsToRead command call.shelf file)
+  read_fault promise = let refused = of_status 3 (omega arith) promise in by_read refused.0 refused.1 refused.2
 
-pub words : (call : Call) → Promise call 2 → AskNothing call.words
-words call promise = let why = of_status call 2 (omega arith) promise in by_words call.words call.shelf call.out why.0 why.1 why.2
+  pub write : Promise call 4 → AskFor call.words (λ command. WritesFront command call.shelf.before.holds call.out) × Rose call.out.before.faults call.out.after.faults
+  write promise = let refused = of_status 4 (omega arith) promise in by_write refused.0 refused.1 refused.2
 
-pub read_fault : (call : Call) → Promise call 3 → AskFor call.words (λ command. (file : File) × FailsToRead command call.shelf file)
-read_fault call promise = let why = of_status call 3 (omega arith) promise in by_read call.words call.shelf call.out why.0 why.1 why.2
+  -- from 6 on, the reason that was found
+  reason_of_status : (status : ℕ) → 6 ≤ status → Promise call status
+      → AskFor call.words (λ command. (reason : Reason) × (status ≡ status_by reason) × WasFound command call.shelf reason)
+  reason_of_status status high promise =
+      let refused = of_status status (omega (arith, high)) promise in
+      let there = by_reason refused.0 (omega (arith, high, refused.1)) refused.2 in
+      (there.0, there.1, (there.2.0, refused.1 ∙ there.2.1, there.2.2))
 
-pub write : (call : Call) → Promise call 4 → AskFor call.words (λ command. WritesFront command call.shelf.before.holds call.out) × Rose call.out.before.faults call.out.after.faults
-write call promise = let why = of_status call 4 (omega arith) promise in by_write call.words call.shelf call.out why.0 why.1 why.2
+  bad_model : (command : Command) (reason : Reason) → 6 ≡ status_by reason → WasFound command call.shelf reason → (why : Why) × RefusesModel command call.shelf.before.holds why
+  bad_model command (BadModel why) is found = (why, found)
+  bad_model command reason is found = absurd (omega (arith, is))
 
-pub model : (call : Call) → Promise call 6 → AskFor call.words (λ command. (why : Why) × RefusesModel command call.shelf.before.holds why)
-model call promise = let why = of_status call 6 (omega arith) promise in by_model call.words call.shelf call.out why.0 why.1 why.2
+  bad_inputs : (command : Command) (reason : Reason) → 8 ≡ status_by reason → WasFound command call.shelf reason → (fault : InputFault) × RefusesInputs command call.shelf.before.holds fault
+  bad_inputs command (BadInputs fault) is found = (fault, found)
+  bad_inputs command reason is found = absurd (omega (arith, is))
 
-pub inputs : (call : Call) → Promise call 8 → AskFor call.words (λ command. (fault : InputFault) × RefusesInputs command call.shelf.before.holds fault)
-inputs call promise = let why = of_status call 8 (omega arith) promise in by_inputs call.words call.shelf call.out why.0 why.1 why.2
+  long_file : (command : Command) (reason : Reason) → 10 ≡ status_by reason → WasFound command call.shelf reason → (file : File) × FindsTooLong command call.shelf file
+  long_file command (LongFile file) is found = (file, found)
+  long_file command reason is found = absurd (omega (arith, is))
 
-pub too_long : (call : Call) → Promise call 10 → AskFor call.words (λ command. (file : File) × FindsTooLong command call.shelf file)
-too_long call promise = let why = of_status call 10 (omega arith) promise in by_length call.words call.shelf call.out why.0 why.1 why.2
+  pub model : Promise call 6 → AskFor call.words (λ command. (why : Why) × RefusesModel command call.shelf.before.holds why)
+  model promise = let there = reason_of_status 6 (omega arith) promise in (there.0, there.1, bad_model there.0 there.2.0 there.2.1 there.2.2)
 
-pub untouched : (call : Call) (status : ℕ) → Promise call status → 2 ≤ status → status ≢ 4 → call.out.after.contents ≡ call.out.before.contents
-untouched call status promise low other =
-    let why = of_status call status low promise in by_others call.words call.shelf call.out why.0 status why.1 other why.2
+  pub inputs : Promise call 8 → AskFor call.words (λ command. (fault : InputFault) × RefusesInputs command call.shelf.before.holds fault)
+  inputs promise = let there = reason_of_status 8 (omega arith) promise in (there.0, there.1, bad_inputs there.0 there.2.0 there.2.1 there.2.2)
+
+  pub too_long : Promise call 10 → AskFor call.words (λ command. (file : File) × FindsTooLong command call.shelf file)
+  too_long promise = let there = reason_of_status 10 (omega arith) promise in (there.0, there.1, long_file there.0 there.2.0 there.2.1 there.2.2)
+
+  pub untouched : (status : ℕ) → Promise call status → 2 ≤ status → status ≢ 4 → call.out.after.contents ≡ call.out.before.contents
+  untouched status promise low other =
+      let refused = promise.refused low in untouched_by refused.0 (λ is. other (refused.1 ∙ is)) refused.2

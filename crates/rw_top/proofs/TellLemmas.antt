@@ -6,7 +6,7 @@ use Rattle.rw_io.specs.Causes.{Rose}
 use Rattle.rw_io.specs.Known.{GrowsBy, PrefixGrew}
 use Rattle.rw_io.specs.Outside.{SinkView, change}
 use Rattle.rw_io.proofs.KnownLemmas.{GrowsBy-trans, PrefixGrew-left, PrefixGrew-right}
-use Rattle.rw_top.specs.Refusal.{Tells}
+use Rattle.rw_top.specs.Written.{Tells}
 
 -- the first part was cut off
 pub tells_cut : (a b : SinkView) (xs ys : List ℕ) → PrefixGrew a.contents b.contents xs → Rose a.faults b.faults → Tells (change a b) (xs ++ ys)

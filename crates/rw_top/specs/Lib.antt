@@ -1,8 +1,10 @@
 pub mod Call
 pub mod Command
-pub mod RunText
 pub mod Reading
+pub mod Reason
+pub mod RunText
+pub mod Written
 pub mod Refusal
 pub mod Lines
-pub mod Ground
 pub mod Promise
+pub mod FirstCall

@@ -11,7 +11,7 @@ use Rattle.rw_model_toml.specs.declared.fault.ModelFault.{ModelFault}
 use Rattle.rw_model_toml.specs.declared.fault.ModelFault.TheVariants.{NotToml, Missing, WrongKind, UnknownKey, UnknownKind, Build, Table, Calendar, NoMemory as NoMemoryForModel}
 use Rattle.rw_inputs.specs.declared.fault.InputKind.{InputKind}
 use Rattle.rw_inputs.specs.declared.fault.InputKind.TheVariants.{Header, UnknownSlot, NotSettable, NotANumber, OutOfBounds, StepOutside, Twice, Ragged}
-use Rattle.rw_top.specs.Command.{word_for}
+use Rattle.rw_top.specs.Command.{Command, path_of}
 use Rattle.rw_top.specs.declared.refusal.Refusal.{Refusal}
 use Rattle.rw_top.specs.declared.refusal.Refusal.TheVariants.{Words, CannotRead, CannotWrite, NoMemory, Model, Inputs, TooLong}
 
@@ -60,22 +60,31 @@ model_line (Missing path) = (codes "basin: model: missing " ++ string_bytes path
 model_line (WrongKind path) = (codes "basin: model: wrong kind " ++ string_bytes path) ++ codes "\n"
 model_line (UnknownKey path) = (codes "basin: model: unknown key " ++ string_bytes path) ++ codes "\n"
 model_line (UnknownKind path) = (codes "basin: model: unknown kind " ++ string_bytes path) ++ codes "\n"
-model_line (Build path fault) = (codes "basin: model: build " ++ string_bytes path) ++ ((codes ": " ++ build_words fault) ++ codes "\n")
-model_line (Table path fault) = (codes "basin: model: table " ++ string_bytes path) ++ ((codes ": " ++ table_words fault) ++ codes "\n")
+model_line (Build path fault) =
+    (codes "basin: model: build " ++ string_bytes path) ++ ((codes ": " ++ build_words fault) ++ codes "\n")
+model_line (Table path fault) =
+    (codes "basin: model: table " ++ string_bytes path) ++ ((codes ": " ++ table_words fault) ++ codes "\n")
 model_line (Calendar fault) = (codes "basin: model: calendar: " ++ calendar_words fault) ++ codes "\n"
 model_line NoMemoryForModel = codes "basin: model: no memory\n"
 
 -- the line on inputs that are refused
 abbrev pub inputs_line : InputKind → ℕ → ℕ → List ℕ
 inputs_line kind row column =
-    (codes "basin: inputs: row " ++ decimal row) ++ ((codes " column " ++ decimal column) ++ ((codes ": " ++ input_words kind) ++ codes "\n"))
+    (codes "basin: inputs: row " ++ decimal row)
+    ++ ((codes " column " ++ decimal column) ++ ((codes ": " ++ input_words kind) ++ codes "\n"))
 
--- the line that says why nothing more was written
-abbrev pub line_of : List (List ℕ) → Refusal → List ℕ
-line_of words Words = codes "basin: words refused\n"
-line_of words (CannotRead file) = (codes "basin: cannot read " ++ word_for words file) ++ codes "\n"
-line_of words CannotWrite = codes "basin: cannot write\n"
-line_of words NoMemory = codes "basin: want of memory\n"
-line_of words (Model fault) = model_line fault
-line_of words (Inputs kind row column) = inputs_line kind row column
-line_of words (TooLong file) = (codes "basin: too long " ++ word_for words file) ++ codes "\n"
+-- the line on words that ask for nothing
+abbrev pub words_line : List ℕ
+words_line = codes "basin: words refused\n"
+
+-- the line that says why a command isn't done
+abbrev pub line_of : Command → Refusal → List ℕ
+line_of command Words = words_line
+line_of command (CannotRead file) =
+    (codes "basin: cannot read " ++ path_of command file) ++ codes "\n"
+line_of command CannotWrite = codes "basin: cannot write\n"
+line_of command NoMemory = codes "basin: want of memory\n"
+line_of command (Model fault) = model_line fault
+line_of command (Inputs kind row column) = inputs_line kind row column
+line_of command (TooLong file) =
+    (codes "basin: too long " ++ path_of command file) ++ codes "\n"

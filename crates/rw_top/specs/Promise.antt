@@ -1,18 +1,17 @@
 -- What is promised of each call of the program.
 use Rattle.std.specs.Prelude.{◌≡◌, ◌⊎◌, ℕ, ◌≤◌, List}
-use Rattle.rw_inputs.specs.Inputs.{Inputs as Given}
 use Rattle.rw_io.specs.Causes.{Rose}
 use Rattle.rw_log.specs.declared.run.RunEnd.{RunEnd}
 use Rattle.rw_log.specs.declared.run.RunEnd.TheVariants.{Settled, Fault}
-use Rattle.rw_model.specs.Draft.{Draft}
 use Rattle.rw_top.specs.Call.{Call}
 use Rattle.rw_top.specs.Command.{AskNothing, Asks, Command}
-use Rattle.rw_top.specs.Ground.{Ground, IsFound, IsHonestFor, status_by}
-use Rattle.rw_top.specs.Lines.{line_of}
-use Rattle.rw_top.specs.Reading.{IsHonestUpTo, ReadsBoth}
-use Rattle.rw_top.specs.Refusal.{Cause, EndsWith, Tells, WritesAll, status_of}
-use Rattle.rw_top.specs.declared.refusal.File.TheVariants.{Inputs}
+use Rattle.rw_top.specs.Reason.{Reason, IsFound, IsHonestFor, status_by}
+use Rattle.rw_top.specs.Lines.{line_of, words_line}
+use Rattle.rw_top.specs.Reading.{AcceptsAll, IsHonestOfAll}
+use Rattle.rw_top.specs.Refusal.{Cause, EndsWith, status_of}
+use Rattle.rw_top.specs.Written.{Tells, WritesAll}
 use Rattle.rw_top.specs.declared.refusal.Refusal.{Refusal}
+use Rattle.rw_top.specs.declared.refusal.Refusal.TheVariants.{Words}
 
 -- the status of a run that was written: 0 where it settled
 abbrev pub status_of_end : RunEnd → ℕ
@@ -26,14 +25,27 @@ pub record WroteRun (call : Call) (end : RunEnd) : Type 0 where
   pub text : WritesAll command call.shelf.before.holds call.out end
   pub silent : call.err.after ≡ call.err.before
 
--- the call refuses for this, has its cause, and told it in its line
-pub record WasRefused (call : Call) (why : Refusal) : Type 0 where
-  pub cause : Cause call.words call.shelf call.out why
-  pub told : Tells call.err (line_of call.words why)
+-- the words ask for nothing, and the line that says so is all that was written
+pub record RefusedWords (call : Call) : Type 0 where
+  pub nothing : AskNothing call.words
+  pub still : call.out.after.contents ≡ call.out.before.contents
+  pub told : Tells call.err words_line
+
+-- the command that the words ask for is refused for this, which has its cause, and was told in its line
+pub record RefusedCommand (call : Call) (why : Refusal) : Type 0 where
+  pub command : Command
+  pub asked : Asks call.words command
+  pub cause : Cause command call.shelf call.out why
+  pub told : Tells call.err (line_of command why)
+
+-- the call is refused for this
+abbrev pub WasRefused : Call → Refusal → Type 0
+WasRefused call Words = RefusedWords call
+WasRefused call why = RefusedCommand call why
 
 -- no file of the command had a fault, and the output had none
 pub record IsCalm (command : Command) (call : Call) : Type 0 where
-  pub honest : IsHonestUpTo command call.shelf Inputs
+  pub honest : IsHonestOfAll command call.shelf
   pub stands : ¬ Rose call.out.before.faults call.out.after.faults
 
 -- a call that answers this status
@@ -45,10 +57,12 @@ pub record Promise (call : Call) (status : ℕ) : Type 0 where
   -- words that ask for nothing are refused
   pub words : AskNothing call.words → status ≡ 2
   -- what has to be refused of a command is, of an honest shelf, unless memory is wanting
-  pub due : (command : Command) → Asks call.words command → (ground : Ground) → IsFound command call.shelf.before.holds ground
-      → IsHonestFor command call.shelf ground → EndsWith (status_by ground) status
-  -- where both files are read and nothing fails, only memory can be wanting
-  pub complete : (command : Command) → Asks call.words command → (basin : Draft) (inputs : Given)
-      → ReadsBoth command call.shelf.before.holds basin inputs → IsCalm command call → (status ≤ 1) ⊎ (status ≡ 5)
+  pub due : (command : Command) → Asks call.words command
+      → (reason : Reason) → IsFound command call.shelf.before.holds reason
+      → IsHonestFor command call.shelf reason → EndsWith (status_by reason) status
+  -- where every file is accepted and nothing fails, only memory can be wanting
+  pub complete : (command : Command) → Asks call.words command
+      → AcceptsAll command call.shelf.before.holds → IsCalm command call
+      → (status ≤ 1) ⊎ (status ≡ 5)
   -- no file is changed
   pub held : (path : List ℕ) → call.shelf.after.holds path ≡ call.shelf.before.holds path

@@ -3,6 +3,7 @@ ghost use Rattle.std.specs.Prelude.{◌≡◌, ◌≢◌, ◌≤◌, ◌↔◌, 
 ghost use Rattle.rw_first.specs.FirstForm.{FirstModel, IsFirstForm, IsFirstFlows};
 ghost use Rattle.rw_first.specs.Table.{IsRunText as IsFirstText};
 ghost use Rattle.rw_io.specs.Causes.{Rose};
+ghost use Rattle.rw_io.specs.Known.{GrowsBy};
 ghost use Rattle.rw_log.specs.declared.fault.RunFault.{RunFault};
 ghost use Rattle.rw_log.specs.declared.run.RunEnd.TheVariants.{Settled, Fault};
 ghost use Rattle.rw_model.specs.Basin.{IsBasin};
@@ -14,9 +15,11 @@ ghost use Rattle.rw_log.specs.declared.run.RunEnd.{RunEnd};
 ghost use Rattle.rw_model_toml.specs.Refusal.{Refusal as Why};
 ghost use Rattle.rw_top.specs.Call.{Call};
 ghost use Rattle.rw_top.specs.Command.{AskFor, AskNothing};
+ghost use Rattle.rw_top.specs.FirstCall.{IsFirstCall};
 ghost use Rattle.rw_top.specs.Promise.{Promise, WroteRun};
 ghost use Rattle.rw_top.specs.Reading.{RefusesInputs, RefusesModel};
-ghost use Rattle.rw_top.specs.Refusal.{FailsToRead, FindsTooLong, WritesFront};
+ghost use Rattle.rw_top.specs.Refusal.{FailsToRead, FindsTooLong};
+ghost use Rattle.rw_top.specs.Written.{WritesFront};
 ghost use Rattle.rw_top.specs.RunText.{IsRunText};
 ghost use Rattle.rw_top.specs.declared.refusal.File.{File};
 
@@ -25,7 +28,8 @@ use rw_log::law::one_run;
 
 /// A text is read as inputs in one way, and isn't refused where it is read.
 pub fn one_inputs()
-    ensures values { (basin : Draft) (text : List ℕ) (inputs others : Inputs) → Reads basin text inputs → Reads basin text others
+    ensures values { (basin : Draft) (text : List ℕ) (inputs others : Inputs)
+        → Reads basin text inputs → Reads basin text others
         → (slot step : ℕ) → value_at inputs slot step ≡ value_at others slot step }
     ensures either { (basin : Draft) (text : List ℕ) (inputs : Inputs) (fault : InputFault)
         → Reads basin text inputs → ¬ Refuses basin text fault }
@@ -35,7 +39,8 @@ pub fn one_inputs()
 pub fn one_text()
     ensures { (basin : Draft) (inputs others : Inputs) (end other : RunEnd) (text more : List ℕ)
         → ((slot step : ℕ) → value_at inputs slot step ≡ value_at others slot step)
-        → IsRunText basin inputs end text → IsRunText basin others other more → (end ≡ other) × (text ≡ more) }
+        → IsRunText basin inputs end text → IsRunText basin others other more
+        → (end ≡ other) × (text ≡ more) }
 {
     one_run();
 }
@@ -43,24 +48,45 @@ pub fn one_text()
 /// Of one plain reservoir whose inflow and outflow are given, the text is the table that the simplest definition gives, by
 /// the sums of its flows. It says that the run settled exactly where no storage leaves its range.
 pub fn first_form()
-    ensures { (basin : Draft) (model : FirstModel) (inputs : Inputs) (inflows outflows : List ℤ) (end : RunEnd) (text : List ℕ)
-        → IsBasin basin → IsFirstForm basin model → IsFirstFlows inputs model.run.count inflows outflows → IsRunText basin inputs end text
-        → (fault : Option ℤ) × IsFirstText model inflows outflows fault text × ((fault ≡ None) ↔ (end ≡ Settled)) }
+    ensures { (basin : Draft) (model : FirstModel) (inputs : Inputs) (inflows outflows : List ℤ)
+        → IsBasin basin → IsFirstForm basin model
+        → IsFirstFlows inputs model.run.count inflows outflows
+        → (end : RunEnd) (text : List ℕ) → IsRunText basin inputs end text
+        → (fault : Option ℤ) × IsFirstText model inflows outflows fault text
+        × ((fault ≡ None) ↔ (end ≡ Settled)) }
 {
     first_text();
+}
+
+/// A call that did such a run wrote that table, and its status is 0 exactly where no storage leaves its range.
+pub fn first_call()
+    ensures { (call : Call) (status : ℕ) (model : FirstModel) (inflows outflows : List ℤ)
+        → Promise call status → status ≤ 1 → IsFirstCall call model inflows outflows
+        → (fault : Option ℤ) × (text : List ℕ) × IsFirstText model inflows outflows fault text
+        × GrowsBy call.out.before.contents call.out.after.contents text
+        × ((fault ≡ None) ↔ (status ≡ 0)) }
+{
+    first_form();
 }
 
 /// What each status says of a call that keeps its promise. 5 says nothing: want of memory may always come.
 pub fn statuses()
     ensures settled { (call : Call) → Promise call 0 → WroteRun call Settled }
-    ensures faulted { (call : Call) → Promise call 1 → (why : RunFault) × WroteRun call (Fault why) }
+    ensures faulted { (call : Call) → Promise call 1
+        → (why : RunFault) × WroteRun call (Fault why) }
     ensures words { (call : Call) → Promise call 2 → AskNothing call.words }
-    ensures read_fault { (call : Call) → Promise call 3 → AskFor call.words (λ command. (file : File) × FailsToRead command call.shelf file) }
-    ensures write_fault { (call : Call) → Promise call 4 → Rose call.out.before.faults call.out.after.faults }
-    ensures write_front { (call : Call) → Promise call 4 → AskFor call.words (λ command. WritesFront command call.shelf.before.holds call.out) }
-    ensures model { (call : Call) → Promise call 6 → AskFor call.words (λ command. (why : Why) × RefusesModel command call.shelf.before.holds why) }
-    ensures inputs { (call : Call) → Promise call 8 → AskFor call.words (λ command. (fault : InputFault) × RefusesInputs command call.shelf.before.holds fault) }
-    ensures too_long { (call : Call) → Promise call 10 → AskFor call.words (λ command. (file : File) × FindsTooLong command call.shelf file) }
+    ensures read_fault { (call : Call) → Promise call 3
+        → AskFor call.words (λ command. (file : File) × FailsToRead command call.shelf file) }
+    ensures write_fault { (call : Call) → Promise call 4
+        → Rose call.out.before.faults call.out.after.faults }
+    ensures write_front { (call : Call) → Promise call 4
+        → AskFor call.words (λ command. WritesFront command call.shelf.before.holds call.out) }
+    ensures model { (call : Call) → Promise call 6 → AskFor call.words
+        (λ command. (why : Why) × RefusesModel command call.shelf.before.holds why) }
+    ensures inputs { (call : Call) → Promise call 8 → AskFor call.words
+        (λ command. (fault : InputFault) × RefusesInputs command call.shelf.before.holds fault) }
+    ensures too_long { (call : Call) → Promise call 10
+        → AskFor call.words (λ command. (file : File) × FindsTooLong command call.shelf file) }
     ensures untouched { (call : Call) (status : ℕ) → Promise call status → 2 ≤ status → status ≢ 4
         → call.out.after.contents ≡ call.out.before.contents }
 {}

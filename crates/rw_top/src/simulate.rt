@@ -2,16 +2,17 @@ ghost use Rattle.std.specs.Prelude.{◌≡◌, ℕ, List, Ok, map, IfErr, IfOk, 
 ghost use Rattle.rw_inputs.specs.Inputs.{IsInputsOf};
 ghost use Rattle.rw_inputs.specs.Reading.{Reads};
 ghost use Rattle.rw_io.specs.Causes.{NoneFell};
+ghost use Rattle.rw_io.specs.Outside.{change};
+ghost use Rattle.rw_method.specs.Catalogue.{AreInOrder};
 ghost use Rattle.rw_model_toml.specs.Fault.{IsWhy};
 ghost use Rattle.rw_model_toml.specs.Model.{model_of};
-ghost use Rattle.rw_io.specs.Outside.{change};
-ghost use Rattle.rw_top.specs.Command.{AskFor, texts_of, model_path, inputs_path, simulated};
-ghost use Rattle.rw_method.specs.Catalogue.{AreInOrder};
-ghost use Rattle.rw_top.specs.Reading.{ReadsModel, ReadsBoth};
-ghost use Rattle.rw_top.specs.Refusal.{Cause, FileCause, IsModelRefusal, IsInputRefusal, ReadCause, WritesAll};
+ghost use Rattle.rw_top.specs.Command.{command_of, path_of};
+ghost use Rattle.rw_top.specs.Reading.{Reaches, ReadsBoth, ReadsModel, WasRead};
+ghost use Rattle.rw_top.specs.Refusal.{Cause, FileCause, IsModelRefusal, IsInputRefusal};
 ghost use Rattle.rw_top.specs.RunText.{IsRunText};
+ghost use Rattle.rw_top.specs.Written.{WritesAll};
 
-use crate::words::read_words;
+use crate::words::Command;
 use crate::{File, Refusal};
 use rw_base::NoMemory;
 use rw_engine::{RunEnd, run_all};
@@ -59,60 +60,81 @@ fn judge_inputs(alloc: Global, basin: &Basin, text: &[u8]) -> Result<Inputs, Ref
     }
 }
 
-// Reads and judges the model that the words name.
-fn read_basin<S: Shelf>(
+// The whole of a file that the command names, where each file before it is accepted.
+fn read_file<S: Shelf>(
     alloc: Global,
-    words: &[String],
-    path: &str,
+    command: &Command<'_>,
+    file: File,
     shelf: &mut S,
-) -> Result<Basin, Refusal>
-    requires path { path.now ≡ model_path (texts_of words.now) }
-    ensures read { MatchResult result (ReadsModel (simulated (texts_of words.now)) (S.seen shelf.old).holds)
-        (FileCause (simulated (texts_of words.now)) (change (S.seen shelf.old) (S.seen shelf.new))) }
+) -> Result<Vec<u8>, Refusal>
+    requires reached { Reaches (command_of command.now) (S.seen shelf.old).holds file }
+    ensures read { MatchResult result
+        (λ text. WasRead (S.seen shelf.old).holds
+        (path_of (command_of command.now) file) text.items)
+        (FileCause (command_of command.now) (change (S.seen shelf.old) (S.seen shelf.new))) }
     ensures held { (p : List ℕ) → (S.seen shelf.new).holds p ≡ (S.seen shelf.old).holds p }
     ensures later { NoneFell (S.seen shelf.old).faults (S.seen shelf.new).faults }
 {
-    match read_all(alloc, shelf, path) {
-        Ok(text) => judge_model(alloc, &text),
-        Err(end) => Err(Refusal::after(end, File::Model)),
+    match read_all(alloc, shelf, command.path(file)) {
+        Ok(text) => Ok(text),
+        Err(end) => Err(Refusal::after(end, file)),
     }
 }
 
-// Reads and judges the inputs that the words name, for the basin that they name.
+// Reads and judges the model of the command.
+fn read_basin<S: Shelf>(
+    alloc: Global,
+    command: &Command<'_>,
+    shelf: &mut S,
+) -> Result<Basin, Refusal>
+    ensures read { MatchResult result
+        (ReadsModel (command_of command.now) (S.seen shelf.old).holds)
+        (FileCause (command_of command.now) (change (S.seen shelf.old) (S.seen shelf.new))) }
+    ensures held { (p : List ℕ) → (S.seen shelf.new).holds p ≡ (S.seen shelf.old).holds p }
+    ensures later { NoneFell (S.seen shelf.old).faults (S.seen shelf.new).faults }
+{
+    match read_file(alloc, command, File::Model, shelf) {
+        Ok(text) => judge_model(alloc, &text),
+        Err(refusal) => Err(refusal),
+    }
+}
+
+// Reads and judges the inputs of the command, for the basin that its model describes.
 fn read_given<S: Shelf>(
     alloc: Global,
-    words: &[String],
+    command: &Command<'_>,
     basin: &Basin,
-    path: &str,
     shelf: &mut S,
 ) -> Result<Inputs, Refusal>
-    requires model { ReadsModel (simulated (texts_of words.now)) (S.seen shelf.old).holds basin.now }
-    requires path { path.now ≡ inputs_path (texts_of words.now) }
-    ensures read { MatchResult result (ReadsBoth (simulated (texts_of words.now)) (S.seen shelf.old).holds basin.now)
-        (FileCause (simulated (texts_of words.now)) (change (S.seen shelf.old) (S.seen shelf.new))) }
+    requires model { ReadsModel (command_of command.now) (S.seen shelf.old).holds basin.now }
+    ensures read { MatchResult result
+        (ReadsBoth (command_of command.now) (S.seen shelf.old).holds basin.now)
+        (FileCause (command_of command.now) (change (S.seen shelf.old) (S.seen shelf.new))) }
     ensures held { (p : List ℕ) → (S.seen shelf.new).holds p ≡ (S.seen shelf.old).holds p }
 {
-    match read_all(alloc, shelf, path) {
+    match read_file(alloc, command, File::Inputs, shelf) {
         Ok(text) => judge_inputs(alloc, basin, &text),
-        Err(end) => Err(Refusal::after(end, File::Inputs)),
+        Err(refusal) => Err(refusal),
     }
 }
 
-// Reads and judges the files that the words name, each before the next.
-fn read_files<S: Shelf>(alloc: Global, words: &[String], shelf: &mut S) -> Result<Files, Refusal>
+// Reads and judges the files of the command, each before the next.
+fn read_files<S: Shelf>(
+    alloc: Global,
+    command: &Command<'_>,
+    shelf: &mut S,
+) -> Result<Files, Refusal>
     ensures read { MatchResult result
-        (λ files. AskFor (texts_of words.now) (λ command. ReadsBoth command (S.seen shelf.old).holds files.basin files.inputs))
-        (ReadCause (texts_of words.now) (change (S.seen shelf.old) (S.seen shelf.new))) }
+        (λ files. ReadsBoth (command_of command.now) (S.seen shelf.old).holds
+        files.basin files.inputs)
+        (FileCause (command_of command.now) (change (S.seen shelf.old) (S.seen shelf.new))) }
     ensures held { (p : List ℕ) → (S.seen shelf.new).holds p ≡ (S.seen shelf.old).holds p }
 {
-    let Some(command) = read_words(words) else {
-        return Err(Refusal::Words);
-    };
-    let basin = match read_basin(alloc, words, command.model, shelf) {
+    let basin = match read_basin(alloc, command, shelf) {
         Ok(basin) => basin,
         Err(refusal) => return Err(refusal),
     };
-    match read_given(alloc, words, &basin, command.inputs, shelf) {
+    match read_given(alloc, command, &basin, shelf) {
         Ok(inputs) => Ok(Files { basin, inputs }),
         Err(refusal) => Err(refusal),
     }
@@ -133,21 +155,22 @@ fn run_text(
     Ok((text, run.end))
 }
 
-/// Writes the text of the run that the words ask for, and says how the run ended.
+/// Writes the text of the run that the command asks for, and says how the run ended.
 pub(crate) fn simulate<S: Shelf, K: Sink>(
     alloc: Global,
-    words: &[String],
+    command: &Command<'_>,
     shelf: &mut S,
     out: &mut K,
     methods: &Catalogue,
 ) -> Result<RunEnd, Refusal>
     requires order { AreInOrder (map (λ b. code (b.vtable, b.value)) methods.now.methods.items) }
-    ensures wrote { IfOk result (λ end. AskFor (texts_of words.now)
-        (λ command. WritesAll command (S.seen shelf.old).holds (change (K.seen out.old) (K.seen out.new)) end)) }
-    ensures cause { IfErr result (Cause (texts_of words.now) (change (S.seen shelf.old) (S.seen shelf.new)) (change (K.seen out.old) (K.seen out.new))) }
+    ensures wrote { IfOk result (WritesAll (command_of command.now) (S.seen shelf.old).holds
+        (change (K.seen out.old) (K.seen out.new))) }
+    ensures cause { IfErr result (Cause (command_of command.now)
+        (change (S.seen shelf.old) (S.seen shelf.new)) (change (K.seen out.old) (K.seen out.new))) }
     ensures held { (p : List ℕ) → (S.seen shelf.new).holds p ≡ (S.seen shelf.old).holds p }
 {
-    let files = match read_files(alloc, words, shelf) {
+    let files = match read_files(alloc, command, shelf) {
         Ok(files) => files,
         Err(refusal) => return Err(refusal),
     };

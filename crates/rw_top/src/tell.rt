@@ -1,37 +1,26 @@
 ghost use Rattle.std.specs.Prelude.{◌≡◌, ◌≤◌, ◌++◌, codes, MatchBool};
 ghost use Rattle.rw_io.specs.Causes.{Rose};
 ghost use Rattle.rw_io.specs.Known.{GrowsBy, PrefixGrew};
-ghost use Rattle.rw_top.specs.Command.{texts_of, word_for};
+ghost use Rattle.rw_top.specs.Command.{command_of};
 ghost use Rattle.rw_io.specs.Outside.{change};
-ghost use Rattle.rw_top.specs.Refusal.{Tells};
-ghost use Rattle.rw_top.specs.Lines.{inputs_line, line_of, model_line};
+ghost use Rattle.rw_top.specs.Written.{Tells};
+ghost use Rattle.rw_top.specs.Lines.{inputs_line, line_of, model_line, words_line};
 
+use crate::Refusal;
 use crate::phrase::{build_words, calendar_words, input_words, table_words};
-use crate::{File, Refusal};
+use crate::words::Command;
 use itoa::Buffer;
 use rw_inputs::InputKind;
 use rw_io::{Sink, write_all};
 use rw_model_toml::ModelFault;
 
-// The path of a file, as the words give it.
-fn path_in(words: &[String], file: File) -> &str
-    ensures { result.now ≡ word_for (texts_of words.entry.now) file }
-{
-    let place = match file {
-        File::Model => 1,
-        File::Inputs => 2,
-    };
-    match words.get(place) {
-        Some(word) => word.as_str(),
-        None => "",
-    }
-}
-
 // Writes a part of a line, and says whether all of it was taken.
 fn tell_part<E: Sink>(err: &mut E, part: &str) -> bool
     ensures later { (E.seen err.old).faults ≤ (E.seen err.new).faults }
-    ensures told { MatchBool result (GrowsBy (E.seen err.old).contents (E.seen err.new).contents part.now)
-        (PrefixGrew (E.seen err.old).contents (E.seen err.new).contents part.now × Rose (E.seen err.old).faults (E.seen err.new).faults) }
+    ensures told { MatchBool result
+        (GrowsBy (E.seen err.old).contents (E.seen err.new).contents part.now)
+        (PrefixGrew (E.seen err.old).contents (E.seen err.new).contents part.now
+        × Rose (E.seen err.old).faults (E.seen err.new).faults) }
 {
     write_all(err, part.as_bytes()).is_ok()
 }
@@ -39,8 +28,10 @@ fn tell_part<E: Sink>(err: &mut E, part: &str) -> bool
 // The same, of two parts one after the other.
 fn tell_two<E: Sink>(err: &mut E, first: &str, second: &str) -> bool
     ensures later { (E.seen err.old).faults ≤ (E.seen err.new).faults }
-    ensures told { MatchBool result (GrowsBy (E.seen err.old).contents (E.seen err.new).contents (first.now ++ second.now))
-        (PrefixGrew (E.seen err.old).contents (E.seen err.new).contents (first.now ++ second.now) × Rose (E.seen err.old).faults (E.seen err.new).faults) }
+    ensures told { MatchBool result
+        (GrowsBy (E.seen err.old).contents (E.seen err.new).contents (first.now ++ second.now))
+        (PrefixGrew (E.seen err.old).contents (E.seen err.new).contents (first.now ++ second.now)
+        × Rose (E.seen err.old).faults (E.seen err.new).faults) }
 {
     if tell_part(err, first) {
         tell_part(err, second)
@@ -51,7 +42,8 @@ fn tell_two<E: Sink>(err: &mut E, first: &str, second: &str) -> bool
 
 // Writes a line of two parts, as far as the sink takes it.
 fn tell_line<E: Sink>(err: &mut E, first: &str, second: &str)
-    ensures { Tells (change (E.seen err.old) (E.seen err.new)) ((first.now ++ second.now) ++ codes "\n") }
+    ensures { Tells (change (E.seen err.old) (E.seen err.new))
+        ((first.now ++ second.now) ++ codes "\n") }
 {
     if !tell_two(err, first, second) {
         return;
@@ -106,7 +98,8 @@ fn tell_model<E: Sink>(err: &mut E, fault: &ModelFault)
 // Writes a line of a row, a column and what is wrong there.
 fn tell_place<E: Sink>(err: &mut E, row: &str, column: &str, wrong: &str)
     ensures { Tells (change (E.seen err.old) (E.seen err.new))
-        ((codes "basin: inputs: row " ++ row.now) ++ ((codes " column " ++ column.now) ++ ((codes ": " ++ wrong.now) ++ codes "\n"))) }
+        ((codes "basin: inputs: row " ++ row.now)
+        ++ ((codes " column " ++ column.now) ++ ((codes ": " ++ wrong.now) ++ codes "\n"))) }
 {
     if tell_two(err, "basin: inputs: row ", row) {
         tell_wrong(err, " column ", column, wrong);
@@ -123,17 +116,25 @@ fn tell_inputs<E: Sink>(err: &mut E, kind: InputKind, row: u32, column: u8)
     tell_place(err, row, column, input_words(kind));
 }
 
-/// Writes the line on a refusal, as far as the sink takes it. It takes no memory.
-pub(crate) fn tell<E: Sink>(err: &mut E, words: &[String], refusal: &Refusal)
-    ensures { Tells (change (E.seen err.old) (E.seen err.new)) (line_of (texts_of words.now) refusal.now) }
+/// Writes the line on words that ask for nothing, as far as the sink takes it. It takes no memory.
+pub(crate) fn tell_words<E: Sink>(err: &mut E)
+    ensures { Tells (change (E.seen err.old) (E.seen err.new)) words_line }
+{
+    tell_line(err, "basin: words refused", "");
+}
+
+/// Writes the line on a refusal of the command, as far as the sink takes it. It takes no memory.
+pub(crate) fn tell<E: Sink>(err: &mut E, command: &Command<'_>, refusal: &Refusal)
+    ensures { Tells (change (E.seen err.old) (E.seen err.new))
+        (line_of (command_of command.now) refusal.now) }
 {
     match refusal {
-        Refusal::Words => tell_line(err, "basin: words refused", ""),
-        Refusal::CannotRead(file) => tell_line(err, "basin: cannot read ", path_in(words, *file)),
+        Refusal::Words => tell_words(err),
+        Refusal::CannotRead(file) => tell_line(err, "basin: cannot read ", command.path(*file)),
         Refusal::CannotWrite => tell_line(err, "basin: cannot write", ""),
         Refusal::NoMemory => tell_line(err, "basin: want of memory", ""),
         Refusal::Model(fault) => tell_model(err, fault),
         Refusal::Inputs(kind, row, column) => tell_inputs(err, *kind, *row, *column),
-        Refusal::TooLong(file) => tell_line(err, "basin: too long ", path_in(words, *file)),
+        Refusal::TooLong(file) => tell_line(err, "basin: too long ", command.path(*file)),
     }
 }

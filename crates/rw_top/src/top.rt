@@ -6,7 +6,8 @@ ghost use Rattle.rw_top.specs.Promise.{Promise};
 
 use crate::Refusal;
 use crate::simulate::simulate;
-use crate::tell::tell;
+use crate::tell::{tell, tell_words};
+use crate::words::read_words;
 use rw_base::{Ledger, Steps};
 use rw_engine::RunEnd;
 use rw_io::{Shelf, Sink};
@@ -38,11 +39,15 @@ pub fn basin_main<S: Shelf, K: Sink, E: Sink, L: Ledger>(
       err = change (E.seen err.old) (E.seen err.new);
     }) result }
 {
-    match simulate(alloc, words, shelf, out, methods) {
+    let Some(command) = read_words(words) else {
+        tell_words(err);
+        return Refusal::Words.status();
+    };
+    match simulate(alloc, &command, shelf, out, methods) {
         Ok(RunEnd::Settled) => 0,
         Ok(RunEnd::Fault(_)) => 1,
         Err(refusal) => {
-            tell(err, words, &refusal);
+            tell(err, &command, &refusal);
             refusal.status()
         }
     }

@@ -1,11 +1,25 @@
-ghost use Rattle.std.specs.Prelude.{◌≡◌, MatchBool, MatchOption, IfSome};
-ghost use Rattle.rw_top.specs.Command.{IsPath, IsCommand, inputs_path, model_path, texts_of};
+ghost use Rattle.std.specs.Prelude.{◌≡◌, MatchBool, MatchOption};
+ghost use Rattle.rw_top.specs.Command.{Asks, AskNothing, IsPath, command_of, path_of, texts_of};
+
+use crate::File;
 
 /// The paths that a command names.
 #[derive(Clone, Copy)]
 pub(crate) struct Command<'w> {
     pub(crate) model: &'w str,
     pub(crate) inputs: &'w str,
+}
+
+impl<'w> Command<'w> {
+    /// The path of a file that it reads.
+    pub(crate) fn path(&self, file: File) -> &'w str
+        ensures { result.now ≡ path_of (command_of self.now) file }
+    {
+        match file {
+            File::Model => self.model,
+            File::Inputs => self.inputs,
+        }
+    }
 }
 
 fn is_path(word: &str) -> bool
@@ -17,11 +31,10 @@ fn is_path(word: &str) -> bool
     }
 }
 
-/// The command, if the words are one.
+/// The command that the words ask for, if they ask for one.
 pub(crate) fn read_words(words: &[String]) -> Option<Command<'_>>
-    ensures command { MatchOption result (¬ IsCommand (texts_of words.entry.now)) (λ _. IsCommand (texts_of words.entry.now)) }
-    ensures model { IfSome result (λ command. command.model.now ≡ model_path (texts_of words.entry.now)) }
-    ensures inputs { IfSome result (λ command. command.inputs.now ≡ inputs_path (texts_of words.entry.now)) }
+    ensures { MatchOption result (AskNothing (texts_of words.entry.now))
+        (λ command. Asks (texts_of words.entry.now) (command_of command)) }
 {
     let [command, model, inputs] = words else {
         return None;

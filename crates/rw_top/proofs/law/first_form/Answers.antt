@@ -4,7 +4,7 @@ use Rattle.rw_first.specs.Table.{IsRunText as IsFirstText}
 use Rattle.rw_top.proofs.law.first_form.Goals as goal
 
 pub returns : goal.returns
-returns c = λ basin model inputs inflows outflows end text valid form flows written.
+returns c = λ basin model inputs inflows outflows valid form flows end text written.
     let first = c.first_text.ensures basin model inputs inflows outflows written.log valid form flows written.run in (
       first.0,
       subst (IsFirstText model inflows outflows first.0) (sym written.text_is) first.1,

@@ -8,22 +8,22 @@ pub returns-clause-faulted : goal.returns-clause-faulted
 returns-clause-faulted c = status.faulted
 
 pub returns-clause-words : goal.returns-clause-words
-returns-clause-words c = status.words
+returns-clause-words c = λ call. status.words call
 
 pub returns-clause-read_fault : goal.returns-clause-read_fault
-returns-clause-read_fault c = status.read_fault
+returns-clause-read_fault c = λ call. status.read_fault call
 
 pub returns-clause-model : goal.returns-clause-model
-returns-clause-model c = status.model
+returns-clause-model c = λ call. status.model call
 
 pub returns-clause-inputs : goal.returns-clause-inputs
-returns-clause-inputs c = status.inputs
+returns-clause-inputs c = λ call. status.inputs call
 
 pub returns-clause-too_long : goal.returns-clause-too_long
-returns-clause-too_long c = status.too_long
+returns-clause-too_long c = λ call. status.too_long call
 
 pub returns-clause-untouched : goal.returns-clause-untouched
-returns-clause-untouched c = status.untouched
+returns-clause-untouched c = λ call. status.untouched call
 
 pub returns-clause-write_fault : goal.returns-clause-write_fault
 returns-clause-write_fault c = λ call promise. (status.write call promise).1

@@ -1,10 +1,10 @@
 use Rattle.rw_top.proofs.tell.tell.Goals as goal
 
 pub returns-in-CannotRead : goal.returns-in-CannotRead
-returns-in-CannotRead g c = rw c.in-CannotRead.is (rw c.path_in.ensures at c.tell_line-in-CannotRead.ensures)
+returns-in-CannotRead g c = rw c.in-CannotRead.is (rw c.path.ensures at c.tell_line.ensures)
 
 pub returns-in-TooLong : goal.returns-in-TooLong
-returns-in-TooLong g c = rw c.in-TooLong.is (rw c.path_in-in-TooLong.ensures at c.tell_line-in-TooLong.ensures)
+returns-in-TooLong g c = rw c.in-TooLong.is (rw c.path-in-TooLong.ensures at c.tell_line-in-TooLong.ensures)
 
 pub returns-in-CannotWrite : goal.returns-in-CannotWrite
 returns-in-CannotWrite g c = rw c.in-CannotWrite.is c.tell_line-in-CannotWrite.ensures

@@ -1,34 +1,37 @@
--- Grounds on which a command has to be refused, in the definitions' own terms.
+-- Reasons on which a command has to be refused, in the definitions' own terms.
 use Rattle.std.specs.Prelude.{ℕ}
 use Rattle.rw_inputs.specs.declared.fault.InputFault.{InputFault}
 use Rattle.rw_model_toml.specs.Refusal.{Refusal as Why}
 use Rattle.rw_io.specs.Outside.{Change, Holds, ShelfView}
 use Rattle.rw_top.specs.Command.{Command}
-use Rattle.rw_top.specs.Reading.{IsHonestUpTo, RefusesInputs, RefusesModel}
-use Rattle.rw_top.specs.Refusal.{HoldsTooLong}
+use Rattle.rw_top.specs.Reading.{HoldsTooLong, IsHonestUpTo, RefusesInputs, RefusesModel}
 use Rattle.rw_top.specs.declared.refusal.File.{File}
 use Rattle.rw_top.specs.declared.refusal.File.TheVariants.{Model, Inputs}
 
 -- its model, its inputs, or a file that is too long
-pub data Ground : Type 0 where
-  BadModel : Why → Ground
-  BadInputs : InputFault → Ground
-  LongFile : File → Ground
+pub data Reason : Type 0 where
+  BadModel : Why → Reason
+  BadInputs : InputFault → Reason
+  LongFile : File → Reason
 
--- the status of a call that is refused on that ground
-abbrev pub status_by : Ground → ℕ
+-- the status of a call that is refused on that reason
+abbrev pub status_by : Reason → ℕ
 status_by (BadModel why) = 6
 status_by (BadInputs fault) = 8
 status_by (LongFile file) = 10
 
+-- the file of which it is found
+abbrev pub file_of : Reason → File
+file_of (BadModel why) = Model
+file_of (BadInputs fault) = Inputs
+file_of (LongFile file) = file
+
 -- it is found, of a command and what the shelf holds
-abbrev pub IsFound : Command → Holds → Ground → Type 0
+abbrev pub IsFound : Command → Holds → Reason → Type 0
 IsFound command holds (BadModel why) = RefusesModel command holds why
 IsFound command holds (BadInputs fault) = RefusesInputs command holds fault
 IsFound command holds (LongFile file) = HoldsTooLong command holds file
 
 -- the shelf is honest of each file that is read up to there
-abbrev pub IsHonestFor : Command → Change ShelfView → Ground → Type 0
-IsHonestFor command shelf (BadModel why) = IsHonestUpTo command shelf Model
-IsHonestFor command shelf (BadInputs fault) = IsHonestUpTo command shelf Inputs
-IsHonestFor command shelf (LongFile file) = IsHonestUpTo command shelf file
+abbrev pub IsHonestFor : Command → Change ShelfView → Reason → Type 0
+IsHonestFor command shelf reason = IsHonestUpTo command shelf (file_of reason)

@@ -1,0 +1,135 @@
+-- Causes as the code comes to them, step by step.
+use Rattle.std.proofs.Common.{◌≡◌, ◌≢◌, inl, inr, ℕ, ◌<◌, List, refl, sym, ap, arith, subst, Some, None, Option, option_map, Result, Ok, Err, IsErrOf, MatchResult}
+use Rattle.rw_inputs.specs.declared.fault.InputFault.TheVariants.{Refused}
+use Rattle.rw_inputs.specs.Inputs.{Inputs as Given}
+use Rattle.rw_inputs.specs.Reading.{Reads}
+use Rattle.rw_io.specs.Causes.{NoneFell, Rose}
+use Rattle.rw_io.specs.Outside.{Change, Holds, ShelfView, SinkView, change}
+use Rattle.rw_io.specs.declared.whole_file.TheConstants.{FILE_MAX}
+use Rattle.rw_io.specs.declared.whole_file.ReadEnd.{ReadEnd}
+use Rattle.rw_io.specs.declared.whole_file.ReadEnd.TheVariants.{ReadFault, TooLong as EndTooLong, NoMemory as EndNoMemory}
+use Rattle.rw_model.specs.Draft.{Draft}
+use Rattle.rw_model_toml.specs.Fault.{refusal_of}
+use Rattle.rw_model_toml.specs.Model.{model_of}
+use Rattle.rw_model_toml.specs.Refusal.{Refusal as Why}
+use Rattle.rw_model_toml.specs.declared.fault.ModelFault.{ModelFault}
+use Rattle.rw_model_toml.specs.declared.fault.ModelFault.TheVariants.{NotToml, Missing, WrongKind, UnknownKey, UnknownKind, Build, Table, Calendar, NoMemory as NoMemoryForModel}
+use Rattle.rw_top.specs.Command.{Command, path_of}
+use Rattle.rw_top.specs.Reason.{Reason, BadModel, BadInputs, LongFile, status_by}
+use Rattle.rw_top.specs.Reading.{IsTooLong, Reaches, ReadsBoth, ReadsModel, WasRead}
+use Rattle.rw_top.specs.Refusal.{Cause, FileCause, IsInputRefusal, IsModelRefusal, TellsReason, WasFound, reason_of, refusal_after, status_of}
+use Rattle.rw_top.specs.declared.refusal.File.{File}
+use Rattle.rw_top.specs.declared.refusal.File.TheVariants.{Model as ModelFile, Inputs as InputsFile}
+use Rattle.rw_top.specs.declared.refusal.Refusal.{Refusal}
+use Rattle.rw_top.specs.declared.refusal.Refusal.TheVariants.{CannotRead, CannotWrite, NoMemory, Model, Inputs, TooLong}
+
+-- every fault of a model but want of memory tells why
+pub tells_why : (fault : ModelFault) → fault ≢ NoMemoryForModel → (why : Why) × (refusal_of fault ≡ Some why)
+tells_why NotToml other = (_, refl)
+tells_why (Missing path) other = (_, refl)
+tells_why (WrongKind path) other = (_, refl)
+tells_why (UnknownKey path) other = (_, refl)
+tells_why (UnknownKind path) other = (_, refl)
+tells_why (Build path fault) other = (_, refl)
+tells_why (Table path fault) other = (_, refl)
+tells_why (Calendar fault) other = (_, refl)
+tells_why NoMemoryForModel other = absurd (other refl)
+
+-- a refusal that tells a reason has the status of the reason
+told_model : (why : Option Why) (reason : Reason) → option_map (λ bad. BadModel bad) why ≡ Some reason → 6 ≡ status_by reason
+told_model None reason tells = absurd cc
+told_model (Some why) reason tells = let same : BadModel why ≡ reason = cc in ap status_by same
+
+pub told_status : (why : Refusal) (reason : Reason) → reason_of why ≡ Some reason → status_of why ≡ status_by reason
+told_status (Model fault) reason tells = told_model (refusal_of fault) reason tells
+told_status (Inputs kind row column) reason tells = let same : BadInputs (Refused kind row column) ≡ reason = cc in ap status_by same
+told_status (TooLong file) reason tells = let same : LongFile file ≡ reason = cc in ap status_by same
+told_status why reason tells = absurd cc
+
+-- a refusal that tells a reason has it as its cause
+pub tells_cause : (command : Command) (shelf : Change ShelfView) (why : Refusal) → TellsReason command shelf why → FileCause command shelf why
+tells_cause command shelf (CannotRead file) told = let tells : None ≡ Some told.reason = told.tells in absurd cc
+tells_cause command shelf NoMemory told = tt
+tells_cause command shelf why told = told
+
+no_memory : (command : Command) (shelf : Change ShelfView) (why : Refusal) → why ≡ NoMemory → FileCause command shelf why
+no_memory command shelf why is = subst (FileCause command shelf) (sym is) tt
+
+-- why a file isn't read whole
+pub read_cause : {A : Type 0} (command : Command) (shelf : Change ShelfView) (file : File) (end : ReadEnd) (result : Result A ReadEnd) → result ≡ Err end → Reaches command shelf.before.holds file
+    → (IsErrOf result ReadFault → Rose (shelf.before.faults (path_of command file)) (shelf.after.faults (path_of command file)))
+    → (IsErrOf result EndTooLong → FILE_MAX < shelf.after.given)
+    → (IsErrOf result EndTooLong → IsTooLong shelf.before.holds (path_of command file))
+    → FileCause command shelf (refusal_after end file)
+read_cause command shelf file ReadFault result is reached fault long longer = record { reached = reached; rose = fault is }
+read_cause command shelf file EndTooLong result is reached fault long longer = record {
+  reason = LongFile file;
+  tells = refl;
+  found = record { holds_too_long = record { reached = reached; longer = longer is }; more = long is };
+}
+read_cause command shelf file EndNoMemory result is reached fault long longer = tt
+
+-- why a model that was read isn't accepted
+model_cause : (command : Command) (shelf : Change ShelfView) (text : List ℕ) (why : Refusal)
+    → WasRead shelf.before.holds (path_of command ModelFile) text → IsModelRefusal text why → FileCause command shelf why
+model_cause command shelf text why read (inl is) = no_memory command shelf why is
+model_cause command shelf text why read (inr bad) = tells_cause command shelf why (record {
+  reason = BadModel bad.0;
+  tells = bad.1;
+  found = record { text = text; read = read; is = bad.2 };
+})
+
+pub judged_model : (command : Command) (shelf : Change ShelfView) (text : List ℕ) (result : Result Draft Refusal)
+    → WasRead shelf.before.holds (path_of command ModelFile) text
+    → MatchResult result (λ basin. model_of text ≡ Ok basin) (IsModelRefusal text)
+    → MatchResult result (ReadsModel command shelf.before.holds) (FileCause command shelf)
+judged_model command shelf text (Ok basin) read is = record { text = text; read = read; is = is }
+judged_model command shelf text (Err why) read bad = model_cause command shelf text why read bad
+
+-- and why inputs aren't
+inputs_cause : (command : Command) (shelf : Change ShelfView) (basin : Draft) (text : List ℕ) (why : Refusal)
+    → ReadsModel command shelf.before.holds basin → WasRead shelf.before.holds (path_of command InputsFile) text
+    → IsInputRefusal basin text why → FileCause command shelf why
+inputs_cause command shelf basin text why model read (inl is) = no_memory command shelf why is
+inputs_cause command shelf basin text why model read (inr bad) = tells_cause command shelf why (record {
+  reason = BadInputs bad.0;
+  tells = bad.1;
+  found = record { basin = basin; model = model; text = text; read = read; are = bad.2 };
+})
+
+pub judged_inputs : (command : Command) (shelf : Change ShelfView) (basin : Draft) (text : List ℕ) (result : Result Given Refusal)
+    → ReadsModel command shelf.before.holds basin → WasRead shelf.before.holds (path_of command InputsFile) text
+    → MatchResult result (Reads basin text) (IsInputRefusal basin text)
+    → MatchResult result (ReadsBoth command shelf.before.holds basin) (FileCause command shelf)
+judged_inputs command shelf basin text (Ok inputs) model read are = record { model = model; text = text; read = read; are = are }
+judged_inputs command shelf basin text (Err why) model read bad = inputs_cause command shelf basin text why model read bad
+
+-- faults that are counted from earlier on
+since_reason : (command : Command) (first later now : ShelfView) (reason : Reason)
+    → WasFound command (change (record later { holds = first.holds }) now) reason → WasFound command (change first now) reason
+since_reason command first later now (LongFile file) found = record { holds_too_long = found.holds_too_long; more = found.more }
+since_reason command first later now reason found = found
+
+since : (command : Command) (first later now : ShelfView) (why : Refusal) → NoneFell first.faults later.faults
+    → FileCause command (change (record later { holds = first.holds }) now) why → FileCause command (change first now) why
+since command first later now (CannotRead file) fell cause =
+    let least = fell (path_of command file) in
+    record { reached = cause.reached; rose = omega (arith, least, cause.rose) }
+since command first later now NoMemory fell cause = tt
+since command first later now why fell cause =
+    record { reason = cause.reason; tells = cause.tells; found = since_reason command first later now cause.reason cause.found }
+
+-- a cause that counts from later on counts from earlier on, of a shelf that holds the same
+pub cause_earlier : (command : Command) (first later now : ShelfView) (why : Refusal)
+    → ((path : List ℕ) → later.holds path ≡ first.holds path) → NoneFell first.faults later.faults
+    → FileCause command (change later now) why → FileCause command (change first now) why
+cause_earlier command first later now why same fell cause =
+    let one : later.holds ≡ first.holds = λ i path. same path i in
+    let P : Holds → Type 0 = λ holds. FileCause command (change (record later { holds = holds }) now) why in
+    since command first later now why fell (subst P one cause)
+
+-- a cause before anything was written is a cause of the refusal
+pub unwritten : (command : Command) (shelf : Change ShelfView) (out : Change SinkView) (why : Refusal)
+    → out.after.contents ≡ out.before.contents → FileCause command shelf why → Cause command shelf out why
+unwritten command shelf out CannotWrite still cause = let tells : None ≡ Some cause.reason = cause.tells in absurd cc
+unwritten command shelf out why still cause = (cause, still)

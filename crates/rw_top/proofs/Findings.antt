@@ -1,0 +1,159 @@
+-- What is found of a file is one thing, where the shelf tells what its path holds: the file is accepted, or refused with
+-- one status, or too long.
+use Rattle.std.proofs.Common.{◌≡◌, ◌⊎◌, inl, inr, ℕ, ◌<◌, ◌≤◌, List, length, refl, sym, ap, ◌∙◌, subst, arith, None, Some, Ok, Err, IfSome, Option, IsSome}
+use Rattle.std.proofs.lemmas.Bool.{cases_lt}
+use Rattle.rw_model.specs.Draft.{Draft}
+use Rattle.rw_model_toml.specs.Model.{model_of}
+use Rattle.rw_model_toml.specs.Refusal.{Refusal as Why}
+use Rattle.rw_inputs.specs.declared.fault.InputFault.{InputFault}
+use Rattle.rw_inputs.specs.Inputs.{Inputs as Given}
+use Rattle.rw_inputs.specs.Reading.{Refuses}
+use Rattle.rw_io.specs.Outside.{Holds}
+use Rattle.rw_io.specs.declared.whole_file.TheConstants.{FILE_MAX}
+use Rattle.rw_top.specs.Command.{Command, order, path_of}
+use Rattle.rw_top.specs.Reason.{Reason, BadModel, BadInputs, LongFile, IsFound, file_of, status_by}
+use Rattle.rw_top.specs.Reading.{Accepts, HoldsTooLong, IsTooLong, Reaches, ReadsBoth, ReadsModel, RefusesInputs, RefusesModel, WasRead}
+use Rattle.rw_top.specs.declared.refusal.File.{File}
+use Rattle.rw_top.specs.declared.refusal.File.TheVariants.{Model, Inputs}
+use Rattle.rw_top.proofs.OneReading.{refuses_clash}
+
+-- what was read of a path that is told is one text
+one_told : (o : Option (List ℕ)) (a b : List ℕ) → IsSome o → IfSome o (λ f. a ≡ f) → IfSome o (λ f. b ≡ f) → a ≡ b
+one_told None a b told h k = cc
+one_told (Some f) a b told h k = h ∙ sym k
+
+pub same_text : (holds : Holds) (path a b : List ℕ) → IsSome (holds path)
+    → WasRead holds path a → WasRead holds path b → a ≡ b
+same_text holds path a b told h k = one_told (holds path) a b told h.told k.told
+
+not_long : (o : Option (List ℕ)) (a : List ℕ) → IsSome o → IfSome o (λ f. FILE_MAX < length f)
+    → IfSome o (λ f. a ≡ f) → length a ≤ FILE_MAX → ⊥
+not_long None a told long h short = cc
+not_long (Some f) a told long h short = let longer : FILE_MAX < length a = rw h long in omega arith
+
+-- a path that was read isn't too long
+long_clash : (holds : Holds) (path a : List ℕ) → IsSome (holds path) → IsTooLong holds path → WasRead holds path a → ⊥
+long_clash holds path a told long h = not_long (holds path) a told long h.told h.short
+
+-- files of one place are one
+one_file : (a b : File) → order a ≡ order b → a ≡ b
+one_file Model Model same = refl
+one_file Inputs Inputs same = refl
+one_file a b same = absurd (omega (arith, same))
+
+-- the shelf tells of that file, and of each that is read before it
+abbrev pub IsToldUpTo : Command → Holds → File → Type 0
+IsToldUpTo command holds file = (it : File) → order it ≤ order file → IsSome (holds (path_of command it))
+
+module _ (command : Command) (holds : Holds) where
+  -- a model is read as one basin, and isn't refused where it is read
+  pub one_basin : (b c : Draft) → IsSome (holds (path_of command Model))
+      → ReadsModel command holds b → ReadsModel command holds c → b ≡ c
+  one_basin b c told m n =
+      let text = same_text holds (path_of command Model) m.text n.text told m.read n.read in
+      let both : Ok b ≡ Ok c = sym m.is ∙ ap model_of text ∙ n.is in
+      cc
+
+  model_clash : (why : Why) (b : Draft) → IsSome (holds (path_of command Model))
+      → RefusesModel command holds why → ReadsModel command holds b → ⊥
+  model_clash why b told r m =
+      let text = same_text holds (path_of command Model) r.text m.text told r.read m.read in
+      let both : Err why ≡ Ok b = sym r.is ∙ ap model_of text ∙ m.is in
+      cc
+
+  -- inputs that are refused aren't read
+  inputs_clash : (why : InputFault) (b : Draft) (i : Given)
+      → IsSome (holds (path_of command Model)) → IsSome (holds (path_of command Inputs))
+      → RefusesInputs command holds why → ReadsBoth command holds b i → ⊥
+  inputs_clash why b i model inputs r h =
+      let basin = one_basin r.basin b model r.model h.model in
+      let text = same_text holds (path_of command Inputs) r.text h.text inputs r.read h.read in
+      let there : Refuses b h.text why = subst (λ t. Refuses b t why) text (subst (λ d. Refuses d r.text why) basin r.are) in
+      refuses_clash b h.text i why h.are there
+
+  -- the file is refused, with this status
+  abbrev IsBad : File → ℕ → Type 0
+  IsBad Model status = (status ≡ 6) × ((why : Why) × RefusesModel command holds why)
+  IsBad Inputs status = (status ≡ 8) × ((why : InputFault) × RefusesInputs command holds why)
+
+  accepted_text : (file : File) → Accepts command holds file
+      → (text : List ℕ) × WasRead holds (path_of command file) text
+  accepted_text Model accepted = (accepted.1.text, accepted.1.read)
+  accepted_text Inputs accepted = (accepted.2.text, accepted.2.read)
+
+  bad_text : (file : File) (status : ℕ) → IsBad file status
+      → (text : List ℕ) × WasRead holds (path_of command file) text
+  bad_text Model status bad = (bad.1.1.text, bad.1.1.read)
+  bad_text Inputs status bad = (bad.1.1.text, bad.1.1.read)
+
+  one_status : (file : File) (a b : ℕ) → IsToldUpTo command holds file → IsBad file a → IsBad file b → a ≡ b
+  one_status Model a b told bad other = bad.0 ∙ sym other.0
+  one_status Inputs a b told bad other = bad.0 ∙ sym other.0
+
+  bad_clash : (file : File) (status : ℕ) → IsToldUpTo command holds file
+      → Accepts command holds file → IsBad file status → ⊥
+  bad_clash Model status told accepted bad =
+      model_clash bad.1.0 accepted.0 (told Model (omega arith)) bad.1.1 accepted.1
+  bad_clash Inputs status told accepted bad =
+      inputs_clash bad.1.0 accepted.0 accepted.1 (told Model (omega arith)) (told Inputs (omega arith)) bad.1.1 accepted.2
+
+  -- what is found of a file that isn't accepted, and the status that it brings
+  abbrev Finding : File → ℕ → Type 0
+  Finding file status = IsBad file status ⊎ (HoldsTooLong command holds file × (status ≡ 10))
+
+  too_long : (file : File) → IsToldUpTo command holds file → HoldsTooLong command holds file
+      → (text : List ℕ) × WasRead holds (path_of command file) text → ⊥
+  too_long file told long read =
+      long_clash holds (path_of command file) read.0 (told file (omega arith)) long.longer read.1
+
+  one_finding : (file : File) (a b : ℕ) → IsToldUpTo command holds file → Finding file a → Finding file b → a ≡ b
+  one_finding file a b told (inl bad) (inl other) = one_status file a b told bad other
+  one_finding file a b told (inl bad) (inr long) = absurd (too_long file told long.0 (bad_text file a bad))
+  one_finding file a b told (inr long) (inl bad) = absurd (too_long file told long.0 (bad_text file b bad))
+  one_finding file a b told (inr long) (inr other) = long.1 ∙ sym other.1
+
+  not_accepted : (file : File) (status : ℕ) → IsToldUpTo command holds file
+      → Accepts command holds file → Finding file status → ⊥
+  not_accepted file status told accepted (inl bad) = bad_clash file status told accepted bad
+  not_accepted file status told accepted (inr long) = too_long file told long.0 (accepted_text file accepted)
+
+  -- each reason is a finding of its file
+  finding : (reason : Reason) → IsFound command holds reason → Finding (file_of reason) (status_by reason)
+  finding (BadModel why) found = inl (refl, (why, found))
+  finding (BadInputs why) found = inl (refl, (why, found))
+  finding (LongFile file) found = inr (found, refl)
+
+  -- behind a model that is read stand the inputs
+  pub reaches_model : Reaches command holds Model
+  reaches_model earlier before = absurd (omega (arith, before))
+
+  pub reaches_inputs : (basin : Draft) → ReadsModel command holds basin → Reaches command holds Inputs
+  reaches_inputs basin model Model before = (basin, model)
+  reaches_inputs basin model Inputs before = absurd (omega (arith, before))
+
+  reached : (reason : Reason) → IsFound command holds reason → Reaches command holds (file_of reason)
+  reached (BadModel why) found = reaches_model
+  reached (BadInputs why) found = reaches_inputs found.basin found.model
+  reached (LongFile file) found = found.reached
+
+  -- where the file of a reason is accepted, the reason isn't found
+  pub not_found : (reason : Reason) → IsToldUpTo command holds (file_of reason)
+      → Accepts command holds (file_of reason) → IsFound command holds reason → ⊥
+  not_found reason told accepted found =
+      not_accepted (file_of reason) (status_by reason) told accepted (finding reason found)
+
+  -- of two reasons, the file of the one that is read first isn't accepted; and of one file they bring one status
+  pub one_reason : (a b : Reason) → IsToldUpTo command holds (file_of a)
+      → IsFound command holds a → IsFound command holds b → status_by b ≡ status_by a
+  one_reason a b told found other =
+      elim (cases_lt (order (file_of b)) (order (file_of a))) [
+        | inl before ↦
+            absurd (not_found b (λ it least. told it (omega (arith, least, before))) (reached a found (file_of b) before) other)
+        | inr least ↦ elim (cases_lt (order (file_of a)) (order (file_of b))) [
+          | inl before ↦ absurd (not_found a told (reached b other (file_of a) before) found)
+          | inr most ↦
+              let same : file_of b ≡ file_of a = one_file (file_of b) (file_of a) (omega (arith, least, most)) in
+              one_finding (file_of a) (status_by b) (status_by a) told
+              (subst (λ file. Finding file (status_by b)) same (finding b other)) (finding a found)
+        ]
+      ]
