@@ -115,7 +115,8 @@ fn answer(
 /// Dispatches an object at a timestep: its method solves what it can from what its slots hold. What it asks for is judged by
 /// the put rules, all by what the cells hold before. If one put is denied, that is a conflict; otherwise those that aren't
 /// there already are written, and wake the objects that they reach, but not this one. Where nothing is written, cells and
-/// queue stay as they were. It takes no memory.
+/// queue stay as they were. The law `waiting_after` of `rw_log` says that the queue then has the objects that wait after the
+/// event. It takes no memory.
 pub fn dispatch(
     basin: &Basin,
     methods: &Catalogue,

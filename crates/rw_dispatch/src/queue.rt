@@ -71,7 +71,8 @@ impl Queue {
     }
 
     /// Wakes the objects that own a slot which carries one value with one of these, as one event: those that don't wait
-    /// yet, but the one that is left out and those that only keep data, wait behind all others, in order of number.
+    /// yet, but the one that is left out and those that only keep data, wait behind all others, in order of number. The law
+    /// `waiting_after` of `rw_log` says that those are the objects that wait after the event.
     pub fn wake(&mut self, basin: &Basin, slots: &[SlotNo], but: Option<ObjectNo>)
         requires made { IsQueueOf basin.now self.old }
         requires slots { All (λ (slot : SlotNo). IsSlot basin.now.objects slot.0) slots.now }
