@@ -25,6 +25,7 @@ use Rattle.rw_model.specs.Links.{link_of, own_bounds, meet, meet_all, linked_wit
 use Rattle.rw_model.specs.Basin.{IsLink, IsBound, IsBasin, is_crossed}
 use Rattle.rw_model.specs.Kept.{number_at, KeepsBasin}
 use Rattle.rw_model.proofs.Grouping.{range_more}
+use Rattle.rw_model.proofs.Numbered.{numbered-found, numbered-known}
 use Rattle.rw_model.proofs.PlaceNumbers.{number_at-place}
 
 -- ---- the numbers that are found are those of slots
@@ -192,8 +193,9 @@ bounded_from number (object ∷ objects) =
 
 pub slot_at-bounded : (objects : List Object) (slot : ℕ) (placed : Placed) → slot_at objects slot ≡ Some placed → IsBounded placed.slot
 slot_at-bounded objects slot placed found =
-    subst IsBoundedAt (get_or_from_slice_get (all_slots objects) (slot - 1) placed placed found)
-    (bounded_from 1 objects (slot - 1) placed (slice_get_within (all_slots objects) (slot - 1) placed found))
+    let there = numbered-found (all_slots objects) slot placed found in
+    subst IsBoundedAt (get_or_from_slice_get (all_slots objects) (slot - 1) placed placed there)
+    (bounded_from 1 objects (slot - 1) placed (slice_get_within (all_slots objects) (slot - 1) placed there))
 
 -- ---- what bounds leave is within them
 
@@ -270,7 +272,8 @@ there_is (x ∷ xs) (suc k) within = let near : k < length xs = omega (arith, wi
 is_placed : (objects : List Object) (slot : ℕ) → IsSlot objects slot → (placed : Placed) × (slot_at objects slot ≡ Some placed)
 is_placed objects slot known =
     let near : slot - 1 < length (all_slots objects) = omega (arith, known.first, known.last) in
-    there_is (all_slots objects) (slot - 1) near
+    let there = there_is (all_slots objects) (slot - 1) near in
+    (there.0, numbered-known (all_slots objects) slot known.first ∙ there.1)
 
 pub bounds_in-quantities : (draft : Draft) (slot : ℕ) → IsBasin draft → IsSlot draft.objects slot
     → IsInside (bounds_in draft.objects draft.links draft.bounds slot) all_quantities

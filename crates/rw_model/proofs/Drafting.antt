@@ -21,6 +21,7 @@ use Rattle.rw_model.specs.Links.{is_among, is_slot, owner_of, dim_of, link_from,
 use Rattle.rw_model.specs.Basin.{IsLink, link_count, IsBound, IsDraft}
 use Rattle.rw_model.proofs.ObjectFacts.{slots_from-push}
 use Rattle.rw_model.proofs.Linking.{among_all, joined}
+use Rattle.rw_model.proofs.Numbered.{numbered-known}
 
 -- ---- what is known of a slot stays with an object more
 
@@ -32,8 +33,10 @@ slice_get_front (x ∷ xs) ys (suc k) within = let near : k < length xs = omega 
 slot_at-more : (objects : List Object) (object : Object) (slot : ℕ) → IsSlot objects slot → slot_at (objects ++ object ∷ []) slot ≡ slot_at objects slot
 slot_at-more objects object slot known =
     let near : slot - 1 < length (all_slots objects) = omega (arith, known.first, known.last) in
-    ap (λ slots. slice_get slots (slot - 1)) (slots_from-push 1 objects object)
+    numbered-known (all_slots (objects ++ object ∷ [])) slot known.first
+    ∙ ap (λ slots. slice_get slots (slot - 1)) (slots_from-push 1 objects object)
     ∙ slice_get_front (all_slots objects) (placed_from (1 + length objects) 0 (slots_of object.kind)) (slot - 1) near
+    ∙ sym (numbered-known (all_slots objects) slot known.first)
 
 IsSlot-more : (objects : List Object) (object : Object) (slot : ℕ) → IsSlot objects slot → IsSlot (objects ++ object ∷ []) slot
 IsSlot-more objects object slot known =

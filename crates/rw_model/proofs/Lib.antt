@@ -1,3 +1,4 @@
+pub mod Numbered
 pub mod Inside
 pub mod ObjectFacts
 pub mod EntryFacts

@@ -7,6 +7,7 @@ use mathlib.Core.Logic.{inl, inr, ⊎_elim}
 use Rattle.rw_model.specs.declared.kind.Kind.{Kind}
 use Rattle.rw_model.specs.Slot.{Slot}
 use Rattle.rw_model.specs.Slots.{slots_of, slot_in}
+use Rattle.rw_model.proofs.Numbered.{numbered-found, numbered-known}
 use Rattle.rw_model.specs.Objects.{Object, Placed, placed_from, slots_from, all_slots, first_from, object_at, is_in_place, is_named}
 use Rattle.rw_model.specs.declared.place.Place.{Place}
 use Rattle.rw_model.specs.Kept.{firsts_from, place_of}
@@ -151,10 +152,12 @@ stands_at objects k place (Some p) found stored =
     let owner : p.owner ≡ place.owner = ap (λ (x : Place). x.owner) same in
     let here : place.owner - 1 ≡ stands.0 = omega (arith, stands.2, owner) in
     let within = slice_get_within objects stands.0 stands.1 stands.3 in
+    let first : 1 ≤ place.owner = omega (arith, stands.2, owner) in
     record {
-      first = omega (arith, stands.2, owner);
+      first = first;
       last = omega (arith, stands.2, owner, within);
-      slot = ap (λ n. option_and_then (λ (object : Object). slot_in object.kind place.place) (slice_get objects n)) here
+      slot = ap (option_and_then (λ (object : Object). slot_in object.kind place.place)) (numbered-known objects place.owner first)
+          ∙ ap (λ n. option_and_then (λ (object : Object). slot_in object.kind place.place) (slice_get objects n)) here
           ∙ ap (option_and_then (λ (object : Object). slot_in object.kind place.place)) stands.3
           ∙ ap (λ (x : Place). slot_in stands.1.kind x.place) (sym same)
           ∙ stands.4
@@ -189,7 +192,7 @@ own_slots objects owner kind test before (Some object) found first of seen count
     let start : before + 1 ≡ 1 + length (slots_from 1 (take (owner - 1) objects)) = omega (arith, counted) in
     ap (λ x. first_from (before + 1) test (placed_from owner 0 (slots_of x))) same
     ∙ ap (λ n. first_from n test (placed_from owner 0 (slots_of object.kind))) start
-    ∙ sym (first_from-own 1 test owner 1 objects (owner - 1) object of at found)
+    ∙ sym (first_from-own 1 test owner 1 objects (owner - 1) object of at (numbered-found objects owner object found))
 
 -- what is found among an object's own slots is what is found among all
 pub first_from-all_slots : (objects : List Object) (owner : ℕ) (kind : Kind) (test : Placed → Bool) (before : ℕ)

@@ -1,5 +1,5 @@
 -- The objects of a basin, and its slots, which are those of the objects, one object after another.
-use Rattle.std.specs.Prelude.{ℕ, ◌+◌, ◌-◌, ◌==◌, ◌&&◌, Bool, List, [], ◌∷◌, ◌++◌, Option, Some, None, if◌then◌else◌, bytes_eq, slice_get, option_and_then}
+use Rattle.std.specs.Prelude.{ℕ, ◌+◌, ◌-◌, ◌==◌, ◌&&◌, nat_le, Bool, List, [], ◌∷◌, ◌++◌, Option, Some, None, if◌then◌else◌, bytes_eq, slice_get, option_and_then}
 use Rattle.rw_model.specs.declared.kind.Kind.{Kind}
 use Rattle.rw_model.specs.Slot.{Slot}
 use Rattle.rw_model.specs.Slots.{slots_of}
@@ -31,6 +31,10 @@ slots_from number (object ∷ objects) = placed_from number 0 (slots_of object.k
 abbrev pub all_slots : List Object → List Placed
 all_slots objects = slots_from 1 objects
 
+-- what stands in a place, where places count from 1: nothing in place 0
+abbrev pub numbered : {A : Type 0} → List A → ℕ → Option A
+numbered things number = if nat_le 1 number then slice_get things (number - 1) else None
+
 -- the number of the object with this name, if there is one, where they are numbered from the one that is given
 abbrev pub object_from : ℕ → List Object → List ℕ → Option ℕ
 object_from number [] name = None
@@ -43,11 +47,11 @@ object_named objects name = object_from 1 objects name
 
 -- the object of this number, if there is one
 abbrev pub object_at : List Object → ℕ → Option Object
-object_at objects number = slice_get objects (number - 1)
+object_at objects number = numbered objects number
 
 -- the slot of this number, if there is one
 abbrev pub slot_at : List Object → ℕ → Option Placed
-slot_at objects number = slice_get (all_slots objects) (number - 1)
+slot_at objects number = numbered (all_slots objects) number
 
 -- the number of the first slot that passes the test, where they are numbered from the one that is given
 abbrev pub first_from : ℕ → (Placed → Bool) → List Placed → Option ℕ
