@@ -2,3 +2,4 @@ pub mod MomentFacts
 pub mod ClockFacts
 pub mod MomentsSoFar
 pub mod TextFacts
+pub mod TimestepFacts

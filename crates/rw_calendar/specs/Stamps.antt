@@ -25,6 +25,13 @@ end_of run t = moment_after run.start run.step_length t
 abbrev pub timesteps_of : Start → StepLength → ℕ → Timesteps
 timesteps_of start length steps = record { start = moment_of start; step_length = length; count = steps }
 
+-- a run has at least one timestep and at most 4096, and where each begins and ends there is such a moment, of a year that dates are
+-- written with
+pub record AreTimesteps (run : Timesteps) : Type 0 where
+  pub some : 1 ≤ run.count
+  pub few : run.count ≤ 4096
+  pub dated : (k : ℕ) → k ≤ run.count → IsDated (moment_after run.start run.step_length k)
+
 -- the last step ends past year 9999
 abbrev pub EndsBeyondYears : Timesteps → Type 0
 EndsBeyondYears run = 9999 < (end_of run run.count).year

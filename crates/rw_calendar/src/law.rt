@@ -1,5 +1,5 @@
 //! Laws: what the definitions of moments amount to. Each is a function that does nothing, and its contract is the law.
-ghost use Rattle.std.specs.Prelude.{◌≡◌, ℕ, ◌+◌, ◌*◌, pos, ◌+ℤ◌};
+ghost use Rattle.std.specs.Prelude.{◌≡◌, ◌≤◌, ℕ, ◌+◌, ◌*◌, pos, ◌+ℤ◌};
 ghost use Rattle.jiff.specs.Types.{DateTime};
 ghost use Rattle.jiff.specs.Words.{civil_nanos, epoch_day, add_months};
 ghost use Rattle.rw_calendar.specs.declared.step_length.StepLength.TheVariants.{Hours, Month};
@@ -7,7 +7,9 @@ ghost use Rattle.rw_calendar.specs.Clock.{moment_at, IsOnTheHour, Shows};
 ghost use Rattle.rw_calendar.specs.declared.moment.Moment.{Moment};
 ghost use Rattle.rw_calendar.specs.Moment.{IsMoment, on, next_month, next_day, next_hour, hours_later, months_later};
 ghost use Rattle.rw_calendar.specs.StepLength.{moment_after};
-ghost use Rattle.rw_calendar.specs.Stamps.{Timesteps, begin_of, end_of};
+ghost use Rattle.rw_calendar.specs.Stamps.{AreTimesteps, CanBeStamped, Timesteps, begin_of, end_of, timesteps_of};
+ghost use Rattle.rw_calendar.specs.declared.start.Start.{Start};
+ghost use Rattle.rw_calendar.specs.declared.step_length.StepLength.{StepLength};
 
 /// The moment so many hours later is the one that the clock shows then: as many times 3,600 seconds later.
 pub fn hours_go_by_the_clock()
@@ -29,6 +31,12 @@ pub fn later_moments_exist()
     ensures hours { (m : Moment) (k : ℕ) → IsMoment m → IsMoment (hours_later m k) }
     ensures months { (m : Moment) (k : ℕ)
         → IsMoment m → m.day ≡ 1 → m.hour ≡ 0 → IsMoment (months_later m k) }
+{}
+
+/// Timesteps that can be stamped are those of a run.
+pub fn stamped_timesteps()
+    ensures { (start : Start) (length : StepLength) (steps : ℕ) → 1 ≤ steps → steps ≤ 4096
+        → CanBeStamped start length steps → AreTimesteps (timesteps_of start length steps) }
 {}
 
 /// A step begins where the step before it ends.

@@ -4,7 +4,7 @@ ghost use Rattle.rw_calendar.specs.declared.fault.CalFault.TheVariants as CalFau
 ghost use Rattle.rw_calendar.specs.Clock.{moment_at, IsOnTheHour};
 ghost use Rattle.rw_calendar.specs.Start.{IsStart, moment_of};
 ghost use Rattle.rw_calendar.specs.StepLength.{IsStepLength, CanBegin, moment_after};
-ghost use Rattle.rw_calendar.specs.Stamps.{Timesteps, EndsBeyondYears, CanBeStamped, IsMomentAfter, HasMoments, timesteps_of, begin_of, end_of, stamp_text};
+ghost use Rattle.rw_calendar.specs.Stamps.{AreTimesteps, Timesteps, EndsBeyondYears, CanBeStamped, IsMomentAfter, HasMoments, timesteps_of, begin_of, end_of, stamp_text};
 
 use crate::later::{after, can_begin, first_moment, moment_shown};
 use crate::{CalFault, Moment, Start, StepLength};
@@ -24,7 +24,7 @@ pub struct Stamps {
 
 impl Model for Stamps {
     ghost use Rattle.std.specs.Prelude.{◌≤◌, ◌+◌};
-    ghost use Rattle.rw_calendar.specs.Stamps.{Timesteps, HasMoments};
+    ghost use Rattle.rw_calendar.specs.Stamps.{AreTimesteps, Timesteps, HasMoments};
 
     ghost Value = { Timesteps };
 
@@ -104,6 +104,7 @@ impl Stamps {
     pub fn count(&self) -> u16
         ensures value { result ≡ self.now.count }
         ensures bounds { IsInRange 1 4096 result }
+        ensures timesteps { AreTimesteps self.now }
     {
         self.count
     }

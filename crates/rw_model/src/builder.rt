@@ -48,6 +48,7 @@ impl BasinBuilder {
         ensures in_range { OnOk result (IsControl control) }
         ensures refused { IfErr result (λ fault. (fault ≡ BuildFault.BadParameter) × ¬ IsControl control) }
     {
+        let _steps = control.stamps.count();
         let objects = 16..=100;
         let rules = 1..=100;
         if !objects.contains(&control.object_limit) || !rules.contains(&control.rule_limit) {

@@ -10,7 +10,7 @@ use Rattle.rw_model.specs.Links.{link_fault}
 use Rattle.rw_model.specs.Draft.{Draft, IsControl, CanAdd, IsObjectFault, CanBound, IsBoundFault}
 use Rattle.rw_model.specs.Basin.{IsDraft, IsBasin, finish_fault}
 use Rattle.rw_model_toml.specs.declared.run.Run.{Run}
-use Rattle.rw_model_toml.specs.Refusal.{Refusal, ◌>>=◌, out_of_range}
+use Rattle.rw_model_toml.specs.Refusal.{Refusal, missing, ◌>>=◌, out_of_range}
 use Rattle.rw_model_toml.specs.Path.{key_path, element_path}
 use Rattle.rw_model_toml.specs.Value.{integer_of, text_of, items_of, members_of, within, count_of}
 use Rattle.rw_model_toml.specs.Key.{judged_or, required, optional, only_listed}
@@ -28,6 +28,8 @@ use Rattle.rw_model_toml.proofs.Deciding.{not-below}
 use Rattle.std.proofs.lemmas.Int.{ints}
 use Rattle.std.proofs.lemmas.Bool.{both_ways}
 use Rattle.rw_calendar.specs.declared.fault.CalFault.{CalFault}
+use Rattle.rw_calendar.proofs.TimestepFacts.{are-stamped}
+use Rattle.rw_model_toml.proofs.Stamped.{stamped-iff}
 
 -- what is read next, whatever was read before it
 next : {A B : Type 0} (P : B → Type 0) (reading : Result A Refusal) (then_ : A → Result B Refusal) → ((x : A) → IfOk (then_ x) P) → IfOk (reading >>= then_) P
@@ -80,29 +82,39 @@ judged-inside Q absent judge None p q = p
 judged-inside Q absent judge (Some d) p q = q d
 
 abbrev InLimits : Run → Type 0
-InLimits run = IsFromTo 16 100 run.object_limit × IsFromTo 1 100 run.rule_limit
+InLimits run = IsFromTo 16 100 run.object_limit × IsFromTo 1 100 run.rule_limit × IsFromTo 1 4096 run.steps
 
 limit-inside : (default low high : ℕ) (key : List ℕ) (ms : Members) → IsFromTo low high default
     → IfOk (optional default (count_of low high) (codes "run") key ms) (IsFromTo low high)
 limit-inside default low high key ms within_ =
     judged-inside (IsFromTo low high) (Ok default) (count_of low high (key_path (codes "run") key)) (get_member key ms) within_ (count-inside low high (key_path (codes "run") key))
 
+steps-inside : (ms : Members) → IfOk (required (count_of 1 4096) (codes "run") (codes "steps") ms) (IsFromTo 1 4096)
+steps-inside ms =
+    judged-inside (IsFromTo 1 4096) (Err (missing (key_path (codes "run") (codes "steps")))) (count_of 1 4096 (key_path (codes "run") (codes "steps")))
+    (get_member (codes "steps") ms) tt (count-inside 1 4096 (key_path (codes "run") (codes "steps")))
+
 run-inside : (ms : Members) → IfOk (run_of ms) InLimits
 unfolding run_of
 run-inside ms = next InLimits (start_of ms) _ (λ start. next InLimits (step_length_of ms) _
-    (λ length. next InLimits (required (count_of 1 4096) (codes "run") (codes "steps") ms) _
-    (λ steps. next InLimits (agenda_of ms) _
+    (λ length. next-by (IsFromTo 1 4096) InLimits (required (count_of 1 4096) (codes "run") (codes "steps") ms) _ (steps-inside ms)
+    (λ steps r. next InLimits (agenda_of ms) _
     (λ agenda. next-by (IsFromTo 16 100) InLimits (optional 50 (count_of 16 100) (codes "run") (codes "object_limit") ms) _ (limit-inside 50 16 100 (codes "object_limit") ms (omega arith, omega arith))
     (λ objects p. next-by (IsFromTo 1 100) InLimits (optional 20 (count_of 1 100) (codes "run") (codes "rule_limit") ms) _ (limit-inside 20 1 100 (codes "rule_limit") ms (omega arith, omega arith))
-    (λ rules q. next InLimits (only_listed run_keys (codes "run") ms) _ (λ listed. (p, q))))))))
+    (λ rules q. next InLimits (only_listed run_keys (codes "run") ms) _ (λ listed. (p, q, r))))))))
 
-stamped-by : (found : Option CalFault) (control : RunControl) → IsControl control → IfOk (stamped found control) IsControl
-stamped-by None control is = is
+stamped-by : (found : Option CalFault) (control : RunControl) → (found ≡ None → IsControl control) → IfOk (stamped found control) IsControl
+stamped-by None control is = is refl
 stamped-by (Some fault) control is = tt
 
 control-inside : (run : Run) → InLimits run → IfOk (control_of run) IsControl
-control-inside run p = stamped-by (stamps_fault run.start run.step_length run.steps) _
-    (record { least_object = p.0.0; most_object = p.0.1; least_rule = p.1.0; most_rule = p.1.1 })
+control-inside run p = stamped-by (stamps_fault run.start run.step_length run.steps) _ (λ none. record {
+  timesteps = are-stamped run.start run.step_length run.steps p.2.0 p.2.1 ((stamped-iff run.start run.step_length run.steps).0 none);
+  least_object = p.0.0;
+  most_object = p.0.1;
+  least_rule = p.1.0;
+  most_rule = p.1.1;
+})
 
 in-control : (ms : Members) → IfOk (control_in ms) IsControl
 unfolding control_in
