@@ -11,6 +11,7 @@ use Rattle.rw_inputs.specs.Inputs.{Inputs, IsInputsOf, IsKeptValue, IsWithin, Ke
 use Rattle.rw_inputs.specs.Column.{Column, HasMore, IsColumn, IsFree, IsTaken, value_in}
 use Rattle.rw_inputs.specs.Reading.{shares_cell}
 use Rattle.rw_inputs.specs.Sound.{IsGiven}
+use Rattle.rw_inputs.specs.Taking.{IsTwice, Takes}
 use Rattle.rw_inputs.proofs.Columns.{set-column, set-more}
 use Rattle.rw_inputs.proofs.Groups.{kept_slot-together, kept_slot-again}
 
@@ -162,10 +163,16 @@ taken-shares basin given rows old kept taken =
     taken_shares basin given rows taken.step taken.from taken.to
     (λ none. taken.taken (kept.values (kept_slot basin given.slot) taken.step ∙ none))
 
--- what `take` does: the column at which a row's values are kept, before and after
+-- what is taken into the column at which a row's values are kept
+pub record Taking (basin : Draft) (given : Given) (old new : Inputs) (before after : Column) : Type 0 where
+  pub nothing : after ≡ before → new.columns ≡ old.columns
+  pub made : HasMore given.value given.first given.last before after → IsInputsOf basin new
+  pub takes : IsFree before given.first given.last → HasMore given.value given.first given.last before after → Takes basin given old new
+  pub twice : IsTaken before given.first given.last → IsTwice basin given old
+
 module _ (basin : Draft) (given : Given) (old new : Inputs) (slot steps : ℕ) (before after : Column) (made : IsInputsOf basin old) (sound : IsGiven basin given)
     (at : slot ≡ kept_slot basin given.slot) (known : IsSlot basin.objects slot) (run : steps ≡ basin.control.stamps.count)
-    (was : before ≡ slice_index_or old.columns slot before) (set : new.columns ≡ slice_set old.columns slot after) where
+    (was : before ≡ slice_index_or old.columns slot before) (set : new.columns ≡ slice_set old.columns slot after) (whole : IsColumn steps after) where
   near : kept_slot basin given.slot < length old.columns
   near = omega (arith, at, known.last, made.slots)
 
@@ -178,24 +185,19 @@ module _ (basin : Draft) (given : Given) (old new : Inputs) (slot steps : ℕ) (
   now_kept : new.columns ≡ slice_set old.columns (kept_slot basin given.slot) after
   now_kept = set ∙ ap (λ s. slice_set old.columns s after) at
 
+  whole_run : IsColumn basin.control.stamps.count after
+  whole_run = subst (λ n. IsColumn n after) run whole
+
   more_kept : HasMore given.value given.first given.last before after
       → HasMore given.value given.first given.last (column_of old.columns (kept_slot basin given.slot)) after
   more_kept more = subst (λ column. HasMore given.value given.first given.last column after) was_kept more
 
-  -- a column is put back as it was
-  pub take-none : after ≡ before → new.columns ≡ old.columns
-  take-none same = set ∙ ap (slice_set old.columns slot) (same ∙ was_there) ∙ set-get_or old.columns slot []
-
-  pub take-made : IsColumn steps after → HasMore given.value given.first given.last before after → IsInputsOf basin new
-  take-made whole more = made-more basin given old new after made sound near now_kept (more_kept more) (subst (λ n. IsColumn n after) run whole)
-
-  pub take-more : (rows : List Given) → IsColumn steps after → Keeps basin rows old → IsFree before given.first given.last
-      → HasMore given.value given.first given.last before after
-      → (list_any (shares_cell basin given) rows ≡ false) × Keeps basin (rows ++ given ∷ []) new
-  take-more rows whole kept free more =
-      Keeps-more basin given old new after made sound near now_kept (more_kept more) rows (subst (λ n. IsColumn n after) run whole) kept
-      (subst (λ column. IsFree column given.first given.last) was_kept free)
-
-  pub take-twice : (rows : List Given) → Keeps basin rows old → IsTaken before given.first given.last
-      → list_any (shares_cell basin given) rows ≡ true
-  take-twice rows kept taken = taken-shares basin given rows old kept (subst (λ column. IsTaken column given.first given.last) was_kept taken)
+  pub taking : Taking basin given old new before after
+  taking = record {
+    nothing = λ same. set ∙ ap (slice_set old.columns slot) (same ∙ was_there) ∙ set-get_or old.columns slot [];
+    made = λ more. made-more basin given old new after made sound near now_kept (more_kept more) whole_run;
+    takes = λ free more rows kept.
+        Keeps-more basin given old new after made sound near now_kept (more_kept more) rows whole_run kept
+        (subst (λ column. IsFree column given.first given.last) was_kept free);
+    twice = λ taken rows kept. taken-shares basin given rows old kept (subst (λ column. IsTaken column given.first given.last) was_kept taken);
+  }

@@ -1,9 +1,24 @@
 -- What is kept of a slot: a value or none for each timestep.
-use Rattle.std.specs.Prelude.{◌≡◌, ◌≢◌, ◌⊎◌, ℕ, ◌+◌, ◌≤◌, nat_le, ℤ, ◌&&◌, if◌then◌else◌, List, [], length, Option, Some, None, slice_index_or}
+use Rattle.std.specs.Prelude.{◌≡◌, ◌≢◌, ◌⊎◌, ℕ, ◌+◌, ◌≤◌, nat_le, ℤ, Bool, ◌&&◌, if◌then◌else◌, List, [], ◌∷◌, length, Option, Some, None, slice_index_or}
 
 -- a place for each timestep. These count from 1, so nothing stands in the first place
 abbrev pub Column : Type 0
 Column = List (Option ℤ)
+
+-- values, of which those are kept that are given
+abbrev pub given_values : List Bool → List ℤ → Column
+given_values [] values = []
+given_values (given ∷ more) [] = []
+given_values (given ∷ more) (value ∷ values) = (if given then Some value else None) ∷ given_values more values
+
+-- each place says whether its value is given, or there are no places yet
+abbrev pub IsPaired : List Bool → List ℤ → Type 0
+IsPaired given values = (given ≡ []) ⊎ (length given ≡ length values)
+
+-- there is a place for each of so many timesteps
+pub record HasPlaces (steps : ℕ) (given : List Bool) (values : List ℤ) : Type 0 where
+  pub each_given : length given ≡ steps + 1
+  pub each_value : length values ≡ steps + 1
 
 -- what is kept at a timestep
 abbrev pub value_in : Column → ℕ → Option ℤ

@@ -1,5 +1,5 @@
-ghost use Rattle.std.specs.Prelude.{◌≡◌, ◌⊎◌, ℕ, ◌+◌, ◌≤◌, ◌<◌, [], true, false, Ok, OnOk, OnErr, MatchBool, length, vec_len};
-ghost use Rattle.rw_inputs.specs.Column.{HasMore, IsColumn, IsFree, IsTaken, value_in};
+ghost use Rattle.std.specs.Prelude.{◌≡◌, ◌⊎◌, ℕ, ◌+◌, ◌≤◌, ◌<◌, [], true, false, Ok, None, OnOk, OnErr, MatchBool, length, slice_index_or};
+ghost use Rattle.rw_inputs.specs.Column.{HasMore, HasPlaces, IsColumn, IsFree, IsPaired, IsTaken, given_values, value_in};
 
 use crate::given::Given;
 use rw_base::{NoMemory, Qty};
@@ -10,7 +10,9 @@ use std::marker::Model;
 /// As long as nothing is kept there are no places, and no memory is taken.
 #[derive(Drop)]
 pub struct Column {
-    values: Vec<Option<Qty>>,
+    values: Vec<Qty>,
+    // Which of the values are kept.
+    given: Vec<bool>,
 }
 
 impl Model for Column {
@@ -18,55 +20,104 @@ impl Model for Column {
 
     ghost Value = { specs.Column };
 
-    ghost view = { λ c. c.values.items };
+    ghost view = { λ c. specs.given_values c.given.items c.values.items };
+
+    ghost invariant = { λ c. specs.IsPaired c.given.items c.values.items };
+}
+
+// Whether a value is given at a timestep.
+fn is_given(given: &[bool], step: u16) -> bool
+    ensures { result ≡ slice_index_or given.now step false }
+{
+    match given.get(usize::from(step)) {
+        Some(given) => *given,
+        None => false,
+    }
 }
 
 // What is kept at a timestep.
-fn value_in(values: &[Option<Qty>], step: u16) -> Option<Qty>
-    ensures { result ≡ value_in values.now step }
+fn value_in(values: &[Qty], given: &[bool], step: u16) -> Option<Qty>
+    ensures { result ≡ value_in (given_values given.now values.now) step }
 {
-    match values.get(usize::from(step)) {
-        Some(value) => *value,
-        None => None,
+    let place = usize::from(step);
+    if values.len() <= place {
+        return None;
+    }
+    if is_given(given, step) {
+        Some(values[place])
+    } else {
+        None
     }
 }
 
 // Whether nothing is kept from one timestep to another.
-fn is_free(values: &[Option<Qty>], first: u16, last: u16) -> bool
+fn is_free(values: &[Qty], given: &[bool], first: u16, last: u16) -> bool
     requires { 1 ≤ first }
-    ensures { MatchBool result (IsFree values.now first last) (IsTaken values.now first last) }
+    ensures { MatchBool result (IsFree (given_values given.now values.now) first last)
+        (IsTaken (given_values given.now values.now) first last) }
 {
     for before in first - 1..last {
-        if value_in(values, before + 1).is_some() {
+        if value_in(values, given, before + 1).is_some() {
             return false;
         }
     }
     true
 }
 
-// Makes a place for each timestep, if there is none.
-fn widen(values: &mut Vec<Option<Qty>>, steps: u16) -> Result<(), NoMemory>
-    requires { IsColumn steps values.old.items }
-    ensures wide { OnOk result (length values.new.items ≡ steps + 1) }
-    ensures same { OnOk result ((step : ℕ)
-        → value_in values.new.items step ≡ value_in values.old.items step) }
-    ensures unchanged { OnErr result (values.new.items ≡ values.old.items) }
+// Makes a place for each timestep, none of which is given the value that it holds.
+fn make_places(
+    values: &mut Vec<Qty>,
+    given: &mut Vec<bool>,
+    steps: u16,
+    value: Qty,
+) -> Result<(), NoMemory>
+    requires { given.old.items ≡ [] }
+    ensures places { OnOk result (HasPlaces steps given.new.items values.new.items) }
+    ensures none { OnOk result ((step : ℕ)
+        → value_in (given_values given.new.items values.new.items) step ≡ None) }
+    ensures unchanged { OnErr result (given.new.items ≡ []) }
 {
-    if values.is_empty() {
-        values.resize(usize::from(steps) + 1, None)?;
-    }
+    values.resize(usize::from(steps) + 1, value)?;
+    given.resize(usize::from(steps) + 1, false)?;
     Ok(())
 }
 
+// Makes a place for each timestep, if there are none yet.
+fn widen(
+    values: &mut Vec<Qty>,
+    given: &mut Vec<bool>,
+    steps: u16,
+    value: Qty,
+) -> Result<(), NoMemory>
+    requires paired { IsPaired given.old.items values.old.items }
+    requires column { IsColumn steps (given_values given.old.items values.old.items) }
+    ensures places { OnOk result (HasPlaces steps given.new.items values.new.items) }
+    ensures same { OnOk result ((step : ℕ)
+        → value_in (given_values given.new.items values.new.items) step
+        ≡ value_in (given_values given.old.items values.old.items) step) }
+    ensures paired { IsPaired given.new.items values.new.items }
+    ensures unchanged { OnErr result (given_values given.new.items values.new.items
+        ≡ given_values given.old.items values.old.items) }
+{
+    if given.is_empty() {
+        make_places(values, given, steps, value)
+    } else {
+        Ok(())
+    }
+}
+
 // Keeps a value from one timestep to another.
-fn keep(values: &mut [Option<Qty>], first: u16, last: u16, value: Qty)
+fn keep(values: &mut [Qty], given: &mut [bool], first: u16, last: u16, value: Qty)
     requires first { 1 ≤ first }
     requires order { first ≤ last }
     requires last { last < length values.old }
-    ensures { HasMore value first last values.old values.new }
+    requires paired { length given.old ≡ length values.old }
+    ensures { HasMore value first last (given_values given.old values.old)
+        (given_values given.new values.new) }
 {
     for before in first - 1..last {
-        values[usize::from(before) + 1] = Some(value);
+        values[usize::from(before) + 1] = value;
+        given[usize::from(before) + 1] = true;
     }
 }
 
@@ -77,6 +128,7 @@ impl Column {
     {
         Column {
             values: Vec::new(alloc),
+            given: Vec::new(alloc),
         }
     }
 
@@ -84,31 +136,37 @@ impl Column {
     pub fn value(&self, step: u16) -> Option<Qty>
         ensures { result ≡ value_in self.now step }
     {
-        value_in(self.values.as_slice(), step)
+        value_in(self.values.as_slice(), self.given.as_slice(), step)
     }
 
     /// Takes what a row gives, if nothing is kept yet of its timesteps, of so many in all; `false` exactly where something is.
-    pub fn take(&mut self, steps: u16, given: &Given) -> Result<bool, NoMemory>
+    pub fn take(&mut self, steps: u16, row: &Given) -> Result<bool, NoMemory>
         requires column { IsColumn steps self.old }
-        requires first { 1 ≤ given.now.first }
-        requires order { given.now.first ≤ given.now.last }
-        requires last { given.now.last ≤ steps }
+        requires first { 1 ≤ row.now.first }
+        requires order { row.now.first ≤ row.now.last }
+        requires last { row.now.last ≤ steps }
         ensures column { IsColumn steps self.new }
-        ensures free { result ≡ Ok true → IsFree self.old given.now.first given.now.last }
+        ensures free { result ≡ Ok true → IsFree self.old row.now.first row.now.last }
         ensures taken { result ≡ Ok true
-            → HasMore given.now.value given.now.first given.now.last self.old self.new }
-        ensures twice { result ≡ Ok false → IsTaken self.old given.now.first given.now.last }
+            → HasMore row.now.value row.now.first row.now.last self.old self.new }
+        ensures twice { result ≡ Ok false → IsTaken self.old row.now.first row.now.last }
         ensures unchanged { (result ≡ Ok true) ⊎ (self.new ≡ self.old) }
     {
-        if !is_free(self.values.as_slice(), given.first, given.last) {
+        if !is_free(
+            self.values.as_slice(),
+            self.given.as_slice(),
+            row.first,
+            row.last,
+        ) {
             return Ok(false);
         }
-        widen(&mut self.values, steps)?;
+        widen(&mut self.values, &mut self.given, steps, row.value)?;
         keep(
             self.values.as_mut_slice(),
-            given.first,
-            given.last,
-            given.value,
+            self.given.as_mut_slice(),
+            row.first,
+            row.last,
+            row.value,
         );
         Ok(true)
     }
