@@ -13,7 +13,8 @@ PrefixGrew old new text = (n : ℕ) × GrowsBy old new (take n text)
 
 -- a write appended as many bytes of the piece as it answers, and none where it failed
 abbrev pub SinkAppends : {E : Type 0} → Option (List ℕ) → Option (List ℕ) → Result ℕ E → List ℕ → Type 0
-SinkAppends old new result piece = MatchResult result (λ n. GrowsBy old new (take n piece)) (λ _. GrowsBy old new (take 0 piece))
+SinkAppends old new result piece =
+    MatchResult result (λ n. GrowsBy old new (take n piece)) (λ _. GrowsBy old new (take 0 piece))
 
 -- how many bytes were given after a read, up to 2^64 - 1
 abbrev pub given_after : {E : Type 0} → ℕ → Result ℕ E → ℕ

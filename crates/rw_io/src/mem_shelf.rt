@@ -109,7 +109,8 @@ impl Shelf for MemShelf {
     ghost seen = { seen_of };
 
     fn start(&mut self, path: String) -> Result<(), ShelfFault>
-        ensures starts { Starts (string_bytes path) (change (seen_of self.old) (seen_of self.new)) result }
+        ensures starts { Starts (string_bytes path)
+            (change (seen_of self.old) (seen_of self.new)) result }
 
         // A call fails exactly where it is to fail or the path isn't held, and raises one count alone.
         ensures fails { IsErr result ↔ (Contains (failing_of self.old) (calls_of self.new)

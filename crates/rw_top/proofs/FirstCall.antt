@@ -1,5 +1,5 @@
 -- A call on one plain reservoir, by the law on the text of its run.
-use Rattle.std.proofs.Common.{◌≡◌, ◌↔◌, ℕ, ◌≤◌, ℤ, List, Option, None, refl, sym, ap, ◌∙◌, subst, arith}
+use Rattle.std.proofs.Common.{◌≡◌, ◌↔◌, ℕ, ◌≤◌, ℤ, List, Option, None, IfOk, refl, sym, ap, ◌∙◌, subst, arith}
 use Rattle.rw_first.specs.FirstForm.{FirstModel, IsFirstForm, IsFirstFlows}
 use Rattle.rw_first.specs.Table.{IsRunText as IsFirstText}
 use Rattle.rw_inputs.specs.Inputs.{Inputs as Given}
@@ -9,6 +9,7 @@ use Rattle.rw_log.specs.declared.run.RunEnd.{RunEnd}
 use Rattle.rw_log.specs.declared.run.RunEnd.TheVariants.{Settled, Fault}
 use Rattle.rw_model.specs.Basin.{IsBasin}
 use Rattle.rw_model.specs.Draft.{Draft}
+use Rattle.rw_model_toml.specs.Model.{model_of}
 use Rattle.rw_top.specs.Call.{Call}
 use Rattle.rw_top.specs.Command.{path_of}
 use Rattle.rw_top.specs.FirstCall.{IsFirstCall}
@@ -26,7 +27,8 @@ is_settled Settled is = refl
 is_settled (Fault why) is = absurd (omega (arith, is))
 
 -- what was written is the text of the basin and the inputs that the shelf tells
-its_text : (call : Call) (model : FirstModel) (inflows outflows : List ℤ) (first : IsFirstCall call model inflows outflows) (end : RunEnd) (text : List ℕ)
+its_text : (call : Call) (model : FirstModel) (inflows outflows : List ℤ)
+    (first : IsFirstCall call model inflows outflows) (end : RunEnd) (text : List ℕ)
     → HasText first.command call.shelf.before.holds end text → IsRunText first.basin first.inputs end text
 its_text call model inflows outflows first end text is =
     let holds = call.shelf.before.holds in
@@ -41,13 +43,16 @@ pub first_call : ((basin : Draft) (model : FirstModel) (inputs : Given) (inflows
     → IsBasin basin → IsFirstForm basin model → IsFirstFlows inputs model.run.count inflows outflows
     → (end : RunEnd) (text : List ℕ) → IsRunText basin inputs end text
     → (fault : Option ℤ) × IsFirstText model inflows outflows fault text × ((fault ≡ None) ↔ (end ≡ Settled)))
-    → (call : Call) (status : ℕ) (model : FirstModel) (inflows outflows : List ℤ) → Promise call status → status ≤ 1 → IsFirstCall call model inflows outflows
+    → ((bytes : List ℕ) → IfOk (model_of bytes) IsBasin)
+    → (call : Call) (status : ℕ) (model : FirstModel) (inflows outflows : List ℤ)
+    → Promise call status → status ≤ 1 → IsFirstCall call model inflows outflows
     → (fault : Option ℤ) × (text : List ℕ) × IsFirstText model inflows outflows fault text
     × GrowsBy call.out.before.contents call.out.after.contents text × ((fault ≡ None) ↔ (status ≡ 0))
-first_call first_form call status model inflows outflows promise low first =
+first_call first_form basins call status model inflows outflows promise low first =
     let done = promise.done low in
     let wrote = of_command call.words done.2.command first.command done.2.asked first.asked (λ it. WritesAll it call.shelf.before.holds call.out done.0) done.2.text in
-    let table = first_form first.basin model first.inputs inflows outflows first.valid first.form first.flows done.0 wrote.text
+    let valid : IsBasin first.basin = rw first.read.model.is at (basins first.read.model.text) in
+    let table = first_form first.basin model first.inputs inflows outflows valid first.form first.flows done.0 wrote.text
     (its_text call model inflows outflows first done.0 wrote.text wrote.is) in (
       table.0,
       wrote.text,

@@ -2,7 +2,6 @@
 use Rattle.std.specs.Prelude.{ℤ, List, IsSome}
 use Rattle.rw_first.specs.FirstForm.{FirstModel, IsFirstForm, IsFirstFlows}
 use Rattle.rw_inputs.specs.Inputs.{Inputs}
-use Rattle.rw_model.specs.Basin.{IsBasin}
 use Rattle.rw_model.specs.Draft.{Draft}
 use Rattle.rw_top.specs.Call.{Call}
 use Rattle.rw_top.specs.Command.{Asks, Command, path_of}
@@ -17,6 +16,5 @@ pub record IsFirstCall (call : Call) (model : FirstModel) (inflows outflows : Li
   pub basin : Draft
   pub inputs : Inputs
   pub read : ReadsBoth command call.shelf.before.holds basin inputs
-  pub valid : IsBasin basin
   pub form : IsFirstForm basin model
   pub flows : IsFirstFlows inputs model.run.count inflows outflows

@@ -25,6 +25,7 @@ ghost use Rattle.rw_top.specs.declared.refusal.File.{File};
 
 use rw_first::law::first_text;
 use rw_log::law::one_run;
+use rw_model_toml::law::files_are_basins;
 
 /// A text is read as inputs in one way, and isn't refused where it is read.
 pub fn one_inputs()
@@ -58,7 +59,8 @@ pub fn first_form()
     first_text();
 }
 
-/// A call that did such a run wrote that table, and its status is 0 exactly where no storage leaves its range.
+/// A call of `basin_main` that did such a run, of files that the shelf tells, wrote that table, and answered 0 exactly where
+/// no storage leaves its range.
 pub fn first_call()
     ensures { (call : Call) (status : ℕ) (model : FirstModel) (inflows outflows : List ℤ)
         → Promise call status → status ≤ 1 → IsFirstCall call model inflows outflows
@@ -67,6 +69,7 @@ pub fn first_call()
         × ((fault ≡ None) ↔ (status ≡ 0)) }
 {
     first_form();
+    files_are_basins();
 }
 
 /// What each status says of a call that keeps its promise. 5 says nothing: want of memory may always come.

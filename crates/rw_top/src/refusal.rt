@@ -4,7 +4,7 @@ use rw_inputs::InputKind;
 use rw_io::ReadEnd;
 use rw_model_toml::ModelFault;
 
-/// A file that the words name.
+/// A file that a command names, in the order in which they are read.
 #[derive(Clone, Copy, Debug, PartialEq, Eq)]
 pub enum File {
     Model,

@@ -2,7 +2,7 @@ ghost use Rattle.std.specs.Prelude.{◌≡◌, ℕ, List, map};
 ghost use Rattle.rw_method.specs.Catalogue.{AreInOrder};
 ghost use Rattle.rw_top.specs.Command.{texts_of};
 ghost use Rattle.rw_io.specs.Outside.{change};
-ghost use Rattle.rw_top.specs.Promise.{Promise};
+ghost use Rattle.rw_top.specs.Promise.{Promise, status_of_end};
 
 use crate::Refusal;
 use crate::simulate::simulate;
@@ -13,6 +13,16 @@ use rw_engine::RunEnd;
 use rw_io::{Shelf, Sink};
 use rw_method::Catalogue;
 use std::alloc::Global;
+
+// The status of a run that was written.
+fn status_of_run(end: &RunEnd) -> u8
+    ensures { result ≡ status_of_end end.now }
+{
+    match end {
+        RunEnd::Settled => 0,
+        RunEnd::Fault(_) => 1,
+    }
+}
 
 /// Does what the words ask for, and answers the status with which a program ends. The words don't include the
 /// program's own name.
@@ -44,8 +54,7 @@ pub fn basin_main<S: Shelf, K: Sink, E: Sink, L: Ledger>(
         return Refusal::Words.status();
     };
     match simulate(alloc, &command, shelf, out, methods) {
-        Ok(RunEnd::Settled) => 0,
-        Ok(RunEnd::Fault(_)) => 1,
+        Ok(end) => status_of_run(&end),
         Err(refusal) => {
             tell(err, &command, &refusal);
             refusal.status()
