@@ -54,7 +54,7 @@ class Inputs:
 
 
 def records_of(content):
-    """The records of a text of inputs, each with the line of the file at which it begins. Empty lines are none."""
+    """The records of a text of inputs, each with the line at which it begins. Empty lines are none."""
     text = content.decode("utf-8", "surrogateescape").removeprefix("\ufeff")
     reader = csv.reader(io.StringIO(text, newline=""))
     line = 1

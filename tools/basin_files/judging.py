@@ -440,9 +440,11 @@ class ModelReader:
             slot.low, slot.high = low, high
 
     def unknown_slot(self, name, at):
-        """Notes that there is no such slot, unless its object is one with which something is wrong."""
-        owner = self.model.object_named(name.split(".")[0])
-        if not (owner and not owner.sure):
+        """Notes that there is no such slot, unless what is wrong with its object may be why."""
+        owner_name, _, slot_name = name.partition(".")
+        owner = self.model.object_named(owner_name)
+        rows = formats.KIND_SLOTS.get(owner.kind) if owner else None
+        if not owner or owner.sure or (rows and slot_name not in [row.name for row in rows]):
             self.find(
                 f"build {at}: unknown slot",
                 f"{at}.slots" if at.startswith("link") else f"{at}.slot",

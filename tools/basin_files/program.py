@@ -64,10 +64,13 @@ def good_model(path):
 
 
 def basin(*words):
-    """Runs the program, BASIN or ./basin at the repository's top: its status, its output and its error line."""
+    """Runs the program, BASIN or ./basin at the top: its status, its output and its error line."""
     program = os.environ.get("BASIN") or TOP / "basin"
     try:
         done = subprocess.run([program, *words], stdin=subprocess.DEVNULL, capture_output=True, check=False)
     except OSError as error:
         raise Unable(f"cannot run {program}: {error.strerror}") from None
-    return done.returncode, done.stdout.decode(), done.stderr.decode("utf-8", "replace").removesuffix("\n")
+    errors = done.stderr.decode("utf-8", "replace")
+    if errors.startswith("basin: proving and building"):  # what ./basin says before it runs the program
+        errors = errors.partition("\n")[2]
+    return done.returncode, done.stdout.decode(), errors.removesuffix("\n")

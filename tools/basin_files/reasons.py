@@ -37,7 +37,7 @@ def wrong_with_name(name):
 
 
 def wrong_with_rows(rows):
-    """What is wrong with the rows of a table: the refusal, the first row of which it is, and why. Else `None`."""
+    """What is wrong with the rows of a table: the refusal, the first row with it, and why; or `None`."""
     least, most = formats.TABLE_ROWS
     if len(rows) < least:
         return "too few rows", 0, f"it has {len(rows)} rows, and has to have {least} to {most}"
@@ -75,7 +75,7 @@ def wrong_with_rows(rows):
 
 
 def wrong_with_object(thing, model):
-    """Why an object whose keys are in order can't be added: the refusal, the key where it is seen, and why."""
+    """Why an object whose keys are right can't be added: the refusal, the key where it is seen, and why."""
     earlier = model.object_named(thing.name)
     names = [name for name, _ in thing.options.get("slots", ())]
     twice = next((name for name in names if names.count(name) > 1), None)
@@ -116,7 +116,7 @@ def wrong_with_reservoir(thing):
 
 
 def why_unknown(model, name):
-    """Why a text names no slot of the model, what may be meant, and which option would make the slot exist."""
+    """Why a text names no slot, what may be meant, and which option would make the slot exist."""
     owner_name, dot, slot_name = name.partition(".")
     owner = model.object_named(owner_name)
     if not dot:
