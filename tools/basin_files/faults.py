@@ -101,32 +101,29 @@ class Telling:
     def past_label(self):
         """The name of the value before."""
         lag = self.thing.options.get("lag")
-        return "Storage before" if self.thing.kind == "reservoir" else f"Inflow {lag} timesteps ago"
+        if self.thing.kind == "reservoir":
+            return "Storage before"
+        return "Inflow a timestep ago" if lag == 1 else f"Inflow {lag} timesteps ago"
 
     # ---- the balance
 
-    def balance(self, values):
+    def balance(self, values, left=None):
         """The balance: its left slot and value, and its right side in words, in numbers and as a sum."""
         if self.thing.kind == "canal":
             seepage = values["Inflow"] * self.thing.options["seepage"] // 1000
             words = f"Inflow - Inflow x {self.thing.options['seepage']} / 1000, rounded down"
-            return (
-                "Outflow",
-                values["Outflow"],
-                words,
-                f"{values['Inflow']:,} - {seepage:,}",
-                values["Inflow"] - seepage,
-            )
-        left = LEFT_SIDE[self.thing.kind]
-        pairs = [(sign, name, values[name]) for sign, name in signed_terms(self.thing)]
-        turn = -next(sign for sign, name, _ in pairs if name == left)
+            sum_words = f"{values['Inflow']:,} - {seepage:,}"
+            return "Outflow", values["Outflow"], words, sum_words, values["Inflow"] - seepage
+        left = left or LEFT_SIDE[self.thing.kind]
         terms = [(1, self.past_label(), self.view.past)] if past_name(self.thing) else []
-        terms += [(sign * turn, name, value) for sign, name, value in pairs if name != left]
-        words = " ".join(f"{'-' if sign < 0 else '+'} {name}" for sign, name, _ in terms).removeprefix("+ ")
-        numbers = " ".join(f"{'-' if sign < 0 else '+'} {value:,}" for sign, _, value in terms).removeprefix(
-            "+ "
-        )
-        return left, values[left], words, numbers, sum(sign * value for sign, _, value in terms)
+        terms += [(sign, name, values[name]) for sign, name in signed_terms(self.thing)]
+        turn = -next(sign for sign, name, _ in terms if name == left)
+        terms = [(sign * turn, name, value) for sign, name, value in terms if name != left]
+        terms.sort(key=lambda term: -term[0])
+        words = " ".join(f"{'-' if sign < 0 else '+'} {name}" for sign, name, _ in terms)
+        numbers = " ".join(f"{'-' if sign < 0 else '+'} {value:,}" for sign, _, value in terms)
+        total = sum(sign * value for sign, _, value in terms)
+        return left, values[left], words.removeprefix("+ "), numbers.removeprefix("+ "), total
 
     def conflict(self):
         """What a conflict is about."""
@@ -145,10 +142,11 @@ class Telling:
                 ),
             ]
         left, left_value, words, numbers, right = self.balance(self.values)
+        total = "" if numbers == f"{right:,}" else f" = {right:,}"
         lines = [
             "its balance doesn't hold.",
             f"    {left} = {words}",
-            f"    {left_value:,}, and not {numbers} = {right:,}",
+            f"    {left_value:,}, and not {numbers}{total}",
         ]
         if self.thing.kind == "reservoir" and not self.view.given("Storage"):
             lines.append(
@@ -169,18 +167,23 @@ class Telling:
         else:
             whose = "its bounds are"
         by = f"{low - value:,} too little" if value < low else f"{value - high:,} too much"
-        first = f"{slot} would be {value:,} {one.unit}, and {whose} {amount(low)} to {amount(high)}: {by}."
+        verb = "is" if slot in self.view.known else "would be"
+        first = f"{slot} {verb} {value:,} {one.unit}, and {whose} {amount(low)} to {amount(high)}: {by}."
         return [first, *self.how(slot, value)]
 
     def how(self, slot, value):
         """How the object comes to a value, where its balance says so."""
         if slot in self.view.known or slot not in terms_of(self.thing):
-            before = slot == "Storage" and value == self.view.past and slot not in self.view.known
-            return ["    (the storage before the timestep)"] if before else []
-        left, left_value, words, numbers, right = self.balance({**self.values, slot: value})
-        if left == slot:
-            return [f"    {left} = {words}", f"    {value:,} = {numbers}"]
+            return []
+        if self.is_of_before():
+            return ["    (that is the storage before the timestep, of which the table tells what evaporates)"]
+        left, left_value, words, numbers, _ = self.balance({**self.values, slot: value}, slot)
         return [f"    {left} = {words}", f"    {left_value:,} = {numbers}"]
+
+    def is_of_before(self):
+        """Whether what is outside is the storage before, of which the table tells what evaporates."""
+        evaporates = self.thing.options.get("evaporation") and "Evaporation" not in self.values
+        return bool(evaporates) and self.fault.slot == "Storage" and self.fault.value == self.view.past
 
     def advice(self):
         """What to do."""
@@ -195,6 +198,8 @@ class Telling:
             if not given:
                 return ["Nothing of this is an input of its own: look at the objects that it comes from."]
             return [f"Take one of these inputs away ({', '.join(given)}), or change it so that they agree."]
+        if self.is_of_before():
+            return [f"Mend what its storage of timestep {self.timestep.step - 1} comes from."]
         value, low = self.fault.value, self.view.bounds[self.fault.slot][0]
         if self.thing.kind != "reservoir":
             return ["Change an input that it comes from, or set other bounds."]

@@ -153,7 +153,9 @@ class LineReader:
             self.items(path)
         elif self.skip("{"):
             self.inline_table(path)
-        elif not (self.take(TEXT) or self.take(PLAIN)):
+        elif not self.take(TEXT) and (
+            self.text[self.place : self.place + 1] in ('"', "'") or not self.take(PLAIN)
+        ):
             raise ValueError("a value was expected")
 
     def items(self, path):
