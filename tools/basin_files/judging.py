@@ -27,7 +27,10 @@ def text_of(content):
 def read_model(content):
     """The model that the bytes spell. `ValueError` where Python's reader takes them for no TOML."""
     text = text_of(content)
-    return ModelReader(values_of(text), lines_of(text)).read()
+    try:
+        return ModelReader(values_of(text), lines_of(text)).read()
+    except RecursionError:
+        raise ValueError("it is nested too deeply") from None
 
 
 class ModelReader:

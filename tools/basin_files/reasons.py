@@ -9,10 +9,10 @@ from .model import slots_of
 NAME = re.compile(r"[A-Za-z_][A-Za-z0-9_]*")
 
 
-def plain(text):
-    """A text on one line, cut short."""
+def plain(text, most=60):
+    """A text on one line, cut to so many letters."""
     text = text if text.isprintable() else text.encode("unicode_escape").decode()
-    return text if len(text) <= 60 else f"{text[:56]} .."
+    return text if len(text) <= most else f"{text[:most - 4]} .."
 
 
 def shown(value):

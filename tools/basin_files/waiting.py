@@ -7,7 +7,7 @@ from .dispatch import missing, past_name, past_value
 from .inputs import folded
 from .moments import stamp_of
 
-MOST_TOLD = 20  # objects of a chain
+MOST_TOLD = 20  # objects that wait, and inputs that are missing
 
 
 def tell_empty(model, inputs, section):
@@ -50,31 +50,17 @@ class Waiting:
 
     def waits(self, thing):
         """Whether a slot is unknown that the object solves, derives or has to know."""
-        return any(
-            self.first[slot.full_name] not in self.known for slot in thing.slots if is_solved(slot, thing)
-        )
+        return any(name not in self.known for name in self.solves(thing))
+
+    def solves(self, thing):
+        """The slots that are known once an object has solved all that it can."""
+        return [self.first[slot.full_name] for slot in thing.slots if is_solved(slot, thing)]
 
     def lacking(self, thing, known):
         """What the object lacks where these slots are known: what it has to know, and terms but for one."""
         names = [slot.name for slot in thing.slots if self.first[slot.full_name] in known]
         past = not past_name(thing) or past_value(thing, self.step, self.rows) is not None
         return missing(thing, names, past)
-
-    def solved_with(self, given):
-        """What would be known if these were given: the slots, and the objects in the order of solving."""
-        known, order = self.known | set(given), []
-        left = dict.fromkeys(thing.name for thing in self.objects)
-        queue = deque(self.objects)
-        while queue:
-            thing = queue.popleft()
-            if thing.name not in left or any(self.lacking(thing, known)):
-                continue
-            del left[thing.name]
-            order.append(thing)
-            new = {self.first[slot.full_name] for slot in thing.slots if is_solved(slot, thing)} - known
-            known |= new
-            queue.extend(owner for name in new for owner in self.owners[name] if owner.name in left)
-        return known, order
 
     def candidates(self):
         """Slots that inputs could give and that objects which wait lack, by the first of their links."""
@@ -93,19 +79,9 @@ class Waiting:
             given, key=lambda name: (min(abs(step - self.step) for step in steps[name]), -len(steps[name]))
         )
 
-    def roots(self):
-        """Inputs that are missing: first those that are given at other timesteps, then any that help."""
-        roots = []
-        while best := self.best(roots, self.holes()):
-            roots.append(Root(best[:1]))
-        roots += [Root([name]) for name in self.wanted() if name not in chosen(roots)]
-        while further := self.beside(self.best(roots, self.candidates())) or self.fewest(roots):
-            roots += further
-        return roots
-
     def wanted(self):
         """Slots that an object has to be given and no other object solves, as a rate of evaporation."""
-        names = []
+        names, candidates = [], set(self.candidates())
         for thing in self.objects:
             for slot in thing.slots:
                 others = [other for other in self.model.group(slot.full_name) if other is not slot]
@@ -113,51 +89,21 @@ class Waiting:
                     other.role in ("solvable", "derived") for other in others
                 ):
                     names.append(self.first[slot.full_name])
-        return [name for name in dict.fromkeys(names) if name in self.candidates()]
-
-    def beside(self, names):
-        """Of slots that would all do, those of the object that has the first, as one missing input."""
-        for thing in self.objects if names else ():
-            own = {self.first[slot.full_name] for slot in thing.slots}
-            if names[0] in own:
-                return [Root([name for name in names if name in own])]
-        return []
-
-    def best(self, roots, names):
-        """The slots each of which would let most further objects solve; none where no single one does."""
-        known, order = self.solved_with(chosen(roots))
-        if len(order) == len(self.objects):
-            return []
-        gains = {
-            name: len(self.solved_with([*chosen(roots), name])[1]) for name in names if name not in known
-        }
-        most = max(gains.values(), default=0)
-        return [name for name in gains if gains[name] == most] if most > len(order) else []
-
-    def fewest(self, roots):
-        """What the object lacks that lacks least, of those that still wait and that inputs could help."""
-        known, order = self.solved_with(chosen(roots))
-        candidates, lists = set(self.candidates()), []
-        for thing in self.objects:
-            fixed, terms = self.lacking(thing, known)
-            names = [self.first.get(f"{thing.name}.{name}") for name in (*fixed, *terms)]
-            if thing not in order and all(name in candidates for name in names):
-                lists.append([Root([name]) for name in names[: len(fixed)]])
-                lists[-1] += [Root(names[len(fixed) :], len(terms) - 1)] if terms else []
-        return min(lists, key=lambda few: sum(root.count for root in few), default=[])
+        return [name for name in dict.fromkeys(names) if name in candidates]
 
     # ---- what is told
 
     def lines(self):
         """The chain of objects that wait, and what is missing."""
         begin, end = self.model.timesteps.begin(self.step), self.model.timesteps.end(self.step)
-        roots = self.roots()
-        _, order = self.solved_with(chosen(roots))
-        chain = order + [thing for thing in self.objects if thing not in order]
+        search = Search(self)
+        roots, order = search.roots, list(search.solved.values())
+        chain = order + [thing for thing in self.objects if thing.name not in search.solved]
         lines = [f"In timestep {self.step}, from {stamp_of(begin)} to {stamp_of(end)}, these objects wait:"]
         lines += [f"    {thing.name} ({thing.kind}) {self.wants(thing)}" for thing in chain[:MOST_TOLD]]
         lines += [f"    and {len(chain) - MOST_TOLD} more"] if len(chain) > MOST_TOLD else []
-        lines += [line for root in roots for line in self.missing_input(root)]
+        lines += [line for root in roots[:MOST_TOLD] for line in self.missing_input(root)]
+        lines += [f"Missing: {len(roots) - MOST_TOLD} inputs more."] if len(roots) > MOST_TOLD else []
         if roots and len(order) == len(self.objects):
             lines.append("With that no object would wait in this timestep.")
         return lines + [line for thing in self.objects for line in self.hints(thing)]
@@ -234,6 +180,73 @@ class Root:
     count: int = 1
 
 
-def chosen(roots):
-    """Slots that would do for all that is missing."""
-    return [name for root in roots for name in root.names[: root.count]]
+class Search:
+    """Looks for inputs that are missing: first those given at other timesteps, then any that help most."""
+
+    def __init__(self, waiting):
+        self.waiting = waiting
+        self.known = set(waiting.known)  # with the inputs that were found so far, and all that follows
+        self.solved = {}  # the objects that solve then, by name, in their order
+        self.roots = []
+        holes, candidates = waiting.holes(), waiting.candidates()
+        while best := self.best(holes):
+            self.take([Root(best[:1])])
+        for name in waiting.wanted():
+            if name not in self.known:
+                self.take([Root([name])])
+        while roots := self.beside(self.best(candidates)) or self.fewest(set(candidates)):
+            self.take(roots)
+
+    def take(self, roots):
+        """Takes inputs as found."""
+        self.roots += roots
+        order, _ = self.spread([name for root in roots for name in root.names[: root.count]])
+        self.solved.update(order)
+
+    def spread(self, names):
+        """Makes slots known, and all that objects solve then: these objects in order, and the new slots."""
+        order, added, queue = {}, [], deque(names)
+        while queue:
+            name = queue.popleft()
+            if name in self.known:
+                continue
+            self.known.add(name)
+            added.append(name)
+            for thing in self.waiting.owners[name]:
+                done = thing.name in self.solved or thing.name in order
+                if not done and not any(self.waiting.lacking(thing, self.known)):
+                    order[thing.name] = thing
+                    queue.extend(self.waiting.solves(thing))
+        return order, added
+
+    def gain(self, name):
+        """How many further objects would solve if a slot were given."""
+        order, added = self.spread([name])
+        self.known.difference_update(added)
+        return len(order)
+
+    def best(self, names):
+        """The slots each of which would let most further objects solve; none where no single one does."""
+        if len(self.solved) == len(self.waiting.objects):
+            return []
+        gains = {name: self.gain(name) for name in names if name not in self.known}
+        most = max(gains.values(), default=0)
+        return [name for name in gains if gains[name] == most] if most else []
+
+    def beside(self, names):
+        """Of slots that would all do, those of the object that has the first, as one missing input."""
+        for thing in self.waiting.owners[names[0]] if names else ():
+            own = {self.waiting.first[slot.full_name] for slot in thing.slots}
+            return [Root([name for name in names if name in own])]
+        return []
+
+    def fewest(self, candidates):
+        """What the object lacks that lacks least, of those that still wait and that inputs could help."""
+        lists = []
+        for thing in self.waiting.objects:
+            fixed, terms = self.waiting.lacking(thing, self.known)
+            names = [self.waiting.first.get(f"{thing.name}.{name}") for name in (*fixed, *terms)]
+            if thing.name not in self.solved and all(name in candidates for name in names):
+                lists.append([Root([name]) for name in names[: len(fixed)]])
+                lists[-1] += [Root(names[len(fixed) :], len(terms) - 1)] if terms else []
+        return min(lists, key=lambda few: sum(root.count for root in few), default=[])

@@ -14,6 +14,7 @@ from .reasons import NAME, plain, shown
 from .moments import stamp_of
 
 HEADING = re.compile(r"\s*(?P<name>[^\[(]*?)\s*(?:[\[(]\s*(?P<unit>[^\])]*?)\s*[\])])?\s*")
+WHOLE = re.compile(r"-?[0-9]{1,18}")
 DECIMAL = re.compile(r"[-+]?(?:[0-9]+[.,]?[0-9]*|[.,][0-9]+)(?:[eE][-+]?[0-9]{1,2})?")
 DATES = (
     "%Y-%m-%d",
@@ -56,9 +57,10 @@ def read_sheet(text):
     bare = re.sub(r'"[^"]*"', "", first)
     delimiter = named[1] if named else max(";\t,", key=bare.count)
     reader = csv.reader(io.StringIO(text, newline=""), delimiter=delimiter)
-    rows = [
-        (number, fields) for number, fields in enumerate(reader, 1) if any(field.strip() for field in fields)
-    ]
+    try:
+        rows = [(number, row) for number, row in enumerate(reader, 1) if any(field.strip() for field in row)]
+    except csv.Error as error:
+        raise ValueError(f"this is no table: {error}") from None
     if named:
         rows = rows[1:]
     if not rows:
@@ -107,6 +109,8 @@ def factor_of(unit, slot_unit, timesteps):
 def number_of(text, comma):
     """The number that a cell spells, exactly. `ValueError` says why it is none."""
     bare = text.strip().replace("\u2212", "-")
+    if WHOLE.fullmatch(bare):
+        return int(bare)
     if not DECIMAL.fullmatch(bare):
         raise ValueError(f"{shown(text)} isn't a number (marks of thousands aren't taken)")
     if "," in bare and not comma:
@@ -120,6 +124,8 @@ def number_of(text, comma):
 
 def rounded(exact):
     """A number rounded to a whole one, a half up."""
+    if isinstance(exact, int):
+        return exact
     return (exact + Fraction(1, 2)) // 1
 
 
