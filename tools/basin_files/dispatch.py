@@ -1,0 +1,316 @@
+"""One timestep of a run without rules, as docs/DEFINITIONS.md tells it under "How an object solves" and
+"Runs".
+
+The tools go through a timestep again to tell what was known when a run ended. What they tell is compared
+with what `basin` wrote, and where it differs they say so.
+"""
+
+from collections import deque
+from dataclasses import dataclass, field
+
+
+@dataclass
+class Cell:
+    """What a slot holds at the timestep: its value, and the object that solved it, or "" for an input."""
+
+    value: int
+    writer: str
+
+
+@dataclass
+class View:
+    """What a dispatch of an object sees: known values, which of them it put itself, and its past value."""
+
+    thing: object
+    known: dict
+    own: set
+    past: int | None
+    bounds: dict
+
+    def given(self, name):
+        """Whether a slot is known and another than the object wrote it."""
+        return name in self.known and name not in self.own
+
+
+@dataclass
+class Answer:
+    """What a dispatch answers: `idle`, `puts` (pairs of a slot's name and a value), or a fault."""
+
+    kind: str
+    slot: str = ""
+    held: int = 0
+    value: int = 0
+    puts: list = field(default_factory=list)
+
+
+IDLE = Answer("idle")
+
+
+def volume(table, elevation):
+    """The volume in m3 at an elevation in mm: on the line between two rows, rounded down. `None` outside."""
+    for (low, least), (high, most) in zip(table, table[1:]):
+        if low <= elevation <= high:
+            return least + (elevation - low) * (most - least) // (high - low)
+    return None
+
+
+def elevation(table, storage):
+    """The greatest whole elevation in mm whose volume is at most the storage. `None` outside the table."""
+    if not table[0][1] <= storage <= table[-1][1]:
+        return None
+    low, high = table[0][0], table[-1][0]
+    while low < high:
+        middle = (low + high + 1) // 2
+        low, high = (middle, high) if volume(table, middle) <= storage else (low, middle - 1)
+    return low
+
+
+def past_name(thing):
+    """The slot at whose past the object looks, or "": a reservoir's storage, a lagged reach's inflow."""
+    if thing.kind == "reservoir":
+        return "Storage"
+    return "Inflow" if thing.kind == "reach" and thing.options["lag"] else ""
+
+
+def past_value(thing, step, rows):
+    """That value for a timestep: before the run by the model, else from the rows of the timesteps before."""
+    name = past_name(thing)
+    ago = 1 if thing.kind == "reservoir" else thing.options.get("lag", 0)
+    if step - ago >= 1:
+        return rows[step - ago - 1].values.get(f"{thing.name}.{name}")
+    return (
+        thing.options["initial_storage"] if thing.kind == "reservoir" else thing.options["history"][step - 1]
+    )
+
+
+def terms_of(thing):
+    """The terms for which the balance can be solved, in order; a reservoir's contents are Storage."""
+    names = [slot.name for slot in thing.slots if slot.role == "solvable"]
+    return names + ["Storage"] if thing.kind == "reservoir" else names
+
+
+def missing(thing, known, past_known):
+    """What an object waits for: slots that have to be known, and terms of which all but one have to be."""
+    fixed = [slot.name for slot in thing.slots if slot.role == "fixed" and slot.name not in known]
+    if past_name(thing) and not past_known:
+        fixed.append(f"{past_name(thing)} before")
+    held = set(known) | ({"Storage"} if thing.kind == "reservoir" and "PoolElevation" in known else set())
+    terms = [name for name in terms_of(thing) if name not in held]
+    return fixed, terms if len(terms) > 1 else []
+
+
+def solve(view):
+    """What a dispatch of an object answers, where every value has number 0."""
+    thing = view.thing
+    given = [name for name in view.known if view.given(name)]
+    fixed, terms = missing(thing, given, view.past is not None)
+    if thing.kind == "data" or any(name not in view.known for name in fixed) or terms:
+        return IDLE
+    values = dict(view.known)
+    refused = take_evaporation(view, values) or take_contents(view, values)
+    if refused:
+        return refused
+    puts = {}
+    refused = settle(view, values, puts)
+    if refused:
+        return refused
+    put_contents(view, values, puts)
+    put_derived(thing, values, puts)
+    return in_bounds(view, puts)
+
+
+def take_evaporation(view, values):
+    """Works out what evaporates; a storage before that the table doesn't have is out of range."""
+    options = view.thing.options
+    if not options.get("evaporation"):
+        return None
+    level = elevation(options["table"], view.past)
+    if level is None:
+        return Answer("out of range", "Storage", value=view.past)
+    lowest = max(level - values["EvaporationRate"], options["table"][0][0])
+    values["Evaporation"] = volume(options["table"], level) - volume(options["table"], lowest)
+    return None
+
+
+def take_contents(view, values):
+    """Takes a reservoir's contents from its storage or its elevation; two that are given have to agree."""
+    table = view.thing.options.get("table")
+    storage, level = view.given("Storage"), view.given("PoolElevation")
+    if view.thing.kind != "reservoir" or not table:
+        return None
+    if storage and elevation(table, values["Storage"]) is None:
+        return Answer("out of range", "Storage", value=values["Storage"])
+    if storage and level:
+        found = elevation(table, values["Storage"])
+        if values["PoolElevation"] != found and volume(table, values["PoolElevation"]) != values["Storage"]:
+            return Answer("conflict", "PoolElevation", values["PoolElevation"], found)
+    elif level:
+        if volume(table, values["PoolElevation"]) is None:
+            return Answer("out of range", "PoolElevation", value=values["PoolElevation"])
+        values["Storage"] = volume(table, values["PoolElevation"])
+    return None
+
+
+def is_given(view, term):
+    """Whether a term of the balance is given: a reservoir's contents by the storage or the elevation."""
+    return view.given(term) or (
+        view.thing.kind == "reservoir" and term == "Storage" and view.given("PoolElevation")
+    )
+
+
+def settle(view, values, puts):
+    """Solves the term that isn't given; where all are, the balance has to be true."""
+    terms = terms_of(view.thing)
+    if not terms:
+        return None
+    free = next((name for name in terms if not is_given(view, name)), None)
+    term = free or terms[-1]
+    solved = solved_term(view.thing, term, values, view.past)
+    if free:
+        puts[free] = values[free] = solved
+    elif view.thing.kind == "canal":
+        return None if values[term] == solved else Answer("conflict", term, values[term], solved)
+    elif values[term] != solved:
+        return Answer("conflict", term, values[term], solved)
+    return None
+
+
+def signed_terms(thing):
+    """The balance: what adds to it and what is taken away, as pairs of a sign and a slot's name."""
+    lagged = past_name(thing) == "Inflow"
+    pairs = [
+        (slot.sign, slot.name) for slot in thing.slots if slot.sign and not (lagged and slot.name == "Inflow")
+    ]
+    return pairs + [(-1, "Storage")] if thing.kind == "reservoir" else pairs
+
+
+def solved_term(thing, term, values, past):
+    """The value of a term that makes the balance true."""
+    if thing.kind == "canal":
+        return (
+            inflow_of_canal(thing, values["Outflow"])
+            if term == "Inflow"
+            else conveyed(thing, values["Inflow"])
+        )
+    rest = (past or 0) if past_name(thing) else 0
+    rest += sum(sign * values[name] for sign, name in signed_terms(thing) if name != term)
+    sign = next(sign for sign, name in signed_terms(thing) if name == term)
+    return -sign * rest
+
+
+def conveyed(thing, inflow):
+    """What flows out of a canal: the inflow less what seeps away, which is rounded down."""
+    return inflow - inflow * thing.options["seepage"] // 1000
+
+
+def inflow_of_canal(thing, outflow):
+    """The least inflow of a canal that conveys an outflow."""
+    return 0 if outflow == 0 else 1000 * (outflow - 1) // (1000 - thing.options["seepage"]) + 1
+
+
+def put_contents(view, values, puts):
+    """Puts the storage beside a given elevation, or the elevation beside the storage."""
+    table = view.thing.options.get("table")
+    if view.thing.kind != "reservoir" or not table:
+        return
+    if not view.given("Storage"):
+        puts["Storage"] = values["Storage"]
+    if not view.given("PoolElevation"):
+        puts["PoolElevation"] = elevation(table, values["Storage"])
+
+
+def put_derived(thing, values, puts):
+    """Puts what follows: evaporation, release and spill, what is used up and flows back, seepage."""
+    names = {slot.name for slot in thing.slots if slot.role == "derived"}
+    if "Evaporation" in names:
+        puts["Evaporation"] = values["Evaporation"]
+    if "Release" in names:
+        puts["Release"] = min(values["Outflow"], thing.options["max_release"])
+        puts["Spill"] = values["Outflow"] - puts["Release"]
+    if "Depletion" in names:
+        puts["Depletion"] = values["Diversion"] * thing.options["depletion"] // 1000
+        puts["ReturnFlow"] = values["Diversion"] - puts["Depletion"]
+    if "Seepage" in names:
+        puts["Seepage"] = values["Inflow"] - values["Outflow"]
+
+
+def in_bounds(view, puts):
+    """The puts in order of place, or the first that its slot can't have."""
+    ordered = [(slot.name, puts[slot.name]) for slot in view.thing.slots if slot.name in puts]
+    for name, value in ordered:
+        low, high = view.bounds[name]
+        if value is None:  # no elevation: then the storage isn't the table's
+            return Answer("out of range", "Storage", value=puts["Storage"])
+        if not low <= value <= high:
+            return Answer("out of range", name, value=value)
+        table = view.thing.options.get("table")
+        if name == "Storage" and table and elevation(table, value) is None:
+            return Answer("out of range", "Storage", value=value)
+    return Answer("puts", puts=ordered)
+
+
+class Timestep:
+    """A timestep on its way: what each slot holds, which objects wait, and the fault, if one ends it."""
+
+    def __init__(self, model, inputs, step, rows):
+        self.model, self.step, self.rows = model, step, rows
+        self.first = {name: model.group(name)[0].full_name for name in model.slots}
+        self.inputs = inputs
+        given = {name: by_step[step] for name, by_step in inputs.cells.items() if step in by_step}
+        self.cells = {name: Cell(one.value, "") for name, one in given.items()}
+        self.fault = None
+        self.at = None  # the object whose dispatch is the fault
+
+    def cell(self, full_name):
+        """What a slot holds, or `None`."""
+        return self.cells.get(self.first[full_name])
+
+    def view(self, thing):
+        """What a dispatch of an object sees."""
+        cells = {slot.name: self.cell(slot.full_name) for slot in thing.slots}
+        known = {name: cell.value for name, cell in cells.items() if cell}
+        own = {name for name, cell in cells.items() if cell and cell.writer == thing.name}
+        past = past_value(thing, self.step, self.rows) if past_name(thing) else None
+        return View(
+            thing, known, own, past, {slot.name: self.model.bounds(slot.full_name) for slot in thing.slots}
+        )
+
+    def run(self):
+        """Goes through the timestep up to its end, or to its fault."""
+        objects = [thing for thing in self.model.objects if thing.kind != "data"]
+        waiting, counts = deque(objects), {}
+        while waiting and not self.fault:
+            thing = waiting.popleft()
+            if counts.get(thing.name, 0) >= self.model.object_limit:
+                self.fault = Answer("limit", value=counts[thing.name])
+            else:
+                counts[thing.name] = counts.get(thing.name, 0) + 1
+                written = self.dispatch(thing)
+                waiting.extend(one for one in objects if self.is_woken(one, thing, written, waiting))
+            self.at = thing if self.fault else None
+        return self
+
+    def dispatch(self, thing):
+        """Dispatches an object: the slots that it wrote, by the first of their links."""
+        answer = solve(self.view(thing))
+        if answer.kind in ("conflict", "out of range"):
+            self.fault = answer
+            return set()
+        written = []
+        for name, value in answer.puts:
+            held = self.cell(f"{thing.name}.{name}")
+            if held and held.value != value and held.writer != thing.name:
+                self.fault = Answer("conflict", name, held.value, value)
+                return set()
+            if not held or held.value != value:
+                written.append((self.first[f"{thing.name}.{name}"], value))
+        self.cells.update((first, Cell(value, thing.name)) for first, value in written)
+        return {first for first, _ in written}
+
+    def is_woken(self, other, thing, written, waiting):
+        """Whether what an object wrote makes another one wait."""
+        return (
+            other is not thing
+            and other not in waiting
+            and any(self.first[slot.full_name] in written for slot in other.slots)
+        )

@@ -1,0 +1,215 @@
+"""What a fault of a run means: what was known of the object, and which balance doesn't hold."""
+
+from .dispatch import Timestep, past_name, signed_terms, take_contents, take_evaporation, terms_of, volume
+from .formats import amount
+from .moments import stamp_of
+
+# The slot on the left of each kind's balance.
+LEFT_SIDE = {
+    "gage": "GageOutflow",
+    "confluence": "Outflow",
+    "bifurcation": "Inflow",
+    "reach": "Outflow",
+    "reservoir": "Storage",
+    "water_user": "Diversion",
+}
+DERIVED_TEXT = {
+    "Evaporation": "what lies between the elevation before and the one that is lower by EvaporationRate",
+    "Release": "Outflow, up to max_release",
+    "Spill": "Outflow less Release",
+    "Depletion": "depletion parts of 1000 of Diversion, rounded down",
+    "ReturnFlow": "Diversion less Depletion",
+    "Seepage": "Inflow less Outflow",
+}
+
+
+def fault_words(timestep):
+    """The fault of a timestep that was gone through again, in `basin`'s words, or "" where it has none."""
+    fault = timestep.fault
+    if not fault:
+        return ""
+    at = f"object {timestep.at.name} slot {timestep.at.name}.{fault.slot} step {timestep.step}"
+    return {
+        "conflict": f"conflict {at} held {fault.held} solved {fault.value}",
+        "out of range": f"out of range {at} value {fault.value}",
+        "limit": f"limit object {timestep.at.name} step {timestep.step} after {fault.value}",
+    }[fault.kind]
+
+
+def tell_fault(model, inputs, section):
+    """Lines that tell of the fault of a section."""
+    step = section.fault_step
+    timestep = Timestep(model, inputs, step, section.rows).run()
+    begin, end = model.timesteps.begin(step), model.timesteps.end(step)
+    lines = [f"The run ended in timestep {step}, from {stamp_of(begin)} to {stamp_of(end)}."]
+    if fault_words(timestep) != section.fault:
+        return lines + [
+            "This tool, going through that timestep again, comes to something else, so it can't say more."
+        ]
+    return lines + Telling(timestep).lines()
+
+
+class Telling:
+    """Tells of the fault of a timestep."""
+
+    def __init__(self, timestep):
+        self.timestep, self.thing, self.fault = timestep, timestep.at, timestep.fault
+        self.model = timestep.model
+        self.view = timestep.view(self.thing)
+        self.values = dict(self.view.known)
+        if not any(slot.role == "fixed" and slot.name not in self.values for slot in self.thing.slots):
+            _ = take_evaporation(self.view, self.values) or take_contents(self.view, self.values)
+
+    def lines(self):
+        """What happened, what was known, and what to do."""
+        name = f"{self.thing.name} ({self.thing.kind})"
+        if self.fault.kind == "limit":
+            return [
+                f"{name} was dispatched {self.fault.value} times in that timestep, as often as object_limit"
+                " allows."
+            ]
+        told = self.conflict() if self.fault.kind == "conflict" else self.out_of_range()
+        return [f"{name}: {told[0]}", *told[1:], "What was known of it then:", *self.known(), *self.advice()]
+
+    # ---- what was known
+
+    def source(self, slot):
+        """Where the value of a slot comes from."""
+        cell = self.timestep.cell(slot.full_name)
+        if cell.writer:
+            return "which it solved itself" if cell.writer == self.thing.name else f"from {cell.writer}"
+        given = self.timestep.inputs.given(slot.full_name, self.timestep.step)
+        return f"inputs, line {given.line}" + (f", as {given.slot}" if given.slot != slot.full_name else "")
+
+    def known(self):
+        """A line for each slot of the object, and for the value before."""
+        lines = []
+        if self.view.past is not None:
+            step = self.timestep.step - (1 if self.thing.kind == "reservoir" else self.thing.options["lag"])
+            where = "initial_storage" if self.thing.kind == "reservoir" else "history"
+            whence = f"timestep {step}" if step >= 1 else f"{where} of the model"
+            lines.append(f"    {self.past_label()} = {self.view.past:,} ({whence})")
+        for slot in self.thing.slots:
+            if slot.name in self.view.known:
+                lines.append(
+                    f"    {slot.name} = {self.view.known[slot.name]:,} {slot.unit} ({self.source(slot)})"
+                )
+            elif slot.role != "derived":
+                lines.append(f"    {slot.name} unknown")
+        return lines
+
+    def past_label(self):
+        """The name of the value before."""
+        lag = self.thing.options.get("lag")
+        if self.thing.kind == "reservoir":
+            return "Storage before"
+        return "Inflow a timestep ago" if lag == 1 else f"Inflow {lag} timesteps ago"
+
+    # ---- the balance
+
+    def balance(self, values, left=None):
+        """The balance: its left slot and value, and its right side in words, in numbers and as a sum."""
+        if self.thing.kind == "canal":
+            seepage = values["Inflow"] * self.thing.options["seepage"] // 1000
+            words = f"Inflow - Inflow x {self.thing.options['seepage']} / 1000, rounded down"
+            sum_words = f"{values['Inflow']:,} - {seepage:,}"
+            return "Outflow", values["Outflow"], words, sum_words, values["Inflow"] - seepage
+        left = left or LEFT_SIDE[self.thing.kind]
+        terms = [(1, self.past_label(), self.view.past)] if past_name(self.thing) else []
+        terms += [(sign, name, values[name]) for sign, name in signed_terms(self.thing)]
+        turn = -next(sign for sign, name, _ in terms if name == left)
+        terms = [(sign * turn, name, value) for sign, name, value in terms if name != left]
+        terms.sort(key=lambda term: -term[0])
+        words = " ".join(f"{'-' if sign < 0 else '+'} {name}" for sign, name, _ in terms)
+        numbers = " ".join(f"{'-' if sign < 0 else '+'} {value:,}" for sign, _, value in terms)
+        total = sum(sign * value for sign, _, value in terms)
+        return left, values[left], words.removeprefix("+ "), numbers.removeprefix("+ "), total
+
+    def conflict(self):
+        """What a conflict is about."""
+        slot, held, value = self.fault.slot, self.fault.held, self.fault.value
+        if slot in DERIVED_TEXT and slot not in terms_of(self.thing):
+            return [f"{slot} would be {value:,}, that is {DERIVED_TEXT[slot]}, and it holds {held:,}."]
+        if slot == "PoolElevation":
+            table, storage = self.thing.options["table"], self.values["Storage"]
+            there = volume(table, held)
+            other = "none" if there is None else f"{there:,} m3"
+            return [
+                "Storage and PoolElevation don't agree.",
+                (
+                    f"    by the table {storage:,} m3 stand at {value:,} mm, and the volume at {held:,} mm is"
+                    f" {other}"
+                ),
+            ]
+        left, left_value, words, numbers, right = self.balance(self.values)
+        total = "" if numbers == f"{right:,}" else f" = {right:,}"
+        lines = [
+            "its balance doesn't hold.",
+            f"    {left} = {words}",
+            f"    {left_value:,}, and not {numbers}{total}",
+        ]
+        if self.thing.kind == "reservoir" and not self.view.given("Storage"):
+            lines.append(
+                f"    (the table has {held:,} m3 at PoolElevation {self.view.known['PoolElevation']:,})"
+            )
+        return lines
+
+    def out_of_range(self):
+        """Which value is outside, and of what."""
+        slot, value = self.fault.slot, self.fault.value
+        one = next(one for one in self.thing.slots if one.name == slot)
+        low, high = self.view.bounds[slot]
+        table = self.thing.options.get("table")
+        if low <= value <= high and table:
+            place = 1 if slot == "Storage" else 0
+            low, high = table[0][place], table[-1][place]
+            whose = "its table has"
+        else:
+            whose = "its bounds are"
+        by = f"{low - value:,} too little" if value < low else f"{value - high:,} too much"
+        verb = "is" if slot in self.view.known else "would be"
+        first = f"{slot} {verb} {value:,} {one.unit}, and {whose} {amount(low)} to {amount(high)}: {by}."
+        return [first, *self.how(slot, value)]
+
+    def how(self, slot, value):
+        """How the object comes to a value, where its balance says so."""
+        if slot in self.view.known or slot not in terms_of(self.thing):
+            return []
+        if self.is_of_before():
+            return ["    (that is the storage before the timestep, of which the table tells what evaporates)"]
+        left, left_value, words, numbers, _ = self.balance({**self.values, slot: value}, slot)
+        return [f"    {left} = {words}", f"    {left_value:,} = {numbers}"]
+
+    def is_of_before(self):
+        """Whether what is outside is the storage before, of which the table tells what evaporates."""
+        evaporates = self.thing.options.get("evaporation") and "Evaporation" not in self.values
+        return bool(evaporates) and self.fault.slot == "Storage" and self.fault.value == self.view.past
+
+    def advice(self):
+        """What to do."""
+        if self.fault.kind == "conflict" and self.fault.slot == "PoolElevation":
+            return ["Give one of the two."]
+        if self.fault.kind == "conflict":
+            given = [
+                slot.name
+                for slot in self.thing.slots
+                if slot.name in self.view.known and not self.timestep.cell(slot.full_name).writer
+            ]
+            if not given:
+                return ["Nothing of this is an input of its own: look at the objects that it comes from."]
+            return [f"Take one of these inputs away ({', '.join(given)}), or change it so that they agree."]
+        if self.is_of_before():
+            return [f"Mend what its storage of timestep {self.timestep.step - 1} comes from."]
+        value, low = self.fault.value, self.view.bounds[self.fault.slot][0]
+        if self.thing.kind != "reservoir":
+            return ["Change an input that it comes from, or set other bounds."]
+        if self.fault.slot == "Outflow" and value < low:
+            return ["More is wanted in store than there is: want less, or let less be diverted."]
+        if self.fault.slot == "Storage" and self.fault.slot not in self.view.known:
+            less = value < low or (
+                self.thing.options.get("table") and value < self.thing.options["table"][0][1]
+            )
+            return [
+                "Let out or divert less, or begin with more." if less else "Let out more, or begin with less."
+            ]
+        return ["Change an input that it comes from, or set other bounds."]

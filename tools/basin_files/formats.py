@@ -1,0 +1,304 @@
+"""The tables of docs/FORMATS.md: keys, kinds, slots, units, bounds and refusals, in that page's words."""
+
+from dataclasses import dataclass
+from fractions import Fraction
+
+GREATEST_QUANTITY = 10**17  # Q: every quantity lies from -Q to Q
+GREATEST_ELEVATION = 10**7  # of a table, in mm; of PoolElevation in mm and EvaporationRate in mm/step
+GREATEST_VOLUME = 10**13  # of a table, in m3
+GREATEST_FILE = 16_777_216  # in bytes
+MOST_OBJECTS = 500
+MOST_SLOTS = 4_000
+MOST_VALUES = 1_000_000  # of slots over all timesteps
+TABLE_ROWS = (2, 200)
+DATA_SLOTS = (1, 8)
+LINK_SLOTS = (2, 8)
+NAME_LENGTH = 32  # in bytes
+
+STEP_HOURS = {"1h": 1, "6h": 6, "12h": 12, "24h": 24}
+STEP_WORDS = (*STEP_HOURS, "1month")
+
+RESERVED_WORDS = (
+    "RULE ENDRULE FUNCTION ENDFUNCTION IS IF THEN ELSE ENDIF WITH DO ENDWITH LET IN ENDLET FOR ENDFOR MAP"
+    " ENDMAP AND OR NOT TRUE FALSE KNOWN APPEND ITEM LENGTH MONTH DAY YEAR StorageToElevation"
+    " ElevationToStorage NUMERIC BOOLEAN DATETIME SLOT LIST OF t"
+).split()
+
+
+def amount(number):
+    """A whole number for people to read: 1,500, or 10^17 for the greatest quantity."""
+    if abs(number) == GREATEST_QUANTITY:
+        return "10^17" if number > 0 else "-10^17"
+    return f"{number:,}"
+
+
+# ---- keys of a model
+
+REQUIRED = object()  # the default of a key that has none
+
+
+@dataclass(frozen=True)
+class Key:
+    """A key of a table: its TOML type, and its range (`low` to `high`) or the words that it may hold."""
+
+    name: str
+    type: str
+    low: int = 0
+    high: int = 0
+    words: tuple = ()
+    default: object = REQUIRED
+    unit: str = ""
+
+    def allowed(self):
+        """What the key may hold, in words."""
+        if self.words:
+            return " or ".join(f'"{word}"' for word in self.words)
+        if self.type == "integer" and self.low == self.high:
+            return str(self.low)
+        if self.type == "integer":
+            unit = f" ({self.unit})" if self.unit else ""
+            return f"a whole number from {amount(self.low)} to {amount(self.high)}{unit}"
+        return {
+            "boolean": "true or false",
+            "text": "a text in quotes",
+            "array": "an array [..]",
+            "whole": "a whole number",
+            "table": "a table",
+            "tables": "tables",
+            "start": 'a moment as "2020-10-01T00:00", on the hour',
+        }[self.type]
+
+
+def option(name):
+    """A key that chooses a slot: true or false, where it isn't there false."""
+    return Key(name, "boolean", default=False)
+
+
+FILE_KEYS = (
+    Key("format", "integer", 1, 1),
+    Key("run", "table"),
+    Key("object", "tables"),
+    Key("link", "tables", default=()),
+    Key("bound", "tables", default=()),
+)
+RUN_KEYS = (
+    Key("start", "start"),
+    Key("step", "text", words=STEP_WORDS),
+    Key("steps", "integer", 1, 4_096, unit="timesteps"),
+    Key("agenda", "text", words=("123", "321"), default="321"),
+    Key("object_limit", "integer", 16, 100, default=50, unit="times"),
+    Key("rule_limit", "integer", 1, 100, default=20, unit="times"),
+)
+KIND_KEYS = {
+    "data": (Key("slots", "tables"),),
+    "gage": (),
+    "confluence": (),
+    "bifurcation": (),
+    "reach": (
+        Key("lag", "integer", 0, 30, default=0, unit="timesteps"),
+        Key("history", "array", -GREATEST_QUANTITY, GREATEST_QUANTITY, default=(), unit="m3/step"),
+        option("local_inflow"),
+        option("diversion"),
+        option("return_flow"),
+    ),
+    "reservoir": (
+        Key("initial_storage", "integer", 0, GREATEST_QUANTITY, unit="m3"),
+        Key("table", "array", default=None),
+        option("local_inflow"),
+        option("diversion"),
+        option("return_flow"),
+        option("evaporation"),
+        Key("max_release", "integer", 0, GREATEST_QUANTITY, default=None, unit="m3/step"),
+    ),
+    "water_user": (
+        Key("depletion", "integer", 0, 1_000, unit="parts of 1000"),
+        Key("supply", "text", words=("request", "rule"), default="request"),
+    ),
+    "canal": (Key("seepage", "integer", 0, 999, unit="parts of 1000"),),
+}
+
+# ---- slots of a kind
+
+
+@dataclass(frozen=True)
+class SlotRow:
+    """A slot of a kind: its role, its sign in the balance, and the option that makes it exist."""
+
+    name: str
+    role: str  # solvable, fixed, derived or neither
+    sign: int = 0  # 1 where it adds to the balance, -1 where it is taken away, 0 where it is no term
+    way: str = ""  # in: into the object; out: out of it
+    unit: str = "m3/step"
+    option: str = ""  # the key that chooses it
+
+
+def inflow(name, role, option=""):
+    """A flow into the object."""
+    return SlotRow(name, role, 1, "in", option=option)
+
+
+def outflow(name, role, option=""):
+    """A flow out of the object; a derived one is part of another flow, and no term of the balance."""
+    return SlotRow(name, role, 0 if role == "derived" else -1, "out", option=option)
+
+
+KIND_SLOTS = {
+    "gage": (inflow("GageInflow", "solvable"), outflow("GageOutflow", "solvable")),
+    "confluence": (
+        inflow("Inflow1", "solvable"),
+        inflow("Inflow2", "solvable"),
+        outflow("Outflow", "solvable"),
+    ),
+    "bifurcation": (
+        inflow("Inflow", "solvable"),
+        outflow("Outflow1", "solvable"),
+        outflow("Outflow2", "solvable"),
+    ),
+    "reach": (
+        inflow("Inflow", "solvable"),
+        outflow("Outflow", "solvable"),
+        inflow("LocalInflow", "fixed", "local_inflow"),
+        outflow("Diversion", "fixed", "diversion"),
+        inflow("ReturnFlow", "fixed", "return_flow"),
+    ),
+    "reservoir": (
+        inflow("Inflow", "solvable"),
+        outflow("Outflow", "solvable"),
+        SlotRow("Storage", "neither", unit="m3"),
+        SlotRow("PoolElevation", "neither", unit="mm", option="table"),
+        inflow("LocalInflow", "fixed", "local_inflow"),
+        outflow("Diversion", "fixed", "diversion"),
+        inflow("ReturnFlow", "fixed", "return_flow"),
+        SlotRow("EvaporationRate", "fixed", unit="mm/step", option="evaporation"),
+        SlotRow("Evaporation", "derived", -1, "out", option="evaporation"),
+        outflow("Release", "derived", "max_release"),
+        outflow("Spill", "derived", "max_release"),
+    ),
+    "water_user": (
+        SlotRow("DiversionRequest", "fixed", 1, "in"),
+        SlotRow("Diversion", "solvable", -1, "in"),
+        outflow("Depletion", "derived"),
+        outflow("ReturnFlow", "derived"),
+    ),
+    "canal": (inflow("Inflow", "solvable"), outflow("Outflow", "solvable"), outflow("Seepage", "derived")),
+}
+
+# What makes an option's slots exist, in the words of a model's file.
+OPTION_TEXT = {
+    "local_inflow": "local_inflow = true",
+    "diversion": "diversion = true",
+    "return_flow": "return_flow = true",
+    "evaporation": "evaporation = true and a table",
+    "table": "a table",
+    "max_release": "a max_release",
+}
+
+# ---- units and bounds
+
+# The unit words of a data slot, with the base unit in which its values are given.
+BASE_UNITS = {
+    "m3": "m3",
+    "dam3": "m3",
+    "Mm3": "m3",
+    "mm": "mm",
+    "m": "mm",
+    "step": "step",
+    "m3/step": "m3/step",
+    "dam3/step": "m3/step",
+    "mm/step": "mm/step",
+    "m3/mm": "m3/mm",
+    "kWh": "kWh",
+    "": "",
+}
+
+# What else a heading of a wide table may have in brackets: how much one of it is in the base unit.
+AMOUNTS = {
+    "l": ("m3", Fraction(1, 1000)),
+    "m3": ("m3", Fraction(1)),
+    "dam3": ("m3", Fraction(1000)),
+    "hm3": ("m3", Fraction(10**6)),
+    "Mm3": ("m3", Fraction(10**6)),
+    "km3": ("m3", Fraction(10**9)),
+    "mm": ("mm", Fraction(1)),
+    "cm": ("mm", Fraction(10)),
+    "m": ("mm", Fraction(1000)),
+    "step": ("step", Fraction(1)),
+    "kWh": ("kWh", Fraction(1)),
+    "m3/mm": ("m3/mm", Fraction(1)),
+    "": ("", Fraction(1)),
+}
+SECONDS = {"s": 1, "min": 60, "h": 3600, "d": 86400, "day": 86400}
+
+
+def widest_bounds(slot_name, kind):
+    """The widest bounds of a slot, in its base unit."""
+    if kind == "reservoir" and slot_name == "Storage":
+        return 0, GREATEST_QUANTITY
+    if kind == "reservoir" and slot_name in ("PoolElevation", "EvaporationRate"):
+        return 0, GREATEST_ELEVATION
+    return -GREATEST_QUANTITY, GREATEST_QUANTITY
+
+
+def usual_bounds(slot_name, kind):
+    """The bounds of a slot for which a model sets none: a flow's begin with 0."""
+    low, high = widest_bounds(slot_name, kind)
+    return (low if kind == "data" else 0), high
+
+
+# ---- refusals
+
+MODEL_REFUSALS = {
+    "not TOML": "The bytes of the file are no TOML.",
+    "missing": "A key that is required isn't there.",
+    "wrong kind": "The value is of another type than the key asks for.",
+    "unknown key": "The table has no such key.",
+    "unknown kind": "There is no such kind of object: " + ", ".join(KIND_KEYS) + ".",
+    "build duplicate name": "A name is taken already, or the slot has bounds already.",
+    "build unknown slot": "A text names no slot of the model.",
+    "build linked twice": "A slot is in an earlier link already; one link joins 2 to 8 slots.",
+    "build link within object": "Two slots of a link are of the same object.",
+    "build link dimension": "The slots of a link don't measure the same.",
+    "build link bounds": "The bounds of linked slots leave them no value.",
+    "build bad parameter": "A value is outside its range.",
+    "build too many": (
+        f"There are more than {MOST_OBJECTS} objects, {MOST_SLOTS:,} slots, or {MOST_VALUES:,} values of "
+        "slots over all timesteps."
+    ),
+    "table too few rows": f"A table has at least {TABLE_ROWS[0]} rows.",
+    "table too many rows": f"A table has at most {TABLE_ROWS[1]} rows.",
+    "table out of bounds": (
+        f"Elevations are 0 to {GREATEST_ELEVATION:,} mm, volumes 0 to {GREATEST_VOLUME:,} m3."
+    ),
+    "table not rising": "Each row of a table is above the one before it, in elevation and in volume.",
+    "calendar bad start": "There is no such moment: a date of the years 1 to 9999, and an hour from 0 to 23.",
+    "calendar not first of month": "Timesteps of a month begin on the first of a month, at hour 0.",
+    "calendar beyond years": "The last timestep would end past the year 9999.",
+}
+INPUTS_REFUSALS = {
+    "header": "The first row has to be slot,step,value.",
+    "ragged": "The row hasn't three fields.",
+    "unknown slot": "The model has no such slot.",
+    "not settable": "The object derives the slot from its others, so it can't be given.",
+    "not a number": (
+        "A step is a number or two with a - between them, a value a whole number, both of 1 to 18 digits."
+    ),
+    "step outside": "The timesteps aren't those of the run, or the first is behind the last.",
+    "out of bounds": "The slot can't have the value.",
+    "twice": (
+        "An earlier row gives a value to the same cell, or to that of a slot that is linked to the slot."
+    ),
+}
+OTHER_REFUSALS = {
+    "words refused": "The command is `simulate MODEL INPUTS`: three words, and a path doesn't begin with -.",
+    "cannot read": "The file isn't there, is a folder, or may not be read.",
+    "cannot write": (
+        "The output took no more: a closed pipe, say, or a full disk. A front of the table was written."
+    ),
+    "want of memory": "There was no memory. A model of fewer values needs less.",
+    "too long": f"A file has at most {GREATEST_FILE:,} bytes.",
+}
+FAULTS = {
+    "conflict": "More was given than goes together.",
+    "out of range": "An object comes to a value that the slot can't have.",
+    "limit": "An object was dispatched as often as `object_limit` allows, and would have been again.",
+}

@@ -1,0 +1,222 @@
+"""Inputs as the tools read them: the values of each cell, and all that is wrong with the rows.
+
+As with models, what is wrong is judged in the order of docs/FORMATS.md, and `basin` is the judge.
+"""
+
+import csv
+import io
+import re
+from dataclasses import dataclass
+
+from .formats import GREATEST_FILE, amount
+from .reasons import plain, shown, why_unknown
+
+HEADER = ["slot", "step", "value"]
+NUMBER = re.compile(r"[0-9]{1,18}")
+SIGNED = re.compile(r"-?[0-9]{1,18}")
+csv.field_size_limit(GREATEST_FILE)
+
+
+@dataclass
+class Given:
+    """A value that a row of the inputs gives to a cell: the slot and the line that name it."""
+
+    slot: str
+    line: int
+    row: int
+    value: int
+
+
+@dataclass
+class InputsFinding:
+    """What is wrong with a row: `basin`'s words for it, the line of the file, and what stands there."""
+
+    refusal: str
+    line: int
+    says: str
+
+
+@dataclass
+class Inputs:
+    """What inputs give: for the first slot of each link (or a slot in none), the values by timestep."""
+
+    model: object
+    cells: dict
+    findings: list
+
+    def given(self, full_name, step):
+        """What a slot is given at a timestep, under its own or a linked slot's name, or `None`."""
+        return self.cells.get(self.model.group(full_name)[0].full_name, {}).get(step)
+
+    def all_given(self, full_name):
+        """The same for all timesteps at which the slot is given, rising."""
+        return dict(sorted(self.cells.get(self.model.group(full_name)[0].full_name, {}).items()))
+
+
+def records_of(content):
+    """The records of a text of inputs, each with the line at which it begins. Empty lines are none."""
+    text = content.decode("utf-8", "surrogateescape").removeprefix("\ufeff")
+    reader = csv.reader(io.StringIO(text, newline=""))
+    line = 1
+    for record in reader:
+        if record:
+            yield line, record
+        line = reader.line_num + 1
+
+
+def read_inputs(content, model):
+    """The inputs that the bytes spell for a model."""
+    inputs = Inputs(model, {}, [])
+    records = records_of(content)
+    line, header = next(records, (1, []))
+    if header != HEADER:
+        says = wrong_with_header(content, header)
+        inputs.findings.append(InputsFinding("row 1 column 0: header", line, says))
+        return inputs
+    for row, (line, record) in enumerate(records, 2):
+        wrong = wrong_with_row(record, inputs, line, row)
+        if wrong:
+            column, refusal, says = wrong
+            inputs.findings.append(InputsFinding(f"row {row} column {column}: {refusal}", line, says))
+    return inputs
+
+
+def wrong_with_header(content, header):
+    """Why the first row isn't the header."""
+    wanted = "the first row has to be slot,step,value"
+    if content[:2] in (b"\xff\xfe", b"\xfe\xff"):
+        return f"{wanted}. The file is UTF-16: save it as UTF-8."
+    if not header:
+        return f"{wanted}, and there is no row."
+    first = plain(",".join(header).encode("utf-8", "replace").decode())
+    mark = next((mark for mark in (";", "\t") if mark in first), None)
+    if mark:
+        return f"{wanted}, with commas between; it is {first}. tools/inputs makes inputs of such a table."
+    if [name.strip().lower() for name in header] == HEADER:
+        return f"{wanted}, in small letters and without spaces; it is {first}."
+    if any("." in name for name in header) or header[:2] == ["step", "stamp"] or first.startswith("# batch"):
+        return f"{wanted}. This is a wide table, a column a slot: tools/inputs makes inputs of it."
+    return f"{wanted}; it is {first}."
+
+
+def wrong_with_row(record, inputs, line, row):
+    """The first thing that is wrong with a row: column, refusal, and why. Else its cells are taken."""
+    if len(record) != 3:
+        return 0, "ragged", f"the row has {len(record)} fields, and has to have 3: {plain(','.join(record))}."
+    name, steps, value = record
+    return (
+        wrong_with_slot(name, inputs.model)
+        or wrong_with_steps(steps, inputs.model)
+        or wrong_with_value(value, name, inputs.model)
+        or taken(name, steps_of(steps), Given(name, line, row, int(value)), inputs)
+    )
+
+
+def wrong_with_slot(name, model):
+    """Why inputs can't give a slot of this name."""
+    slot = model.slots.get(name)
+    if not slot:
+        return 1, "unknown slot", why_unknown(model, name)
+    if not slot.settable:
+        owner = model.object_named(slot.owner)
+        terms = [other.name for other in owner.slots if other.role == "solvable" or other.name == "Storage"]
+        return (
+            1,
+            "not settable",
+            (
+                f"{name} is derived: {slot.owner} ({owner.kind}) works it out of its other slots. Give"
+                f" {', '.join(terms)} of it."
+            ),
+        )
+    return None
+
+
+def steps_of(text):
+    """The first and the last timestep that a field spells, or `None`."""
+    first, dash, last = text.partition("-")
+    parts = (first, last) if dash else (first, first)
+    return tuple(int(part) for part in parts) if all(NUMBER.fullmatch(part) for part in parts) else None
+
+
+def wrong_with_steps(text, model):
+    """Why a field names no timesteps of the run."""
+    steps = steps_of(text)
+    count = model.timesteps.count
+    if not steps:
+        hint = (
+            " tools/inputs turns dates into timesteps."
+            if re.search(r"[0-9][-./:][0-9]+[-./:T]", text)
+            else ""
+        )
+        return (
+            2,
+            "not a number",
+            f"step is {shown(text)}, and has to be a number, or two with a - between them.{hint}",
+        )
+    if not 1 <= steps[0] <= steps[1] <= count:
+        why = (
+            "the first is behind the last"
+            if steps[0] > steps[1]
+            else f"the run has the timesteps 1 to {count:,}"
+        )
+        return 2, "step outside", f"step is {shown(text)}: {why}."
+    return None
+
+
+def wrong_with_value(text, name, model):
+    """Why a slot can't have what a field spells."""
+    if not SIGNED.fullmatch(text):
+        hint = ""
+        if re.fullmatch(r"[-+]?[0-9.,eE+-]+", text):
+            hint = " tools/inputs rounds decimals, and turns m3/s into m3 a timestep."
+        return (
+            3,
+            "not a number",
+            f"value is {shown(text)}, and has to be a whole number of 1 to 18 digits.{hint}",
+        )
+    low, high = model.bounds(name)
+    if not low <= int(text) <= high:
+        whose = ", ".join(slot.full_name for slot in model.group(name))
+        return (
+            3,
+            "out of bounds",
+            (
+                f"{name} can't be {int(text):,}: its bounds are {amount(low)} to"
+                f" {amount(high)} {model.slots[name].unit}"
+                + (f", between those of {whose}." if whose != name else ".")
+            ),
+        )
+    return None
+
+
+def taken(name, steps, given, inputs):
+    """Takes the cells of a row, unless one of them was given before: then that is wrong."""
+    cells = inputs.cells.setdefault(inputs.model.group(name)[0].full_name, {})
+    for step in range(steps[0], steps[1] + 1):
+        earlier = cells.get(step)
+        if earlier:
+            linked = (
+                f" under the name of {earlier.slot}, which is linked to it" if earlier.slot != name else ""
+            )
+            return (
+                0,
+                "twice",
+                (
+                    f"{name} at timestep {step} is given already{linked}: line {earlier.line} (row"
+                    f" {earlier.row}) gives {earlier.value:,}."
+                ),
+            )
+    for step in range(steps[0], steps[1] + 1):
+        cells[step] = given
+    return None
+
+
+def folded(steps):
+    """Rising timesteps in few words: 1-4, 6-12."""
+    parts = []
+    for step in steps:
+        if parts and parts[-1][1] == step - 1:
+            parts[-1][1] = step
+        else:
+            parts.append([step, step])
+    return ", ".join(str(first) if first == last else f"{first}-{last}" for first, last in parts)

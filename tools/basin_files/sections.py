@@ -1,0 +1,70 @@
+"""What `basin` writes: sections, each with a heading and a table. Flags and traces are left out."""
+
+import re
+from dataclasses import dataclass, field
+
+from .moments import moment_of
+
+HEADING = re.compile(r"# batch ([0-9]+) (settled|fault (.*))")
+STEP_OF_FAULT = re.compile(r"\bstep ([0-9]+)")
+
+
+@dataclass
+class Row:
+    """A closed timestep: its number, its stamp as a moment, and what each slot holds; unknown is `None`."""
+
+    step: int
+    stamp: object
+    values: dict
+
+
+@dataclass
+class Section:
+    """A run: its batch of edits, its fault if it ended in one, its slots, and its closed timesteps."""
+
+    batch: int = 0
+    fault: str = ""
+    slots: list = field(default_factory=list)
+    rows: list = field(default_factory=list)
+
+    @property
+    def fault_step(self):
+        """The timestep in which the run ended by its fault, or `None`."""
+        found = STEP_OF_FAULT.search(self.fault)
+        return int(found[1]) if found else None
+
+
+def is_table(text):
+    """Whether a text is one that `basin` wrote, or a table of it."""
+    return bool(HEADING.match(text)) or text.startswith("step,stamp")
+
+
+def read_sections(text):
+    """The sections of a text that `basin` wrote. `ValueError` where a line isn't one that it writes."""
+    sections, in_table = [], True
+    for number, line in enumerate(text.splitlines(), 1):
+        heading = HEADING.fullmatch(line)
+        if heading:
+            sections.append(Section(int(heading[1]), heading[3] or ""))
+            in_table = True
+        elif line.startswith("# "):
+            in_table = line.startswith("# reran")
+        elif in_table and line.strip():
+            if not sections:
+                sections.append(Section())
+            read_line(sections[-1], line.split(","), number)
+    if not any(section.slots for section in sections):
+        raise ValueError("no table that basin wrote: a line step,stamp,.. is missing")
+    return sections
+
+
+def read_line(section, fields, number):
+    """A line of a section's table: its columns, or the row of a timestep."""
+    if fields[:2] == ["step", "stamp"]:
+        section.slots = fields[2:]
+        return
+    stamp = moment_of(fields[1]) if len(fields) > 1 else None
+    if not section.slots or len(fields) != len(section.slots) + 2 or not stamp:
+        raise ValueError(f"line {number} isn't one of a table that basin wrote")
+    values = {slot: int(value) if value else None for slot, value in zip(section.slots, fields[2:])}
+    section.rows.append(Row(int(fields[0]), stamp, values))

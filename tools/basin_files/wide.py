@@ -1,0 +1,181 @@
+"""Wide tables of a spreadsheet: a row a date or timestep, a column a slot, units in the headings."""
+
+import csv
+import io
+import re
+from dataclasses import dataclass
+from datetime import datetime
+from decimal import Decimal
+from fractions import Fraction
+
+from . import formats
+from .inputs import steps_of
+from .reasons import NAME, plain, shown
+from .moments import stamp_of
+
+HEADING = re.compile(r"\s*(?P<name>[^\[(]*?)\s*(?:[\[(]\s*(?P<unit>[^\])]*?)\s*[\])])?\s*")
+WHOLE = re.compile(r"-?[0-9]{1,18}")
+DECIMAL = re.compile(r"[-+]?(?:[0-9]+[.,]?[0-9]*|[.,][0-9]+)(?:[eE][-+]?[0-9]{1,2})?")
+DATES = (
+    "%Y-%m-%d",
+    "%Y-%m-%dT%H:%M",
+    "%Y-%m-%d %H:%M",
+    "%Y-%m-%dT%H:%M:%S",
+    "%Y-%m-%d %H:%M:%S",
+    "%Y-%m",
+    "%d.%m.%Y",
+    "%d.%m.%Y %H:%M",
+    "%d.%m.%Y %H:%M:%S",
+)
+STEP_WORDS = ("step", "timestep")
+END_WORDS = ("stamp", "end", "ends")
+
+
+@dataclass
+class Sheet:
+    """A table of texts: its headings, and its rows with their numbers as a spreadsheet counts them."""
+
+    headings: list
+    rows: list  # pairs of a number and a list of texts
+    comma: bool  # whether decimals have a comma
+
+
+def decoded(content):
+    """The text of a file of a spreadsheet: UTF-8, UTF-16 with its mark, or else Windows' Western letters."""
+    if content[:2] in (b"\xff\xfe", b"\xfe\xff"):
+        return content.decode("utf-16", "replace")
+    try:
+        return content.decode("utf-8-sig")
+    except UnicodeDecodeError:
+        return content.decode("cp1252", "replace")
+
+
+def read_sheet(text):
+    """The table of a text with commas, semicolons or tabs between its fields. `ValueError` if it is empty."""
+    first = next((line for line in text.splitlines() if line.strip()), "")
+    named = re.fullmatch(r"sep=(.)", first.strip())
+    bare = re.sub(r'"[^"]*"', "", first)
+    delimiter = named[1] if named else max(";\t,", key=bare.count)
+    reader = csv.reader(io.StringIO(text, newline=""), delimiter=delimiter)
+    try:
+        rows = [(number, row) for number, row in enumerate(reader, 1) if any(field.strip() for field in row)]
+    except csv.Error as error:
+        raise ValueError(f"this is no table: {error}") from None
+    if named:
+        rows = rows[1:]
+    if not rows:
+        raise ValueError("the table is empty")
+    cells = [field.strip() for _, fields in rows[1:] for field in fields[1:]]
+    comma = delimiter != "," and any("," in cell and DECIMAL.fullmatch(cell) for cell in cells)
+    return Sheet([field.strip() for field in rows[0][1]], rows[1:], comma)
+
+
+def slot_and_unit(heading):
+    """The slot and the unit that a heading names, as texts; `None` for what it doesn't name."""
+    found = HEADING.fullmatch(heading)
+    if not found:
+        return None, None
+    parts = found["name"].split(".")
+    is_slot = len(parts) == 2 and all(NAME.fullmatch(part) for part in parts)
+    return (found["name"] if is_slot else None), found["unit"]
+
+
+def factor_of(unit, slot_unit, timesteps):
+    """How many of the slot's base unit one of a heading's unit is, as a function of the timestep.
+
+    Flows and rates are what comes in one timestep, so that m3/s counts by the timestep's length.
+    `slot_unit` and `timesteps` are `None` where there is no model. `ValueError` says why a unit can't be
+    that of the slot.
+    """
+    word = unit.replace("³", "3").replace("^", "").replace(" ", "")
+    whole, _, time = (word, "", "") if word in formats.AMOUNTS else word.partition("/")
+    if whole not in formats.AMOUNTS:
+        raise ValueError(f"[{unit}] is no unit that this tool knows")
+    base, factor = formats.AMOUNTS[whole]
+    wanted = slot_unit.removesuffix("/step") if slot_unit is not None else base
+    if base != wanted or (time and slot_unit is not None and not slot_unit.endswith("/step")):
+        raise ValueError(f"[{unit}] isn't what the slot measures, which is {slot_unit or 'a plain number'}")
+    if time in ("", "step"):
+        return lambda step: factor
+    if not timesteps:
+        raise ValueError(f"[{unit}] wants --model: a timestep's length isn't known")
+    if time == "month" and timesteps.step == "1month":
+        return lambda step: factor
+    if time not in formats.SECONDS:
+        raise ValueError(f"[{unit}] is no unit that this tool knows")
+    return lambda step: factor * timesteps.seconds(step) / formats.SECONDS[time]
+
+
+def number_of(text, comma):
+    """The number that a cell spells, exactly. `ValueError` says why it is none."""
+    bare = text.strip().replace("\u2212", "-")
+    if WHOLE.fullmatch(bare):
+        return int(bare)
+    if not DECIMAL.fullmatch(bare):
+        raise ValueError(f"{shown(text)} isn't a number (marks of thousands aren't taken)")
+    if "," in bare and not comma:
+        raise ValueError(f"{shown(text)} has a comma: is it a decimal comma, or a mark of thousands?")
+    if "." in bare and comma:
+        raise ValueError(
+            f"{shown(text)} has a point, and other cells have decimal commas: is it a mark of thousands?"
+        )
+    return Fraction(Decimal(bare.replace(",", ".")))
+
+
+def rounded(exact):
+    """A number rounded to a whole one, a half up."""
+    if isinstance(exact, int):
+        return exact
+    return (exact + Fraction(1, 2)) // 1
+
+
+def moment_in(text):
+    """The moment that a cell spells, or `None`."""
+    for form in DATES:
+        try:
+            return datetime.strptime(text, form)
+        except ValueError:
+            pass
+    return None
+
+
+def steps_in(text, heading, timesteps):
+    """The first and last timestep that a cell of the column of timesteps or dates names. `ValueError` says
+    why none.
+
+    A date is the beginning of a timestep, or its end where the heading is `stamp` or `end`.
+    """
+    bare = text.strip()
+    word = heading.lower()
+    steps = steps_of(bare) if word in STEP_WORDS or bare.isdigit() else None
+    if steps:
+        last = timesteps.count if timesteps else steps[1]
+        if not 1 <= steps[0] <= steps[1] <= last:
+            raise ValueError(f"{shown(text)} is no timestep of the run, which has 1 to {last}")
+        return steps
+    moment = moment_in(bare)
+    if not moment:
+        hint = ": 01/02/2020 may be two days, so write 2020-02-01 or 01.02.2020" if "/" in bare else ""
+        raise ValueError(f"{shown(text)} is no timestep and no date{hint}")
+    if not timesteps:
+        raise ValueError(f"{plain(bare)} is a date, which wants --model to become a timestep")
+    return (step_at(moment, word in END_WORDS, timesteps),) * 2
+
+
+def step_at(moment, is_end, timesteps):
+    """The timestep that begins, or ends, at a moment. `ValueError` tells the nearest where none does."""
+    number = timesteps.beginning_at(moment)
+    if is_end:
+        number = (
+            (number or timesteps.count + 1) - 1
+            if number or moment == timesteps.end(timesteps.count)
+            else None
+        )
+    if number:
+        return number
+    near = timesteps.last_begun(moment)
+    at = timesteps.end(near) if is_end else timesteps.begin(near)
+    verb = "ends" if is_end else "begins"
+    raise ValueError(
+        f"{moment.isoformat(' ', 'minutes')}: no timestep {verb} then; timestep {near} {verb} {stamp_of(at)}"
+    )
