@@ -7,9 +7,10 @@ use Rattle.std.proofs.lemmas.List.{take_all}
 use Rattle.std.proofs.lemmas.List.Folds.{list_any_more, Any-from_list_any}
 use Rattle.rw_base.specs.declared.number.SlotNo.{SlotNo}
 use Rattle.rw_model.specs.Kept.{place_of, numbers_of}
-use Rattle.rw_model.specs.Objects.{Object, Placed, slot_at}
+use Rattle.rw_model.specs.Objects.{Object, Placed, all_slots, slot_at}
 use Rattle.rw_model.specs.Draft.{Draft}
 use Rattle.rw_model.specs.Links.{group_of, owner_of}
+use Rattle.rw_model.proofs.Numbered.{numbered-found}
 use Rattle.rw_model.proofs.Numbering.{StandsAt-stored}
 use Rattle.rw_log.specs.Waiting.{is_at, is_owner}
 use Rattle.rw_dispatch.specs.Owners.{IsLeastAbove}
@@ -80,7 +81,7 @@ slot-more basin after slots k d found near = alike after _ _ found
 placed_known : (objects : List Object) (slot : ℕ) (found : Option Placed) → slot_at objects slot ≡ found
     → unwrap_or (option_map (λ (placed : Placed). placed.owner) found) 0 ≤ length objects
 placed_known objects slot None is = omega arith
-placed_known objects slot (Some placed) is = (StandsAt-stored objects (slot - 1) (place_of placed) (ap (option_map place_of) is)).last
+placed_known objects slot (Some placed) is = (StandsAt-stored objects (slot - 1) (place_of placed) (ap (option_map place_of) (numbered-found (all_slots objects) slot placed is))).last
 
 owner-known : (basin : Draft) (slots : List ℕ) (object : ℕ) → is_owner basin slots object ≡ true → object ≤ length basin.objects
 owner-known basin slots object own =

@@ -13,6 +13,7 @@ use Rattle.rw_model.specs.Objects.{Object, Placed, placed_from, slots_from, all_
 use Rattle.rw_model.specs.Draft.{Draft, IsObject}
 use Rattle.rw_model.specs.Links.{IsBetween, bounds_in}
 use Rattle.rw_model.specs.Basin.{IsBasin}
+use Rattle.rw_model.proofs.Numbered.{numbered-known}
 use Rattle.rw_model.proofs.Numbering.{StandsAt-stored, first_from-all_slots, IsOfOwner-is_in_place}
 use Rattle.rw_model.proofs.Bounding.{known_in_place, bounds_in-within}
 use Rattle.rw_method.specs.declared.view.View.{View}
@@ -66,7 +67,7 @@ stands_in objects owner place number kind is at =
     let stands = StandsAt-stored objects (number - 1) (place_of found.placed) (ap (option_map place_of) found.found) in
     record {
       placed = found.placed;
-      found = found.found;
+      found = numbered-known (all_slots objects) number found.after ∙ found.found;
       slot = sym (of_kind (object_at objects owner) kind place is)
           ∙ ap (λ p. option_and_then (λ (object : Object). slot_in object.kind p) (object_at objects owner)) (sym same.1)
           ∙ ap (λ o. option_and_then (λ (object : Object). slot_in object.kind found.placed.place) (object_at objects o)) (sym same.0)

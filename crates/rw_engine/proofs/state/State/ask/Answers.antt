@@ -65,15 +65,19 @@ returns-in_default-clause-goes g c = λ log holds.
     let same : cells ≡ cells_of basin log = λ i cell. holds.shows.cells cell i in
     let event = dispatched basin cells c.args.object.0 c.args.step.0 in
     let follows = next_is basin cells c.args.step.0 log c.args.object.0 old.queue.waiting (sym holds.queue) same below in
-    record { event = event; follows = follows; goes = goes_on basin old _ c.args.step.0 c.args.object.0 c.index-count.result.now old.queue.waiting log event c.dispatch-answer.result holds (record {
-      told = record { answer_is = c.dispatch-answer.ensures.answer; trace = c.in_ok-fault.ensures.told.0; closed_steps = refl };
-      own = own;
-      length_is = all;
-      count_is = count;
-      counts = ap (λ p. set items (p - 1) (c.index-count.result.now + 1)) at;
-      queue = c.dispatch-answer.ensures.queue;
-    }) (λ cell. c.dispatch-answer.ensures.cells cell ∙ ap (λ z. option_or (last_put basin (written_by event) cell) z) (holds.shows.cells cell))
-    refl (sym c.in_ok-fault.ensures.told.1 ∙ c.in_default.is) }
+    record {
+      event = event;
+      follows = follows;
+      goes = goes_on basin old _ c.args.step.0 c.args.object.0 c.index-count.result.now old.queue.waiting log event c.dispatch-answer.result holds (record {
+        told = record { answer_is = c.dispatch-answer.ensures.answer; trace = c.in_ok-fault.ensures.told.0; closed_steps = refl };
+        own = own;
+        length_is = all;
+        count_is = count;
+        counts = ap (λ p. set items (p - 1) (c.index-count.result.now + 1)) at;
+        queue = c.dispatch-answer.ensures.queue;
+      }) (λ cell. c.dispatch-answer.ensures.cells cell ∙ ap (λ z. option_or (last_put basin (written_by event) cell) z) (holds.shows.cells cell))
+          refl (sym c.in_ok-fault.ensures.told.1 ∙ c.in_default.is);
+    }
 
 pub returns-in_default-clause-falls : goal.returns-in_default-clause-falls
 returns-in_default-clause-falls g c = λ going.
@@ -114,7 +118,11 @@ returns-clause-goes g c = λ log holds.
     let same : cells ≡ cells_of basin log = λ i cell. holds.shows.cells cell i in
     let event = dispatched basin cells c.args.object.0 c.args.step.0 in
     let follows = next_is basin cells c.args.step.0 log c.args.object.0 old.queue.waiting (sym holds.queue) same below in
-    record { event = event; follows = follows; goes = goes_over basin c.args.step.0 c.args.object.0 old.queue.waiting log (seen old) _ event c.dispatch-answer.result c.in-Some.fault holds.shows
-    (record { answer_is = c.dispatch-answer.ensures.answer; trace = c.in_ok-fault.ensures.told.0; closed_steps = refl })
-    (λ cell. c.dispatch-answer.ensures.cells cell ∙ ap (λ z. option_or (last_put basin (written_by event) cell) z) (holds.shows.cells cell))
-    refl (sym c.in_ok-fault.ensures.told.1 ∙ c.in-Some.is) }
+    record {
+      event = event;
+      follows = follows;
+      goes = goes_over basin c.args.step.0 c.args.object.0 old.queue.waiting log (seen old) _ event c.dispatch-answer.result c.in-Some.fault holds.shows
+          (record { answer_is = c.dispatch-answer.ensures.answer; trace = c.in_ok-fault.ensures.told.0; closed_steps = refl })
+          (λ cell. c.dispatch-answer.ensures.cells cell ∙ ap (λ z. option_or (last_put basin (written_by event) cell) z) (holds.shows.cells cell))
+          refl (sym c.in_ok-fault.ensures.told.1 ∙ c.in-Some.is);
+    }
