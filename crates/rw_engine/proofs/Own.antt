@@ -8,6 +8,7 @@ use Rattle.rw_model.specs.Draft.{Draft, IsObject, IsSound}
 use Rattle.rw_model.specs.Kind.{IsKind}
 use Rattle.rw_model.specs.Objects.{Object, object_at, slot_in_place}
 use Rattle.rw_model.proofs.Bounding.{known_in_place}
+use Rattle.rw_model.proofs.Numbered.{numbered-known}
 use Rattle.rw_model.specs.Slots.{slot_in}
 use Rattle.rw_method.specs.declared.put.Put.{Put}
 use Rattle.rw_method.specs.Solve.{solve_of}
@@ -29,7 +30,9 @@ found_at P (x ∷ xs) (suc k) near all = found_at P xs k (omega arith) (All-tail
 -- an object of a basin has its parameters in range
 pub sound_object : (basin : Draft) (object : ℕ) → IsBasin basin → IsObject basin.objects object
     → (found : Object) × (object_at basin.objects object ≡ Some found) × IsSound found
-sound_object basin object valid own = found_at IsSound basin.objects (object - 1) (let f = own.first in let l = own.last in omega arith) valid.whole.sound
+sound_object basin object valid own =
+    let found = found_at IsSound basin.objects (object - 1) (let f = own.first in let l = own.last in omega arith) valid.whole.sound in
+    (found.0, numbered-known basin.objects object own.first ∙ found.1, found.2)
 
 in_place : (basin : Draft) (object step place : ℕ) (found : Option ℕ) (cell : Cell) → slot_in_place basin.objects object place ≡ found
     → 1 ≤ step → step ≤ basin.control.stamps.count → option_map (λ slot. cell_at slot step) found ≡ Some cell → IsCell basin cell

@@ -15,7 +15,7 @@ ghost use Rattle.rw_top.specs.Written.{WritesAll};
 use crate::words::Command;
 use crate::{File, Refusal};
 use rw_base::NoMemory;
-use rw_engine::{RunEnd, run_all};
+use rw_engine::{Run, RunEnd, Trace, run_all};
 use rw_inputs::{InputFault, Inputs, read_inputs};
 use rw_io::{Shelf, Sink, WriteFault, read_all, write_all};
 use rw_method::Catalogue;
@@ -140,6 +140,20 @@ fn read_files<S: Shelf>(
     }
 }
 
+// The run without the lines of its trace, of which a section prints none: they take as much memory as its cells.
+fn without_trace(alloc: Global, run: Run) -> Run
+    ensures end { result.end ≡ run.end }
+    ensures closed_steps { result.closed ≡ run.closed }
+    ensures series { result.series ≡ run.series }
+{
+    Run {
+        end: run.end,
+        closed: run.closed,
+        series: run.series,
+        trace: Trace::new(alloc),
+    }
+}
+
 // The text of the run, and how it ended.
 fn run_text(
     alloc: Global,
@@ -150,7 +164,7 @@ fn run_text(
     requires inputs { IsInputsOf files.now.basin files.now.inputs }
     ensures { IfOk result (λ pair. IsRunText files.now.basin files.now.inputs pair.1 pair.0.items) }
 {
-    let run = run_all(alloc, &files.basin, methods, &files.inputs)?;
+    let run = without_trace(alloc, run_all(alloc, &files.basin, methods, &files.inputs)?);
     let text = section(alloc, &files.basin, 0, &run)?;
     Ok((text, run.end))
 }
