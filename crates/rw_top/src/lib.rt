@@ -2,13 +2,13 @@
 //! the text that the definitions give for these files; every other status has its cause, and one line that says so.
 #![tactic(auto)]
 
+mod command;
+mod fault_words;
 pub mod law;
-mod phrase;
 mod refusal;
 mod simulate;
 mod tell;
 mod top;
-mod words;
 
 pub use refusal::{File, Refusal};
 pub use rw_base::{Blank, Ledger, Steps};

@@ -12,7 +12,7 @@ ghost use Rattle.rw_top.specs.Refusal.{Cause, FileCause, IsModelRefusal, IsInput
 ghost use Rattle.rw_top.specs.RunText.{IsRunText};
 ghost use Rattle.rw_top.specs.Written.{WritesAll};
 
-use crate::words::Command;
+use crate::command::Command;
 use crate::{File, Refusal};
 use rw_base::NoMemory;
 use rw_engine::{Run, RunEnd, Trace, run_all};

@@ -7,8 +7,8 @@ ghost use Rattle.rw_top.specs.Written.{Tells};
 ghost use Rattle.rw_top.specs.Lines.{inputs_line, line_of, model_line, words_line};
 
 use crate::Refusal;
-use crate::phrase::{build_words, calendar_words, input_words, table_words};
-use crate::words::Command;
+use crate::command::Command;
+use crate::fault_words::{build_words, calendar_words, input_words, table_words};
 use itoa::Buffer;
 use rw_inputs::InputKind;
 use rw_io::{Sink, write_all};

@@ -5,9 +5,9 @@ ghost use Rattle.rw_io.specs.Outside.{change};
 ghost use Rattle.rw_top.specs.Promise.{Promise, status_of_end};
 
 use crate::Refusal;
+use crate::command::read_words;
 use crate::simulate::simulate;
 use crate::tell::{tell, tell_words};
-use crate::words::read_words;
 use rw_base::{Ledger, Steps};
 use rw_engine::RunEnd;
 use rw_io::{Shelf, Sink};

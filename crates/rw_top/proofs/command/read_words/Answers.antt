@@ -2,7 +2,7 @@ use Rattle.std.proofs.Common.{◌≡◌, string_bytes, ap, codes, ◌∙◌, sym
 use Rattle.std.proofs.lemmas.Grind.{common_steps}
 use Rattle.rw_top.specs.Command.{texts_of}
 use Rattle.rw_top.proofs.WordsLemmas.{IsCommand, asks_words, paths, spelt, three}
-use Rattle.rw_top.proofs.words.read_words.Goals as goal
+use Rattle.rw_top.proofs.command.read_words.Goals as goal
 
 pub returns-in_default : goal.returns-in_default
 returns-in_default c = λ command asks.
