@@ -13,7 +13,8 @@ GrowsBy-trans None (Some bs) (Some zs) xs ys h k = absurd h
 GrowsBy-trans (Some as') (Some bs) (Some zs) xs ys h k = rw (k, h) (append_assoc as' xs ys)
 
 -- what has grown by a front of a text, and then by what comes next in it
-pub GrowsBy-next : (a b c : Option (List ℕ)) (done n : ℕ) (text : List ℕ) → GrowsBy a b (take done text) → GrowsBy b c (take n (drop done text)) → GrowsBy a c (take (done + n) text)
+pub GrowsBy-next : (a b c : Option (List ℕ)) (done n : ℕ) (text : List ℕ) → GrowsBy a b (take done text)
+    → GrowsBy b c (take n (drop done text)) → GrowsBy a c (take (done + n) text)
 GrowsBy-next a b c done n text h k =
     let P : List ℕ → Type 0 = λ t. GrowsBy a c t in
     subst P (sym (take-add done n text)) (GrowsBy-trans a b c (take done text) (take n (drop done text)) h k)

@@ -4,7 +4,8 @@ use Rattle.std.proofs.lemmas.List.{take_all, drop-drop, take-append-drop, length
 use Rattle.std.proofs.Math.Seq.{take-append_seam}
 
 -- what was copied to the front, and what is left
-pub copied : (at n m : ℕ) (bytes new tail : List ℕ) → new ≡ take n (take m (drop at bytes)) → length bytes - at ≤ m → length new ≡ n → drop at bytes ≡ take n (new ++ tail) ++ drop (at + n) bytes
+pub copied : (at n m : ℕ) (bytes new tail : List ℕ) → new ≡ take n (take m (drop at bytes))
+    → length bytes - at ≤ m → length new ≡ n → drop at bytes ≡ take n (new ++ tail) ++ drop (at + n) bytes
 copied at n m bytes new tail is whole len =
     let short : length (drop at bytes) ≤ m = omega (arith, length-drop at bytes) in
     let all : take m (drop at bytes) ≡ drop at bytes = take_all m (drop at bytes) short in

@@ -47,7 +47,8 @@ told_status (TooLong file) reason tells = let same : LongFile file ≡ reason = 
 told_status why reason tells = absurd cc
 
 -- a refusal that tells a reason has it as its cause
-pub tells_cause : (command : Command) (shelf : Change ShelfView) (why : Refusal) → TellsReason command shelf why → FileCause command shelf why
+pub tells_cause : (command : Command) (shelf : Change ShelfView) (why : Refusal) → TellsReason command shelf why
+    → FileCause command shelf why
 tells_cause command shelf (CannotRead file) told = let tells : None ≡ Some told.reason = told.tells in absurd cc
 tells_cause command shelf NoMemory told = tt
 tells_cause command shelf why told = told
@@ -56,7 +57,8 @@ no_memory : (command : Command) (shelf : Change ShelfView) (why : Refusal) → w
 no_memory command shelf why is = subst (FileCause command shelf) (sym is) tt
 
 -- why a file isn't read whole
-pub read_cause : {A : Type 0} (command : Command) (shelf : Change ShelfView) (file : File) (end : ReadEnd) (result : Result A ReadEnd) → result ≡ Err end → Reaches command shelf.before.holds file
+pub read_cause : {A : Type 0} (command : Command) (shelf : Change ShelfView) (file : File) (end : ReadEnd) (result : Result A ReadEnd)
+    → result ≡ Err end → Reaches command shelf.before.holds file
     → (IsErrOf result ReadFault → Rose (shelf.before.faults (path_of command file)) (shelf.after.faults (path_of command file)))
     → (IsErrOf result EndTooLong → FILE_MAX < shelf.after.given)
     → (IsErrOf result EndTooLong → IsTooLong shelf.before.holds (path_of command file))

@@ -30,7 +30,8 @@ module _ (command : Command) (shelf : Change ShelfView) where
   is_found reason found = found
 
   -- no fault of a file comes before a reason that is found of an honest shelf
-  no_fault : (file : File) → FailsToRead command shelf file → (reason : Reason) → IsFound command shelf.before.holds reason → IsHonestFor command shelf reason → ⊥
+  no_fault : (file : File) → FailsToRead command shelf file → (reason : Reason)
+      → IsFound command shelf.before.holds reason → IsHonestFor command shelf reason → ⊥
   no_fault file fails reason found honest =
       elim (cases_lt (order (file_of reason)) (order file)) [
         | inl before ↦ not_found command shelf.before.holds reason (told_by (file_of reason) honest) (fails.reached (file_of reason) before) found
@@ -38,7 +39,8 @@ module _ (command : Command) (shelf : Change ShelfView) where
       ]
 
   -- where the text was written, nothing had to be refused
-  pub none_due : (end : RunEnd) (text : List ℕ) → HasText command shelf.before.holds end text → (reason : Reason) → IsFound command shelf.before.holds reason
+  pub none_due : (end : RunEnd) (text : List ℕ) → HasText command shelf.before.holds end text
+      → (reason : Reason) → IsFound command shelf.before.holds reason
       → IsHonestFor command shelf reason → ⊥
   none_due end text is reason found honest =
       not_found command shelf.before.holds reason (told_by (file_of reason) honest)
@@ -64,4 +66,5 @@ module _ (command : Command) (shelf : Change ShelfView) where
     complete NoMemory cause accepted honest stands = refl
     complete why cause accepted honest stands =
         let reason = cause.0.reason in
-        absurd (not_found command shelf.before.holds reason (λ it least. (honest it).told) (accepted (file_of reason)) (is_found reason cause.0.found))
+        absurd (not_found command shelf.before.holds reason (λ it least. (honest it).told)
+        (accepted (file_of reason)) (is_found reason cause.0.found))

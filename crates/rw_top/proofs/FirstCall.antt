@@ -50,7 +50,8 @@ pub first_call : ((basin : Draft) (model : FirstModel) (inputs : Given) (inflows
     × GrowsBy call.out.before.contents call.out.after.contents text × ((fault ≡ None) ↔ (status ≡ 0))
 first_call first_form basins call status model inflows outflows promise low first =
     let done = promise.done low in
-    let wrote = of_command call.words done.2.command first.command done.2.asked first.asked (λ it. WritesAll it call.shelf.before.holds call.out done.0) done.2.text in
+    let wrote = of_command call.words done.2.command first.command done.2.asked first.asked
+    (λ it. WritesAll it call.shelf.before.holds call.out done.0) done.2.text in
     let valid : IsBasin first.basin = rw first.read.model.is at (basins first.read.model.text) in
     let table = first_form first.basin model first.inputs inflows outflows valid first.form first.flows done.0 wrote.text
     (its_text call model inflows outflows first done.0 wrote.text wrote.is) in (

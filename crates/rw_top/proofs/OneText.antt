@@ -36,7 +36,8 @@ module _ (inputs others : Inputs) (same : (slot step : ℕ) → value_at inputs 
 
 -- two texts of one basin and of inputs with the same values
 pub one_text : ((basin : Draft) (policy : Policy) (inputs : List (Cell × ℤ)) (log other : Log) → IsRun basin policy inputs log → IsRun basin policy inputs other → log ≡ other)
-    → (basin : Draft) (inputs others : Inputs) (end other : RunEnd) (text more : List ℕ) → ((slot step : ℕ) → value_at inputs slot step ≡ value_at others slot step)
+    → (basin : Draft) (inputs others : Inputs) (end other : RunEnd) (text more : List ℕ)
+    → ((slot step : ℕ) → value_at inputs slot step ≡ value_at others slot step)
     → IsRunText basin inputs end text → IsRunText basin others other more → (end ≡ other) × (text ≡ more)
 one_text one_run basin inputs others end other text more same left right =
     let given = same_to inputs others same (length (all_slots basin.objects)) basin.control.stamps.count in

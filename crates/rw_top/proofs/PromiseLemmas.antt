@@ -34,7 +34,8 @@ module _ (call : Call) (held : (path : List ℕ) → call.shelf.after.holds path
         refused = λ above. absurd (omega arith);
         words = λ nothing. absurd (nothing wrote.command wrote.asked);
         due = λ command asks reason found honest.
-            let wrote_all = of_command call.words wrote.command command wrote.asked asks (λ it. WritesAll it call.shelf.before.holds call.out end) wrote.text in
+            let wrote_all = of_command call.words wrote.command command wrote.asked asks
+            (λ it. WritesAll it call.shelf.before.holds call.out end) wrote.text in
             absurd (none_due command call.shelf end wrote_all.text wrote_all.is reason found honest);
         complete = λ command asks accepted calm. inl low;
         held = held;

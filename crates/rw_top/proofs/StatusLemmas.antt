@@ -42,7 +42,8 @@ module _ (call : Call) where
   by_command Words other was = absurd (other refl)
   by_command why other was = was
 
-  by_read : (why : Refusal) → 3 ≡ status_of why → RefusedCommand call why → AskFor call.words (λ command. (file : File) × FailsToRead command call.shelf file)
+  by_read : (why : Refusal) → 3 ≡ status_of why → RefusedCommand call why
+      → AskFor call.words (λ command. (file : File) × FailsToRead command call.shelf file)
   by_read (CannotRead file) is was = (was.command, was.asked, (file, was.cause.0))
   by_read why is was = absurd (omega (arith, is))
 
@@ -78,7 +79,8 @@ module _ (call : Call) where
   pub read_fault : Promise call 3 → AskFor call.words (λ command. (file : File) × FailsToRead command call.shelf file)
   read_fault promise = let refused = of_status 3 (omega arith) promise in by_read refused.0 refused.1 refused.2
 
-  pub write : Promise call 4 → AskFor call.words (λ command. WritesFront command call.shelf.before.holds call.out) × Rose call.out.before.faults call.out.after.faults
+  pub write : Promise call 4
+      → AskFor call.words (λ command. WritesFront command call.shelf.before.holds call.out) × Rose call.out.before.faults call.out.after.faults
   write promise = let refused = of_status 4 (omega arith) promise in by_write refused.0 refused.1 refused.2
 
   -- from 6 on, the reason that was found
@@ -89,15 +91,18 @@ module _ (call : Call) where
       let there = by_reason refused.0 (omega (arith, high, refused.1)) refused.2 in
       (there.0, there.1, (there.2.0, refused.1 ∙ there.2.1, there.2.2))
 
-  bad_model : (command : Command) (reason : Reason) → 6 ≡ status_by reason → WasFound command call.shelf reason → (why : Why) × RefusesModel command call.shelf.before.holds why
+  bad_model : (command : Command) (reason : Reason) → 6 ≡ status_by reason → WasFound command call.shelf reason
+      → (why : Why) × RefusesModel command call.shelf.before.holds why
   bad_model command (BadModel why) is found = (why, found)
   bad_model command reason is found = absurd (omega (arith, is))
 
-  bad_inputs : (command : Command) (reason : Reason) → 8 ≡ status_by reason → WasFound command call.shelf reason → (fault : InputFault) × RefusesInputs command call.shelf.before.holds fault
+  bad_inputs : (command : Command) (reason : Reason) → 8 ≡ status_by reason → WasFound command call.shelf reason
+      → (fault : InputFault) × RefusesInputs command call.shelf.before.holds fault
   bad_inputs command (BadInputs fault) is found = (fault, found)
   bad_inputs command reason is found = absurd (omega (arith, is))
 
-  long_file : (command : Command) (reason : Reason) → 10 ≡ status_by reason → WasFound command call.shelf reason → (file : File) × FindsTooLong command call.shelf file
+  long_file : (command : Command) (reason : Reason) → 10 ≡ status_by reason → WasFound command call.shelf reason
+      → (file : File) × FindsTooLong command call.shelf file
   long_file command (LongFile file) is found = (file, found)
   long_file command reason is found = absurd (omega (arith, is))
 

@@ -5,7 +5,8 @@ use Rattle.rw_top.specs.declared.refusal.File.{File}
 use Rattle.rw_top.specs.declared.refusal.File.TheVariants.{Model, Inputs}
 
 -- a list of three, by its elements
-pub three : {X : Type 0} (xs : List X) (a b c : X) → 3 ≤ length xs → length xs < 4 → a ≡ get_or xs 0 a → b ≡ get_or xs 1 b → c ≡ get_or xs 2 c → xs ≡ a ∷ b ∷ c ∷ []
+pub three : {X : Type 0} (xs : List X) (a b c : X) → 3 ≤ length xs → length xs < 4 → a ≡ get_or xs 0 a
+    → b ≡ get_or xs 1 b → c ≡ get_or xs 2 c → xs ≡ a ∷ b ∷ c ∷ []
 three [] a b c low high ea eb ec = absurd (omega arith)
 three (x ∷ []) a b c low high ea eb ec = absurd (omega arith)
 three (x ∷ y ∷ []) a b c low high ea eb ec = absurd (omega arith)
@@ -27,5 +28,6 @@ pub paths : (model inputs : List ℕ) → IsPath model → IsPath inputs → (fi
 paths model inputs is are Model = is
 paths model inputs is are Inputs = are
 
-pub spelt : (name model inputs a b : List ℕ) → name ≡ codes "simulate" → model ≡ a → inputs ≡ b → name ∷ model ∷ inputs ∷ [] ≡ words_of (Simulate a b)
+pub spelt : (name model inputs a b : List ℕ) → name ≡ codes "simulate" → model ≡ a → inputs ≡ b
+    → name ∷ model ∷ inputs ∷ [] ≡ words_of (Simulate a b)
 spelt name model inputs a b is first second = cc

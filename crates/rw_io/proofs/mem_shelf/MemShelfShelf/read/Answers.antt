@@ -11,7 +11,8 @@ returns-clause-gives c =
       held = search rules;
       started = search rules;
       bound = search rules;
-      bytes = left_at-read shelf.files.items shelf.started shelf.place shelf.at c.copy_from-count.result (length c.copy_from-count.new.buf) _ c.index.result.now shelf.inside c.index.ensures copied end;
+      bytes = left_at-read shelf.files.items shelf.started shelf.place shelf.at c.copy_from-count.result
+          (length c.copy_from-count.new.buf) _ c.index.result.now shelf.inside c.index.ensures copied end;
       idle = search rules;
       given = search rules;
       later = search rules;
