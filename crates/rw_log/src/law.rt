@@ -22,11 +22,14 @@ ghost use Rattle.rw_log.specs.Index.{IsIndex, MarksTouched};
 
 /// A cell holds what was last put to a cell that shares its value with it.
 pub fn cells_after()
-    ensures given { (basin : Draft) (log : Log) (cell other : Cell) (value : ℤ) → IsTrue (is_shared basin cell other)
+    ensures given { (basin : Draft) (log : Log) (cell other : Cell) (value : ℤ)
+        → IsTrue (is_shared basin cell other)
         → cells_of basin (given cell value ∷ log) other ≡ Some (input_content value) }
-    ensures last { (basin : Draft) (puts : List Asked) (put : Asked) (cell : Cell) → IsTrue (is_shared basin put.cell cell)
+    ensures last { (basin : Draft) (puts : List Asked) (put : Asked) (cell : Cell)
+        → IsTrue (is_shared basin put.cell cell)
         → last_put basin (puts ++ put ∷ []) cell ≡ Some put.content }
-    ensures earlier { (basin : Draft) (puts : List Asked) (put : Asked) (cell : Cell) → IsFalse (is_shared basin put.cell cell)
+    ensures earlier { (basin : Draft) (puts : List Asked) (put : Asked) (cell : Cell)
+        → IsFalse (is_shared basin put.cell cell)
         → last_put basin (puts ++ put ∷ []) cell ≡ last_put basin puts cell }
     ensures kept { (basin : Draft) (log : Log) (event : Event) (cell : Cell) → written_by event ≡ []
         → cells_of basin (event ∷ log) cell ≡ cells_of basin log cell }
@@ -36,9 +39,11 @@ pub fn cells_after()
 /// fault.
 pub fn timesteps()
     ensures first { (basin : Draft) (policy : Policy) (log : Log) (cell : Cell) (value : ℤ)
-        → 1 ≤ basin.control.stamps.count → follows basin policy (given cell value ∷ log) ≡ Some (opened 1) }
+        → 1 ≤ basin.control.stamps.count
+        → follows basin policy (given cell value ∷ log) ≡ Some (opened 1) }
     ensures next { (basin : Draft) (policy : Policy) (log : Log) (step : ℕ)
-        → step < basin.control.stamps.count → follows basin policy (closed step ∷ log) ≡ Some (opened (step + 1)) }
+        → step < basin.control.stamps.count
+        → follows basin policy (closed step ∷ log) ≡ Some (opened (step + 1)) }
     ensures last { (basin : Draft) (policy : Policy) (log : Log) (step : ℕ)
         → basin.control.stamps.count ≤ step → follows basin policy (closed step ∷ log) ≡ None }
     ensures fault { (basin : Draft) (policy : Policy) (log : Log) (why : RunFault)
@@ -54,15 +59,15 @@ pub fn one_run()
 /// A policy that keeps its promises has a run: no event is without a next one, and limits end each timestep. That of no rules
 /// promises nothing that it could break.
 pub fn some_run()
-    ensures exists { (basin : Draft) (policy : Policy) (inputs : List (Cell × ℤ)) → IsPolicyOf basin policy
-        → (log : Log) × IsRun basin policy inputs log }
+    ensures exists { (basin : Draft) (policy : Policy) (inputs : List (Cell × ℤ))
+        → IsPolicyOf basin policy → (log : Log) × IsRun basin policy inputs log }
     ensures no_rules { (basin : Draft) → IsPolicyOf basin no_rules }
 {}
 
 /// Policies of as many rules that do the same have the same runs, and so have all policies without rules.
 pub fn same_runs()
-    ensures alike { (basin : Draft) (one other : Policy) (inputs : List (Cell × ℤ)) (log : Log) → FireAlike one other
-        → IsRun basin one inputs log → IsRun basin other inputs log }
+    ensures alike { (basin : Draft) (one other : Policy) (inputs : List (Cell × ℤ)) (log : Log)
+        → FireAlike one other → IsRun basin one inputs log → IsRun basin other inputs log }
     ensures no_rules { (other : Policy) → other.rules ≡ 0 → FireAlike no_rules other }
 {}
 
@@ -81,10 +86,12 @@ pub fn worked_runs()
     ensures counted { IsRun (basin_of LowFirst 1) counted [] (log_after counted_run []) }
     ensures followed { IsRun (basin_of HighFirst 1) followed [] (log_after followed_run []) }
     ensures outranked { IsRun (basin_of HighFirst 1) outranked [] (log_after outranked_run []) }
-    ensures divided { IsRun (basin_of HighFirst 2) divided three (log_after divided_run (placed [] three)) }
+    ensures divided { IsRun (basin_of HighFirst 2) divided three
+        (log_after divided_run (placed [] three)) }
     ensures ahead { IsRun (basin_of HighFirst 3) ahead [] (log_after ahead_run []) }
     ensures put_twice { IsRun (basin_of HighFirst 1) put_twice [] (log_after put_twice_run []) }
-    ensures given { IsRun (basin_of HighFirst 1) put_twice five (log_after given_run (placed [] five)) }
+    ensures given { IsRun (basin_of HighFirst 1) put_twice five
+        (log_after given_run (placed [] five)) }
 {}
 
 /// What is said of a timestep within a log comes to this in two of them: what stood before it, how many cells it looked at
@@ -92,7 +99,8 @@ pub fn worked_runs()
 pub fn worked_timesteps()
     ensures opening { before_opening 1 (log_after raised_run []) ≡ Some [] }
     ensures whole { events_of 1 (log_after raised_run []) ≡ log_after raised_run [] }
-    ensures closing { before_closing 1 (log_after ahead_run []) ≡ Some (log_after first_of_ahead []) }
+    ensures closing { before_closing 1 (log_after ahead_run [])
+        ≡ Some (log_after first_of_ahead []) }
     ensures open { before_closing 1 (log_after counted_run []) ≡ None }
     ensures cells { cell_count (looked_at (basin_of HighFirst 1) 1 (log_after raised_run [])) ≡ 1 }
     ensures both { cell_count (looked_at (basin_of HighFirst 1) 1 (log_after followed_run [])) ≡ 2 }
@@ -103,19 +111,26 @@ pub fn worked_timesteps()
 /// dispatch takes its object out, wherever that stands. What is written puts others at the end, in order of number: each
 /// that owns a slot which it reaches and doesn't wait already, but no data object and not the one that wrote it.
 pub fn waiting_after()
-    ensures opened { (basin : Draft) (log : Log) (step : ℕ) → waiting basin (opened step ∷ log) ≡ all_waiting basin }
-    ensures idle { (basin : Draft) (log : Log) (object step : ℕ) (looked : List Look) (before after : List ℕ)
+    ensures opened { (basin : Draft) (log : Log) (step : ℕ)
+        → waiting basin (opened step ∷ log) ≡ all_waiting basin }
+    ensures idle { (basin : Draft) (log : Log) (object step : ℕ) (looked : List Look)
+        (before after : List ℕ)
         → waiting basin log ≡ before ++ object ∷ after
         → waiting basin (idle object step looked ∷ log) ≡ before ++ after }
     ensures solved { (basin : Draft) (log : Log) (dispatch : Dispatch) (before after : List ℕ)
-        → waiting basin log ≡ before ++ dispatch.object ∷ after → waiting basin (solved dispatch ∷ log)
-        ≡ (before ++ after) ++ woken basin (Some dispatch.object) (before ++ after) (slots_at dispatch.step dispatch.written) }
-    ensures fired { (basin : Draft) (log : Log) (firing : Firing) → waiting basin (fired firing ∷ log)
-        ≡ waiting basin log ++ woken basin None (waiting basin log) (slots_at firing.step firing.written) }
-    ensures closed { (basin : Draft) (log : Log) (step : ℕ) → waiting basin (closed step ∷ log) ≡ waiting basin log }
+        → waiting basin log ≡ before ++ dispatch.object ∷ after
+        → waiting basin (solved dispatch ∷ log) ≡ (before ++ after)
+        ++ woken basin (Some dispatch.object) (before ++ after)
+        (slots_at dispatch.step dispatch.written) }
+    ensures fired { (basin : Draft) (log : Log) (firing : Firing)
+        → waiting basin (fired firing ∷ log) ≡ waiting basin log
+        ++ woken basin None (waiting basin log) (slots_at firing.step firing.written) }
+    ensures closed { (basin : Draft) (log : Log) (step : ℕ)
+        → waiting basin (closed step ∷ log) ≡ waiting basin log }
     ensures given { (basin : Draft) (log : Log) (cell : Cell) (value : ℤ)
         → waiting basin (given cell value ∷ log) ≡ waiting basin log }
-    ensures fault { (basin : Draft) (log : Log) (why : RunFault) → waiting basin (fault why ∷ log) ≡ waiting basin log }
+    ensures fault { (basin : Draft) (log : Log) (why : RunFault)
+        → waiting basin (fault why ∷ log) ≡ waiting basin log }
 {}
 
 /// An object waits since the first event that wakes it, from the opening of the timestep on, and after its last dispatch.
@@ -134,15 +149,19 @@ pub fn frame()
 
 /// The events of a timestep that was closed lead on in another run, where the cells at which they look are alike.
 pub fn reuse()
-    ensures { (basin : Draft) (policy : Policy) (step : ℕ) (old other end : Log) (first : Event) (events : List Event)
-        → IsFramed policy → IsStepFrom step first events → Leads basin policy (opened step ∷ old) (first ∷ events) end
+    ensures { (basin : Draft) (policy : Policy) (step : ℕ) (old other end : Log)
+        (first : Event) (events : List Event)
+        → IsFramed policy → IsStepFrom step first events
+        → Leads basin policy (opened step ∷ old) (first ∷ events) end
         → AreAlike (cells_of basin old) (cells_of basin other) (looked_in (first ∷ events))
-        → Leads basin policy (opened step ∷ other) (first ∷ events) (log_after (first ∷ events) (opened step ∷ other)) }
+        → Leads basin policy (opened step ∷ other) (first ∷ events)
+        (log_after (first ∷ events) (opened step ∷ other)) }
 {}
 
 /// Where each rule is marked whose last looks the puts touch, a rule without a mark still isn't due.
 pub fn index()
-    ensures { (basin : Draft) (cells : Cells) (puts : List Asked) (looked : ℕ → Option (List Look)) (was_marked is_marked : ℕ → Bool)
+    ensures { (basin : Draft) (cells : Cells) (puts : List Asked)
+        (looked : ℕ → Option (List Look)) (was_marked is_marked : ℕ → Bool)
         → MarksTouched basin puts looked was_marked is_marked → IsIndex cells looked was_marked
         → IsIndex (λ cell. option_or (last_put basin puts cell) (cells cell)) looked is_marked }
 {}

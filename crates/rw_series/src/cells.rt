@@ -45,7 +45,8 @@ pub fn hold(
     requires whole { vec_len cells.old ≡ slots * steps }
     requires kept { IsTrue (is_kept slots steps slot step) }
     ensures cells { (s t : ℕ) → kept_at slots steps (map content_of cells.new.items) s t
-        ≡ (if s == slot && t == step then content else kept_at slots steps (map content_of cells.old.items) s t) }
+        ≡ (if s == slot && t == step then content
+        else kept_at slots steps (map content_of cells.old.items) s t) }
     ensures whole { vec_len cells.new ≡ vec_len cells.old }
 {
     cells[place_of(slots, slot, step)] = kept_of(content);

@@ -58,7 +58,8 @@ fn column_for(basin: &Basin, columns: &[u16], width: u16, before: u16) -> u16
 
 /// The columns of the slots of a basin.
 pub fn columns_of(alloc: Global, basin: &Basin) -> Result<Columns, NoMemory>
-    ensures { IfOk result (λ made. AreColumns basin.now (length (all_slots basin.now.objects)) made.width made.columns.items) }
+    ensures { IfOk result (λ made. AreColumns basin.now
+        (length (all_slots basin.now.objects)) made.width made.columns.items) }
 {
     let mut columns = Vec::new(alloc);
     let mut width = 0;

@@ -30,7 +30,13 @@ impl Model for Series {
 
     ghost Value = { specs.Series };
 
-    ghost view = { λ s. record { slots = s.slots; steps = s.steps; columns = s.columns.items; width = s.width; cells = map content_of s.cells.items } };
+    ghost view = { λ s. record {
+      slots = s.slots;
+      steps = s.steps;
+      columns = s.columns.items;
+      width = s.width;
+      cells = map content_of s.cells.items;
+    } };
 
     ghost invariant = { λ s. length s.cells.items ≡ s.width * s.steps };
 }
