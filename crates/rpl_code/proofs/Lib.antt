@@ -1,1 +1,5 @@
 pub mod Growing
+pub mod Parted
+pub mod WordsRead
+pub mod LinesRead
+pub mod CodeRead
