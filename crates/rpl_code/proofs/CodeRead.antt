@@ -1,16 +1,13 @@
 -- What is written of a code is read as that code.
-use Rattle.std.proofs.Common.{◌≡◌, ℕ, List, [], ◌∷◌, ◌++◌, Bool, true, false, refl, sym, ap, ◌∙◌, append_assoc, ◌+◌, Result, Ok, Err}
-use Rattle.std.specs.Prelude.{Option, Some, None, option_and_then, map, flat_map, codes}
+use Rattle.std.proofs.Common.{◌≡◌, ℕ, List, [], ◌∷◌, ◌++◌, true, refl, ap, ◌∙◌, append_assoc, ◌+◌, Ok}
+use Rattle.std.specs.Prelude.{Option, Some, None, map, flat_map, codes}
 use Rattle.std.specs.List.{AllByRecursion}
-use Rattle.rpl_code.specs.declared.kind.ValueKind.{ValueKind}
 use Rattle.rpl_code.specs.declared.instruction.Instruction.{Instruction}
 use Rattle.rpl_code.specs.declared.block.BlockHead.{BlockHead}
 use Rattle.rpl_code.specs.declared.block.Block.{Block}
 use Rattle.rpl_code.specs.Bounds.{IsInstruction, IsBlock, IsCode}
-use Rattle.rpl_code.specs.Parting.{parted}
-use Rattle.rpl_code.specs.Words.{if_so}
-use Rattle.rpl_code.specs.Spelling.{instruction_line, head_line, locals_line, block_lines, code_lines, ended, spelt}
-use Rattle.rpl_code.specs.Reading.{Said, heading, opening, locals, instruction, ending, said_by, may_follow, is_whole, said_behind, Refusal, all_said, and_then_all, unless_bad, locals_said, lines_said, blocks_said, result_of, read}
+use Rattle.rpl_code.specs.Spelling.{instruction_line, head_line, locals_line, block_lines, code_lines, spelt}
+use Rattle.rpl_code.specs.Reading.{Said, heading, opening, locals, instruction, ending, may_follow, is_whole, said_behind, all_said, and_then_all, unless_bad, lines_said, blocks_said, result_of, read}
 use Rattle.rpl_code.proofs.Parted.{Lacks, parted_ended}
 use Rattle.rpl_code.proofs.LinesRead.{Shows, instruction_shows, locals_show, head_shows, end_shows}
 

@@ -3,3 +3,6 @@ pub mod Parted
 pub mod WordsRead
 pub mod LinesRead
 pub mod CodeRead
+pub mod WordsBack
+pub mod LinesBack
+pub mod CodeBack

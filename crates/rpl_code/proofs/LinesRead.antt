@@ -1,6 +1,6 @@
 -- What is written of a line is read as the same.
-use Rattle.std.proofs.Common.{◌≡◌, ℕ, List, [], ◌∷◌, ◌++◌, Bool, true, false, refl, sym, ap, ◌∙◌, ◌<◌, ◌≤◌, ◌^◌, ◌+◌, arith, ℤ, pos, negsuc}
-use Rattle.std.specs.Prelude.{suc, ltb, ◌==◌, Option, Some, None, option_and_then, map, codes}
+use Rattle.std.proofs.Common.{◌≡◌, ℕ, List, [], ◌∷◌, Bool, true, false, refl, ap, ◌∙◌, ◌<◌, ◌≤◌, ◌^◌, arith, ℤ, pos, negsuc}
+use Rattle.std.specs.Prelude.{suc, ltb, ◌==◌, Some, map, codes}
 use Rattle.std.specs.List.{AllByRecursion, list_all}
 use Rattle.std.specs.Fmt.{decimal, signed_decimal}
 use Rattle.std.proofs.lemmas.Int.{ints}
@@ -12,11 +12,10 @@ use Rattle.rpl_code.specs.declared.instruction.Instruction.{Instruction}
 use Rattle.rpl_code.specs.declared.instruction.Instruction.TheVariants as I
 use Rattle.rpl_code.specs.declared.block.BlockHead.{BlockHead}
 use Rattle.rpl_code.specs.declared.block.BlockHead.TheVariants.{Rule, Function}
-use Rattle.rpl_code.specs.Bounds.{IsNumber, IsLength, IsName, IsKind, AreKinds, IsInstruction, IsHead}
+use Rattle.rpl_code.specs.Bounds.{IsName, IsKind, AreKinds, IsInstruction, IsHead}
 use Rattle.rpl_code.specs.Parting.{parted}
-use Rattle.rpl_code.specs.Words.{number_in}
 use Rattle.rpl_code.specs.Spelling.{each_after, joined, kind_text, kinds_text, slot_text, truth_text, word_of, operands_of, instruction_line, head_line, locals_line}
-use Rattle.rpl_code.specs.Reading.{Said, heading, opening, locals, instruction, ending, said_by}
+use Rattle.rpl_code.specs.Reading.{Said, opening, locals, instruction, ending, said_by}
 use Rattle.rpl_code.proofs.Parted.{Lacks, Above, all_append, lacks_above, above_less, parted_joined}
 use Rattle.rpl_code.proofs.WordsRead.{decimal_above, number_is, count_is, length_is, quantity_is, truth_is, name_above, name_is, slot_is, kind_is, kinds_are}
 

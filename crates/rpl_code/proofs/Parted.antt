@@ -1,11 +1,10 @@
 -- A text that was joined is parted again, and a text that was parted is joined again.
-use Rattle.std.proofs.Common.{◌≡◌, ℕ, List, [], ◌∷◌, ◌++◌, Bool, true, false, refl, sym, ap, ◌∙◌, append_assoc, append-nil, ◌<◌, ◌≤◌, arith, cond}
-use Rattle.std.specs.Prelude.{◌==◌, if◌then◌else◌}
+use Rattle.std.proofs.Common.{◌≡◌, ℕ, List, [], ◌∷◌, ◌++◌, true, false, refl, ap, ◌∙◌, append-nil, ◌<◌, ◌≤◌, arith}
+use Rattle.std.specs.Prelude.{◌==◌}
 use Rattle.std.specs.List.{AllByRecursion}
-use Rattle.std.proofs.lemmas.Bool.{eqb-true, eq-eqb, ne_eqb, cases_Bool}
-use mathlib.Core.Logic.{inl, inr}
-use Rattle.rpl_code.specs.Parting.{parted, in_front}
-use Rattle.rpl_code.specs.Spelling.{each_after, joined, ended}
+use Rattle.std.proofs.lemmas.Bool.{eq-eqb, ne_eqb}
+use Rattle.rpl_code.specs.Parting.{parted}
+use Rattle.rpl_code.specs.Spelling.{joined, ended}
 
 -- the byte c stands nowhere
 abbrev pub Lacks : ℕ → List ℕ → Type 0

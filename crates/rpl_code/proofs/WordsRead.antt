@@ -1,24 +1,23 @@
 -- What is written of a word is read as the same.
-use Rattle.std.proofs.Common.{◌≡◌, ℕ, zero, suc, List, [], ◌∷◌, ◌++◌, Bool, true, false, refl, sym, ap, ap₂, ◌∙◌, append_assoc, ◌<◌, ◌≤◌, ◌^◌, ◌+◌, ◌%◌, ◌/◌, arith, rules, ℤ, pos, negsuc}
-use Rattle.std.specs.Prelude.{◌==◌, ◌&&◌, if◌then◌else◌, nat_le, Option, Some, None, option_map, option_and_then, ◌||◌, length, map, codes, neg_ℤ}
+use Rattle.std.proofs.Common.{◌≡◌, ℕ, suc, List, [], ◌∷◌, ◌++◌, Bool, true, false, refl, ap, ◌∙◌, ◌<◌, ◌≤◌, ◌^◌, ◌+◌, ◌%◌, arith, ℤ, pos, negsuc}
+use Rattle.std.specs.Prelude.{◌&&◌, nat_le, Some, option_map, ◌||◌, length, map, codes, neg_ℤ}
 use Rattle.std.specs.List.{AllByRecursion, list_all}
 use Rattle.std.specs.Str.{bytes_eq}
-use Rattle.std.specs.Str.Parse.{digits_value}
 use Rattle.std.specs.Fmt.{decimal, signed_decimal, digits}
 use Rattle.std.proofs.lemmas.Fmt.{decimal_is_IsNumeral, decimal_by_steps}
 use Rattle.std.proofs.lemmas.Slice.Eq.{bytes_eq-Decides}
-use Rattle.std.proofs.lemmas.Bool.{eqb-true, ne_eqb, le-leb, and_from, and_parts}
+use Rattle.std.proofs.lemmas.Bool.{ne_eqb, le-leb, and_parts}
 use Rattle.std.proofs.lemmas.Bool.Decides.{nat_tests}
 use Rattle.std.proofs.lemmas.Int.{ints}
 use Rattle.rw_base.specs.Quantity.{IsQuantity}
 use Rattle.rpl_code.specs.declared.kind.ValueKind.{ValueKind}
 use Rattle.rpl_code.specs.declared.kind.ValueKind.TheVariants as K
-use Rattle.rpl_code.specs.Names.{is_name, is_letter, is_digit}
+use Rattle.rpl_code.specs.Names.{is_letter, is_digit}
 use Rattle.rpl_code.specs.Bounds.{IsNumber, IsLength, IsName, IsKind, AreKinds}
-use Rattle.rpl_code.specs.Parting.{parted, in_front}
-use Rattle.rpl_code.specs.Words.{number_in, count_in, length_in, quantity_in, truth_in, name_in, slot_in, slot_of, kind_in, kind_of, kinds_in, each_kind, if_so}
-use Rattle.rpl_code.specs.Spelling.{each_after, joined, kind_text, kinds_text, slot_text, truth_text}
-use Rattle.rpl_code.proofs.Parted.{Lacks, Above, all_append, lacks_above, above_less, parted_whole, parted_at, parted_joined}
+use Rattle.rpl_code.specs.Parting.{parted}
+use Rattle.rpl_code.specs.Words.{number_in, count_in, length_in, quantity_in, truth_in, name_in, slot_in, kind_in, kinds_in, each_kind}
+use Rattle.rpl_code.specs.Spelling.{each_after, kind_text, kinds_text, slot_text, truth_text}
+use Rattle.rpl_code.proofs.Parted.{Lacks, Above, all_append, lacks_above, parted_whole, parted_at, parted_joined}
 
 -- ---- numbers
 

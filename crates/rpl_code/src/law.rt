@@ -1,5 +1,5 @@
 // What the definitions come to on worked texts.
-ghost use Rattle.std.specs.Prelude.{◌≡◌, Ok, Err, [], ◌∷◌, ◌++◌, pos, codes, map, List, ℕ};
+ghost use Rattle.std.specs.Prelude.{◌≡◌, ◌≤◌, length, Ok, Err, [], ◌∷◌, ◌++◌, pos, codes, map, List, ℕ};
 ghost use Rattle.rpl_code.specs.declared.instruction.Instruction.TheVariants as Instruction;
 ghost use Rattle.rpl_code.specs.declared.block.Block.{Block};
 ghost use Rattle.rpl_code.specs.Bounds.{IsCode};
@@ -53,4 +53,13 @@ pub fn worked_places()
 /// What is written of a code is read as that code.
 pub fn written_is_read()
     ensures { (blocks : List Block) → IsCode blocks → read (spelt blocks) ≡ Ok blocks }
+{}
+
+/// A text of 16 MiB or less that is read is what is written of the code that it is read as, so a code has one text. It
+/// is read as nothing but a code.
+pub fn read_is_written()
+    ensures text { (text : List ℕ) (blocks : List Block)
+        → length text ≤ 16_777_216 → read text ≡ Ok blocks → text ≡ spelt blocks }
+    ensures bounds { (text : List ℕ) (blocks : List Block)
+        → length text ≤ 16_777_216 → read text ≡ Ok blocks → IsCode blocks }
 {}
