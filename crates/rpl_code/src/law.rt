@@ -1,9 +1,9 @@
-// What the definitions come to on worked texts.
-ghost use Rattle.std.specs.Prelude.{◌≡◌, ◌≤◌, length, Ok, Err, [], ◌∷◌, ◌++◌, pos, codes, map, List, ℕ};
+// That spelling and reading are one, and what both come to on worked texts.
+ghost use Rattle.std.specs.Prelude.{◌≡◌, ◌≤◌, length, Ok, Err, [], ◌∷◌, codes, List, ℕ};
 ghost use Rattle.rpl_code.specs.declared.instruction.Instruction.TheVariants as Instruction;
 ghost use Rattle.rpl_code.specs.declared.block.Block.{Block};
 ghost use Rattle.rpl_code.specs.Bounds.{IsCode};
-ghost use Rattle.rpl_code.specs.Spelling.{spelt, ended};
+ghost use Rattle.rpl_code.specs.Spelling.{spelt};
 ghost use Rattle.rpl_code.specs.Reading.{read, bad_line, truncated};
 ghost use Rattle.rpl_code.specs.Worked.{plain_rule, capped, capped_text, mixed, mixed_text, rule_of};
 
