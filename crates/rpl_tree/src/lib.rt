@@ -7,6 +7,7 @@
 
 mod expression;
 mod kind;
+pub mod law;
 mod rules;
 mod statement;
 mod words;
