@@ -5,4 +5,8 @@ pub mod Tree
 pub mod World
 pub mod Kinds
 pub mod Mean
+pub mod Count
+pub mod Cost
+pub mod Words
+pub mod Budget
 pub mod Worked

@@ -14,7 +14,7 @@ use Rattle.rpl_tree.specs.declared.words.OneWord.{OneWord}
 use Rattle.rpl_tree.specs.declared.words.OneWord.TheVariants.{Not, Minus, Known, Length, Month, Day, Year}
 use Rattle.rpl_tree.specs.declared.words.TwoWord.{TwoWord}
 use Rattle.rpl_tree.specs.declared.words.TwoWord.TheVariants.{Or, And, Equal, Unequal, Less, LessEqual, Greater, GreaterEqual, Plus, Minus as Less_by, Times, Divide, Append, Item}
-use Rattle.rpl_tree.specs.Value.{Kind, number_kind, Value, a_number, a_truth, a_date, a_slot, numbers, kind_of, room_of, weight, weights}
+use Rattle.rpl_tree.specs.Value.{Kind, number_kind, truth_kind, Value, a_number, a_truth, a_date, a_slot, numbers, kind_of, room_of, weight, weights}
 use Rattle.rpl_tree.specs.Outcome.{Answer, Outcome, Trail, after, ended, ends, gives, is_stuck, spent, stuck, value, ◌>>=◌}
 use Rattle.rpl_tree.specs.Operators.{append_of, at_most_of, chosen, difference_of, elements_of, equal_of, is_quantity, item_of, length_of, less_of, list_of, negative_of, not_of, product_of, quotient_of, sum_of, widened}
 use Rattle.rpl_tree.specs.World.{World, convert_of, date_part, known_of, put_of, read_of, slot_value, table_named}
@@ -118,8 +118,8 @@ both l r does = l >>= (λ x. r >>= (λ y. does x y))
 
 -- OR and AND are `IF l THEN TRUE ELSE r ENDIF` and `IF l THEN r ELSE FALSE ENDIF`, and a test's opposite is NOT of it
 abbrev pub two_value : TwoWord → Outcome Value → Outcome Value → Outcome Value
-two_value Or l r = l >>= (λ x. chosen x (gives (a_truth true) 1) r)
-two_value And l r = l >>= (λ x. chosen x r (gives (a_truth false) 1))
+two_value Or l r = l >>= (λ x. chosen x (gives (a_truth true) 1) (r >>= widened truth_kind))
+two_value And l r = l >>= (λ x. chosen x (r >>= widened truth_kind) (gives (a_truth false) 1))
 two_value Equal l r = both l r equal_of
 two_value Unequal l r = both l r equal_of >>= not_of
 two_value Less l r = both l r less_of

@@ -145,3 +145,11 @@ ended_by end looked count = Some (record { end = end; looked = looked; puts = []
 -- what the rule `D.X[t] := e;` does at the first of two days, where these are the values of X and Y
 abbrev pub x_by : Tree → (Cell → Option ℤ) → Option Fire
 x_by e values = mean (x_set e) (basin_of 2 (numbers_object ∷ [])) 1 1 values
+
+-- `{a, b}`
+abbrev pub listed : ℤ → ℤ → Tree
+listed a b = list (trees_of (whole a ∷ whole b ∷ []))
+
+-- what the rule does at the second day of a basin with the pool, whose table is read
+abbrev pub pool_by : Tree → (Cell → Option ℤ) → Option Fire
+pool_by e values = mean (x_set e) (basin_of 40 (numbers_object ∷ pool ∷ [])) 1 33 values
