@@ -5,6 +5,7 @@ pub mod Tree
 pub mod World
 pub mod Kinds
 pub mod Mean
+pub mod Seen
 pub mod Count
 pub mod Cost
 pub mod Words

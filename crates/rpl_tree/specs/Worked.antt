@@ -10,10 +10,11 @@ use Rattle.rw_model.specs.Slot.{flow_unit}
 use Rattle.rw_model.specs.declared.control.AgendaOrder.TheVariants.{HighFirst}
 use Rattle.rw_model.specs.declared.kind.Kind.TheVariants.{DataObject, Reservoir}
 use Rattle.rw_series.specs.Fire.{Fire}
+use Rattle.rw_series.specs.declared.fire.RulePut.{RulePut}
 use Rattle.rw_series.specs.declared.fire.FireEnd.{FireEnd}
 use Rattle.rw_series.specs.declared.fire.FireEnd.TheVariants.{Done, Unknown, ZeroDivisor, OutOfRange}
 use Rattle.rpl_tree.specs.declared.words.OneWord.TheVariants.{Not, Minus, Known, Length, Month, Day, Year}
-use Rattle.rpl_tree.specs.declared.words.TwoWord.TheVariants.{Or, And, Equal, Unequal, Less, GreaterEqual, Plus, Divide, Append, Item}
+use Rattle.rpl_tree.specs.declared.words.TwoWord.TheVariants.{Or, And, Equal, Unequal, Less, GreaterEqual, Plus, Minus as Less_by, Divide, Append, Item}
 use Rattle.rpl_tree.specs.declared.words.ConvertWord.TheVariants.{StorageToElevation, ElevationToStorage}
 use Rattle.rpl_tree.specs.Tree.{numeric, numeric_list, Tree, Trees, literal, truth, now, slot, name, call, brackets, list, choice, bind, each, mapped, one, two, convert, at, no_trees, tree, Act, Acts, assign, branch, with_name, no_acts, act, Declared, rule, function}
 use Rattle.rpl_tree.specs.World.{cell_of, put_to}
@@ -89,67 +90,160 @@ x_now = at_now (codes "D") (codes "X")
 abbrev pub y_now : Tree
 y_now = at_now (codes "D") (codes "Y")
 
+-- `Pool.Storage[t - 1]` and `Pool.Storage[t + 1]`
+abbrev pub storage_before : Tree
+storage_before = at (slot (codes "Pool") (codes "Storage")) (two Less_by now (whole (pos 1)))
+
+abbrev pub storage_after : Tree
+storage_after = at (slot (codes "Pool") (codes "Storage")) (two Plus now (whole (pos 1)))
+
 abbrev pub trees_of : List Tree → Trees
 trees_of [] = no_trees
 trees_of (t ∷ ts) = tree t (trees_of ts)
 
--- a rule of one assignment
-abbrev pub sets : List ℕ → List ℕ → Tree → Declared
-sets o s e = rule (codes "sets") (act (assign o s (pos 0) e) no_acts)
+-- `n`, `s` and `l`
+abbrev pub n_name : Tree
+n_name = name (codes "n")
 
--- `D.X[t] := e;`
-abbrev pub x_set : Tree → List Declared
-x_set e = sets (codes "D") (codes "X") e ∷ []
+abbrev pub s_name : Tree
+s_name = name (codes "s")
+
+abbrev pub l_name : Tree
+l_name = name (codes "l")
+
+-- `IF c THEN 1 ELSE 2 ENDIF`
+abbrev pub one_or_two : Tree → Tree
+one_or_two c = choice c (whole (pos 1)) (whole (pos 2))
+
+-- `1 / n`
+abbrev pub part_of_n : Tree
+part_of_n = two Divide (whole (pos 1)) n_name
+
+-- `{a, b}`
+abbrev pub pair : ℤ → ℤ → Tree
+pair a b = list (trees_of (whole a ∷ whole b ∷ []))
+
+-- `APPEND({7, 8}, 9)`
+abbrev pub three : Tree
+three = two Append (pair (pos 7) (pos 8)) (whole (pos 9))
+
+-- `FOR n IN l WITH s := 0 DO e ENDFOR`
+abbrev pub over : Tree → Tree → Tree
+over l e = each (codes "n") l (codes "s") (whole (pos 0)) e
 
 -- ---- rules
+
+-- `Object.Slot[t] := e;`
+abbrev pub puts_at : List ℕ → List ℕ → Tree → Act
+puts_at o s e = assign o s (pos 0) e
+
+abbrev pub acts_of : List Act → Acts
+acts_of [] = no_acts
+acts_of (a ∷ rest) = act a (acts_of rest)
+
+-- a rule of these statements
+abbrev pub rule_of : List Act → Declared
+rule_of statements = rule (codes "rule") (acts_of statements)
+
+-- `D.X[t] := e;` and `D.Y[t] := e;`
+abbrev pub x_put : Tree → Act
+x_put e = puts_at (codes "D") (codes "X") e
+
+abbrev pub y_put : Tree → Act
+y_put e = puts_at (codes "D") (codes "Y") e
 
 -- `Dam.Storage[t] := Min(Dam.Storage[t], 1020 "m3");` and `Dam.Outflow[t] := 50 "m3/step";`
 abbrev pub cap_and_base : List Declared
 cap_and_base =
-    sets (codes "Dam") (codes "Storage")
-      (call (codes "Min") (trees_of (at_now (codes "Dam") (codes "Storage") ∷ of_unit (pos 1020) (codes "m3") ∷ []))) ∷
-    sets (codes "Dam") (codes "Outflow") (of_unit (pos 50) (codes "m3/step")) ∷
+    rule_of (puts_at (codes "Dam") (codes "Storage")
+      (call (codes "Min") (trees_of (at_now (codes "Dam") (codes "Storage") ∷ of_unit (pos 1020) (codes "m3") ∷ []))) ∷ []) ∷
+    rule_of (puts_at (codes "Dam") (codes "Outflow") (of_unit (pos 50) (codes "m3/step")) ∷ []) ∷
     []
 
 -- `D.X[t] := Max(D.X[t], 10);` and `D.X[t] := 0;`
 abbrev pub raise_and_reset : List Declared
 raise_and_reset =
-    sets (codes "D") (codes "X") (call (codes "Max") (trees_of (x_now ∷ whole (pos 10) ∷ []))) ∷
-    sets (codes "D") (codes "X") (whole (pos 0)) ∷
+    rule_of (x_put (call (codes "Max") (trees_of (x_now ∷ whole (pos 10) ∷ []))) ∷ []) ∷
+    rule_of (x_put (whole (pos 0)) ∷ []) ∷
     []
 
 -- `D.X[t] := 100 / D.Y[t];`
 abbrev pub hundredth : List Declared
-hundredth = x_set (two Divide (whole (pos 100)) y_now)
+hundredth = rule_of (x_put (two Divide (whole (pos 100)) y_now) ∷ []) ∷ []
 
--- `FUNCTION Ahead(NUMERIC "step" n) : NUMERIC "m3/step" IS Dam.Inflow[t + n] ENDFUNCTION`, and
+-- `FUNCTION Ahead(NUMERIC "step" n) : NUMERIC "m3/step" IS Dam.Inflow[t + n] ENDFUNCTION`
+abbrev pub ahead : Declared
+ahead = function (codes "Ahead") (record { name = codes "n"; of_type = numeric (codes "step") } ∷ []) (numeric (codes "m3/step"))
+    (at (slot (codes "Dam") (codes "Inflow")) (two Plus now n_name))
+
 -- `D.X[t] := FOR n IN {0 "step", 1 "step"} WITH s := 0 "m3/step" DO s + Ahead(n) ENDFOR;`
+abbrev pub sum : Declared
+sum = rule_of (x_put (each (codes "n") (list (trees_of (of_unit (pos 0) (codes "step") ∷ of_unit (pos 1) (codes "step") ∷ [])))
+    (codes "s") (of_unit (pos 0) (codes "m3/step"))
+    (two Plus s_name (call (codes "Ahead") (trees_of (n_name ∷ []))))) ∷ [])
+
 abbrev pub sum_ahead : List Declared
-sum_ahead =
-    function (codes "Ahead") (record { name = codes "n"; of_type = numeric (codes "step") } ∷ []) (numeric (codes "m3/step"))
-      (at (slot (codes "Dam") (codes "Inflow")) (two Plus now (name (codes "n")))) ∷
-    sets (codes "D") (codes "X")
-      (each (codes "n") (list (trees_of (of_unit (pos 0) (codes "step") ∷ of_unit (pos 1) (codes "step") ∷ [])))
-      (codes "s") (of_unit (pos 0) (codes "m3/step"))
-      (two Plus (name (codes "s")) (call (codes "Ahead") (trees_of (name (codes "n") ∷ []))))) ∷
-    []
+sum_ahead = ahead ∷ sum ∷ []
+
+-- the function after the rule that calls it
+abbrev pub sum_too_early : List Declared
+sum_too_early = sum ∷ ahead ∷ []
+
+-- `FUNCTION Count(LIST 3 OF NUMERIC "" l, NUMERIC "" n) : NUMERIC "" IS LENGTH(l) ENDFUNCTION`
+abbrev pub count_function : Declared
+count_function = function (codes "Count")
+    (record { name = codes "l"; of_type = numeric_list (pos 3) [] } ∷ record { name = codes "n"; of_type = numeric [] } ∷ [])
+    (numeric []) (one Length l_name)
+
+-- `FUNCTION Both() : LIST 3 OF NUMERIC "" IS {7, 8} ENDFUNCTION`
+abbrev pub both_function : Declared
+both_function = function (codes "Both") [] (numeric_list (pos 3) []) (pair (pos 7) (pos 8))
+
+-- both functions, and `D.X[t] := e;`
+abbrev pub with_functions : Tree → List Declared
+with_functions e = count_function ∷ both_function ∷ rule_of (x_put e ∷ []) ∷ []
+
+-- `Count({7, 8}, e)`
+abbrev pub count_call : Tree → Tree
+count_call e = call (codes "Count") (trees_of (pair (pos 7) (pos 8) ∷ e ∷ []))
+
+-- `LENGTH(Both())`
+abbrev pub both_call : Tree
+both_call = one Length (call (codes "Both") no_trees)
 
 -- ---- firings
 
+abbrev pub fire : FireEnd → List Cell → List RulePut → ℕ → Option Fire
+fire end looked puts count = Some (record { end = end; looked = looked; puts = puts; count = count })
+
+-- a rule that came to its end with one put
 abbrev pub done_by : List Cell → ℕ → ℤ → ℕ → Option Fire
-done_by looked s z count = Some (record { end = Done; looked = looked; puts = put_to s z ∷ []; count = count })
+done_by looked s z count = fire Done looked (put_to s z ∷ []) count
 
+-- a rule that ended before
 abbrev pub ended_by : FireEnd → List Cell → ℕ → Option Fire
-ended_by end looked count = Some (record { end = end; looked = looked; puts = []; count = count })
+ended_by end looked count = fire end looked [] count
 
--- what the rule `D.X[t] := e;` does at the first of two days, where these are the values of X and Y
-abbrev pub x_by : Tree → (Cell → Option ℤ) → Option Fire
-x_by e values = mean (x_set e) (basin_of 2 (numbers_object ∷ [])) 1 1 values
+-- what the first rule does at the first of two days of the data object with plain numbers
+abbrev pub rules_do : List Declared → (Cell → Option ℤ) → Option Fire
+rules_do rules values = mean rules (basin_of 2 (numbers_object ∷ [])) 1 1 values
 
--- `{a, b}`
-abbrev pub listed : ℤ → ℤ → Tree
-listed a b = list (trees_of (whole a ∷ whole b ∷ []))
+-- what the rule `D.X[t] := e;` does there, where nothing is known
+abbrev pub x_by : Tree → Option Fire
+x_by e = rules_do (rule_of (x_put e ∷ []) ∷ []) unknown_cells
 
--- what the rule does at the second day of a basin with the pool, whose table is read
-abbrev pub pool_by : Tree → (Cell → Option ℤ) → Option Fire
-pool_by e values = mean (x_set e) (basin_of 40 (numbers_object ∷ pool ∷ [])) 1 33 values
+-- X was set to this, nothing was looked at, and it counted so much
+abbrev pub x_is : ℤ → ℕ → Option Fire
+x_is z count = done_by [] 1 z count
+
+-- it ended, and nothing was looked at
+abbrev pub x_ends : FireEnd → ℕ → Option Fire
+x_ends end count = ended_by end [] count
+
+-- it ended at the look at Y
+abbrev pub x_wants_y : ℕ → Option Fire
+x_wants_y count = ended_by Unknown (cell_of 2 1 ∷ []) count
+
+-- what the rule does at a timestep of 40 days of the data object and the pool, where nothing is known
+abbrev pub pool_by : ℕ → Tree → Option Fire
+pool_by step e = mean (rule_of (x_put e ∷ []) ∷ []) (basin_of 40 (numbers_object ∷ pool ∷ [])) 1 step unknown_cells
