@@ -26,7 +26,7 @@ capped limit n = min n (limit + 1)
 abbrev pub budget_of : List Declared → ℕ → Budget
 budget_of rules number =
     budget
-      (capped limits.count (slice_index (costs price_of_steps rules) (number - 1)))
-      (capped limits.looks (slice_index (costs price_of_looks rules) (number - 1)))
-      (capped limits.puts (slice_index (costs price_of_puts rules) (number - 1)))
-      (capped limits.words (slice_index (words rules) (number - 1)))
+    (capped limits.count (slice_index (costs price_of_steps rules) (number - 1)))
+    (capped limits.looks (slice_index (costs price_of_looks rules) (number - 1)))
+    (capped limits.puts (slice_index (costs price_of_puts rules) (number - 1)))
+    (capped limits.words (slice_index (words rules) (number - 1)))

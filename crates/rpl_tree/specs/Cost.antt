@@ -1,11 +1,11 @@
 -- The most that one firing of a rule can count, look or put, by its tree. One definition serves all three, with a price for each.
 use Rattle.std.specs.Prelude.{ℕ, ◌+◌, ◌*◌, max, List, [], ◌∷◌, ◌++◌, map, bytes_eq, if◌then◌else◌}
 use Rattle.rpl_tree.specs.declared.words.OneWord.{OneWord}
-use Rattle.rpl_tree.specs.declared.words.OneWord.TheVariants.{Not, Minus, Known, Length, Month, Day, Year}
+use Rattle.rpl_tree.specs.declared.words.OneWord.TheVariants.{Known}
 use Rattle.rpl_tree.specs.declared.words.TwoWord.{TwoWord}
-use Rattle.rpl_tree.specs.declared.words.TwoWord.TheVariants.{Or, And, Equal, Unequal, Less, LessEqual, Greater, GreaterEqual, Plus, Minus as Less_by, Times, Divide, Append, Item}
+use Rattle.rpl_tree.specs.declared.words.TwoWord.TheVariants.{Or, And, Unequal, Greater, GreaterEqual, Append}
 use Rattle.rpl_tree.specs.Value.{Kind, room_of, element_of, is_same_kind, weight, weights}
-use Rattle.rpl_tree.specs.Tree.{Tree, Trees, literal, truth, now, slot, name, call, brackets, list, choice, bind, each, mapped, one, two, convert, at, no_trees, tree, Act, Acts, assign, branch, with_name, no_acts, act, Parameter, Declared, rule, function}
+use Rattle.rpl_tree.specs.Tree.{Tree, Trees, name, call, brackets, list, choice, bind, each, mapped, one, two, convert, at, no_trees, tree, Act, Acts, assign, branch, with_name, no_acts, act, Parameter, Declared, rule, function}
 use Rattle.rpl_tree.specs.Kinds.{Head, Names, kind_named, kind_of_type, count_of, tree_kind}
 use Rattle.rpl_tree.specs.Mean.{Function, predefined_functions, param_kinds}
 
@@ -81,7 +81,9 @@ module _ (price : Price) (functions : List Costed) where
     most names (list ts) = most_of names ts + price.step (count_of ts + 1)
     most names (choice c y n) =
         let kind = kind_here names (choice c y n) in
-        most names c + (max (most names y + to_widen kind (kind_here names y)) (most names n + to_widen kind (kind_here names n)) + price.step 3)
+        let first = most names y + to_widen kind (kind_here names y) in
+        let second = most names n + to_widen kind (kind_here names n) in
+        most names c + (max first second + price.step 3)
     most names (bind x e b) =
         let kind = kind_here names e in
         most names e + (price.step (weight kind) + most ((x, kind) ∷ names) b)

@@ -1,6 +1,6 @@
 -- How many nodes a tree has, and how many locals of its own.
 use Rattle.std.specs.Prelude.{ℕ, suc, ◌+◌}
-use Rattle.rpl_tree.specs.Tree.{Tree, Trees, literal, truth, now, slot, name, call, brackets, list, choice, bind, each, mapped, one, two, convert, at, no_trees, tree, Act, Acts, assign, branch, with_name, no_acts, act, Declared, rule, function}
+use Rattle.rpl_tree.specs.Tree.{Tree, Trees, call, brackets, list, choice, bind, each, mapped, one, two, convert, at, no_trees, tree, Act, Acts, assign, branch, with_name, no_acts, act, Declared, rule, function}
 
 -- ---- nodes: each expression, also a pair of brackets, and each statement
 

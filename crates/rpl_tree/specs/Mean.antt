@@ -1,5 +1,5 @@
 -- What a rule means: what a firing of it does, by its tree.
-use Rattle.std.specs.Prelude.{ℕ, ◌+◌, ◌-◌, ◌==◌, ℤ, pos, ◌*ℤ◌, codes, Bool, true, false, List, [], ◌∷◌, ◌++◌, map, length, Option, Some, None, unwrap_or, bytes_eq, if◌then◌else◌}
+use Rattle.std.specs.Prelude.{ℕ, ◌+◌, ◌-◌, ◌==◌, ℤ, pos, ◌*ℤ◌, codes, true, false, List, [], ◌∷◌, ◌++◌, map, Option, Some, None, unwrap_or, bytes_eq, if◌then◌else◌}
 use Rattle.rw_base.specs.Unit.{units, unit_in}
 use Rattle.rw_base.specs.Dimension.{Dimension}
 use Rattle.rw_base.specs.Predefined.{predefined_of}
@@ -8,14 +8,13 @@ use Rattle.rw_calendar.specs.declared.moment.Moment.{Moment}
 use Rattle.rw_model.specs.Draft.{Draft}
 use Rattle.rw_model.specs.Objects.{slot_named}
 use Rattle.rw_series.specs.Fire.{Fire}
-use Rattle.rw_series.specs.declared.fire.FireEnd.{FireEnd}
 use Rattle.rw_series.specs.declared.fire.FireEnd.TheVariants.{Done}
 use Rattle.rpl_tree.specs.declared.words.OneWord.{OneWord}
 use Rattle.rpl_tree.specs.declared.words.OneWord.TheVariants.{Not, Minus, Known, Length, Month, Day, Year}
 use Rattle.rpl_tree.specs.declared.words.TwoWord.{TwoWord}
 use Rattle.rpl_tree.specs.declared.words.TwoWord.TheVariants.{Or, And, Equal, Unequal, Less, LessEqual, Greater, GreaterEqual, Plus, Minus as Less_by, Times, Divide, Append, Item}
-use Rattle.rpl_tree.specs.Value.{Kind, number_kind, truth_kind, Value, a_number, a_truth, a_date, a_slot, numbers, kind_of, room_of, weight, weights}
-use Rattle.rpl_tree.specs.Outcome.{Answer, Outcome, Trail, after, ended, ends, gives, is_stuck, spent, stuck, value, ◌>>=◌}
+use Rattle.rpl_tree.specs.Value.{Kind, number_kind, truth_kind, Value, a_number, a_truth, a_date, numbers, kind_of, room_of, weight, weights}
+use Rattle.rpl_tree.specs.Outcome.{Answer, Outcome, Trail, after, ended, gives, is_stuck, spent, stuck, value, ◌>>=◌}
 use Rattle.rpl_tree.specs.Operators.{append_of, at_most_of, chosen, difference_of, elements_of, equal_of, is_quantity, item_of, length_of, less_of, list_of, negative_of, not_of, product_of, quotient_of, sum_of, widened}
 use Rattle.rpl_tree.specs.World.{World, convert_of, date_part, known_of, put_of, read_of, slot_value, table_named}
 use Rattle.rpl_tree.specs.Tree.{Tree, Trees, literal, truth, now, slot, name, call, brackets, list, choice, bind, each, mapped, one, two, convert, at, no_trees, tree, Act, Acts, assign, branch, with_name, no_acts, act, Parameter, Declared, rule, function}

@@ -1,11 +1,11 @@
 -- What each operator makes of values, and how much it counts. A value of a wrong kind leaves it stuck.
-use Rattle.std.specs.Prelude.{ℕ, suc, ◌+◌, ◌-◌, ℤ, pos, neg_ℤ, ◌+ℤ◌, ◌-ℤ◌, ◌*ℤ◌, int_le, int_lt, unsigned_abs, nat_lt, Bool, true, false, not, ◌&&◌, List, [], ◌∷◌, ◌++◌, length, map, Option, Some, None, if◌then◌else◌, slice_get}
+use Rattle.std.specs.Prelude.{ℕ, ◌+◌, ℤ, pos, neg_ℤ, ◌+ℤ◌, ◌-ℤ◌, ◌*ℤ◌, int_le, int_lt, unsigned_abs, nat_lt, Bool, true, false, not, ◌&&◌, List, [], ◌∷◌, ◌++◌, length, map, Option, Some, None, if◌then◌else◌}
 use Rattle.std.specs.Ordering.{int_eq}
 use Rattle.rw_base.specs.Quantity.{quantity_max}
 use Rattle.rw_base.specs.Quotient.{floor_div}
 use Rattle.rw_model.specs.Objects.{numbered}
 use Rattle.rw_series.specs.declared.fire.FireEnd.TheVariants.{ZeroDivisor, OutOfRange}
-use Rattle.rpl_tree.specs.Value.{Kind, number_kind, truth_kind, date_kind, slot_kind, numbers_kind, slots_kind, Value, a_number, a_truth, a_date, a_slot, numbers, slots, kind_of, is_same_kind, weight}
+use Rattle.rpl_tree.specs.Value.{Kind, numbers_kind, slots_kind, Value, a_number, a_truth, a_date, a_slot, numbers, slots, kind_of, is_same_kind}
 use Rattle.rpl_tree.specs.Outcome.{Outcome, after, ends, gives, is_stuck, spent, ◌>>=◌}
 
 -- a whole number from -Q to Q

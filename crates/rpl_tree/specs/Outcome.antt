@@ -1,5 +1,5 @@
 -- What a part of a rule comes to: its value or how the firing ends there, and what was done on the way.
-use Rattle.std.specs.Prelude.{ℕ, ◌+◌, List, [], ◌∷◌, ◌++◌}
+use Rattle.std.specs.Prelude.{ℕ, ◌+◌, List, [], ◌++◌}
 use Rattle.rw_base.specs.declared.number.Cell.{Cell}
 use Rattle.rw_series.specs.declared.fire.FireEnd.{FireEnd}
 use Rattle.rw_series.specs.declared.fire.RulePut.{RulePut}

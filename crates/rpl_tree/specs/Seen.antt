@@ -1,6 +1,5 @@
 -- The ruleset that the declared types hold, as a plain tree.
-use Rattle.std.specs.Prelude.{ℕ, ℤ, List, [], ◌∷◌, map, Option, option_map}
-use Rattle.std.specs.declared.vec.Vec.{Vec}
+use Rattle.std.specs.Prelude.{List, [], ◌∷◌, map, option_map}
 use Rattle.rpl_tree.specs.declared.expression.Expr.{Expr}
 use Rattle.rpl_tree.specs.declared.expression.Expr.TheVariants.{Number, Truth, Now, Slot, Name, Call', Brackets', List', If', Let', For', Map', One', Two', Convert', At'}
 use Rattle.rpl_tree.specs.declared.expression.Expr.{Row_of-Expr, end_of-Expr, more_of-Expr}

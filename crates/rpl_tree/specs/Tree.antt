@@ -1,5 +1,5 @@
 -- Rulesets as definitions see them: trees with no place in memory. Names, units and strings are their bytes.
-use Rattle.std.specs.Prelude.{ℕ, suc, ℤ, Bool, List, Option}
+use Rattle.std.specs.Prelude.{ℕ, ℤ, Bool, List, Option}
 use Rattle.rpl_tree.specs.declared.words.OneWord.{OneWord}
 use Rattle.rpl_tree.specs.declared.words.TwoWord.{TwoWord}
 use Rattle.rpl_tree.specs.declared.words.ConvertWord.{ConvertWord}

@@ -1,5 +1,5 @@
 -- The values of expressions, their kinds, and how many words each takes.
-use Rattle.std.specs.Prelude.{ℕ, suc, ◌+◌, ◌==◌, ℤ, Bool, true, false, List, [], ◌∷◌, map}
+use Rattle.std.specs.Prelude.{ℕ, ◌+◌, ◌==◌, ℤ, Bool, true, false, List, [], ◌∷◌}
 
 -- a number, a truth, a date, a slot, or a list that has room for so many numbers or slots
 pub data Kind : Type 0 where

@@ -3,8 +3,8 @@
 use Rattle.std.specs.Prelude.{ℕ, ◌+◌, ◌*◌, max, List, [], ◌∷◌, ◌++◌}
 use Rattle.rpl_tree.specs.declared.words.TwoWord.{TwoWord}
 use Rattle.rpl_tree.specs.declared.words.TwoWord.TheVariants.{Or, And}
-use Rattle.rpl_tree.specs.Value.{Kind, number_kind, room_of, element_of, weight, weights}
-use Rattle.rpl_tree.specs.Tree.{Tree, Trees, literal, truth, now, slot, name, call, brackets, list, choice, bind, each, mapped, one, two, convert, at, no_trees, tree, Act, Acts, assign, branch, with_name, no_acts, act, Declared, rule, function}
+use Rattle.rpl_tree.specs.Value.{Kind, room_of, element_of, weight, weights}
+use Rattle.rpl_tree.specs.Tree.{Tree, Trees, name, call, brackets, list, choice, bind, each, mapped, one, two, convert, at, no_trees, tree, Act, Acts, assign, branch, with_name, no_acts, act, Declared, rule, function}
 use Rattle.rpl_tree.specs.Kinds.{Names, kind_named, kind_of_type, count_of, tree_kind}
 use Rattle.rpl_tree.specs.Mean.{param_kinds}
 use Rattle.rpl_tree.specs.Cost.{Costed, costed_heads, most_named, takes_named, param_names, predefined_costs}

@@ -1,5 +1,5 @@
 -- Small rules, worked out by hand.
-use Rattle.std.specs.Prelude.{ℕ, ◌==◌, ◌&&◌, ℤ, pos, neg_ℤ, codes, Bool, true, false, List, [], ◌∷◌, Option, Some, None, if◌then◌else◌}
+use Rattle.std.specs.Prelude.{ℕ, ◌==◌, ℤ, pos, codes, false, List, [], ◌∷◌, map, Option, Some, None, if◌then◌else◌}
 use Rattle.rw_base.specs.Unit.{plain_number}
 use Rattle.rw_base.specs.declared.number.Cell.{Cell}
 use Rattle.rw_calendar.specs.Moment.{on}
@@ -8,15 +8,14 @@ use Rattle.rw_model.specs.Draft.{Draft}
 use Rattle.rw_model.specs.Objects.{Object}
 use Rattle.rw_model.specs.Slot.{flow_unit}
 use Rattle.rw_model.specs.declared.control.AgendaOrder.TheVariants.{HighFirst}
-use Rattle.rw_model.specs.declared.kind.Kind.TheVariants.{DataObject, Reservoir}
+use Rattle.rw_model.specs.declared.kind.Kind.TheVariants.{Canal, DataObject, Reservoir}
 use Rattle.rw_series.specs.Fire.{Fire}
 use Rattle.rw_series.specs.declared.fire.RulePut.{RulePut}
 use Rattle.rw_series.specs.declared.fire.FireEnd.{FireEnd}
-use Rattle.rw_series.specs.declared.fire.FireEnd.TheVariants.{Done, Unknown, ZeroDivisor, OutOfRange}
-use Rattle.rpl_tree.specs.declared.words.OneWord.TheVariants.{Not, Minus, Known, Length, Month, Day, Year}
-use Rattle.rpl_tree.specs.declared.words.TwoWord.TheVariants.{Or, And, Equal, Unequal, Less, GreaterEqual, Plus, Minus as Less_by, Divide, Append, Item}
-use Rattle.rpl_tree.specs.declared.words.ConvertWord.TheVariants.{StorageToElevation, ElevationToStorage}
-use Rattle.rpl_tree.specs.Tree.{numeric, numeric_list, Tree, Trees, literal, truth, now, slot, name, call, brackets, list, choice, bind, each, mapped, one, two, convert, at, no_trees, tree, Act, Acts, assign, branch, with_name, no_acts, act, Declared, rule, function}
+use Rattle.rw_series.specs.declared.fire.FireEnd.TheVariants.{Done, Unknown}
+use Rattle.rpl_tree.specs.declared.words.OneWord.TheVariants.{Minus, Length}
+use Rattle.rpl_tree.specs.declared.words.TwoWord.TheVariants.{Plus, Minus as Less_by, Times, Divide, Append}
+use Rattle.rpl_tree.specs.Tree.{numeric, numeric_list, Tree, Trees, literal, now, slot, name, call, list, choice, each, mapped, one, two, at, no_trees, tree, Act, Acts, assign, no_acts, act, Declared, rule, function}
 use Rattle.rpl_tree.specs.World.{cell_of, put_to}
 use Rattle.rpl_tree.specs.Mean.{mean}
 
@@ -57,6 +56,10 @@ pool = record {
   name = codes "Pool";
   kind = Reservoir (pos 250) (Some ((pos 0, pos 0) ∷ (pos 1000, pos 500) ∷ (pos 3000, pos 2500) ∷ [])) false false false false None;
 }
+
+-- a canal, whose slot Seepage its method derives
+abbrev pub canal : Object
+canal = record { name = codes "Canal"; kind = Canal 100 }
 
 -- ---- values of cells
 
@@ -131,6 +134,23 @@ three = two Append (pair (pos 7) (pos 8)) (whole (pos 9))
 abbrev pub over : Tree → Tree → Tree
 over l e = each (codes "n") l (codes "s") (whole (pos 0)) e
 
+-- `MAP n IN l DO n * 2 ENDMAP`
+abbrev pub twice_each : Tree → Tree
+twice_each l = mapped (codes "n") l (two Times n_name (whole (pos 2)))
+
+-- `n + 1`
+abbrev pub one_more : Tree
+one_more = two Plus n_name (whole (pos 1))
+
+-- `FOR n IN {D.X, D.Y} WITH s := 0 DO s + n[t] ENDFOR`
+abbrev pub sum_of_slots : Tree
+sum_of_slots =
+    over (list (trees_of (slot (codes "D") (codes "X") ∷ slot (codes "D") (codes "Y") ∷ []))) (two Plus s_name (at n_name now))
+
+-- a call with these numbers
+abbrev pub call_of : List ℕ → List ℤ → Tree
+call_of f zs = call f (trees_of (map whole zs))
+
 -- ---- rules
 
 -- `Object.Slot[t] := e;`
@@ -152,11 +172,26 @@ x_put e = puts_at (codes "D") (codes "X") e
 abbrev pub y_put : Tree → Act
 y_put e = puts_at (codes "D") (codes "Y") e
 
+-- `D.X[t] := 1;` alone
+abbrev pub one_to_x : Acts
+one_to_x = acts_of (x_put (whole (pos 1)) ∷ [])
+
+-- `D.X[t] := e;` as the one rule
+abbrev pub x_rule : Tree → List Declared
+x_rule e = rule_of (x_put e ∷ []) ∷ []
+
+-- `Dam.Outflow[t] := -1;` and `Canal.Seepage[t] := 1;`
+abbrev pub negative_outflow : List Declared
+negative_outflow = rule_of (puts_at (codes "Dam") (codes "Outflow") (one Minus (whole (pos 1))) ∷ []) ∷ []
+
+abbrev pub seepage_set : List Declared
+seepage_set = rule_of (puts_at (codes "Canal") (codes "Seepage") (whole (pos 1)) ∷ []) ∷ []
+
 -- `Dam.Storage[t] := Min(Dam.Storage[t], 1020 "m3");` and `Dam.Outflow[t] := 50 "m3/step";`
 abbrev pub cap_and_base : List Declared
 cap_and_base =
     rule_of (puts_at (codes "Dam") (codes "Storage")
-      (call (codes "Min") (trees_of (at_now (codes "Dam") (codes "Storage") ∷ of_unit (pos 1020) (codes "m3") ∷ []))) ∷ []) ∷
+    (call (codes "Min") (trees_of (at_now (codes "Dam") (codes "Storage") ∷ of_unit (pos 1020) (codes "m3") ∷ []))) ∷ []) ∷
     rule_of (puts_at (codes "Dam") (codes "Outflow") (of_unit (pos 50) (codes "m3/step")) ∷ []) ∷
     []
 
@@ -169,7 +204,7 @@ raise_and_reset =
 
 -- `D.X[t] := 100 / D.Y[t];`
 abbrev pub hundredth : List Declared
-hundredth = rule_of (x_put (two Divide (whole (pos 100)) y_now) ∷ []) ∷ []
+hundredth = x_rule (two Divide (whole (pos 100)) y_now)
 
 -- `FUNCTION Ahead(NUMERIC "step" n) : NUMERIC "m3/step" IS Dam.Inflow[t + n] ENDFUNCTION`
 abbrev pub ahead : Declared
@@ -230,7 +265,14 @@ rules_do rules values = mean rules (basin_of 2 (numbers_object ∷ [])) 1 1 valu
 
 -- what the rule `D.X[t] := e;` does there, where nothing is known
 abbrev pub x_by : Tree → Option Fire
-x_by e = rules_do (rule_of (x_put e ∷ []) ∷ []) unknown_cells
+x_by e = rules_do (x_rule e) unknown_cells
+
+-- what the rule of these statements does there, and what `D.X[t] := e;` does beside the two functions
+abbrev pub acts_do : List Act → Option Fire
+acts_do statements = rules_do (rule_of statements ∷ []) unknown_cells
+
+abbrev pub called_by : Tree → Option Fire
+called_by e = rules_do (with_functions e) unknown_cells
 
 -- X was set to this, nothing was looked at, and it counted so much
 abbrev pub x_is : ℤ → ℕ → Option Fire
@@ -246,4 +288,4 @@ x_wants_y count = ended_by Unknown (cell_of 2 1 ∷ []) count
 
 -- what the rule does at a timestep of 40 days of the data object and the pool, where nothing is known
 abbrev pub pool_by : ℕ → Tree → Option Fire
-pool_by step e = mean (rule_of (x_put e ∷ []) ∷ []) (basin_of 40 (numbers_object ∷ pool ∷ [])) 1 step unknown_cells
+pool_by step e = mean (x_rule e) (basin_of 40 (numbers_object ∷ pool ∷ [])) 1 step unknown_cells

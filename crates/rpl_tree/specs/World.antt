@@ -1,5 +1,5 @@
 -- What a firing sees of the basin: slots, the values of cells and those before the run, dates, tables, and the slots that it sets.
-use Rattle.std.specs.Prelude.{ℕ, ◌+◌, ℤ, pos, int_le, unsigned_abs, Bool, true, false, ◌&&◌, List, [], ◌∷◌, Option, Some, None, is_some, option_map, option_and_then, if◌then◌else◌}
+use Rattle.std.specs.Prelude.{ℕ, ℤ, pos, int_le, unsigned_abs, Bool, true, false, ◌&&◌, List, [], ◌∷◌, Option, Some, None, is_some, option_and_then, if◌then◌else◌}
 use Rattle.std.specs.Ordering.{int_eq}
 use Rattle.rw_base.specs.declared.number.Cell.{Cell}
 use Rattle.rw_calendar.specs.declared.moment.Moment.{Moment}
@@ -19,7 +19,7 @@ use Rattle.rw_series.specs.declared.fire.RulePut.{RulePut}
 use Rattle.rpl_tree.specs.declared.words.ConvertWord.{ConvertWord}
 use Rattle.rpl_tree.specs.declared.words.ConvertWord.TheVariants.{StorageToElevation, ElevationToStorage}
 use Rattle.rpl_tree.specs.Value.{Value, a_number, a_truth, a_date, a_slot}
-use Rattle.rpl_tree.specs.Outcome.{Outcome, Trail, ended, ends, gives, is_stuck, looking, spent, stuck, value}
+use Rattle.rpl_tree.specs.Outcome.{Outcome, Trail, ended, ends, gives, is_stuck, looking, value}
 
 -- the basin, the values of its cells, and the timestep in which the rule fires
 pub record World : Type 0 where

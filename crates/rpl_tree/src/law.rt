@@ -10,7 +10,7 @@ ghost use Rattle.rpl_tree.specs.World.{cell_of, put_to};
 ghost use Rattle.rpl_tree.specs.Mean.{mean};
 ghost use Rattle.rpl_tree.specs.Count.{locals_of, nodes_of};
 ghost use Rattle.rpl_tree.specs.Budget.{budget, budget_of};
-ghost use Rattle.rpl_tree.specs.Worked.{acts_of, ahead, all_cells, basin_of, both_call, cap_and_base, count_call, dam, done_by, ended_by, fire, flow_object, hundredth, l_name, n_name, numbers_object, of_unit, one_or_two, only_slot, over, pair, part_of_n, pool_by, puts_at, raise_and_reset, rule_of, rules_do, s_name, storage_after, storage_before, sum, sum_ahead, sum_too_early, three, trees_of, unknown_cells, whole, with_functions, x_by, x_ends, x_is, x_now, x_put, x_wants_y, y_now, y_put};
+ghost use Rattle.rpl_tree.specs.Worked.{acts_do, acts_of, ahead, all_cells, basin_of, both_call, call_of, called_by, canal, cap_and_base, count_call, dam, done_by, ended_by, fire, flow_object, hundredth, l_name, n_name, negative_outflow, numbers_object, of_unit, one_more, one_or_two, one_to_x, only_slot, over, pair, part_of_n, pool_by, raise_and_reset, rules_do, seepage_set, storage_after, storage_before, sum, sum_ahead, sum_of_slots, sum_too_early, three, twice_each, unknown_cells, whole, with_functions, x_by, x_ends, x_is, x_put, x_rule, x_wants_y, y_now, y_put};
 
 /// `Dam.Storage[t] := Min(Dam.Storage[t], 1020 "m3");` looks at the storage and puts at most 1020; it counts 6.
 /// `Dam.Outflow[t] := 50 "m3/step";` looks at nothing and counts 2.
@@ -25,7 +25,8 @@ pub fn cap_and_base_rules()
 
 /// `D.X[t] := Max(D.X[t], 10);` ends at its look where X is unknown, and asks for nothing then.
 pub fn raise_and_reset_rules()
-    ensures unknown { rules_do raise_and_reset unknown_cells ≡ ended_by Unknown (cell_of 1 1 ∷ []) 3 }
+    ensures unknown { rules_do raise_and_reset unknown_cells
+        ≡ ended_by Unknown (cell_of 1 1 ∷ []) 3 }
     ensures raised { rules_do raise_and_reset (all_cells (pos 0))
         ≡ done_by (cell_of 1 1 ∷ []) 1 (pos 10) 6 }
     ensures reset { mean raise_and_reset (basin_of 2 (numbers_object ∷ [])) 2 1 unknown_cells
@@ -34,7 +35,8 @@ pub fn raise_and_reset_rules()
 
 /// `D.X[t] := 100 / D.Y[t];` ends at its division where Y is 0, and rounds down elsewhere.
 pub fn hundredth_rule()
-    ensures third { rules_do hundredth (only_slot 2 (pos 3)) ≡ done_by (cell_of 2 1 ∷ []) 1 (pos 33) 6 }
+    ensures third { rules_do hundredth (only_slot 2 (pos 3))
+        ≡ done_by (cell_of 2 1 ∷ []) 1 (pos 33) 6 }
     ensures below { rules_do hundredth (only_slot 2 (neg_ℤ (pos 3)))
         ≡ done_by (cell_of 2 1 ∷ []) 1 (neg_ℤ (pos 34)) 6 }
     ensures zero { rules_do hundredth (only_slot 2 (pos 0))
@@ -97,21 +99,22 @@ pub fn numbers()
         ≡ x_is (neg_ℤ (pos 12)) 5 }
     ensures beyond { x_by (two Plus (whole quantity_max) (whole (pos 1)))
         ≡ x_ends (OutOfRange (quantity_max +ℤ pos 1)) 3 }
-    ensures clamp { x_by (call (codes "Clamp") (trees_of (whole (pos 9) ∷ whole (pos 2) ∷ whole (pos 7) ∷ [])))
-        ≡ x_is (pos 7) 5 }
-    ensures sign { x_by (call (codes "Sign") (trees_of (whole (pos 9) ∷ []))) ≡ x_is (pos 1) 3 }
-    ensures too_few { x_by (call (codes "Min") (trees_of (whole (pos 9) ∷ []))) ≡ None }
+    ensures clamp { x_by (call_of (codes "Clamp") (pos 9 ∷ pos 2 ∷ pos 7 ∷ [])) ≡ x_is (pos 7) 5 }
+    ensures sign { x_by (call_of (codes "Sign") (pos 9 ∷ [])) ≡ x_is (pos 1) 3 }
+    ensures too_few { x_by (call_of (codes "Min") (pos 9 ∷ [])) ≡ None }
 {}
 
 /// Tests. The opposite of a test is NOT of it, and counts one more.
 pub fn tests()
     ensures not { x_by (one_or_two (one Not (truth false))) ≡ x_is (pos 1) 7 }
     ensures equal { x_by (one_or_two (two Equal (whole (pos 2)) (whole (pos 2)))) ≡ x_is (pos 1) 8 }
-    ensures unequal { x_by (one_or_two (two Unequal (whole (pos 2)) (whole (pos 2)))) ≡ x_is (pos 2) 9 }
+    ensures unequal { x_by (one_or_two (two Unequal (whole (pos 2)) (whole (pos 2))))
+        ≡ x_is (pos 2) 9 }
     ensures less { x_by (one_or_two (two Less (whole (pos 2)) (whole (pos 2)))) ≡ x_is (pos 2) 8 }
     ensures less_equal { x_by (one_or_two (two LessEqual (whole (pos 2)) (whole (pos 2))))
         ≡ x_is (pos 1) 8 }
-    ensures greater { x_by (one_or_two (two Greater (whole (pos 2)) (whole (pos 2)))) ≡ x_is (pos 2) 9 }
+    ensures greater { x_by (one_or_two (two Greater (whole (pos 2)) (whole (pos 2))))
+        ≡ x_is (pos 2) 9 }
     ensures greater_equal { x_by (one_or_two (two GreaterEqual (whole (pos 2)) (whole (pos 2))))
         ≡ x_is (pos 1) 9 }
 {}
@@ -121,7 +124,8 @@ pub fn tests()
 #[tactic(auto, unfolding(rw_calendar::specs::Moment::hours_later))]
 pub fn dates()
     ensures between { x_by (two Less_by now now) ≡ x_is (pos 0) 4 }
-    ensures later { x_by (one_or_two (two Less now (two Plus now (whole (pos 1))))) ≡ x_is (pos 1) 10 }
+    ensures later { x_by (one_or_two (two Less now (two Plus now (whole (pos 1)))))
+        ≡ x_is (pos 1) 10 }
     ensures before { pool_by 1 storage_before ≡ x_is (pos 250) 6 }
     ensures within { pool_by 2 storage_before ≡ ended_by Unknown (cell_of 5 1 ∷ []) 5 }
     ensures behind { pool_by 40 storage_after ≡ x_ends Unknown 5 }
@@ -154,20 +158,21 @@ pub fn lists()
     ensures behind { x_by (two Item (pair (pos 7) (pos 8)) (whole (pos 3)))
         ≡ x_ends (OutOfRange (pos 3)) 7 }
     ensures append { x_by (one Length three) ≡ x_is (pos 3) 12 }
-    ensures map { x_by (two Item (mapped (codes "n") (pair (pos 3) (pos 4)) (two Times n_name (whole (pos 2)))) (whole (pos 2)))
+    ensures map { x_by (two Item (twice_each (pair (pos 3) (pos 4))) (whole (pos 2)))
         ≡ x_is (pos 8) 17 }
-    ensures slots { rules_do (rule_of (x_put (over (list (trees_of (slot (codes "D") (codes "X") ∷ slot (codes "D") (codes "Y") ∷ []))) (two Plus s_name (at n_name now))) ∷ []) ∷ []) (all_cells (pos 4))
+    ensures slots { rules_do (x_rule sum_of_slots) (all_cells (pos 4))
         ≡ done_by (cell_of 1 1 ∷ cell_of 2 1 ∷ []) 1 (pos 8) 24 }
-    ensures wider { x_by (one Length (choice (truth true) (pair (pos 7) (pos 8)) three)) ≡ x_is (pos 2) 15 }
+    ensures wider { x_by (one Length (choice (truth true) (pair (pos 7) (pos 8)) three))
+        ≡ x_is (pos 2) 15 }
 {}
 
 /// Names: the innermost of a name is meant, and of the two of one FOR the accumulator.
 pub fn names()
     ensures variable { x_by (bind (codes "l") (pair (pos 7) (pos 8)) (two Item l_name (whole (pos 1))))
         ≡ x_is (pos 7) 14 }
-    ensures innermost { x_by (bind (codes "n") (whole (pos 1)) (bind (codes "n") (two Plus n_name (whole (pos 1))) n_name))
+    ensures innermost { x_by (bind (codes "n") (whole (pos 1)) (bind (codes "n") one_more n_name))
         ≡ x_is (pos 2) 8 }
-    ensures accumulator { x_by (each (codes "n") (pair (pos 5) (pos 6)) (codes "n") (whole (pos 0)) (two Plus n_name (whole (pos 1))))
+    ensures accumulator { x_by (each (codes "n") (pair (pos 5) (pos 6)) (codes "n") (whole (pos 0)) one_more)
         ≡ x_is (pos 2) 20 }
     ensures missing { x_by n_name ≡ None }
     ensures wrong_kind { x_by (two Plus (truth true) (whole (pos 1))) ≡ None }
@@ -175,28 +180,26 @@ pub fn names()
 
 /// Calls of functions with lists: an argument and a result are given the room that they ask, each as soon as it is there.
 pub fn calls()
-    ensures argument { rules_do (with_functions (count_call (whole (pos 1)))) unknown_cells
-        ≡ x_is (pos 2) 22 }
-    ensures ends { rules_do (with_functions (count_call (two Divide (whole (pos 1)) (whole (pos 0))))) unknown_cells
+    ensures argument { called_by (count_call (whole (pos 1))) ≡ x_is (pos 2) 22 }
+    ensures ends { called_by (count_call (two Divide (whole (pos 1)) (whole (pos 0))))
         ≡ x_ends ZeroDivisor 12 }
-    ensures result { rules_do (with_functions both_call) unknown_cells ≡ x_is (pos 2) 12 }
-    ensures argument_budget { budget_of (with_functions (count_call (whole (pos 1)))) 3 ≡ budget 22 0 1 14 }
+    ensures result { called_by both_call ≡ x_is (pos 2) 12 }
+    ensures argument_budget { budget_of (with_functions (count_call (whole (pos 1)))) 3
+        ≡ budget 22 0 1 14 }
     ensures result_budget { budget_of (with_functions both_call) 3 ≡ budget 12 0 1 4 }
 {}
 
 /// Statements: puts are asked for in the order in which they are executed, all or, where the firing ends before, none. A
 /// value that the slot can't have ends it.
 pub fn statements()
-    ensures both { rules_do (rule_of (x_put (whole (pos 1)) ∷ y_put (whole (pos 2)) ∷ []) ∷ []) unknown_cells
+    ensures both { acts_do (x_put (whole (pos 1)) ∷ y_put (whole (pos 2)) ∷ [])
         ≡ fire Done [] (put_to 1 (pos 1) ∷ put_to 2 (pos 2) ∷ []) 4 }
-    ensures none { rules_do (rule_of (x_put (whole (pos 1)) ∷ y_put y_now ∷ []) ∷ []) unknown_cells
-        ≡ x_wants_y 5 }
-    ensures choice { rules_do (rule_of (branch (truth true) (acts_of (x_put (whole (pos 1)) ∷ [])) no_acts ∷ []) ∷ []) unknown_cells
-        ≡ x_is (pos 1) 6 }
-    ensures absent { rules_do (rule_of (branch (truth false) (acts_of (x_put (whole (pos 1)) ∷ [])) no_acts ∷ []) ∷ []) unknown_cells
-        ≡ fire Done [] [] 4 }
-    ensures variable { rules_do (rule_of (with_name (codes "n") (whole (pos 7)) (acts_of (x_put n_name ∷ [])) ∷ []) ∷ []) unknown_cells
+    ensures none { acts_do (x_put (whole (pos 1)) ∷ y_put y_now ∷ []) ≡ x_wants_y 5 }
+    ensures choice { acts_do (branch (truth true) one_to_x no_acts ∷ []) ≡ x_is (pos 1) 6 }
+    ensures absent { acts_do (branch (truth false) one_to_x no_acts ∷ []) ≡ fire Done [] [] 4 }
+    ensures variable { acts_do (with_name (codes "n") (whole (pos 7)) (acts_of (x_put n_name ∷ [])) ∷ [])
         ≡ x_is (pos 7) 4 }
-    ensures bounds { mean (rule_of (puts_at (codes "Dam") (codes "Outflow") (one Minus (whole (pos 1))) ∷ []) ∷ []) (basin_of 1 (dam ∷ [])) 1 1 unknown_cells
+    ensures bounds { mean negative_outflow (basin_of 1 (dam ∷ [])) 1 1 unknown_cells
         ≡ ended_by (OutOfRange (neg_ℤ (pos 1))) [] 3 }
+    ensures derived { mean seepage_set (basin_of 1 (canal ∷ [])) 1 1 unknown_cells ≡ None }
 {}
