@@ -144,7 +144,7 @@ costs_from price functions (function called_so params result body ∷ rest) =
       head = record { name = called_so; takes = takes; result = kind };
       most = price.step (weights takes + 1) + inside;
     } in
-    inside ∷ costs_from price (functions ++ known ∷ []) rest
+    inside ∷ costs_from price (known ∷ functions) rest
 
 abbrev pub costs : Price → List Declared → List ℕ
 costs price rules = costs_from price (predefined_costs (price.step 1)) rules

@@ -102,14 +102,14 @@ numbers_for body (v ∷ vs) =
     body v >>= (λ new. with_number new (λ z. after (spent 1) (numbers_for body vs >>= (λ zs. gives (z ∷ zs) 0))))
 
 -- the value of a word's expression, or what KNOWN finds of it
-abbrev pub one_value : World → OneWord → Outcome Value → Outcome Value → Outcome Value
-one_value world Not e known = e >>= not_of
-one_value world Minus e known = e >>= negative_of
-one_value world Known e known = known
-one_value world Length e known = e >>= length_of
-one_value world Month e known = e >>= date_part world (λ (m : Moment). m.month)
-one_value world Day e known = e >>= date_part world (λ (m : Moment). m.day)
-one_value world Year e known = e >>= date_part world (λ (m : Moment). m.year)
+abbrev pub one_value : Draft → OneWord → Outcome Value → Outcome Value → Outcome Value
+one_value basin Not e known = e >>= not_of
+one_value basin Minus e known = e >>= negative_of
+one_value basin Known e known = known
+one_value basin Length e known = e >>= length_of
+one_value basin Month e known = e >>= date_part basin (λ (m : Moment). m.month)
+one_value basin Day e known = e >>= date_part basin (λ (m : Moment). m.day)
+one_value basin Year e known = e >>= date_part basin (λ (m : Moment). m.year)
 
 -- both, from left to right
 abbrev pub both : Outcome Value → Outcome Value → (Value → Value → Outcome Value) → Outcome Value
@@ -142,7 +142,7 @@ module _ (world : World) (functions : List Function) where
     value_of env (literal n unit) = literal_value n unit
     value_of env (truth b) = gives (a_truth b) 1
     value_of env now = gives (a_date (pos world.step)) 1
-    value_of env (slot o s) = slot_value world o s
+    value_of env (slot o s) = slot_value world.basin o s
     value_of env (name x) = named env x
     value_of env (call f ts) = called functions f (λ known. arguments_of env known.head.takes ts >>= known.does)
     value_of env (brackets t) = value_of env t
@@ -159,9 +159,9 @@ module _ (world : World) (functions : List Function) where
     value_of env (mapped x l b) =
         value_of env l >>= (λ all. after (spent 1) (with_elements (elements_of all) (numbers_for (λ v. value_of ((x, v) ∷ env) b))
         >>= (λ zs. gives (numbers (room_of (kind_of all)) zs) 0)))
-    value_of env (one word e) = one_value world word (value_of env e) (known_in env e)
+    value_of env (one word e) = one_value world.basin word (value_of env e) (known_in env e)
     value_of env (two word l r) = two_value word (value_of env l) (value_of env r)
-    value_of env (convert word o e) = value_of env e >>= convert_of word (table_named world o)
+    value_of env (convert word o e) = value_of env e >>= convert_of word (table_named world.basin o)
     value_of env (at s d) = both (value_of env s) (value_of env d) (read_of world)
 
     -- whether a slot has a value at a date
@@ -184,7 +184,7 @@ module _ (world : World) (functions : List Function) where
 
   abbrev mutual
     pub act_done : Env → Act → Outcome (Unit {0})
-    act_done env (assign o s ahead e) = value_of env e >>= put_of world (slot_named world.basin.objects o s) ahead
+    act_done env (assign o s ahead e) = value_of env e >>= put_of world.basin (slot_named world.basin.objects o s) ahead
     act_done env (branch c first second) = value_of env c >>= (λ x. chosen x (acts_done env first) (acts_done env second))
     act_done env (with_name x e body) = value_of env e >>= (λ v. after (spent (weight (kind_of v))) (acts_done ((x, v) ∷ env) body))
 
@@ -218,7 +218,7 @@ rule_done world functions [] number = is_stuck
 rule_done world functions (rule called_so body ∷ rest) number =
     if number == 1 then acts_done world functions [] body else rule_done world functions rest (number - 1)
 rule_done world functions (function called_so params result body ∷ rest) number =
-    rule_done world (functions ++ function_of world functions called_so params (kind_of_type result) body ∷ []) rest number
+    rule_done world (function_of world functions called_so params (kind_of_type result) body ∷ functions) rest number
 
 -- a firing that isn't done asks for nothing
 abbrev pub fire_of : Answer (Unit {0}) → Trail → Option Fire

@@ -116,7 +116,7 @@ words_from functions (function called_so params result body ∷ rest) =
     let names = param_names params in
     let inside = weights takes + (weights (local_kinds functions names body) + max (height functions names body) (weight kind)) in
     let known : Costed = record { head = record { name = called_so; takes = takes; result = kind }; most = inside } in
-    inside ∷ words_from (functions ++ known ∷ []) rest
+    inside ∷ words_from (known ∷ functions) rest
 
 abbrev pub words : List Declared → List ℕ
 words rules = words_from (predefined_costs 0) rules

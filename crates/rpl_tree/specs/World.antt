@@ -19,7 +19,7 @@ use Rattle.rw_series.specs.declared.fire.RulePut.{RulePut}
 use Rattle.rpl_tree.specs.declared.words.ConvertWord.{ConvertWord}
 use Rattle.rpl_tree.specs.declared.words.ConvertWord.TheVariants.{StorageToElevation, ElevationToStorage}
 use Rattle.rpl_tree.specs.Value.{Value, a_number, a_truth, a_date, a_slot}
-use Rattle.rpl_tree.specs.Outcome.{Outcome, Trail, ended, ends, gives, is_stuck, looking, value}
+use Rattle.rpl_tree.specs.Outcome.{Answer, Outcome, ended, ends, gives, is_stuck, looking, value}
 
 -- the basin, the values of its cells, and the timestep in which the rule fires
 pub record World : Type 0 where
@@ -31,33 +31,34 @@ abbrev pub cell_of : ℕ → ℕ → Cell
 cell_of slot step = record { slot = record { 0 = slot }; step = record { 0 = step } }
 
 -- a timestep of the run
-abbrev pub is_step : World → ℤ → Bool
-is_step world date = int_le (pos 1) date && int_le date (pos world.basin.control.stamps.count)
+abbrev pub is_step : Draft → ℤ → Bool
+is_step basin date = int_le (pos 1) date && int_le date (pos basin.control.stamps.count)
 
 -- ---- slots at dates
 
 -- the cells at which a look at the slot and date looks: none outside the run
-abbrev pub cells_at : World → ℕ → ℤ → List Cell
-cells_at world slot date = if is_step world date then cell_of slot (unsigned_abs date) ∷ [] else []
+abbrev pub cells_at : Draft → ℕ → ℤ → List Cell
+cells_at basin slot date = if is_step basin date then cell_of slot (unsigned_abs date) ∷ [] else []
 
 -- the value that is found there: in the run that of the cell, before it the one that the basin was given, if there is one
 abbrev pub value_at : World → ℕ → ℤ → Option ℤ
 value_at world slot date =
-    if is_step world date then world.values (cell_of slot (unsigned_abs date)) else before_of world.basin.objects slot date
+    if is_step world.basin date then world.values (cell_of slot (unsigned_abs date)) else before_of world.basin.objects slot date
 
 -- a value, or the end where it is unknown
-abbrev pub known_or_end : Option ℤ → Trail → Outcome Value
-known_or_end None trail = record { answer = ended Unknown; trail = trail }
-known_or_end (Some z) trail = record { answer = value (a_number z); trail = trail }
+abbrev pub known_or_end : Option ℤ → Answer Value
+known_or_end None = ended Unknown
+known_or_end (Some z) = value (a_number z)
 
 abbrev pub read_of : World → Value → Value → Outcome Value
-read_of world (a_slot s) (a_date d) = known_or_end (value_at world s d) (looking (cells_at world s d))
+read_of world (a_slot s) (a_date d) =
+    record { answer = known_or_end (value_at world s d); trail = looking (cells_at world.basin s d) }
 read_of world _ _ = is_stuck
 
 -- whether there is a value
 abbrev pub known_of : World → Value → Value → Outcome Value
 known_of world (a_slot s) (a_date d) =
-    record { answer = value (a_truth (is_some (value_at world s d))); trail = looking (cells_at world s d) }
+    record { answer = value (a_truth (is_some (value_at world s d))); trail = looking (cells_at world.basin s d) }
 known_of world _ _ = is_stuck
 
 -- the slot that is called so
@@ -65,16 +66,16 @@ abbrev pub slot_or_stuck : Option ℕ → Outcome Value
 slot_or_stuck None = is_stuck
 slot_or_stuck (Some s) = gives (a_slot s) 1
 
-abbrev pub slot_value : World → List ℕ → List ℕ → Outcome Value
-slot_value world object slot = slot_or_stuck (slot_named world.basin.objects object slot)
+abbrev pub slot_value : Draft → List ℕ → List ℕ → Outcome Value
+slot_value basin object slot = slot_or_stuck (slot_named basin.objects object slot)
 
 -- ---- dates
 
 -- a part of the moment at which a timestep of the run begins. Of other dates it is unknown
-abbrev pub date_part : World → (Moment → ℕ) → Value → Outcome Value
-date_part world part (a_date d) =
-    if is_step world d then gives (a_number (pos (part (begin_of world.basin.control.stamps (unsigned_abs d))))) 1 else ends Unknown 1
-date_part world part _ = is_stuck
+abbrev pub date_part : Draft → (Moment → ℕ) → Value → Outcome Value
+date_part basin part (a_date d) =
+    if is_step basin d then gives (a_number (pos (part (begin_of basin.control.stamps (unsigned_abs d))))) 1 else ends Unknown 1
+date_part basin part _ = is_stuck
 
 -- ---- tables
 
@@ -83,9 +84,9 @@ table_in (Reservoir initial_storage table local_inflow diversion return_flow eva
 table_in _ = None
 
 -- the table of the reservoir that is called so
-abbrev pub table_named : World → List ℕ → Option (List Row)
-table_named world name = option_and_then (λ (object : Object). table_in object.kind)
-    (option_and_then (λ number. object_at world.basin.objects number) (object_named world.basin.objects name))
+abbrev pub table_named : Draft → List ℕ → Option (List Row)
+table_named basin name = option_and_then (λ (object : Object). table_in object.kind)
+    (option_and_then (λ number. object_at basin.objects number) (object_named basin.objects name))
 
 -- what is read off a table
 abbrev pub converted : ConvertWord → List Row → ℤ → Option ℤ
@@ -103,20 +104,20 @@ convert_of word _ _ = is_stuck
 
 -- ---- puts
 
+abbrev pub is_settable_slot : Option Placed → Bool
+is_settable_slot None = false
+is_settable_slot (Some placed) = is_settable placed.slot.role
+
 -- inputs and rules can set the slot
-abbrev pub can_set : World → ℕ → Bool
-can_set world slot = settable (slot_at world.basin.objects slot)
-  where
-    settable : Option Placed → Bool
-    settable None = false
-    settable (Some placed) = is_settable placed.slot.role
+abbrev pub can_set : Draft → ℕ → Bool
+can_set basin slot = is_settable_slot (slot_at basin.objects slot)
 
 -- a value that the slot can have
 abbrev pub is_within : Bounds → ℤ → Bool
 is_within bounds z = int_le bounds.0 z && int_le z bounds.1
 
-abbrev pub bounds_at : World → ℕ → Bounds
-bounds_at world slot = bounds_in world.basin.objects world.basin.links world.basin.bounds slot
+abbrev pub bounds_at : Draft → ℕ → Bounds
+bounds_at basin slot = bounds_in basin.objects basin.links basin.bounds slot
 
 abbrev pub put_to : ℕ → ℤ → RulePut
 put_to slot z = record { value = z; slot = record { 0 = slot }; ahead = 0 }
@@ -127,7 +128,7 @@ within_or_end true slot z = record { answer = value tt; trail = record { looked 
 within_or_end false slot z = ends (OutOfRange z) 1
 
 -- a put of a number to a slot that can be set, at the timestep in which the rule fires
-abbrev pub put_of : World → Option ℕ → ℤ → Value → Outcome (Unit {0})
-put_of world (Some s) ahead (a_number z) =
-    if can_set world s && int_eq ahead (pos 0) then within_or_end (is_within (bounds_at world s) z) s z else is_stuck
-put_of world _ ahead _ = is_stuck
+abbrev pub put_of : Draft → Option ℕ → ℤ → Value → Outcome (Unit {0})
+put_of basin (Some s) ahead (a_number z) =
+    if can_set basin s && int_eq ahead (pos 0) then within_or_end (is_within (bounds_at basin s) z) s z else is_stuck
+put_of basin _ ahead _ = is_stuck

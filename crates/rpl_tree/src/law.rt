@@ -39,6 +39,7 @@ pub fn hundredth_rule()
         ≡ done_by (cell_of 2 1 ∷ []) 1 (pos 33) 6 }
     ensures below { rules_do hundredth (only_slot 2 (neg_ℤ (pos 3)))
         ≡ done_by (cell_of 2 1 ∷ []) 1 (neg_ℤ (pos 34)) 6 }
+    ensures unknown { rules_do hundredth unknown_cells ≡ x_wants_y 4 }
     ensures zero { rules_do hundredth (only_slot 2 (pos 0))
         ≡ ended_by ZeroDivisor (cell_of 2 1 ∷ []) 5 }
 {}
