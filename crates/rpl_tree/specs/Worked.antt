@@ -14,7 +14,7 @@ use Rattle.rw_series.specs.declared.fire.RulePut.{RulePut}
 use Rattle.rw_series.specs.declared.fire.FireEnd.{FireEnd}
 use Rattle.rw_series.specs.declared.fire.FireEnd.TheVariants.{Done, Unknown}
 use Rattle.rpl_tree.specs.declared.words.OneWord.TheVariants.{Minus, Length}
-use Rattle.rpl_tree.specs.declared.words.TwoWord.TheVariants.{Plus, Minus as Less_by, Times, Divide, Append}
+use Rattle.rpl_tree.specs.declared.words.TwoWord.TheVariants.{Item, Plus, Minus as Less_by, Times, Divide, Append}
 use Rattle.rpl_tree.specs.Tree.{numeric, numeric_list, Tree, Trees, literal, now, slot, name, call, list, choice, each, mapped, one, two, at, no_trees, tree, Act, Acts, assign, no_acts, act, Declared, rule, function}
 use Rattle.rpl_tree.specs.World.{cell_of, put_to}
 use Rattle.rpl_tree.specs.Mean.{mean}
@@ -142,6 +142,14 @@ twice_each l = mapped (codes "n") l (two Times n_name (whole (pos 2)))
 abbrev pub one_more : Tree
 one_more = two Plus n_name (whole (pos 1))
 
+-- `ITEM(l, 1)`
+abbrev pub first_of_l : Tree
+first_of_l = two Item l_name (whole (pos 1))
+
+-- `FOR n IN l WITH n := 0 DO n + 1 ENDFOR`
+abbrev pub turns_of_one_name : Tree → Tree
+turns_of_one_name l = each (codes "n") l (codes "n") (whole (pos 0)) one_more
+
 -- `FOR n IN {D.X, D.Y} WITH s := 0 DO s + n[t] ENDFOR`
 abbrev pub sum_of_slots : Tree
 sum_of_slots =
@@ -175,6 +183,10 @@ y_put e = puts_at (codes "D") (codes "Y") e
 -- `D.X[t] := 1;` alone
 abbrev pub one_to_x : Acts
 one_to_x = acts_of (x_put (whole (pos 1)) ∷ [])
+
+-- `D.X[t] := n;` alone
+abbrev pub n_to_x : Acts
+n_to_x = acts_of (x_put n_name ∷ [])
 
 -- `D.X[t] := e;` as the one rule
 abbrev pub x_rule : Tree → List Declared

@@ -1,0 +1,3 @@
+mod Framed
+pub mod FramedTrees
+pub mod Standing
