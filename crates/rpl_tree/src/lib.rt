@@ -6,14 +6,15 @@
 #![tactic(auto)]
 
 mod expression;
-mod kind;
 pub mod law;
+mod rpl_type;
 mod rules;
 mod statement;
 mod words;
+pub mod worked;
 
 pub use expression::Expr;
-pub use kind::RplType;
+pub use rpl_type::RplType;
 pub use rules::{Declaration, Param, ParsedRules, SlotText, TypeText};
 pub use statement::Statement;
 pub use words::{ConvertWord, OneWord, TwoWord};
