@@ -218,16 +218,32 @@ raise_and_reset =
 abbrev pub hundredth : List Declared
 hundredth = x_rule (two Divide (whole (pos 100)) y_now)
 
+-- `Dam.Inflow[t + n]`
+abbrev pub ahead_of_n : Tree
+ahead_of_n = at (slot (codes "Dam") (codes "Inflow")) (two Plus now n_name)
+
 -- `FUNCTION Ahead(NUMERIC "step" n) : NUMERIC "m3/step" IS Dam.Inflow[t + n] ENDFUNCTION`
 abbrev pub ahead : Declared
-ahead = function (codes "Ahead") (record { name = codes "n"; of_type = numeric (codes "step") } ∷ []) (numeric (codes "m3/step"))
-    (at (slot (codes "Dam") (codes "Inflow")) (two Plus now n_name))
+ahead = function (codes "Ahead") (record { name = codes "n"; of_type = numeric (codes "step") } ∷ []) (numeric (codes "m3/step")) ahead_of_n
 
--- `D.X[t] := FOR n IN {0 "step", 1 "step"} WITH s := 0 "m3/step" DO s + Ahead(n) ENDFOR;`
+-- `{0 "step", 1 "step"}`
+abbrev pub step_pair : Tree
+step_pair = list (trees_of (of_unit (pos 0) (codes "step") ∷ of_unit (pos 1) (codes "step") ∷ []))
+
+-- `Ahead(n)` and `s + Ahead(n)`
+abbrev pub ahead_of : Tree
+ahead_of = call (codes "Ahead") (trees_of (n_name ∷ []))
+
+abbrev pub ahead_now : Tree
+ahead_now = two Plus s_name ahead_of
+
+-- `FOR n IN {0 "step", 1 "step"} WITH s := 0 "m3/step" DO s + Ahead(n) ENDFOR`
+abbrev pub sum_loop : Tree
+sum_loop = each (codes "n") step_pair (codes "s") (of_unit (pos 0) (codes "m3/step")) ahead_now
+
+-- `D.X[t] :=` that loop `;`
 abbrev pub sum : Declared
-sum = rule_of (x_put (each (codes "n") (list (trees_of (of_unit (pos 0) (codes "step") ∷ of_unit (pos 1) (codes "step") ∷ [])))
-    (codes "s") (of_unit (pos 0) (codes "m3/step"))
-    (two Plus s_name (call (codes "Ahead") (trees_of (n_name ∷ []))))) ∷ [])
+sum = rule_of (x_put sum_loop ∷ [])
 
 abbrev pub sum_ahead : List Declared
 sum_ahead = ahead ∷ sum ∷ []
