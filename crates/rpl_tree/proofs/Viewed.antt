@@ -3,7 +3,7 @@ use Rattle.std.proofs.Common.{◌≡◌, ℕ, List, [], ◌∷◌, refl, ap, ap�
 use mathlib.Core.Former.{Count}
 use Rattle.rpl_tree.specs.declared.expression.Expr.{Expr, Row_of-Expr, end_of-Expr, more_of-Expr, items-the_row-Expr, items_hidden-the_row-Expr-0}
 use Rattle.rpl_tree.specs.declared.expression.Expr.TheVariants.{Call, Call', List as Listed, List'}
-use Rattle.rpl_tree.specs.Tree.{Tree, Trees, no_trees, tree, call, list}
+use Rattle.rpl_tree.specs.Tree.{Tree, no_trees, tree, call, list}
 use Rattle.rpl_tree.specs.Seen.{tree_of, trees_of, trees_in}
 
 row_trees : (n : _) (row : Row_of-Expr n) → trees_of row ≡ trees_in (items-the_row-Expr n row)
