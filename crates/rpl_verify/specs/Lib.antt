@@ -1,0 +1,6 @@
+pub mod Kinds
+pub mod Table
+pub mod Places
+pub mod Names
+pub mod Fits
+pub mod Worked

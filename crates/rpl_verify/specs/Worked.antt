@@ -1,0 +1,105 @@
+-- Worked codes.
+use Rattle.std.specs.Prelude.{ℕ, pos, codes, false, List, [], ◌∷◌, Option, Some, None}
+use Rattle.rw_model.specs.Draft.{Draft}
+use Rattle.rw_model.specs.declared.kind.Kind.TheVariants.{Reservoir}
+use Rattle.rpl_code.specs.declared.kind.ValueKind.{ValueKind}
+use Rattle.rpl_code.specs.declared.kind.ValueKind.TheVariants as K
+use Rattle.rpl_code.specs.declared.instruction.Instruction.{Instruction}
+use Rattle.rpl_code.specs.declared.instruction.Instruction.TheVariants as I
+use Rattle.rpl_code.specs.declared.block.BlockHead.TheVariants.{Rule, Function}
+use Rattle.rpl_code.specs.declared.block.Block.{Block}
+use Rattle.rpl_tree.specs.Worked.{basin_of, dam, flow_object}
+use Rattle.rpl_verify.specs.declared.misfit.Misfit.{Misfit}
+use Rattle.rpl_verify.specs.Fits.{Refusal, first_misfit, refusal}
+
+-- ---- basins of one day
+
+-- a reservoir that begins with 1000 m3; its slots are Inflow, Outflow and Storage
+abbrev pub one_dam : Draft
+one_dam = basin_of 1 (dam ∷ [])
+
+-- a reservoir that releases at most 60, whose method derives what it spills
+abbrev pub spilling_dam : Draft
+spilling_dam =
+    basin_of 1 (record { name = codes "Dam"; kind = Reservoir (pos 1000) None false false false false (Some (pos 60)) } ∷ [])
+
+-- ---- blocks
+
+abbrev pub rule_with : List ValueKind → List Instruction → Block
+rule_with locals lines = record { head = Rule; locals = locals; lines = lines }
+
+abbrev pub function_with : List ValueKind → ValueKind → List ValueKind → List Instruction → Block
+function_with parameters result locals lines =
+    record { head = Function result parameters; locals = locals; lines = lines }
+
+-- a function of no parameters, whose result is a number
+abbrev pub number_function : List Instruction → Block
+number_function lines = function_with [] K.N [] lines
+
+abbrev pub number : ℕ → Instruction
+number n = I.Num (pos n)
+
+-- `put Dam.Outflow n`
+abbrev pub put_outflow : ℕ → Instruction
+put_outflow ahead = I.Put (codes "Dam") (codes "Outflow") ahead
+
+abbrev pub put_spill : ℕ → Instruction
+put_spill ahead = I.Put (codes "Dam") (codes "Spill") ahead
+
+-- a list of two numbers, and then these lines
+abbrev pub pair_then : List Instruction → List Instruction
+pair_then lines = number 4 ∷ number 5 ∷ I.List 2 ∷ lines
+
+-- what the first misfit is in such code, and in a rule with such locals and lines
+abbrev pub misfit_in : List Block → Option Refusal
+misfit_in blocks = first_misfit one_dam blocks
+
+abbrev pub misfit_of : List ValueKind → List Instruction → Option Refusal
+misfit_of locals lines = misfit_in (rule_with locals lines ∷ [])
+
+-- the same behind a list of two numbers, in a rule with one local
+abbrev pub over_a_list : ValueKind → List Instruction → Option Refusal
+over_a_list local lines = misfit_of (local ∷ []) (pair_then lines)
+
+-- a misfit of the first block
+abbrev pub misfit_at : Misfit → ℕ → Option Refusal
+misfit_at misfit place = Some (refusal misfit 1 place)
+
+-- ---- codes
+
+-- 4 and then 5 are put
+abbrev pub two_puts : List Block
+two_puts = rule_with (K.N ∷ [])
+    (number 4 ∷ number 5 ∷ I.List 2 ∷ I.Foreach 0 ∷ I.Load 0 ∷ put_outflow 0 ∷ I.Next ∷ []) ∷ []
+
+-- 50 is put, and 7 only kept
+abbrev pub seven_kept : List Block
+seven_kept = rule_with (K.N ∷ []) (number 7 ∷ I.Store 0 ∷ number 50 ∷ put_outflow 0 ∷ []) ∷ []
+
+-- the inflow so many steps ahead, and the sum of those at this step and the next, which is put
+abbrev pub sum_ahead_code : List Block
+sum_ahead_code =
+    function_with (K.N ∷ []) K.N []
+    (I.Slot (codes "Dam") (codes "Inflow") ∷ I.Now ∷ I.Load 0 ∷ I.Shift ∷ I.Read ∷ [])
+    ∷ rule_with (K.N ∷ K.N ∷ [])
+    (number 0 ∷ number 1 ∷ I.List 2 ∷ number 0 ∷ I.Store 1 ∷ I.Foreach 0 ∷ I.Load 1 ∷ I.Load 0 ∷ I.Invoke 1 ∷ I.Add ∷ I.Store 1
+    ∷ I.Next ∷ I.Load 1 ∷ I.Put (codes "D") (codes "X") 0 ∷ [])
+    ∷ []
+
+-- the basin of that code
+abbrev pub dam_and_flow : Draft
+dam_and_flow = basin_of 3 (dam ∷ flow_object ∷ [])
+
+-- 1 where a branch isn't taken, and 2 where it is
+abbrev pub one_or_two : List Block
+one_or_two = rule_with []
+    (I.Bool false ∷ I.Branch 4 ∷ number 1 ∷ I.Jump 6 ∷ I.Target [] ∷ number 2 ∷ I.Target (K.N ∷ []) ∷ put_outflow 0 ∷ []) ∷ []
+
+-- the numbers of a list are doubled, the list gets room for three, and the second number is put
+abbrev pub doubled_items : List Block
+doubled_items = rule_with (K.N ∷ [])
+    (pair_then (I.Map 0 ∷ I.Load 0 ∷ I.Load 0 ∷ I.Add ∷ I.Yield ∷ I.Widen 3 ∷ number 2 ∷ I.Item ∷ put_outflow 0 ∷ [])) ∷ []
+
+-- a put that nothing reaches
+abbrev pub skipped : List Block
+skipped = rule_with [] (I.Jump 3 ∷ I.Target (K.N ∷ []) ∷ put_outflow 0 ∷ I.Target [] ∷ []) ∷ []

@@ -1,0 +1,103 @@
+// What the definitions of this crate come to, on codes that were worked out by hand.
+ghost use Rattle.std.specs.Prelude.{◌≡◌, [], ◌∷◌, None, Some, codes, replicate, true};
+ghost use Rattle.rpl_code.specs.declared.kind.ValueKind.TheVariants as K;
+ghost use Rattle.rpl_code.specs.declared.instruction.Instruction.TheVariants as I;
+ghost use Rattle.rpl_code.specs.Worked.{plain_rule};
+ghost use Rattle.rpl_verify.specs.declared.misfit.Misfit.TheVariants.{BackwardJump, JumpOutside, LaterCall, MissingOperand, NoSuchName, NotSettable, PutInFunction, TargetStep, TooMany, WrongOperand, WrongShape};
+ghost use Rattle.rpl_verify.specs.Fits.{AreFit, first_misfit, refusal};
+ghost use Rattle.rpl_verify.specs.Worked.{dam_and_flow, doubled_items, misfit_at, misfit_in, misfit_of, number, number_function, one_dam, one_or_two, over_a_list, pair_then, put_outflow, put_spill, rule_with, seven_kept, skipped, spilling_dam, sum_ahead_code, two_puts};
+
+/// Codes that fit. What a jump leaves out is judged as well, with the operands that the target behind the jump declares.
+pub fn codes_that_fit()
+    ensures none { AreFit one_dam [] }
+    ensures empty { AreFit one_dam (plain_rule []) }
+    ensures two_puts { AreFit one_dam two_puts }
+    ensures seven_kept { AreFit one_dam seven_kept }
+    ensures sum_ahead { AreFit dam_and_flow sum_ahead_code }
+    ensures one_or_two { AreFit one_dam one_or_two }
+    ensures doubled_items { AreFit one_dam doubled_items }
+    ensures skipped { AreFit one_dam skipped }
+{}
+
+/// Names that aren't there, or that can't be used so. Of two misfits at a place the one with the lesser number counts.
+pub fn misfits_of_names()
+    ensures too_many { misfit_in (replicate 201 (rule_with [] []))
+        ≡ Some (refusal TooMany 201 0) }
+    ensures slot { misfit_of [] (I.Slot (codes "Dam") (codes "Level") ∷ [])
+        ≡ misfit_at NoSuchName 0 }
+    ensures function { misfit_of [] (I.Call (codes "Twice") ∷ []) ≡ misfit_at NoSuchName 0 }
+    ensures table { misfit_of [] (number 1 ∷ I.ToElevation (codes "Dam") ∷ [])
+        ≡ misfit_at NoSuchName 1 }
+    ensures derived { first_misfit spilling_dam (rule_with [] (number 1 ∷ put_spill 0 ∷ []) ∷ [])
+        ≡ misfit_at NotSettable 1 }
+    ensures in_function { misfit_in (number_function (number 1 ∷ put_outflow 0 ∷ []) ∷ [])
+        ≡ misfit_at PutInFunction 1 }
+    ensures ahead { misfit_of [] (number 1 ∷ put_outflow 1 ∷ []) ≡ misfit_at TargetStep 1 }
+    ensures derived_first { first_misfit spilling_dam (number_function (put_spill 1 ∷ []) ∷ [])
+        ≡ misfit_at NotSettable 0 }
+    ensures function_first { misfit_in (number_function (put_outflow 1 ∷ []) ∷ [])
+        ≡ misfit_at PutInFunction 0 }
+    ensures ahead_first { misfit_of [] (put_outflow 1 ∷ []) ≡ misfit_at TargetStep 0 }
+{}
+
+/// Calls of blocks. A block calls functions before it, and no rule.
+pub fn misfits_of_calls()
+    ensures later { misfit_in (rule_with [] (I.Invoke 2 ∷ []) ∷ number_function (number 1 ∷ []) ∷ [])
+        ≡ misfit_at LaterCall 0 }
+    ensures itself { misfit_in (number_function (I.Invoke 1 ∷ []) ∷ []) ≡ misfit_at LaterCall 0 }
+    ensures no_block { misfit_of [] (I.Invoke 0 ∷ []) ≡ misfit_at NoSuchName 0 }
+    ensures rule { misfit_in (rule_with [] [] ∷ rule_with [] (I.Invoke 1 ∷ []) ∷ [])
+        ≡ Some (refusal NoSuchName 2 0) }
+{}
+
+/// Jumps. They are judged before the operands, but for those that they carry.
+pub fn misfits_of_jumps()
+    ensures backward { misfit_of [] (I.Target [] ∷ I.Jump 0 ∷ I.Target [] ∷ [])
+        ≡ misfit_at BackwardJump 1 }
+    ensures no_target { misfit_of [] (I.Jump 2 ∷ I.Target [] ∷ number 1 ∷ [])
+        ≡ misfit_at JumpOutside 0 }
+    ensures beyond { misfit_of [] (I.Bool true ∷ I.Branch 9 ∷ []) ≡ misfit_at JumpOutside 1 }
+    ensures operands_later { misfit_of [] (I.Branch 0 ∷ []) ≡ misfit_at BackwardJump 0 }
+    ensures carried { misfit_of [] (I.Bool true ∷ I.Branch 4 ∷ number 1 ∷ I.Jump 4 ∷ I.Target [] ∷ [])
+        ≡ misfit_at WrongShape 3 }
+    ensures fallen { misfit_of [] (number 1 ∷ I.Target [] ∷ []) ≡ misfit_at WrongShape 1 }
+    ensures nothing_behind { misfit_of [] (I.Jump 2 ∷ number 1 ∷ I.Target [] ∷ [])
+        ≡ misfit_at WrongShape 0 }
+{}
+
+/// Loops, and jumps out of them, into them and over their ends. What ends another loop than the innermost ends none.
+pub fn misfits_of_loops()
+    ensures jump_out { over_a_list K.N (I.Foreach 0 ∷ I.Jump 7 ∷ I.Target [] ∷ I.Next ∷ I.Target [] ∷ [])
+        ≡ misfit_at JumpOutside 4 }
+    ensures jump_in { misfit_of (K.N ∷ []) (I.Jump 6 ∷ I.Target [] ∷ pair_then (I.Foreach 0 ∷ I.Target [] ∷ I.Next ∷ []))
+        ≡ misfit_at JumpOutside 0 }
+    ensures jump_over { misfit_of [] (I.Jump 3 ∷ I.Target [] ∷ I.Next ∷ I.Target [] ∷ [])
+        ≡ misfit_at WrongShape 2 }
+    ensures other_end { over_a_list K.N (I.Foreach 0 ∷ number 1 ∷ I.Yield ∷ [])
+        ≡ misfit_at WrongShape 5 }
+    ensures other_next { over_a_list K.N (I.Map 0 ∷ I.Next ∷ []) ≡ misfit_at WrongShape 4 }
+    ensures no_end { over_a_list K.N (I.Foreach 0 ∷ []) ≡ misfit_at WrongShape 4 }
+    ensures left { over_a_list K.N (I.Foreach 0 ∷ number 1 ∷ I.Next ∷ [])
+        ≡ misfit_at WrongShape 5 }
+    ensures element { over_a_list K.B (I.Foreach 0 ∷ I.Next ∷ []) ≡ misfit_at WrongShape 3 }
+    ensures no_list { misfit_of [] (number 1 ∷ I.Map 0 ∷ []) ≡ misfit_at WrongOperand 1 }
+    ensures no_operand { misfit_of [] (I.Foreach 0 ∷ []) ≡ misfit_at MissingOperand 0 }
+{}
+
+/// Operands. They are counted before their kinds are looked at, and a local that isn't there comes last.
+pub fn misfits_of_operands()
+    ensures missing { misfit_of [] (I.Add ∷ []) ≡ misfit_at MissingOperand 0 }
+    ensures counted { misfit_of [] (I.Bool true ∷ I.Add ∷ []) ≡ misfit_at MissingOperand 1 }
+    ensures wrong { misfit_of [] (I.Bool true ∷ number 1 ∷ I.Add ∷ [])
+        ≡ misfit_at WrongOperand 2 }
+    ensures stored { misfit_of (K.N ∷ []) (I.Bool true ∷ I.Store 0 ∷ [])
+        ≡ misfit_at WrongOperand 1 }
+    ensures no_local { misfit_of [] (number 1 ∷ I.Store 0 ∷ []) ≡ misfit_at WrongShape 1 }
+    ensures nothing_stored { misfit_of [] (I.Store 0 ∷ []) ≡ misfit_at MissingOperand 0 }
+    ensures nothing_loaded { misfit_of [] (I.Load 0 ∷ []) ≡ misfit_at WrongShape 0 }
+    ensures mixed { misfit_of [] (number 1 ∷ I.Bool true ∷ I.List 2 ∷ [])
+        ≡ misfit_at WrongOperand 2 }
+    ensures too_long { misfit_of [] (pair_then (I.Widen 1 ∷ [])) ≡ misfit_at WrongOperand 3 }
+    ensures left { misfit_of [] (number 1 ∷ []) ≡ misfit_at WrongShape 1 }
+    ensures no_result { misfit_in (number_function [] ∷ []) ≡ misfit_at WrongShape 0 }
+{}
