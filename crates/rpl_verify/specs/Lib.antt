@@ -3,4 +3,5 @@ pub mod Table
 pub mod Places
 pub mod Names
 pub mod Fits
+pub mod Budget
 pub mod Worked

@@ -1,5 +1,5 @@
 -- Worked codes.
-use Rattle.std.specs.Prelude.{ℕ, pos, codes, false, List, [], ◌∷◌, Option, Some, None}
+use Rattle.std.specs.Prelude.{ℕ, zero, suc, pos, codes, false, List, [], ◌∷◌, replicate, flat_map, Option, Some, None, Result}
 use Rattle.rw_model.specs.Draft.{Draft}
 use Rattle.rw_model.specs.declared.kind.Kind.TheVariants.{Reservoir}
 use Rattle.rpl_code.specs.declared.kind.ValueKind.{ValueKind}
@@ -8,9 +8,11 @@ use Rattle.rpl_code.specs.declared.instruction.Instruction.{Instruction}
 use Rattle.rpl_code.specs.declared.instruction.Instruction.TheVariants as I
 use Rattle.rpl_code.specs.declared.block.BlockHead.TheVariants.{Rule, Function}
 use Rattle.rpl_code.specs.declared.block.Block.{Block}
+use Rattle.rpl_tree.specs.Budget.{Budget}
 use Rattle.rpl_tree.specs.Worked.{basin_of, dam, flow_object}
 use Rattle.rpl_verify.specs.declared.misfit.Misfit.{Misfit}
 use Rattle.rpl_verify.specs.Fits.{Refusal, first_misfit, refusal}
+use Rattle.rpl_verify.specs.Budget.{ruling}
 
 -- ---- basins of one day
 
@@ -95,6 +97,21 @@ abbrev pub one_or_two : List Block
 one_or_two = rule_with []
     (I.Bool false ∷ I.Branch 4 ∷ number 1 ∷ I.Jump 6 ∷ I.Target [] ∷ number 2 ∷ I.Target (K.N ∷ []) ∷ put_outflow 0 ∷ []) ∷ []
 
+-- the same with a sum of two numbers, where the branch isn't taken, and where it is
+abbrev pub sum_or_two : List Block
+sum_or_two = rule_with []
+    (I.Bool false ∷ I.Branch 6 ∷ number 1 ∷ number 1 ∷ I.Add ∷ I.Jump 8 ∷ I.Target [] ∷ number 2 ∷ I.Target (K.N ∷ [])
+    ∷ put_outflow 0 ∷ []) ∷ []
+
+abbrev pub one_or_sum : List Block
+one_or_sum = rule_with []
+    (I.Bool false ∷ I.Branch 4 ∷ number 1 ∷ I.Jump 8 ∷ I.Target [] ∷ number 1 ∷ number 1 ∷ I.Add ∷ I.Target (K.N ∷ [])
+    ∷ put_outflow 0 ∷ []) ∷ []
+
+-- a loop in a loop
+abbrev pub nested : List Block
+nested = rule_with (K.N ∷ K.N ∷ []) (pair_then (I.Foreach 0 ∷ pair_then (I.Foreach 1 ∷ I.Next ∷ I.Next ∷ []))) ∷ []
+
 -- the numbers of a list are doubled, the list gets room for three, and the second number is put
 abbrev pub doubled_items : List Block
 doubled_items = rule_with (K.N ∷ [])
@@ -103,3 +120,35 @@ doubled_items = rule_with (K.N ∷ [])
 -- a put that nothing reaches
 abbrev pub skipped : List Block
 skipped = rule_with [] (I.Jump 3 ∷ I.Target (K.N ∷ []) ∷ put_outflow 0 ∷ I.Target [] ∷ []) ∷ []
+
+-- the storage is capped, and an outflow put: two rules
+abbrev pub cap_and_base_code : List Block
+cap_and_base_code =
+    rule_with [] (I.Slot (codes "Dam") (codes "Storage") ∷ I.Now ∷ I.Read ∷ number 1020 ∷ I.Call (codes "Min")
+    ∷ I.Put (codes "Dam") (codes "Storage") 0 ∷ [])
+    ∷ rule_with [] (number 50 ∷ put_outflow 0 ∷ []) ∷ []
+
+-- a third number behind two, and how many there are
+abbrev pub three_counted : List Block
+three_counted = rule_with [] (pair_then (number 6 ∷ I.Append ∷ I.Length ∷ put_outflow 0 ∷ [])) ∷ []
+
+-- so many functions from a number on, each of which calls the one before it twice
+abbrev pub calls_twice : ℕ → ℕ → List Block
+calls_twice n zero = []
+calls_twice n (suc more) = number_function (I.Invoke n ∷ I.Invoke n ∷ I.Add ∷ []) ∷ calls_twice (suc n) more
+
+-- 19 functions, the first of these lines, and each other one calls the one before it twice
+abbrev pub tower : List Instruction → List Block
+tower lines = number_function lines ∷ calls_twice 1 18
+
+-- so many puts
+abbrev pub many_puts : ℕ → List Block
+many_puts n = rule_with [] (flat_map (λ (k : ℕ). number 1 ∷ put_outflow 0 ∷ []) (replicate n 0)) ∷ []
+
+-- so many locals, each a list with room for 4096 numbers
+abbrev pub long_locals : ℕ → List Block
+long_locals n = rule_with (replicate n (K.NList 4096)) [] ∷ []
+
+-- the ruling of a code on the day of the dam
+abbrev pub ruled : List Block → Result (List Budget) Refusal
+ruled blocks = ruling one_dam blocks

@@ -1,11 +1,13 @@
 // What the definitions of this crate come to, on codes that were worked out by hand.
-ghost use Rattle.std.specs.Prelude.{◌≡◌, [], ◌∷◌, None, Some, codes, replicate, true};
+ghost use Rattle.std.specs.Prelude.{◌≡◌, [], ◌∷◌, Err, None, Ok, Some, codes, replicate, true};
 ghost use Rattle.rpl_code.specs.declared.kind.ValueKind.TheVariants as K;
 ghost use Rattle.rpl_code.specs.declared.instruction.Instruction.TheVariants as I;
 ghost use Rattle.rpl_code.specs.Worked.{plain_rule};
-ghost use Rattle.rpl_verify.specs.declared.misfit.Misfit.TheVariants.{BackwardJump, JumpOutside, LaterCall, MissingOperand, NoSuchName, NotSettable, PutInFunction, TargetStep, TooMany, WrongOperand, WrongShape};
+ghost use Rattle.rpl_tree.specs.Budget.{budget};
+ghost use Rattle.rpl_verify.specs.declared.misfit.Misfit.TheVariants.{BackwardJump, JumpOutside, LaterCall, MissingOperand, NoSuchName, NotSettable, PutInFunction, TargetStep, TooCostly, TooDeep, TooMany, TooManyPuts, TooManyReads, WrongOperand, WrongShape};
+ghost use Rattle.rpl_verify.specs.Budget.{AreAccepted};
 ghost use Rattle.rpl_verify.specs.Fits.{AreFit, first_misfit, refusal};
-ghost use Rattle.rpl_verify.specs.Worked.{dam_and_flow, doubled_items, misfit_at, misfit_in, misfit_of, number, number_function, one_dam, one_or_two, over_a_list, pair_then, put_outflow, put_spill, rule_with, seven_kept, skipped, spilling_dam, sum_ahead_code, two_puts};
+ghost use Rattle.rpl_verify.specs.Worked.{cap_and_base_code, dam_and_flow, doubled_items, long_locals, many_puts, misfit_at, misfit_in, misfit_of, nested, number, number_function, one_dam, one_or_sum, one_or_two, over_a_list, pair_then, put_outflow, put_spill, rule_with, ruled, seven_kept, skipped, spilling_dam, sum_ahead_code, sum_or_two, three_counted, tower, two_puts};
 
 /// Codes that fit. What a jump leaves out is judged as well, with the operands that the target behind the jump declares.
 pub fn codes_that_fit()
@@ -100,4 +102,32 @@ pub fn misfits_of_operands()
     ensures too_long { misfit_of [] (pair_then (I.Widen 1 ∷ [])) ≡ misfit_at WrongOperand 3 }
     ensures left { misfit_of [] (number 1 ∷ []) ≡ misfit_at WrongShape 1 }
     ensures no_result { misfit_in (number_function [] ∷ []) ≡ misfit_at WrongShape 0 }
+{}
+
+/// The budgets of accepted codes, block by block: what a firing counts, looks and puts at most, and the words that it keeps.
+/// Of two branches the dearer counts, a loop's body for each element that its list has room for, and what nothing reaches
+/// doesn't count.
+pub fn budgets()
+    ensures empty { ruled (plain_rule []) ≡ Ok (budget 0 0 0 0 ∷ []) }
+    ensures seven_kept { ruled seven_kept ≡ Ok (budget 4 0 1 2 ∷ []) }
+    ensures two_puts { ruled two_puts ≡ Ok (budget 12 0 2 7 ∷ []) }
+    ensures cap_and_base { ruled cap_and_base_code ≡ Ok (budget 6 1 1 2 ∷ budget 2 0 1 1 ∷ []) }
+    ensures sum_ahead { AreAccepted dam_and_flow sum_ahead_code (budget 5 1 0 4 ∷ budget 34 2 1 13 ∷ []) }
+    ensures one_or_two { ruled one_or_two ≡ Ok (budget 6 0 1 1 ∷ []) }
+    ensures sum_or_two { ruled sum_or_two ≡ Ok (budget 8 0 1 2 ∷ []) }
+    ensures one_or_sum { ruled one_or_sum ≡ Ok (budget 8 0 1 2 ∷ []) }
+    ensures nested { ruled nested ≡ Ok (budget 24 0 0 12 ∷ []) }
+    ensures doubled_items { ruled doubled_items ≡ Ok (budget 21 0 1 11 ∷ []) }
+    ensures three_counted { ruled three_counted ≡ Ok (budget 12 0 1 4 ∷ []) }
+    ensures skipped { ruled skipped ≡ Ok (budget 2 0 0 0 ∷ []) }
+    ensures long_locals { ruled (long_locals 244) ≡ Ok (budget 0 0 0 999668 ∷ []) }
+{}
+
+/// Codes that fit, and whose budgets are above a limit: at the end of the first such block.
+pub fn budgets_above_limits()
+    ensures count { ruled (tower (number 1 ∷ [])) ≡ Err (refusal TooCostly 19 3) }
+    ensures looks { ruled (tower (I.Slot (codes "Dam") (codes "Inflow") ∷ I.Now ∷ I.Read ∷ []))
+        ≡ Err (refusal TooManyReads 16 3) }
+    ensures puts { ruled (many_puts 2001) ≡ Err (refusal TooManyPuts 1 4002) }
+    ensures words { ruled (long_locals 245) ≡ Err (refusal TooDeep 1 0) }
 {}
