@@ -4,4 +4,6 @@ pub mod Places
 pub mod Names
 pub mod Fits
 pub mod Budget
+pub mod Operations
+pub mod Machine
 pub mod Worked

@@ -1,7 +1,9 @@
 -- Worked codes.
-use Rattle.std.specs.Prelude.{ℕ, zero, suc, pos, codes, false, List, [], ◌∷◌, replicate, flat_map, Option, Some, None, Result}
+use Rattle.std.specs.Prelude.{ℕ, zero, suc, ℤ, pos, codes, false, List, [], ◌∷◌, ◌++◌, replicate, flat_map, Option, Some, None, Result}
 use Rattle.rw_model.specs.Draft.{Draft}
 use Rattle.rw_model.specs.declared.kind.Kind.TheVariants.{Reservoir}
+use Rattle.rw_base.specs.declared.number.Cell.{Cell}
+use Rattle.rw_series.specs.Fire.{Fire}
 use Rattle.rpl_code.specs.declared.kind.ValueKind.{ValueKind}
 use Rattle.rpl_code.specs.declared.kind.ValueKind.TheVariants as K
 use Rattle.rpl_code.specs.declared.instruction.Instruction.{Instruction}
@@ -9,10 +11,11 @@ use Rattle.rpl_code.specs.declared.instruction.Instruction.TheVariants as I
 use Rattle.rpl_code.specs.declared.block.BlockHead.TheVariants.{Rule, Function}
 use Rattle.rpl_code.specs.declared.block.Block.{Block}
 use Rattle.rpl_tree.specs.Budget.{Budget}
-use Rattle.rpl_tree.specs.Worked.{basin_of, dam, flow_object}
+use Rattle.rpl_tree.specs.Worked.{basin_of, dam, flow_object, numbers_object, unknown_cells}
 use Rattle.rpl_verify.specs.declared.misfit.Misfit.{Misfit}
 use Rattle.rpl_verify.specs.Fits.{Refusal, first_misfit, refusal}
 use Rattle.rpl_verify.specs.Budget.{ruling}
+use Rattle.rpl_verify.specs.Machine.{fire_of_code}
 
 -- ---- basins of one day
 
@@ -44,6 +47,12 @@ number n = I.Num (pos n)
 -- `put Dam.Outflow n`
 abbrev pub put_outflow : ℕ → Instruction
 put_outflow ahead = I.Put (codes "Dam") (codes "Outflow") ahead
+
+abbrev pub x_slot : Instruction
+x_slot = I.Slot (codes "D") (codes "X")
+
+abbrev pub put_x : Instruction
+put_x = I.Put (codes "D") (codes "X") 0
 
 abbrev pub put_spill : ℕ → Instruction
 put_spill ahead = I.Put (codes "Dam") (codes "Spill") ahead
@@ -152,3 +161,24 @@ long_locals n = rule_with (replicate n (K.NList 4096)) [] ∷ []
 -- the ruling of a code on the day of the dam
 abbrev pub ruled : List Block → Result (List Budget) Refusal
 ruled blocks = ruling one_dam blocks
+
+-- ---- firings
+
+-- `D.X[t] := Max(D.X[t], 10);` and `D.X[t] := 0;`
+abbrev pub raise_and_reset_code : List Block
+raise_and_reset_code =
+    rule_with [] (x_slot ∷ I.Now ∷ I.Read ∷ number 10 ∷ I.Call (codes "Max") ∷ put_x ∷ [])
+    ∷ rule_with [] (number 0 ∷ put_x ∷ []) ∷ []
+
+-- `D.X[t] := 100 / D.Y[t];`
+abbrev pub hundredth_code : List Block
+hundredth_code =
+    rule_with [] (number 100 ∷ I.Slot (codes "D") (codes "Y") ∷ I.Now ∷ I.Read ∷ I.Div ∷ put_x ∷ []) ∷ []
+
+-- what the first rule does at the first of two days of the data object with plain numbers X and Y
+abbrev pub code_does : List Block → (Cell → Option ℤ) → Option Fire
+code_does code values = fire_of_code code (basin_of 2 (numbers_object ∷ [])) 1 1 values
+
+-- what a rule of these locals and lines does there, before it puts what it has made in X, where nothing is known
+abbrev pub x_of : List ValueKind → List Instruction → Option Fire
+x_of locals lines = code_does (rule_with locals (lines ++ put_x ∷ []) ∷ []) unknown_cells

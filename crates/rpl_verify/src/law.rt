@@ -1,13 +1,17 @@
 // What the definitions of this crate come to, on codes that were worked out by hand.
-ghost use Rattle.std.specs.Prelude.{◌≡◌, [], ◌∷◌, Err, None, Ok, Some, codes, replicate, true};
+ghost use Rattle.std.specs.Prelude.{◌≡◌, [], ◌∷◌, Err, None, Ok, Some, codes, pos, replicate, true};
 ghost use Rattle.rpl_code.specs.declared.kind.ValueKind.TheVariants as K;
 ghost use Rattle.rpl_code.specs.declared.instruction.Instruction.TheVariants as I;
 ghost use Rattle.rpl_code.specs.Worked.{plain_rule};
+ghost use Rattle.rw_series.specs.declared.fire.FireEnd.TheVariants.{Done, Unknown, ZeroDivisor};
 ghost use Rattle.rpl_tree.specs.Budget.{budget};
+ghost use Rattle.rpl_tree.specs.World.{cell_of, put_to};
+ghost use Rattle.rpl_tree.specs.Worked.{all_cells, done_by, ended_by, fire, only_slot, unknown_cells};
 ghost use Rattle.rpl_verify.specs.declared.misfit.Misfit.TheVariants.{BackwardJump, JumpOutside, LaterCall, MissingOperand, NoSuchName, NotSettable, PutInFunction, TargetStep, TooCostly, TooDeep, TooMany, TooManyPuts, TooManyReads, WrongOperand, WrongShape};
 ghost use Rattle.rpl_verify.specs.Budget.{AreAccepted};
+ghost use Rattle.rpl_verify.specs.Machine.{fire_of_code};
 ghost use Rattle.rpl_verify.specs.Fits.{AreFit, first_misfit, refusal};
-ghost use Rattle.rpl_verify.specs.Worked.{cap_and_base_code, dam_and_flow, doubled_items, long_locals, many_puts, misfit_at, misfit_in, misfit_of, nested, number, number_function, one_dam, one_or_sum, one_or_two, over_a_list, pair_then, put_outflow, put_spill, rule_with, ruled, seven_kept, skipped, spilling_dam, sum_ahead_code, sum_or_two, three_counted, tower, two_puts};
+ghost use Rattle.rpl_verify.specs.Worked.{cap_and_base_code, code_does, dam_and_flow, doubled_items, hundredth_code, long_locals, many_puts, misfit_at, misfit_in, misfit_of, nested, number, number_function, one_dam, one_or_sum, one_or_two, over_a_list, pair_then, put_outflow, put_spill, raise_and_reset_code, rule_with, ruled, seven_kept, skipped, spilling_dam, sum_ahead_code, sum_or_two, three_counted, tower, two_puts};
 
 /// Codes that fit. What a jump leaves out is judged as well, with the operands that the target behind the jump declares.
 pub fn codes_that_fit()
@@ -130,4 +134,41 @@ pub fn budgets_above_limits()
         ≡ Err (refusal TooManyReads 16 3) }
     ensures puts { ruled (many_puts 2001) ≡ Err (refusal TooManyPuts 1 4002) }
     ensures words { ruled (long_locals 245) ≡ Err (refusal TooDeep 1 0) }
+{}
+
+/// What firings of these codes do: each looks, puts, counts and ends as the rule does that it is the code of.
+pub fn firings_of_rules()
+    ensures cap { fire_of_code cap_and_base_code one_dam 1 1 (only_slot 3 (pos 1050))
+        ≡ done_by (cell_of 3 1 ∷ []) 3 (pos 1020) 6 }
+    ensures base { fire_of_code cap_and_base_code one_dam 2 1 unknown_cells
+        ≡ done_by [] 2 (pos 50) 2 }
+    ensures no_rule { fire_of_code cap_and_base_code one_dam 3 1 unknown_cells ≡ None }
+    ensures unknown { code_does raise_and_reset_code unknown_cells
+        ≡ ended_by Unknown (cell_of 1 1 ∷ []) 3 }
+    ensures raised { code_does raise_and_reset_code (all_cells (pos 0))
+        ≡ done_by (cell_of 1 1 ∷ []) 1 (pos 10) 6 }
+    ensures third { code_does hundredth_code (only_slot 2 (pos 3))
+        ≡ done_by (cell_of 2 1 ∷ []) 1 (pos 33) 6 }
+    ensures zero { code_does hundredth_code (only_slot 2 (pos 0))
+        ≡ ended_by ZeroDivisor (cell_of 2 1 ∷ []) 5 }
+    ensures sum { fire_of_code sum_ahead_code dam_and_flow 1 1 (only_slot 1 (pos 100))
+        ≡ done_by (cell_of 1 1 ∷ cell_of 1 2 ∷ []) 4 (pos 200) 34 }
+    ensures last { fire_of_code sum_ahead_code dam_and_flow 1 3 (only_slot 1 (pos 100))
+        ≡ ended_by Unknown (cell_of 1 3 ∷ []) 29 }
+{}
+
+/// What firings of codes do that are no rule's.
+pub fn firings_of_codes()
+    ensures seven_kept { fire_of_code seven_kept one_dam 1 1 unknown_cells
+        ≡ done_by [] 2 (pos 50) 4 }
+    ensures two_puts { fire_of_code two_puts one_dam 1 1 unknown_cells
+        ≡ fire Done [] (put_to 2 (pos 4) ∷ put_to 2 (pos 5) ∷ []) 12 }
+    ensures nothing { fire_of_code (long_locals 244) one_dam 1 1 unknown_cells ≡ fire Done [] [] 0 }
+    ensures skipped { fire_of_code skipped one_dam 1 1 unknown_cells ≡ fire Done [] [] 2 }
+    ensures branch { fire_of_code one_or_two one_dam 1 1 unknown_cells ≡ done_by [] 2 (pos 2) 6 }
+    ensures nested { fire_of_code nested one_dam 1 1 unknown_cells ≡ fire Done [] [] 24 }
+    ensures doubled_items { fire_of_code doubled_items one_dam 1 1 unknown_cells
+        ≡ done_by [] 2 (pos 10) 21 }
+    ensures three_counted { fire_of_code three_counted one_dam 1 1 unknown_cells
+        ≡ done_by [] 2 (pos 3) 12 }
 {}
