@@ -1,5 +1,5 @@
 -- Worked codes.
-use Rattle.std.specs.Prelude.{ℕ, zero, suc, ℤ, pos, codes, false, List, [], ◌∷◌, ◌++◌, replicate, flat_map, Option, Some, None, Result}
+use Rattle.std.specs.Prelude.{ℕ, zero, suc, ◌+◌, ℤ, length, pos, codes, false, List, [], ◌∷◌, ◌++◌, replicate, flat_map, Option, Some, None, Result}
 use Rattle.rw_model.specs.Draft.{Draft}
 use Rattle.rw_model.specs.declared.kind.Kind.TheVariants.{Reservoir}
 use Rattle.rw_base.specs.declared.number.Cell.{Cell}
@@ -10,8 +10,9 @@ use Rattle.rpl_code.specs.declared.instruction.Instruction.{Instruction}
 use Rattle.rpl_code.specs.declared.instruction.Instruction.TheVariants as I
 use Rattle.rpl_code.specs.declared.block.BlockHead.TheVariants.{Rule, Function}
 use Rattle.rpl_code.specs.declared.block.Block.{Block}
+use Rattle.rpl_code.specs.Worked.{plain_rule}
 use Rattle.rpl_tree.specs.Budget.{Budget}
-use Rattle.rpl_tree.specs.Worked.{basin_of, dam, flow_object, numbers_object, unknown_cells}
+use Rattle.rpl_tree.specs.Worked.{all_cells, basin_of, dam, flow_object, numbers_object, pool, unknown_cells}
 use Rattle.rpl_verify.specs.declared.misfit.Misfit.{Misfit}
 use Rattle.rpl_verify.specs.Fits.{Refusal, first_misfit, refusal}
 use Rattle.rpl_verify.specs.Budget.{ruling}
@@ -182,3 +183,27 @@ code_does code values = fire_of_code code (basin_of 2 (numbers_object ∷ [])) 1
 -- what a rule of these locals and lines does there, before it puts what it has made in X, where nothing is known
 abbrev pub x_of : List ValueKind → List Instruction → Option Fire
 x_of locals lines = code_does (rule_with locals (lines ++ put_x ∷ []) ∷ []) unknown_cells
+
+-- 1 in X where these lines make TRUE, and 2 where they make FALSE: that counts 5 more
+abbrev pub x_by_truth : List Instruction → Option Fire
+x_by_truth lines =
+    let k : ℕ = length lines in
+    x_of [] (lines ++ I.Branch (k + 3) ∷ number 1 ∷ I.Jump (k + 5) ∷ I.Target [] ∷ number 2 ∷ I.Target (K.N ∷ []) ∷ [])
+
+-- what is put in X there where all cells hold 4, and on the first of 40 days of that object and the pool
+abbrev pub x_of_fours : List Instruction → Option Fire
+x_of_fours lines = code_does (plain_rule (lines ++ put_x ∷ [])) (all_cells (pos 4))
+
+abbrev pub x_of_pool : List Instruction → Option Fire
+x_of_pool lines =
+    fire_of_code (plain_rule (lines ++ put_x ∷ [])) (basin_of 40 (numbers_object ∷ pool ∷ [])) 1 1 unknown_cells
+
+-- `slot D.Y`
+abbrev pub y_slot : Instruction
+y_slot = I.Slot (codes "D") (codes "Y")
+
+-- the difference of a function's two parameters, where the first is a timestep
+abbrev pub earlier_code : List Block
+earlier_code =
+    function_with (K.D ∷ K.N ∷ []) K.D [] (I.Load 0 ∷ I.Load 1 ∷ I.Back ∷ [])
+    ∷ rule_with [] (I.Now ∷ I.Now ∷ number 3 ∷ I.Invoke 1 ∷ I.Between ∷ put_x ∷ []) ∷ []

@@ -1,17 +1,18 @@
 // What the definitions of this crate come to, on codes that were worked out by hand.
-ghost use Rattle.std.specs.Prelude.{◌≡◌, [], ◌∷◌, Err, None, Ok, Some, codes, pos, replicate, true};
+ghost use Rattle.std.specs.Prelude.{◌≡◌, [], ◌∷◌, Err, None, Ok, Some, codes, neg_ℤ, pos, replicate, true, ◌+ℤ◌};
+ghost use Rattle.rw_base.specs.Quantity.{quantity_max};
 ghost use Rattle.rpl_code.specs.declared.kind.ValueKind.TheVariants as K;
 ghost use Rattle.rpl_code.specs.declared.instruction.Instruction.TheVariants as I;
 ghost use Rattle.rpl_code.specs.Worked.{plain_rule};
-ghost use Rattle.rw_series.specs.declared.fire.FireEnd.TheVariants.{Done, Unknown, ZeroDivisor};
+ghost use Rattle.rw_series.specs.declared.fire.FireEnd.TheVariants.{Done, OutOfRange, Unknown, ZeroDivisor};
 ghost use Rattle.rpl_tree.specs.Budget.{budget};
 ghost use Rattle.rpl_tree.specs.World.{cell_of, put_to};
-ghost use Rattle.rpl_tree.specs.Worked.{all_cells, done_by, ended_by, fire, only_slot, unknown_cells};
+ghost use Rattle.rpl_tree.specs.Worked.{all_cells, done_by, ended_by, fire, only_slot, unknown_cells, x_ends, x_is};
 ghost use Rattle.rpl_verify.specs.declared.misfit.Misfit.TheVariants.{BackwardJump, JumpOutside, LaterCall, MissingOperand, NoSuchName, NotSettable, PutInFunction, TargetStep, TooCostly, TooDeep, TooMany, TooManyPuts, TooManyReads, WrongOperand, WrongShape};
 ghost use Rattle.rpl_verify.specs.Budget.{AreAccepted};
 ghost use Rattle.rpl_verify.specs.Machine.{fire_of_code};
 ghost use Rattle.rpl_verify.specs.Fits.{AreFit, first_misfit, refusal};
-ghost use Rattle.rpl_verify.specs.Worked.{cap_and_base_code, code_does, dam_and_flow, doubled_items, hundredth_code, long_locals, many_puts, misfit_at, misfit_in, misfit_of, nested, number, number_function, one_dam, one_or_sum, one_or_two, over_a_list, pair_then, put_outflow, put_spill, raise_and_reset_code, rule_with, ruled, seven_kept, skipped, spilling_dam, sum_ahead_code, sum_or_two, three_counted, tower, two_puts};
+ghost use Rattle.rpl_verify.specs.Worked.{cap_and_base_code, code_does, dam_and_flow, doubled_items, earlier_code, hundredth_code, long_locals, many_puts, misfit_at, misfit_in, misfit_of, nested, number, number_function, one_dam, one_or_sum, one_or_two, over_a_list, pair_then, put_outflow, put_spill, raise_and_reset_code, rule_with, ruled, seven_kept, skipped, spilling_dam, sum_ahead_code, sum_or_two, three_counted, tower, two_puts, x_by_truth, x_of, x_of_fours, x_of_pool, x_slot, y_slot};
 
 /// Codes that fit. What a jump leaves out is judged as well, with the operands that the target behind the jump declares.
 pub fn codes_that_fit()
@@ -171,4 +172,71 @@ pub fn firings_of_codes()
         ≡ done_by [] 2 (pos 10) 21 }
     ensures three_counted { fire_of_code three_counted one_dam 1 1 unknown_cells
         ≡ done_by [] 2 (pos 3) 12 }
+{}
+
+/// Operations on numbers, timesteps and truth values.
+pub fn operations()
+    ensures sub { x_of [] (number 3 ∷ number 5 ∷ I.Sub ∷ []) ≡ x_is (neg_ℤ (pos 2)) 4 }
+    ensures mul { x_of [] (number 3 ∷ number 5 ∷ I.Mul ∷ []) ≡ x_is (pos 15) 4 }
+    ensures neg { x_of [] (number 3 ∷ I.Neg ∷ []) ≡ x_is (neg_ℤ (pos 3)) 3 }
+    ensures beyond { x_of [] (I.Num quantity_max ∷ number 1 ∷ I.Add ∷ [])
+        ≡ x_ends (OutOfRange (quantity_max +ℤ pos 1)) 3 }
+    ensures shift { x_of [] (I.Now ∷ number 3 ∷ I.Shift ∷ I.Now ∷ I.Between ∷ []) ≡ x_is (pos 3) 6 }
+    ensures back { x_of [] (I.Now ∷ number 3 ∷ I.Back ∷ I.Now ∷ I.Between ∷ [])
+        ≡ x_is (neg_ℤ (pos 3)) 6 }
+    ensures eq { x_by_truth (number 2 ∷ number 2 ∷ I.Eq ∷ []) ≡ x_is (pos 1) 8 }
+    ensures lt { x_by_truth (number 2 ∷ number 2 ∷ I.Lt ∷ []) ≡ x_is (pos 2) 8 }
+    ensures le { x_by_truth (number 2 ∷ number 2 ∷ I.Le ∷ []) ≡ x_is (pos 1) 8 }
+    ensures deq { x_by_truth (I.Now ∷ I.Now ∷ I.Deq ∷ []) ≡ x_is (pos 1) 8 }
+    ensures dlt { x_by_truth (I.Now ∷ I.Now ∷ I.Dlt ∷ []) ≡ x_is (pos 2) 8 }
+    ensures dle { x_by_truth (I.Now ∷ I.Now ∷ I.Dle ∷ []) ≡ x_is (pos 1) 8 }
+    ensures not { x_by_truth (I.Bool true ∷ I.Not ∷ []) ≡ x_is (pos 2) 7 }
+    ensures known { x_by_truth (y_slot ∷ I.Now ∷ I.Known ∷ [])
+        ≡ done_by (cell_of 2 1 ∷ []) 1 (pos 2) 8 }
+    ensures elevation { x_of_pool (number 250 ∷ I.ToElevation (codes "Pool") ∷ []) ≡ x_is (pos 501) 3 }
+    ensures storage { x_of_pool (number 2000 ∷ I.ToStorage (codes "Pool") ∷ []) ≡ x_is (pos 1500) 3 }
+    ensures arguments { code_does earlier_code unknown_cells ≡ x_is (pos 3) 11 }
+{}
+
+/// The month, the day and the year of the moment at which a timestep begins.
+#[tactic(auto, unfolding(rw_calendar::specs::Moment::hours_later))]
+pub fn dates()
+    ensures month { x_of_pool (I.Now ∷ I.Month ∷ []) ≡ x_is (pos 1) 3 }
+    ensures day { x_of_pool (I.Now ∷ I.Day ∷ []) ≡ x_is (pos 1) 3 }
+    ensures year { x_of_pool (I.Now ∷ I.Year ∷ []) ≡ x_is (pos 2020) 3 }
+    ensures no_month { x_of_pool (I.Now ∷ number 1 ∷ I.Back ∷ I.Month ∷ []) ≡ x_ends Unknown 4 }
+{}
+
+/// Operations on lists, and what locals begin as. A loop over an empty list is left out, and a mapping leaves an empty list.
+pub fn lists()
+    ensures slots { x_of_fours (x_slot ∷ y_slot ∷ I.List 2 ∷ number 2 ∷ I.Item ∷ I.Now ∷ I.Read ∷ [])
+        ≡ done_by (cell_of 2 1 ∷ []) 1 (pos 4) 10 }
+    ensures no_item { x_of [] (pair_then (number 3 ∷ I.Item ∷ [])) ≡ x_ends (OutOfRange (pos 3)) 7 }
+    ensures as_wide { x_of [] (pair_then (I.Widen 2 ∷ I.Length ∷ [])) ≡ x_is (pos 2) 10 }
+    ensures no_turn { x_of (K.NList 3 ∷ K.N ∷ []) (I.Load 0 ∷ I.Foreach 1 ∷ I.Next ∷ number 7 ∷ [])
+        ≡ x_is (pos 7) 7 }
+    ensures empty { x_of (K.NList 3 ∷ K.N ∷ []) (I.Load 0 ∷ I.Map 1 ∷ I.Load 1 ∷ I.Yield ∷ I.Length ∷ [])
+        ≡ x_is (pos 0) 7 }
+    ensures first_number { x_of (K.N ∷ []) (I.Load 0 ∷ []) ≡ x_is (pos 0) 2 }
+    ensures first_truth { x_of (K.B ∷ K.N ∷ []) (I.Load 0 ∷ I.Branch 2 ∷ I.Target [] ∷ I.Load 1 ∷ [])
+        ≡ x_is (pos 0) 5 }
+    ensures first_step { x_of (K.D ∷ []) (I.Now ∷ I.Load 0 ∷ I.Between ∷ []) ≡ x_is (pos 1) 4 }
+    ensures first_slot { x_of (K.S ∷ []) (I.Load 0 ∷ I.Now ∷ I.Read ∷ [])
+        ≡ ended_by Unknown (cell_of 1 1 ∷ []) 3 }
+{}
+
+/// Codes that are stuck: they would take operands that aren't there or are of another kind, jump where nothing is declared of
+/// the kind, end another loop than the innermost, or leave something behind.
+pub fn stuck_codes()
+    ensures missing { x_of [] (I.Add ∷ []) ≡ None }
+    ensures wrong { x_of [] (I.Now ∷ number 3 ∷ I.Add ∷ I.Now ∷ I.Between ∷ []) ≡ None }
+    ensures stored { x_of (K.N ∷ []) (I.Bool true ∷ I.Store 0 ∷ number 1 ∷ []) ≡ None }
+    ensures no_target { x_of [] (I.Jump 1 ∷ number 1 ∷ []) ≡ None }
+    ensures carried { x_of [] (I.Jump 1 ∷ I.Target (K.N ∷ []) ∷ []) ≡ None }
+    ensures declared { x_of [] (number 1 ∷ I.Target [] ∷ []) ≡ None }
+    ensures no_loop { x_of [] (number 1 ∷ I.Next ∷ []) ≡ None }
+    ensures other_loop { x_of (K.N ∷ []) (pair_then (I.Foreach 0 ∷ number 1 ∷ I.Yield ∷ number 1 ∷ [])) ≡ None }
+    ensures element { x_of (K.B ∷ []) (pair_then (I.Foreach 0 ∷ I.Next ∷ number 1 ∷ [])) ≡ None }
+    ensures left { x_of [] (number 1 ∷ number 2 ∷ []) ≡ None }
+    ensures beyond { x_of [] (number 1 ∷ I.Invoke 2 ∷ []) ≡ None }
 {}
