@@ -38,8 +38,11 @@ quantity_in (b ∷ bs) =
     if b == 45 then option_map (λ n. neg_ℤ (pos n)) (number_in 1 100000000000000000 bs)
     else option_map pos (number_in 0 100000000000000000 (b ∷ bs))
 
+abbrev pub truths : List ((List ℕ) × Bool)
+truths = (codes "true", true) ∷ (codes "false", false) ∷ []
+
 abbrev pub truth_in : List ℕ → Option Bool
-truth_in = entry_at ((codes "true", true) ∷ (codes "false", false) ∷ [])
+truth_in = entry_at truths
 
 abbrev pub name_in : List ℕ → Option (List ℕ)
 name_in text = if_so (is_name text) text
@@ -52,11 +55,18 @@ slot_of _ = None
 abbrev pub slot_in : List ℕ → Option ((List ℕ) × (List ℕ))
 slot_in text = slot_of (parted 46 text)
 
+abbrev pub plain_kinds : List ((List ℕ) × ValueKind)
+plain_kinds = (codes "N", K.N) ∷ (codes "B", K.B) ∷ (codes "D", K.D) ∷ (codes "S", K.S) ∷ []
+
+-- kinds of lists, by their greatest length
+abbrev pub list_kinds : List ((List ℕ) × (ℕ → ValueKind))
+list_kinds = (codes "N", K.NList) ∷ (codes "S", K.SList) ∷ []
+
 -- a kind without a length, or with one behind `*`
 abbrev pub kind_of : List (List ℕ) → Option ValueKind
-kind_of (letter ∷ []) = entry_at ((codes "N", K.N) ∷ (codes "B", K.B) ∷ (codes "D", K.D) ∷ (codes "S", K.S) ∷ []) letter
+kind_of (letter ∷ []) = entry_at plain_kinds letter
 kind_of (letter ∷ digits ∷ []) =
-    option_and_then (λ (of_most : ℕ → ValueKind). option_map of_most (length_in digits)) (entry_at ((codes "N", K.NList) ∷ (codes "S", K.SList) ∷ []) letter)
+    option_and_then (λ (of_most : ℕ → ValueKind). option_map of_most (length_in digits)) (entry_at list_kinds letter)
 kind_of _ = None
 
 abbrev pub kind_in : List ℕ → Option ValueKind

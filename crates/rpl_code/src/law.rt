@@ -1,7 +1,9 @@
-// What the definitions come to on worked texts.
-ghost use Rattle.std.specs.Prelude.{◌≡◌, Ok, Err, [], ◌∷◌, ◌++◌, pos, codes, map, List, ℕ};
+// That spelling and reading are one, and what both come to on worked texts.
+ghost use Rattle.std.specs.Prelude.{◌≡◌, ◌≤◌, length, Ok, Err, [], ◌∷◌, codes, List, ℕ};
 ghost use Rattle.rpl_code.specs.declared.instruction.Instruction.TheVariants as Instruction;
-ghost use Rattle.rpl_code.specs.Spelling.{spelt, ended};
+ghost use Rattle.rpl_code.specs.declared.block.Block.{Block};
+ghost use Rattle.rpl_code.specs.Bounds.{IsCode};
+ghost use Rattle.rpl_code.specs.Spelling.{spelt};
 ghost use Rattle.rpl_code.specs.Reading.{read, bad_line, truncated};
 ghost use Rattle.rpl_code.specs.Worked.{plain_rule, capped, capped_text, mixed, mixed_text, rule_of};
 
@@ -46,4 +48,18 @@ pub fn worked_places()
     ensures bad_before { read (codes "CODE 1\nRULE\nLOCALS\nadd") ≡ Err (bad_line 3) }
     ensures heading_alone { read (codes "CODE 1") ≡ Err truncated }
     ensures nothing { read [] ≡ Err truncated }
+{}
+
+/// What is written of a code is read as that code.
+pub fn written_is_read()
+    ensures { (blocks : List Block) → IsCode blocks → read (spelt blocks) ≡ Ok blocks }
+{}
+
+/// A text of 16 MiB or less that is read is what is written of the code that it is read as, so a code has one text. It
+/// is read as nothing but a code.
+pub fn read_is_written()
+    ensures text { (text : List ℕ) (blocks : List Block)
+        → length text ≤ 16_777_216 → read text ≡ Ok blocks → text ≡ spelt blocks }
+    ensures bounds { (text : List ℕ) (blocks : List Block)
+        → length text ≤ 16_777_216 → read text ≡ Ok blocks → IsCode blocks }
 {}

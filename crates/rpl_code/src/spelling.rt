@@ -9,7 +9,8 @@ use rw_base::NoMemory;
 
 // Appends a blank and a word.
 fn push_word(text: &mut String, word: &str) -> Result<(), NoMemory>
-    ensures { OnOk result (string_bytes text.new ≡ string_bytes text.old ++ each_after 32 (word.now ∷ [])) }
+    ensures { OnOk result (string_bytes text.new ≡ string_bytes text.old
+        ++ each_after 32 (word.now ∷ [])) }
 {
     text.push_str(" ")?;
     text.push_str(word)?;
@@ -17,33 +18,38 @@ fn push_word(text: &mut String, word: &str) -> Result<(), NoMemory>
 }
 
 fn push_number(text: &mut String, number: u32) -> Result<(), NoMemory>
-    ensures { OnOk result (string_bytes text.new ≡ string_bytes text.old ++ each_after 32 (decimal number ∷ [])) }
+    ensures { OnOk result (string_bytes text.new ≡ string_bytes text.old
+        ++ each_after 32 (decimal number ∷ [])) }
 {
     let mut buffer = Buffer::new();
     push_word(text, buffer.format(number))
 }
 
 fn push_quantity(text: &mut String, value: i64) -> Result<(), NoMemory>
-    ensures { OnOk result (string_bytes text.new ≡ string_bytes text.old ++ each_after 32 (signed_decimal value ∷ [])) }
+    ensures { OnOk result (string_bytes text.new ≡ string_bytes text.old
+        ++ each_after 32 (signed_decimal value ∷ [])) }
 {
     let mut buffer = Buffer::new();
     push_word(text, buffer.format(value))
 }
 
 fn push_truth(text: &mut String, truth: bool) -> Result<(), NoMemory>
-    ensures { OnOk result (string_bytes text.new ≡ string_bytes text.old ++ each_after 32 (truth_text truth ∷ [])) }
+    ensures { OnOk result (string_bytes text.new ≡ string_bytes text.old
+        ++ each_after 32 (truth_text truth ∷ [])) }
 {
     push_word(text, if truth { "true" } else { "false" })
 }
 
 fn push_name(text: &mut String, name: &Name) -> Result<(), NoMemory>
-    ensures { OnOk result (string_bytes text.new ≡ string_bytes text.old ++ each_after 32 (name.now ∷ [])) }
+    ensures { OnOk result (string_bytes text.new ≡ string_bytes text.old
+        ++ each_after 32 (name.now ∷ [])) }
 {
     push_word(text, name.as_str())
 }
 
 fn push_slot(text: &mut String, object: &Name, slot: &Name) -> Result<(), NoMemory>
-    ensures { OnOk result (string_bytes text.new ≡ string_bytes text.old ++ each_after 32 (slot_text object.now slot.now ∷ [])) }
+    ensures { OnOk result (string_bytes text.new ≡ string_bytes text.old
+        ++ each_after 32 (slot_text object.now slot.now ∷ [])) }
 {
     push_word(text, object.as_str())?;
     text.push_str(".")?;
@@ -81,7 +87,8 @@ fn push_str(text: &mut String, word: &str) -> Result<(), NoMemory>
 }
 
 fn push_list(text: &mut String, letter: &str, most: u16) -> Result<(), NoMemory>
-    ensures { OnOk result (string_bytes text.new ≡ string_bytes text.old ++ (letter.now ++ decimal most)) }
+    ensures { OnOk result (string_bytes text.new ≡ string_bytes text.old
+        ++ (letter.now ++ decimal most)) }
 {
     let mut buffer = Buffer::new();
     text.push_str(letter)?;
@@ -90,7 +97,8 @@ fn push_list(text: &mut String, letter: &str, most: u16) -> Result<(), NoMemory>
 }
 
 fn push_further_kinds(text: &mut String, kinds: &[ValueKind]) -> Result<(), NoMemory>
-    ensures { OnOk result (string_bytes text.new ≡ string_bytes text.old ++ each_after 44 (map kind_text kinds.now)) }
+    ensures { OnOk result (string_bytes text.new ≡ string_bytes text.old
+        ++ each_after 44 (map kind_text kinds.now)) }
 {
     for kind in kinds {
         text.push_str(",")?;
@@ -113,7 +121,8 @@ fn push_kinds(text: &mut String, kinds: &[ValueKind]) -> Result<(), NoMemory>
 
 /// Appends a blank and the kinds, as one word.
 pub(crate) fn push_kinds_word(text: &mut String, kinds: &Kinds) -> Result<(), NoMemory>
-    ensures { OnOk result (string_bytes text.new ≡ string_bytes text.old ++ each_after 32 (kinds_text kinds.now ∷ [])) }
+    ensures { OnOk result (string_bytes text.new ≡ string_bytes text.old
+        ++ each_after 32 (kinds_text kinds.now ∷ [])) }
 {
     text.push_str(" ")?;
     push_kinds(text, kinds.as_slice())
@@ -172,7 +181,8 @@ pub(crate) fn word_of(instruction: &Instruction) -> &'static str
 
 /// Appends the words behind the first, each after a blank.
 pub(crate) fn push_operands(text: &mut String, instruction: &Instruction) -> Result<(), NoMemory>
-    ensures { OnOk result (string_bytes text.new ≡ string_bytes text.old ++ each_after 32 (operands_of instruction.now)) }
+    ensures { OnOk result (string_bytes text.new ≡ string_bytes text.old
+        ++ each_after 32 (operands_of instruction.now)) }
 {
     match instruction {
         Instruction::Num(value) => push_quantity(text, *value),

@@ -9,7 +9,8 @@ use rw_base::NoMemory;
 use std::alloc::Global;
 
 fn push_instruction(text: &mut String, instruction: &Instruction) -> Result<(), NoMemory>
-    ensures { OnOk result (string_bytes text.new ≡ string_bytes text.old ++ ended (instruction_line instruction.now ∷ [])) }
+    ensures { OnOk result (string_bytes text.new ≡ string_bytes text.old
+        ++ ended (instruction_line instruction.now ∷ [])) }
 {
     text.push_str(word_of(instruction))?;
     push_operands(text, instruction)?;
@@ -18,7 +19,8 @@ fn push_instruction(text: &mut String, instruction: &Instruction) -> Result<(), 
 }
 
 fn push_instructions(text: &mut String, lines: &[Instruction]) -> Result<(), NoMemory>
-    ensures { OnOk result (string_bytes text.new ≡ string_bytes text.old ++ ended (map instruction_line lines.now)) }
+    ensures { OnOk result (string_bytes text.new ≡ string_bytes text.old
+        ++ ended (map instruction_line lines.now)) }
 {
     for instruction in lines {
         push_instruction(text, instruction)?;
@@ -43,14 +45,16 @@ fn push_head(text: &mut String, head: &BlockHead) -> Result<(), NoMemory>
 }
 
 fn push_locals(text: &mut String, locals: &Kinds) -> Result<(), NoMemory>
-    ensures { OnOk result (string_bytes text.new ≡ string_bytes text.old ++ locals_line locals.now) }
+    ensures { OnOk result (string_bytes text.new ≡ string_bytes text.old
+        ++ locals_line locals.now) }
 {
     text.push_str("LOCALS")?;
     push_kinds_word(text, locals)
 }
 
 fn push_block(text: &mut String, block: &Block) -> Result<(), NoMemory>
-    ensures { OnOk result (string_bytes text.new ≡ string_bytes text.old ++ ended (block_lines block.now)) }
+    ensures { OnOk result (string_bytes text.new ≡ string_bytes text.old
+        ++ ended (block_lines block.now)) }
 {
     push_head(text, &block.head)?;
     text.push_str("\n")?;
@@ -62,7 +66,8 @@ fn push_block(text: &mut String, block: &Block) -> Result<(), NoMemory>
 }
 
 fn push_blocks(text: &mut String, blocks: &[Block]) -> Result<(), NoMemory>
-    ensures { OnOk result (string_bytes text.new ≡ string_bytes text.old ++ ended (flat_map block_lines blocks.now)) }
+    ensures { OnOk result (string_bytes text.new ≡ string_bytes text.old
+        ++ ended (flat_map block_lines blocks.now)) }
 {
     for block in blocks {
         push_block(text, block)?;

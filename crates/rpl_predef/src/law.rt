@@ -1,5 +1,5 @@
 // What the table of predefined functions comes to, as the program reaches it.
-ghost use Rattle.std.specs.Prelude.{◌≡◌, ℕ, List, Some, None, [], ◌∷◌, pos, neg_ℤ};
+ghost use Rattle.std.specs.Prelude.{◌≡◌, Some, None, [], ◌∷◌};
 ghost use Rattle.rpl_predef.specs.Rows.{first_wrong};
 
 /// Six rows with Min and Max exchanged are wrong in place 1, and in order they are wrong nowhere.

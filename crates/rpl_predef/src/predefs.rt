@@ -47,7 +47,8 @@ impl Predefs {
     ///
     /// Their count is judged first. `WrongPlace` names the first function of another row.
     pub fn of(rows: Vec<Predef>) -> Result<Predefs, PredefsFault>
-        ensures accepted { IsOk result ↔ ((length rows.items ≡ 6) × AreInOrder (map (λ p. p.row) rows.items)) }
+        ensures accepted { IsOk result
+            ↔ ((length rows.items ≡ 6) × AreInOrder (map (λ p. p.row) rows.items)) }
         ensures rows { IfOk result (λ predefs. predefs.rows ≡ rows) }
         ensures count { (found : ℕ) → result ≡ Err (PredefsFault.WrongCount found)
             → (found ≡ length rows.items) × (found ≢ 6) }
