@@ -1,5 +1,5 @@
 -- The most that one firing of a rule can count, look or put, by its tree. One definition serves all three, with a price for each.
-use Rattle.std.specs.Prelude.{ℕ, ◌+◌, ◌*◌, max, List, [], ◌∷◌, ◌++◌, map, bytes_eq, if◌then◌else◌}
+use Rattle.std.specs.Prelude.{ℕ, ◌+◌, ◌*◌, max, List, [], ◌∷◌, map, bytes_eq, if◌then◌else◌}
 use Rattle.rpl_tree.specs.declared.words.OneWord.{OneWord}
 use Rattle.rpl_tree.specs.declared.words.OneWord.TheVariants.{Known}
 use Rattle.rpl_tree.specs.declared.words.TwoWord.{TwoWord}

@@ -6,6 +6,7 @@ pub mod World
 pub mod Kinds
 pub mod Mean
 pub mod Seen
+pub mod Frame
 pub mod Count
 pub mod Cost
 pub mod Words

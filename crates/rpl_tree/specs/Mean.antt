@@ -1,5 +1,5 @@
 -- What a rule means: what a firing of it does, by its tree.
-use Rattle.std.specs.Prelude.{ℕ, ◌+◌, ◌-◌, ◌==◌, ℤ, pos, ◌*ℤ◌, codes, true, false, List, [], ◌∷◌, ◌++◌, map, Option, Some, None, unwrap_or, bytes_eq, if◌then◌else◌}
+use Rattle.std.specs.Prelude.{ℕ, ◌+◌, ◌-◌, ◌==◌, ℤ, pos, ◌*ℤ◌, codes, true, false, List, [], ◌∷◌, map, Option, Some, None, unwrap_or, bytes_eq, if◌then◌else◌}
 use Rattle.rw_base.specs.Unit.{units, unit_in}
 use Rattle.rw_base.specs.Dimension.{Dimension}
 use Rattle.rw_base.specs.Predefined.{predefined_of}

@@ -10,7 +10,7 @@ use Rattle.rpl_tree.specs.Outcome.{Outcome, after, ends, gives, is_stuck, spent,
 
 -- a whole number from -Q to Q
 abbrev pub is_quantity : ℤ → Bool
-is_quantity z = int_le (neg_ℤ quantity_max) z && int_le z quantity_max
+is_quantity z = int_le (pos 0 -ℤ quantity_max) z && int_le z quantity_max
 
 -- the exact result, or the end where it is no quantity
 abbrev pub exactly : (ℤ → Value) → ℤ → Outcome Value

@@ -45,6 +45,11 @@ abbrev mutual
   trees_of end_of-Expr = no_trees
   trees_of (more_of-Expr e es) = tree (tree_of e) (trees_of es)
 
+-- the same of a list
+abbrev pub trees_in : List Expr → Trees
+trees_in [] = no_trees
+trees_in (e ∷ es) = tree (tree_of e) (trees_in es)
+
 abbrev mutual
   pub act_of : Statement → Act
   act_of (Assign target ahead e) = assign target.object.items target.slot.items ahead (tree_of e)

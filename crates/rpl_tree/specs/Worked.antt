@@ -14,7 +14,7 @@ use Rattle.rw_series.specs.declared.fire.RulePut.{RulePut}
 use Rattle.rw_series.specs.declared.fire.FireEnd.{FireEnd}
 use Rattle.rw_series.specs.declared.fire.FireEnd.TheVariants.{Done, Unknown}
 use Rattle.rpl_tree.specs.declared.words.OneWord.TheVariants.{Minus, Length}
-use Rattle.rpl_tree.specs.declared.words.TwoWord.TheVariants.{Plus, Minus as Less_by, Times, Divide, Append}
+use Rattle.rpl_tree.specs.declared.words.TwoWord.TheVariants.{Item, Plus, Minus as Less_by, Times, Divide, Append}
 use Rattle.rpl_tree.specs.Tree.{numeric, numeric_list, Tree, Trees, literal, now, slot, name, call, list, choice, each, mapped, one, two, at, no_trees, tree, Act, Acts, assign, no_acts, act, Declared, rule, function}
 use Rattle.rpl_tree.specs.World.{cell_of, put_to}
 use Rattle.rpl_tree.specs.Mean.{mean}
@@ -142,6 +142,14 @@ twice_each l = mapped (codes "n") l (two Times n_name (whole (pos 2)))
 abbrev pub one_more : Tree
 one_more = two Plus n_name (whole (pos 1))
 
+-- `ITEM(l, 1)`
+abbrev pub first_of_l : Tree
+first_of_l = two Item l_name (whole (pos 1))
+
+-- `FOR n IN l WITH n := 0 DO n + 1 ENDFOR`
+abbrev pub turns_of_one_name : Tree → Tree
+turns_of_one_name l = each (codes "n") l (codes "n") (whole (pos 0)) one_more
+
 -- `FOR n IN {D.X, D.Y} WITH s := 0 DO s + n[t] ENDFOR`
 abbrev pub sum_of_slots : Tree
 sum_of_slots =
@@ -176,6 +184,10 @@ y_put e = puts_at (codes "D") (codes "Y") e
 abbrev pub one_to_x : Acts
 one_to_x = acts_of (x_put (whole (pos 1)) ∷ [])
 
+-- `D.X[t] := n;` alone
+abbrev pub n_to_x : Acts
+n_to_x = acts_of (x_put n_name ∷ [])
+
 -- `D.X[t] := e;` as the one rule
 abbrev pub x_rule : Tree → List Declared
 x_rule e = rule_of (x_put e ∷ []) ∷ []
@@ -206,16 +218,32 @@ raise_and_reset =
 abbrev pub hundredth : List Declared
 hundredth = x_rule (two Divide (whole (pos 100)) y_now)
 
+-- `Dam.Inflow[t + n]`
+abbrev pub ahead_of_n : Tree
+ahead_of_n = at (slot (codes "Dam") (codes "Inflow")) (two Plus now n_name)
+
 -- `FUNCTION Ahead(NUMERIC "step" n) : NUMERIC "m3/step" IS Dam.Inflow[t + n] ENDFUNCTION`
 abbrev pub ahead : Declared
-ahead = function (codes "Ahead") (record { name = codes "n"; of_type = numeric (codes "step") } ∷ []) (numeric (codes "m3/step"))
-    (at (slot (codes "Dam") (codes "Inflow")) (two Plus now n_name))
+ahead = function (codes "Ahead") (record { name = codes "n"; of_type = numeric (codes "step") } ∷ []) (numeric (codes "m3/step")) ahead_of_n
 
--- `D.X[t] := FOR n IN {0 "step", 1 "step"} WITH s := 0 "m3/step" DO s + Ahead(n) ENDFOR;`
+-- `{0 "step", 1 "step"}`
+abbrev pub step_pair : Tree
+step_pair = list (trees_of (of_unit (pos 0) (codes "step") ∷ of_unit (pos 1) (codes "step") ∷ []))
+
+-- `Ahead(n)` and `s + Ahead(n)`
+abbrev pub ahead_of : Tree
+ahead_of = call (codes "Ahead") (trees_of (n_name ∷ []))
+
+abbrev pub ahead_now : Tree
+ahead_now = two Plus s_name ahead_of
+
+-- `FOR n IN {0 "step", 1 "step"} WITH s := 0 "m3/step" DO s + Ahead(n) ENDFOR`
+abbrev pub sum_loop : Tree
+sum_loop = each (codes "n") step_pair (codes "s") (of_unit (pos 0) (codes "m3/step")) ahead_now
+
+-- `D.X[t] :=` that loop `;`
 abbrev pub sum : Declared
-sum = rule_of (x_put (each (codes "n") (list (trees_of (of_unit (pos 0) (codes "step") ∷ of_unit (pos 1) (codes "step") ∷ [])))
-    (codes "s") (of_unit (pos 0) (codes "m3/step"))
-    (two Plus s_name (call (codes "Ahead") (trees_of (n_name ∷ []))))) ∷ [])
+sum = rule_of (x_put sum_loop ∷ [])
 
 abbrev pub sum_ahead : List Declared
 sum_ahead = ahead ∷ sum ∷ []

@@ -1,16 +1,61 @@
 // What the definitions of this crate come to, in rules that were worked out by hand.
-ghost use Rattle.std.specs.Prelude.{◌≡◌, [], ◌∷◌, false, None, Some, codes, neg_ℤ, pos, true, ℤ, ◌+ℤ◌};
-ghost use Rattle.rw_base.specs.Quantity.{quantity_max};
+ghost use Rattle.std.specs.Prelude.{◌≡◌, ◌≢◌, ◌↔◌, IsTrue, ℕ, List, Option, [], ◌∷◌, false, None, Some, codes, neg_ℤ, pos, true, ℤ, ◌+ℤ◌};
+ghost use Rattle.rw_base.specs.Quantity.{IsQuantity, quantity_max};
+ghost use Rattle.rw_base.specs.declared.number.Cell.{Cell};
+ghost use Rattle.rw_model.specs.Draft.{Draft};
+ghost use Rattle.rw_series.specs.Fire.{Fire};
 ghost use Rattle.rw_series.specs.declared.fire.FireEnd.TheVariants.{Done, OutOfRange, Unknown, ZeroDivisor};
 ghost use Rattle.rpl_tree.specs.declared.words.ConvertWord.TheVariants.{ElevationToStorage, StorageToElevation};
 ghost use Rattle.rpl_tree.specs.declared.words.OneWord.TheVariants.{Day, Known, Length, Minus, Month, Not, Year};
 ghost use Rattle.rpl_tree.specs.declared.words.TwoWord.TheVariants.{And, Append, Divide, Equal, Greater, GreaterEqual, Item, Less, LessEqual, Minus as Less_by, Or, Plus, Times, Unequal};
-ghost use Rattle.rpl_tree.specs.Tree.{bind, branch, call, choice, convert, each, list, mapped, name, no_acts, now, one, slot, truth, two, at, with_name};
-ghost use Rattle.rpl_tree.specs.World.{cell_of, put_to};
-ghost use Rattle.rpl_tree.specs.Mean.{mean};
+ghost use Rattle.rpl_tree.specs.Frame.{AreAlike};
+ghost use Rattle.rpl_tree.specs.Operators.{is_quantity};
+ghost use Rattle.rpl_tree.specs.Value.{truth_kind};
+ghost use Rattle.rpl_tree.specs.Tree.{Declared, Tree, brackets, bind, branch, call, choice, convert, each, list, mapped, name, no_acts, now, one, slot, truth, two, at, with_name};
+ghost use Rattle.rpl_tree.specs.World.{World, cell_of, put_to};
+ghost use Rattle.rpl_tree.specs.Mean.{Env, Function, kind_in, mean, value_of};
 ghost use Rattle.rpl_tree.specs.Count.{locals_of, nodes_of};
 ghost use Rattle.rpl_tree.specs.Budget.{budget, budget_of};
-ghost use Rattle.rpl_tree.specs.Worked.{acts_do, acts_of, ahead, all_cells, basin_of, both_call, call_of, called_by, canal, cap_and_base, count_call, dam, done_by, ended_by, fire, flow_object, hundredth, l_name, n_name, negative_outflow, numbers_object, of_unit, one_more, one_or_two, one_to_x, only_slot, over, pair, part_of_n, pool_by, raise_and_reset, rules_do, seepage_set, storage_after, storage_before, sum, sum_ahead, sum_of_slots, sum_too_early, three, twice_each, unknown_cells, whole, with_functions, x_by, x_ends, x_is, x_put, x_rule, x_wants_y, y_now, y_put};
+ghost use Rattle.rpl_tree.specs.Worked.{acts_do, ahead, all_cells, basin_of, both_call, call_of, called_by, canal, cap_and_base, count_call, dam, done_by, ended_by, fire, first_of_l, flow_object, hundredth, n_name, n_to_x, negative_outflow, numbers_object, of_unit, one_more, one_or_two, one_to_x, only_slot, over, pair, part_of_n, pool_by, raise_and_reset, rules_do, seepage_set, storage_after, storage_before, sum, sum_ahead, sum_of_slots, sum_too_early, three, turns_of_one_name, twice_each, unknown_cells, whole, with_functions, x_by, x_ends, x_is, x_put, x_rule, x_wants_y, y_now, y_put};
+
+/// A firing depends on nothing but the cells at which it looks: where others hold something else, the rule does the same.
+/// One that isn't done asks for nothing.
+pub fn firings()
+    ensures framed { (rules : List Declared) (basin : Draft) (number step : ℕ)
+        (values other : Cell → Option ℤ) (fire : Fire)
+        → mean rules basin number step values ≡ Some fire → AreAlike values other fire.looked
+        → mean rules basin number step other ≡ Some fire }
+    ensures silent { (rules : List Declared) (basin : Draft) (number step : ℕ)
+        (values : Cell → Option ℤ) (fire : Fire) → mean rules basin number step values ≡ Some fire
+        → fire.end ≢ Done → fire.puts ≡ [] }
+{}
+
+/// `<>`, `>` and `>=` are NOT of the opposite test. AND and OR are the IFs that they stand for, where their right side is
+/// a truth. A pair of brackets means what stands in it.
+pub fn stands_for()
+    ensures unequal { (world : World) (functions : List Function) (env : Env) (l r : Tree)
+        → value_of world functions env (two Unequal l r)
+        ≡ value_of world functions env (one Not (two Equal l r)) }
+    ensures greater { (world : World) (functions : List Function) (env : Env) (l r : Tree)
+        → value_of world functions env (two Greater l r)
+        ≡ value_of world functions env (one Not (two LessEqual l r)) }
+    ensures greater_equal { (world : World) (functions : List Function) (env : Env) (l r : Tree)
+        → value_of world functions env (two GreaterEqual l r)
+        ≡ value_of world functions env (one Not (two Less l r)) }
+    ensures and { (world : World) (functions : List Function) (env : Env) (l r : Tree)
+        → kind_in world functions env r ≡ truth_kind → value_of world functions env (two And l r)
+        ≡ value_of world functions env (choice l r (truth false)) }
+    ensures or { (world : World) (functions : List Function) (env : Env) (l r : Tree)
+        → kind_in world functions env r ≡ truth_kind → value_of world functions env (two Or l r)
+        ≡ value_of world functions env (choice l (truth true) r) }
+    ensures brackets { (world : World) (functions : List Function) (env : Env) (t : Tree)
+        → value_of world functions env (brackets t) ≡ value_of world functions env t }
+{}
+
+/// What is tested of a result is that it is a quantity.
+pub fn quantities()
+    ensures { (z : ℤ) → IsTrue (is_quantity z) ↔ IsQuantity z }
+{}
 
 /// `Dam.Storage[t] := Min(Dam.Storage[t], 1020 "m3");` looks at the storage and puts at most 1020; it counts 6.
 /// `Dam.Outflow[t] := 50 "m3/step";` looks at nothing and counts 2.
@@ -51,7 +96,7 @@ pub fn sum_ahead_rule()
         ≡ done_by (cell_of 1 1 ∷ cell_of 1 2 ∷ []) 4 (pos 200) 34 }
     ensures last { mean sum_ahead (basin_of 3 (dam ∷ flow_object ∷ [])) 1 3 (only_slot 1 (pos 100))
         ≡ ended_by Unknown (cell_of 1 3 ∷ []) 29 }
-    ensures early { mean sum_too_early (basin_of 3 (dam ∷ flow_object ∷ [])) 1 1 (only_slot 1 (pos 100))
+    ensures early { mean sum_too_early (basin_of 3 (dam ∷ flow_object ∷ [])) 1 1 unknown_cells
         ≡ None }
     ensures ahead_budget { budget_of sum_ahead 1 ≡ budget 5 1 0 4 }
     ensures sum_budget { budget_of sum_ahead 2 ≡ budget 34 2 1 13 }
@@ -169,11 +214,11 @@ pub fn lists()
 
 /// Names: the innermost of a name is meant, and of the two of one FOR the accumulator.
 pub fn names()
-    ensures variable { x_by (bind (codes "l") (pair (pos 7) (pos 8)) (two Item l_name (whole (pos 1))))
+    ensures variable { x_by (bind (codes "l") (pair (pos 7) (pos 8)) first_of_l)
         ≡ x_is (pos 7) 14 }
     ensures innermost { x_by (bind (codes "n") (whole (pos 1)) (bind (codes "n") one_more n_name))
         ≡ x_is (pos 2) 8 }
-    ensures accumulator { x_by (each (codes "n") (pair (pos 5) (pos 6)) (codes "n") (whole (pos 0)) one_more)
+    ensures accumulator { x_by (turns_of_one_name (pair (pos 5) (pos 6)))
         ≡ x_is (pos 2) 20 }
     ensures missing { x_by n_name ≡ None }
     ensures wrong_kind { x_by (two Plus (truth true) (whole (pos 1))) ≡ None }
@@ -198,7 +243,7 @@ pub fn statements()
     ensures none { acts_do (x_put (whole (pos 1)) ∷ y_put y_now ∷ []) ≡ x_wants_y 5 }
     ensures choice { acts_do (branch (truth true) one_to_x no_acts ∷ []) ≡ x_is (pos 1) 6 }
     ensures absent { acts_do (branch (truth false) one_to_x no_acts ∷ []) ≡ fire Done [] [] 4 }
-    ensures variable { acts_do (with_name (codes "n") (whole (pos 7)) (acts_of (x_put n_name ∷ [])) ∷ [])
+    ensures variable { acts_do (with_name (codes "n") (whole (pos 7)) n_to_x ∷ [])
         ≡ x_is (pos 7) 4 }
     ensures bounds { mean negative_outflow (basin_of 1 (dam ∷ [])) 1 1 unknown_cells
         ≡ ended_by (OutOfRange (neg_ℤ (pos 1))) [] 3 }
