@@ -1,11 +1,13 @@
 // What the definitions of this crate come to, on codes that were worked out by hand.
-ghost use Rattle.std.specs.Prelude.{◌≡◌, [], ◌∷◌, Err, None, Ok, Some, codes, neg_ℤ, pos, replicate, true, ◌+ℤ◌};
+ghost use Rattle.std.specs.Prelude.{List, ◌≡◌, [], ◌∷◌, Err, None, Ok, Some, codes, neg_ℤ, pos, replicate, true, ◌+ℤ◌};
 ghost use Rattle.rw_base.specs.Quantity.{quantity_max};
 ghost use Rattle.rpl_code.specs.declared.kind.ValueKind.TheVariants as K;
 ghost use Rattle.rpl_code.specs.declared.instruction.Instruction.TheVariants as I;
+ghost use Rattle.rpl_code.specs.declared.block.Block.{Block};
 ghost use Rattle.rpl_code.specs.Worked.{plain_rule};
+ghost use Rattle.rw_model.specs.Draft.{Draft};
 ghost use Rattle.rw_series.specs.declared.fire.FireEnd.TheVariants.{Done, OutOfRange, Unknown, ZeroDivisor};
-ghost use Rattle.rpl_tree.specs.Budget.{budget};
+ghost use Rattle.rpl_tree.specs.Budget.{Budget, budget};
 ghost use Rattle.rpl_tree.specs.World.{cell_of, put_to};
 ghost use Rattle.rpl_tree.specs.Worked.{all_cells, done_by, ended_by, fire, only_slot, unknown_cells, x_ends, x_is};
 ghost use Rattle.rpl_verify.specs.declared.misfit.Misfit.TheVariants.{BackwardJump, JumpOutside, LaterCall, MissingOperand, NoSuchName, NotSettable, PutInFunction, TargetStep, TooCostly, TooDeep, TooMany, TooManyPuts, TooManyReads, WrongOperand, WrongShape};
@@ -239,4 +241,10 @@ pub fn stuck_codes()
     ensures element { x_of (K.B ∷ []) (pair_then (I.Foreach 0 ∷ I.Next ∷ number 1 ∷ [])) ≡ None }
     ensures left { x_of [] (number 1 ∷ number 2 ∷ []) ≡ None }
     ensures beyond { x_of [] (number 1 ∷ I.Invoke 2 ∷ []) ≡ None }
+{}
+
+/// Code that is accepted fits.
+pub fn accepted_code_fits()
+    ensures { (basin : Draft) (blocks : List Block) (budgets : List Budget)
+        → AreAccepted basin blocks budgets → AreFit basin blocks }
 {}
