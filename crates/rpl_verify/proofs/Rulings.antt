@@ -1,10 +1,9 @@
 -- What is accepted fits.
-use Rattle.std.proofs.Common.{◌≡◌, ℕ, suc, List, [], ◌∷◌, ◌++◌, length, Option, None, Result, Ok, Err, refl, ap, ◌∙◌}
+use Rattle.std.proofs.Common.{◌≡◌, ℕ, suc, List, [], ◌∷◌, ◌++◌, length, Result, Ok, Err, refl, ap, ◌∙◌}
 use Rattle.rw_model.specs.Draft.{Draft}
 use Rattle.rpl_code.specs.declared.block.Block.{Block}
 use Rattle.rpl_tree.specs.Budget.{Budget}
-use Rattle.rpl_verify.specs.Names.{Scope}
-use Rattle.rpl_verify.specs.Fits.{AreFit, Before, Misplaced, Refusal, at_place, block_befores, each_block, in_block, refusal_in, scope_of, then_do}
+use Rattle.rpl_verify.specs.Fits.{AreFit, Misplaced, Refusal, block_befores, each_block, in_block, refusal_in, then_do}
 use Rattle.rpl_verify.specs.Budget.{AreAccepted, block_ruling}
 
 then_do_ok : {A B E : Type 0} (r : Result A E) (go : A → Result B E) (b : B) → then_do r go ≡ Ok b → (a : A) × (r ≡ Ok a)

@@ -94,7 +94,8 @@ restarted (Some kinds) b = Ok (before kinds b.loops)
 
 abbrev pub jumped : Scope → ℕ → ℕ → Before → Result Before Misfit
 jumped scope place to b =
-    then_do (found scope place to b) (λ declared. then_do (carried declared b) (restarted (declared_at (slice_get scope.spots (suc place)))))
+    then_do (found scope place to b) (λ declared. then_do (carried declared b)
+    (restarted (declared_at (slice_get scope.spots (suc place)))))
 
 -- ---- loops
 
@@ -108,7 +109,8 @@ room_on_top (k ∷ ks) = room_of k
 
 -- a loop over the list on top, whose element becomes that of a local of its kind
 abbrev pub opened : Scope → ℕ → Loop → ℕ → Instruction → Before → Result Before Misfit
-opened scope place loop local i b = then_do (taken scope i b) (λ c.
+opened scope place loop local i b =
+    then_do (taken scope i b) (λ c.
     let o : Open = record { start = place; loop = loop; room = room_on_top b.kinds; under = c.kinds } in
     if_fits (is_kind (slice_get scope.locals local) (element_on_top b.kinds)) (before c.kinds (o ∷ b.loops)))
 
@@ -224,7 +226,8 @@ in_block number (Ok x) go = go x
 in_block number (Err wrong) go = Err (refusal wrong.misfit number wrong.place)
 
 -- what each block is judged as, where a block is judged by itself, the blocks before it, and what those were judged as
-abbrev pub each_block : {A : Type 0} → (List Block → List A → Block → Result A Misplaced) → List Block → List A → List Block → Result (List A) Refusal
+abbrev pub each_block : {A : Type 0} → (List Block → List A → Block → Result A Misplaced)
+    → List Block → List A → List Block → Result (List A) Refusal
 each_block judge earlier done [] = Ok done
 each_block judge earlier done (block ∷ blocks) =
     in_block (suc (length earlier)) (judge earlier done block)

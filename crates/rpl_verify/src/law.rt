@@ -51,7 +51,8 @@ pub fn misfits_of_names()
 
 /// Calls of blocks. A block calls functions before it, and no rule.
 pub fn misfits_of_calls()
-    ensures later { misfit_in (rule_with [] (I.Invoke 2 ∷ []) ∷ number_function (number 1 ∷ []) ∷ [])
+    ensures later { misfit_in (rule_with [] (I.Invoke 2 ∷ [])
+        ∷ number_function (number 1 ∷ []) ∷ [])
         ≡ misfit_at LaterCall 0 }
     ensures itself { misfit_in (number_function (I.Invoke 1 ∷ []) ∷ []) ≡ misfit_at LaterCall 0 }
     ensures no_block { misfit_of [] (I.Invoke 0 ∷ []) ≡ misfit_at NoSuchName 0 }
@@ -67,7 +68,8 @@ pub fn misfits_of_jumps()
         ≡ misfit_at JumpOutside 0 }
     ensures beyond { misfit_of [] (I.Bool true ∷ I.Branch 9 ∷ []) ≡ misfit_at JumpOutside 1 }
     ensures operands_later { misfit_of [] (I.Branch 0 ∷ []) ≡ misfit_at BackwardJump 0 }
-    ensures carried { misfit_of [] (I.Bool true ∷ I.Branch 4 ∷ number 1 ∷ I.Jump 4 ∷ I.Target [] ∷ [])
+    ensures carried { misfit_of []
+        (I.Bool true ∷ I.Branch 4 ∷ number 1 ∷ I.Jump 4 ∷ I.Target [] ∷ [])
         ≡ misfit_at WrongShape 3 }
     ensures fallen { misfit_of [] (number 1 ∷ I.Target [] ∷ []) ≡ misfit_at WrongShape 1 }
     ensures nothing_behind { misfit_of [] (I.Jump 2 ∷ number 1 ∷ I.Target [] ∷ [])
@@ -76,9 +78,11 @@ pub fn misfits_of_jumps()
 
 /// Loops, and jumps out of them, into them and over their ends. What ends another loop than the innermost ends none.
 pub fn misfits_of_loops()
-    ensures jump_out { over_a_list K.N (I.Foreach 0 ∷ I.Jump 7 ∷ I.Target [] ∷ I.Next ∷ I.Target [] ∷ [])
+    ensures jump_out { over_a_list K.N
+        (I.Foreach 0 ∷ I.Jump 7 ∷ I.Target [] ∷ I.Next ∷ I.Target [] ∷ [])
         ≡ misfit_at JumpOutside 4 }
-    ensures jump_in { misfit_of (K.N ∷ []) (I.Jump 6 ∷ I.Target [] ∷ pair_then (I.Foreach 0 ∷ I.Target [] ∷ I.Next ∷ []))
+    ensures jump_in { misfit_of (K.N ∷ [])
+        (I.Jump 6 ∷ I.Target [] ∷ pair_then (I.Foreach 0 ∷ I.Target [] ∷ I.Next ∷ []))
         ≡ misfit_at JumpOutside 0 }
     ensures jump_over { misfit_of [] (I.Jump 3 ∷ I.Target [] ∷ I.Next ∷ I.Target [] ∷ [])
         ≡ misfit_at WrongShape 2 }
@@ -119,7 +123,8 @@ pub fn budgets()
     ensures seven_kept { ruled seven_kept ≡ Ok (budget 4 0 1 2 ∷ []) }
     ensures two_puts { ruled two_puts ≡ Ok (budget 12 0 2 7 ∷ []) }
     ensures cap_and_base { ruled cap_and_base_code ≡ Ok (budget 6 1 1 2 ∷ budget 2 0 1 1 ∷ []) }
-    ensures sum_ahead { AreAccepted dam_and_flow sum_ahead_code (budget 5 1 0 4 ∷ budget 34 2 1 13 ∷ []) }
+    ensures sum_ahead { AreAccepted dam_and_flow sum_ahead_code
+        (budget 5 1 0 4 ∷ budget 34 2 1 13 ∷ []) }
     ensures one_or_two { ruled one_or_two ≡ Ok (budget 6 0 1 1 ∷ []) }
     ensures sum_or_two { ruled sum_or_two ≡ Ok (budget 8 0 1 2 ∷ []) }
     ensures one_or_sum { ruled one_or_sum ≡ Ok (budget 8 0 1 2 ∷ []) }
@@ -195,8 +200,10 @@ pub fn operations()
     ensures not { x_by_truth (I.Bool true ∷ I.Not ∷ []) ≡ x_is (pos 2) 7 }
     ensures known { x_by_truth (y_slot ∷ I.Now ∷ I.Known ∷ [])
         ≡ done_by (cell_of 2 1 ∷ []) 1 (pos 2) 8 }
-    ensures elevation { x_of_pool (number 250 ∷ I.ToElevation (codes "Pool") ∷ []) ≡ x_is (pos 501) 3 }
-    ensures storage { x_of_pool (number 2000 ∷ I.ToStorage (codes "Pool") ∷ []) ≡ x_is (pos 1500) 3 }
+    ensures elevation { x_of_pool (number 250 ∷ I.ToElevation (codes "Pool") ∷ [])
+        ≡ x_is (pos 501) 3 }
+    ensures storage { x_of_pool (number 2000 ∷ I.ToStorage (codes "Pool") ∷ [])
+        ≡ x_is (pos 1500) 3 }
     ensures arguments { code_does earlier_code unknown_cells ≡ x_is (pos 3) 11 }
 {}
 
@@ -211,16 +218,19 @@ pub fn dates()
 
 /// Operations on lists, and what locals begin as. A loop over an empty list is left out, and a mapping leaves an empty list.
 pub fn lists()
-    ensures slots { x_of_fours (x_slot ∷ y_slot ∷ I.List 2 ∷ number 2 ∷ I.Item ∷ I.Now ∷ I.Read ∷ [])
+    ensures slots { x_of_fours
+        (x_slot ∷ y_slot ∷ I.List 2 ∷ number 2 ∷ I.Item ∷ I.Now ∷ I.Read ∷ [])
         ≡ done_by (cell_of 2 1 ∷ []) 1 (pos 4) 10 }
     ensures no_item { x_of [] (pair_then (number 3 ∷ I.Item ∷ [])) ≡ x_ends (OutOfRange (pos 3)) 7 }
     ensures as_wide { x_of [] (pair_then (I.Widen 2 ∷ I.Length ∷ [])) ≡ x_is (pos 2) 10 }
     ensures no_turn { x_of (K.NList 3 ∷ K.N ∷ []) (I.Load 0 ∷ I.Foreach 1 ∷ I.Next ∷ number 7 ∷ [])
         ≡ x_is (pos 7) 7 }
-    ensures empty { x_of (K.NList 3 ∷ K.N ∷ []) (I.Load 0 ∷ I.Map 1 ∷ I.Load 1 ∷ I.Yield ∷ I.Length ∷ [])
+    ensures empty { x_of (K.NList 3 ∷ K.N ∷ [])
+        (I.Load 0 ∷ I.Map 1 ∷ I.Load 1 ∷ I.Yield ∷ I.Length ∷ [])
         ≡ x_is (pos 0) 7 }
     ensures first_number { x_of (K.N ∷ []) (I.Load 0 ∷ []) ≡ x_is (pos 0) 2 }
-    ensures first_truth { x_of (K.B ∷ K.N ∷ []) (I.Load 0 ∷ I.Branch 2 ∷ I.Target [] ∷ I.Load 1 ∷ [])
+    ensures first_truth { x_of (K.B ∷ K.N ∷ [])
+        (I.Load 0 ∷ I.Branch 2 ∷ I.Target [] ∷ I.Load 1 ∷ [])
         ≡ x_is (pos 0) 5 }
     ensures first_step { x_of (K.D ∷ []) (I.Now ∷ I.Load 0 ∷ I.Between ∷ []) ≡ x_is (pos 1) 4 }
     ensures first_slot { x_of (K.S ∷ []) (I.Load 0 ∷ I.Now ∷ I.Read ∷ [])
@@ -237,7 +247,8 @@ pub fn stuck_codes()
     ensures carried { x_of [] (I.Jump 1 ∷ I.Target (K.N ∷ []) ∷ []) ≡ None }
     ensures declared { x_of [] (number 1 ∷ I.Target [] ∷ []) ≡ None }
     ensures no_loop { x_of [] (number 1 ∷ I.Next ∷ []) ≡ None }
-    ensures other_loop { x_of (K.N ∷ []) (pair_then (I.Foreach 0 ∷ number 1 ∷ I.Yield ∷ number 1 ∷ [])) ≡ None }
+    ensures other_loop { x_of (K.N ∷ [])
+        (pair_then (I.Foreach 0 ∷ number 1 ∷ I.Yield ∷ number 1 ∷ [])) ≡ None }
     ensures element { x_of (K.B ∷ []) (pair_then (I.Foreach 0 ∷ I.Next ∷ number 1 ∷ [])) ≡ None }
     ensures left { x_of [] (number 1 ∷ number 2 ∷ []) ≡ None }
     ensures beyond { x_of [] (number 1 ∷ I.Invoke 2 ∷ []) ≡ None }
