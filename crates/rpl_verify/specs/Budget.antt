@@ -1,5 +1,5 @@
 -- What a firing of a block can come to at most: four measures of the ways through it, by one table.
-use Rattle.std.specs.Prelude.{◌≡◌, ℕ, suc, ◌+◌, ◌-◌, ◌*◌, max, nat_lt, List, [], ◌∷◌, length, slice_get, slice_index, Option, Some, None, Result, Ok, Err, if◌then◌else◌}
+use Rattle.std.specs.Prelude.{◌≡◌, ℕ, suc, ◌+◌, ◌-◌, ◌*◌, ◌≤◌, max, nat_lt, List, [], ◌∷◌, length, slice_get, slice_index, Option, Some, None, Result, Ok, Err, if◌then◌else◌}
 use Rattle.rw_model.specs.Draft.{Draft}
 use Rattle.rw_model.specs.Objects.{numbered}
 use Rattle.rpl_code.specs.declared.kind.ValueKind.{ValueKind}
@@ -150,6 +150,12 @@ within_limits b =
     if nat_lt limits.looks b.looks then Err TooManyReads else
     if nat_lt limits.puts b.puts then Err TooManyPuts else
     if nat_lt limits.words b.words then Err TooDeep else Ok b
+
+pub record IsWithinLimits (b : Budget) : Type 0 where
+  pub count : b.count ≤ limits.count
+  pub looks : b.looks ≤ limits.looks
+  pub puts : b.puts ≤ limits.puts
+  pub words : b.words ≤ limits.words
 
 -- ---- code
 

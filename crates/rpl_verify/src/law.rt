@@ -1,5 +1,5 @@
 // What the definitions of this crate come to, on codes that were worked out by hand.
-ghost use Rattle.std.specs.Prelude.{List, ◌≡◌, [], ◌∷◌, Err, None, Ok, Some, codes, neg_ℤ, pos, replicate, true, ◌+ℤ◌};
+ghost use Rattle.std.specs.Prelude.{All, List, ◌≡◌, [], ◌∷◌, Err, None, Ok, Some, codes, neg_ℤ, pos, replicate, true, ◌+ℤ◌};
 ghost use Rattle.rw_base.specs.Quantity.{quantity_max};
 ghost use Rattle.rpl_code.specs.declared.kind.ValueKind.TheVariants as K;
 ghost use Rattle.rpl_code.specs.declared.instruction.Instruction.TheVariants as I;
@@ -11,7 +11,7 @@ ghost use Rattle.rpl_tree.specs.Budget.{Budget, budget};
 ghost use Rattle.rpl_tree.specs.World.{cell_of, put_to};
 ghost use Rattle.rpl_tree.specs.Worked.{all_cells, done_by, ended_by, fire, only_slot, unknown_cells, x_ends, x_is};
 ghost use Rattle.rpl_verify.specs.declared.misfit.Misfit.TheVariants.{BackwardJump, JumpOutside, LaterCall, MissingOperand, NoSuchName, NotSettable, PutInFunction, TargetStep, TooCostly, TooDeep, TooMany, TooManyPuts, TooManyReads, WrongOperand, WrongShape};
-ghost use Rattle.rpl_verify.specs.Budget.{AreAccepted};
+ghost use Rattle.rpl_verify.specs.Budget.{AreAccepted, IsWithinLimits};
 ghost use Rattle.rpl_verify.specs.Machine.{fire_of_code};
 ghost use Rattle.rpl_verify.specs.Fits.{AreFit, first_misfit, refusal};
 ghost use Rattle.rpl_verify.specs.Worked.{cap_and_base_code, code_does, dam_and_flow, doubled_items, earlier_code, hundredth_code, long_locals, many_puts, misfit_at, misfit_in, misfit_of, nested, number, number_function, one_dam, one_or_sum, one_or_two, over_a_list, pair_then, put_outflow, put_spill, raise_and_reset_code, rule_with, ruled, seven_kept, skipped, spilling_dam, sum_ahead_code, sum_or_two, three_counted, tower, two_puts, x_by_truth, x_of, x_of_fours, x_of_pool, x_slot, y_slot};
@@ -254,8 +254,10 @@ pub fn stuck_codes()
     ensures beyond { x_of [] (number 1 ∷ I.Invoke 2 ∷ []) ≡ None }
 {}
 
-/// Code that is accepted fits.
-pub fn accepted_code_fits()
-    ensures { (basin : Draft) (blocks : List Block) (budgets : List Budget)
+/// Code that is accepted fits, and each of its blocks keeps within the limits.
+pub fn accepted_code()
+    ensures fits { (basin : Draft) (blocks : List Block) (budgets : List Budget)
         → AreAccepted basin blocks budgets → AreFit basin blocks }
+    ensures within { (basin : Draft) (blocks : List Block) (budgets : List Budget)
+        → AreAccepted basin blocks budgets → All IsWithinLimits budgets }
 {}
