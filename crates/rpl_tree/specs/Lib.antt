@@ -9,6 +9,7 @@ pub mod Seen
 pub mod Frame
 pub mod Count
 pub mod Cost
+pub mod Locals
 pub mod Words
 pub mod Budget
 pub mod Worked

@@ -1,11 +1,12 @@
 -- The most words that one firing of a rule keeps at a time, by its tree: its locals, the operands that wait, and for each open loop
 -- what it still has to go through.
-use Rattle.std.specs.Prelude.{ℕ, ◌+◌, ◌*◌, max, List, [], ◌∷◌, ◌++◌}
+use Rattle.std.specs.Prelude.{ℕ, ◌+◌, ◌*◌, max, List, [], ◌∷◌}
 use Rattle.rpl_tree.specs.declared.words.TwoWord.{TwoWord}
 use Rattle.rpl_tree.specs.declared.words.TwoWord.TheVariants.{Or, And}
 use Rattle.rpl_tree.specs.Value.{Kind, room_of, element_of, weight, weights}
 use Rattle.rpl_tree.specs.Tree.{Tree, Trees, name, call, brackets, list, choice, bind, each, mapped, one, two, convert, at, no_trees, tree, Act, Acts, assign, branch, with_name, no_acts, act, Declared, rule, function}
 use Rattle.rpl_tree.specs.Kinds.{Names, kind_named, kind_of_type, count_of, tree_kind}
+use Rattle.rpl_tree.specs.Locals.{acts_local_kinds, local_kinds}
 use Rattle.rpl_tree.specs.Mean.{param_kinds}
 use Rattle.rpl_tree.specs.Cost.{Costed, costed_heads, most_named, takes_named, param_names, predefined_costs}
 
@@ -18,46 +19,6 @@ two_words _ kind l r = max l (weight kind + r)
 module _ (functions : List Costed) where
   abbrev pub kind_among : Names → Tree → Kind
   kind_among names t = tree_kind (costed_heads functions) names t
-
-  -- the kinds of a tree's own locals, in the order of the text
-  abbrev mutual
-    pub local_kinds : Names → Tree → List Kind
-    local_kinds names (call f ts) = all_local_kinds names ts
-    local_kinds names (brackets t) = local_kinds names t
-    local_kinds names (list ts) = all_local_kinds names ts
-    local_kinds names (choice c y n) = local_kinds names c ++ (local_kinds names y ++ local_kinds names n)
-    local_kinds names (bind x e b) =
-        let kind = kind_among names e in
-        kind ∷ (local_kinds names e ++ local_kinds ((x, kind) ∷ names) b)
-    local_kinds names (each x l a f b) =
-        let element = element_of (kind_among names l) in
-        let total = kind_among names f in
-        element ∷ total ∷ (local_kinds names l ++ (local_kinds names f ++ local_kinds ((a, total) ∷ (x, element) ∷ names) b))
-    local_kinds names (mapped x l b) =
-        let element = element_of (kind_among names l) in
-        element ∷ (local_kinds names l ++ local_kinds ((x, element) ∷ names) b)
-    local_kinds names (one word e) = local_kinds names e
-    local_kinds names (two word l r) = local_kinds names l ++ local_kinds names r
-    local_kinds names (convert word o e) = local_kinds names e
-    local_kinds names (at s d) = local_kinds names s ++ local_kinds names d
-    local_kinds names _ = []
-
-    pub all_local_kinds : Names → Trees → List Kind
-    all_local_kinds names no_trees = []
-    all_local_kinds names (tree t ts) = local_kinds names t ++ all_local_kinds names ts
-
-  abbrev mutual
-    pub act_local_kinds : Names → Act → List Kind
-    act_local_kinds names (assign o s ahead e) = local_kinds names e
-    act_local_kinds names (branch c first second) =
-        local_kinds names c ++ (acts_local_kinds names first ++ acts_local_kinds names second)
-    act_local_kinds names (with_name x e body) =
-        let kind = kind_among names e in
-        kind ∷ (local_kinds names e ++ acts_local_kinds ((x, kind) ∷ names) body)
-
-    pub acts_local_kinds : Names → Acts → List Kind
-    acts_local_kinds names no_acts = []
-    acts_local_kinds names (act a rest) = act_local_kinds names a ++ acts_local_kinds names rest
 
   -- how high the operands and loops of a tree come to stand, above those that wait before it
   abbrev mutual
@@ -109,12 +70,12 @@ module _ (functions : List Costed) where
 abbrev pub words_from : List Costed → List Declared → List ℕ
 words_from functions [] = []
 words_from functions (rule called_so body ∷ rest) =
-    (weights (acts_local_kinds functions [] body) + height_of_acts functions [] body) ∷ words_from functions rest
+    (weights (acts_local_kinds (costed_heads functions) [] body) + height_of_acts functions [] body) ∷ words_from functions rest
 words_from functions (function called_so params result body ∷ rest) =
     let takes = param_kinds params in
     let kind = kind_of_type result in
     let names = param_names params in
-    let inside = weights takes + (weights (local_kinds functions names body) + max (height functions names body) (weight kind)) in
+    let inside = weights takes + (weights (local_kinds (costed_heads functions) names body) + max (height functions names body) (weight kind)) in
     let known : Costed = record { head = record { name = called_so; takes = takes; result = kind }; most = inside } in
     inside ∷ words_from (known ∷ functions) rest
 

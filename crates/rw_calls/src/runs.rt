@@ -114,7 +114,7 @@ fn check_conflict(rt: &impl Abort, alloc: Global, methods: &Catalogue)
     assert_eq!(rt; run.end, RunEnd::Fault(fault));
     assert_eq!(rt; run.closed, 1);
     assert_eq!(rt;
-        run.trace.line(run.trace.len() - 1),
+        run.trace.line(run.trace.len().saturating_sub(1)),
         Some(TraceEvent::Fault(fault))
     );
     assert_eq!(rt; value_at(&run.series, 5, 1), Some(12));
