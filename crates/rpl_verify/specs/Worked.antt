@@ -12,7 +12,7 @@ use Rattle.rpl_code.specs.declared.block.BlockHead.TheVariants.{Rule, Function}
 use Rattle.rpl_code.specs.declared.block.Block.{Block}
 use Rattle.rpl_code.specs.Worked.{plain_rule}
 use Rattle.rpl_tree.specs.Budget.{Budget}
-use Rattle.rpl_tree.specs.Worked.{all_cells, basin_of, dam, flow_object, numbers_object, pool, unknown_cells}
+use Rattle.rpl_tree.specs.Worked.{basin_of, dam, flow_object, numbers_object, pool, unknown_cells}
 use Rattle.rpl_verify.specs.declared.misfit.Misfit.{Misfit}
 use Rattle.rpl_verify.specs.Fits.{Refusal, first_misfit, refusal}
 use Rattle.rpl_verify.specs.Budget.{ruling}
@@ -51,6 +51,9 @@ put_outflow ahead = I.Put (codes "Dam") (codes "Outflow") ahead
 
 abbrev pub x_slot : Instruction
 x_slot = I.Slot (codes "D") (codes "X")
+
+abbrev pub y_slot : Instruction
+y_slot = I.Slot (codes "D") (codes "Y")
 
 abbrev pub put_x : Instruction
 put_x = I.Put (codes "D") (codes "X") 0
@@ -165,6 +168,10 @@ ruled blocks = ruling one_dam blocks
 
 -- ---- firings
 
+-- two days of the data object with plain numbers X and Y
+abbrev pub numbers_basin : Draft
+numbers_basin = basin_of 2 (numbers_object ∷ [])
+
 -- `D.X[t] := Max(D.X[t], 10);` and `D.X[t] := 0;`
 abbrev pub raise_and_reset_code : List Block
 raise_and_reset_code =
@@ -176,9 +183,9 @@ abbrev pub hundredth_code : List Block
 hundredth_code =
     rule_with [] (number 100 ∷ I.Slot (codes "D") (codes "Y") ∷ I.Now ∷ I.Read ∷ I.Div ∷ put_x ∷ []) ∷ []
 
--- what the first rule does at the first of two days of the data object with plain numbers X and Y
+-- what the first rule does there, at the first day
 abbrev pub code_does : List Block → (Cell → Option ℤ) → Option Fire
-code_does code values = fire_of_code code (basin_of 2 (numbers_object ∷ [])) 1 1 values
+code_does code values = fire_of_code code numbers_basin 1 1 values
 
 -- what a rule of these locals and lines does there, before it puts what it has made in X, where nothing is known
 abbrev pub x_of : List ValueKind → List Instruction → Option Fire
@@ -190,20 +197,22 @@ x_by_truth lines =
     let k : ℕ = length lines in
     x_of [] (lines ++ I.Branch (k + 3) ∷ number 1 ∷ I.Jump (k + 5) ∷ I.Target [] ∷ number 2 ∷ I.Target (K.N ∷ []) ∷ [])
 
--- what is put in X there where all cells hold 4, and on the first of 40 days of that object and the pool
-abbrev pub x_of_fours : List Instruction → Option Fire
-x_of_fours lines = code_does (plain_rule (lines ++ put_x ∷ [])) (all_cells (pos 4))
-
+-- what is put in X on the first of 40 days of that object and the pool
 abbrev pub x_of_pool : List Instruction → Option Fire
 x_of_pool lines =
     fire_of_code (plain_rule (lines ++ put_x ∷ [])) (basin_of 40 (numbers_object ∷ pool ∷ [])) 1 1 unknown_cells
-
--- `slot D.Y`
-abbrev pub y_slot : Instruction
-y_slot = I.Slot (codes "D") (codes "Y")
 
 -- the difference of a function's two parameters, where the first is a timestep
 abbrev pub earlier_code : List Block
 earlier_code =
     function_with (K.D ∷ K.N ∷ []) K.D [] (I.Load 0 ∷ I.Load 1 ∷ I.Back ∷ [])
     ∷ rule_with [] (I.Now ∷ I.Now ∷ number 3 ∷ I.Invoke 1 ∷ I.Between ∷ put_x ∷ []) ∷ []
+
+-- what the second of two slots holds, and the sum of what both hold
+abbrev pub second_slot : List Block
+second_slot = plain_rule (x_slot ∷ y_slot ∷ I.List 2 ∷ number 2 ∷ I.Item ∷ I.Now ∷ I.Read ∷ put_x ∷ [])
+
+abbrev pub sum_of_slots : List Block
+sum_of_slots = rule_with (K.S ∷ K.N ∷ [])
+    (x_slot ∷ I.List 1 ∷ y_slot ∷ I.Append ∷ I.Widen 5 ∷ I.Foreach 0 ∷ I.Load 1 ∷ I.Load 0 ∷ I.Now ∷ I.Read ∷ I.Add ∷ I.Store 1
+    ∷ I.Next ∷ I.Load 1 ∷ put_x ∷ []) ∷ []

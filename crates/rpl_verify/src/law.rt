@@ -14,7 +14,7 @@ ghost use Rattle.rpl_verify.specs.declared.misfit.Misfit.TheVariants.{BackwardJu
 ghost use Rattle.rpl_verify.specs.Budget.{AreAccepted, IsWithinLimits};
 ghost use Rattle.rpl_verify.specs.Machine.{fire_of_code};
 ghost use Rattle.rpl_verify.specs.Fits.{AreFit, first_misfit, refusal};
-ghost use Rattle.rpl_verify.specs.Worked.{cap_and_base_code, code_does, dam_and_flow, doubled_items, earlier_code, hundredth_code, long_locals, many_puts, misfit_at, misfit_in, misfit_of, nested, number, number_function, one_dam, one_or_sum, one_or_two, over_a_list, pair_then, put_outflow, put_spill, raise_and_reset_code, rule_with, ruled, seven_kept, skipped, spilling_dam, sum_ahead_code, sum_or_two, three_counted, tower, two_puts, x_by_truth, x_of, x_of_fours, x_of_pool, x_slot, y_slot};
+ghost use Rattle.rpl_verify.specs.Worked.{cap_and_base_code, code_does, dam_and_flow, doubled_items, earlier_code, hundredth_code, long_locals, many_puts, misfit_at, misfit_in, function_with, misfit_of, nested, number, number_function, numbers_basin, one_dam, one_or_sum, one_or_two, over_a_list, pair_then, put_outflow, put_spill, raise_and_reset_code, rule_with, ruled, second_slot, seven_kept, skipped, sum_of_slots, spilling_dam, sum_ahead_code, sum_or_two, three_counted, tower, two_puts, x_by_truth, x_of, x_of_pool, x_slot, y_slot};
 
 /// Codes that fit. What a jump leaves out is judged as well, with the operands that the target behind the jump declares.
 pub fn codes_that_fit()
@@ -26,6 +26,9 @@ pub fn codes_that_fit()
     ensures one_or_two { AreFit one_dam one_or_two }
     ensures doubled_items { AreFit one_dam doubled_items }
     ensures skipped { AreFit one_dam skipped }
+    ensures arguments { AreFit numbers_basin earlier_code }
+    ensures second_slot { AreFit numbers_basin second_slot }
+    ensures sum_of_slots { AreFit numbers_basin sum_of_slots }
 {}
 
 /// Names that aren't there, or that can't be used so. Of two misfits at a place the one with the lesser number counts.
@@ -56,6 +59,9 @@ pub fn misfits_of_calls()
         ≡ misfit_at LaterCall 0 }
     ensures itself { misfit_in (number_function (I.Invoke 1 ∷ []) ∷ []) ≡ misfit_at LaterCall 0 }
     ensures no_block { misfit_of [] (I.Invoke 0 ∷ []) ≡ misfit_at NoSuchName 0 }
+    ensures arguments { misfit_in (function_with (K.D ∷ K.N ∷ []) K.D [] (I.Load 0 ∷ [])
+        ∷ rule_with [] (number 3 ∷ I.Now ∷ I.Invoke 1 ∷ []) ∷ [])
+        ≡ Some (refusal WrongOperand 2 2) }
     ensures rule { misfit_in (rule_with [] [] ∷ rule_with [] (I.Invoke 1 ∷ []) ∷ [])
         ≡ Some (refusal NoSuchName 2 0) }
 {}
@@ -72,6 +78,10 @@ pub fn misfits_of_jumps()
         (I.Bool true ∷ I.Branch 4 ∷ number 1 ∷ I.Jump 4 ∷ I.Target [] ∷ [])
         ≡ misfit_at WrongShape 3 }
     ensures fallen { misfit_of [] (number 1 ∷ I.Target [] ∷ []) ≡ misfit_at WrongShape 1 }
+    ensures bottom_first { misfit_of [] (number 1 ∷ I.Bool true ∷ I.Target (K.N ∷ K.B ∷ []) ∷ [])
+        ≡ misfit_at WrongShape 3 }
+    ensures top_first { misfit_of [] (number 1 ∷ I.Bool true ∷ I.Target (K.B ∷ K.N ∷ []) ∷ [])
+        ≡ misfit_at WrongShape 2 }
     ensures nothing_behind { misfit_of [] (I.Jump 2 ∷ number 1 ∷ I.Target [] ∷ [])
         ≡ misfit_at WrongShape 0 }
 {}
@@ -110,6 +120,8 @@ pub fn misfits_of_operands()
     ensures nothing_loaded { misfit_of [] (I.Load 0 ∷ []) ≡ misfit_at WrongShape 0 }
     ensures mixed { misfit_of [] (number 1 ∷ I.Bool true ∷ I.List 2 ∷ [])
         ≡ misfit_at WrongOperand 2 }
+    ensures no_room { misfit_of (K.NList 4096 ∷ []) (I.Load 0 ∷ number 1 ∷ I.Append ∷ [])
+        ≡ misfit_at WrongOperand 2 }
     ensures too_long { misfit_of [] (pair_then (I.Widen 1 ∷ [])) ≡ misfit_at WrongOperand 3 }
     ensures left { misfit_of [] (number 1 ∷ []) ≡ misfit_at WrongShape 1 }
     ensures no_result { misfit_in (number_function [] ∷ []) ≡ misfit_at WrongShape 0 }
@@ -132,6 +144,9 @@ pub fn budgets()
     ensures doubled_items { ruled doubled_items ≡ Ok (budget 21 0 1 11 ∷ []) }
     ensures three_counted { ruled three_counted ≡ Ok (budget 12 0 1 4 ∷ []) }
     ensures skipped { ruled skipped ≡ Ok (budget 2 0 0 0 ∷ []) }
+    ensures arguments { AreAccepted numbers_basin earlier_code
+        (budget 3 0 0 4 ∷ budget 11 0 1 7 ∷ []) }
+    ensures sum_of_slots { AreAccepted numbers_basin sum_of_slots (budget 51 5 1 13 ∷ []) }
     ensures long_locals { ruled (long_locals 244) ≡ Ok (budget 0 0 0 999668 ∷ []) }
 {}
 
@@ -218,9 +233,10 @@ pub fn dates()
 
 /// Operations on lists, and what locals begin as. A loop over an empty list is left out, and a mapping leaves an empty list.
 pub fn lists()
-    ensures slots { x_of_fours
-        (x_slot ∷ y_slot ∷ I.List 2 ∷ number 2 ∷ I.Item ∷ I.Now ∷ I.Read ∷ [])
+    ensures slots { code_does second_slot (all_cells (pos 4))
         ≡ done_by (cell_of 2 1 ∷ []) 1 (pos 4) 10 }
+    ensures sum_of_slots { code_does sum_of_slots (all_cells (pos 4))
+        ≡ done_by (cell_of 1 1 ∷ cell_of 2 1 ∷ []) 1 (pos 8) 30 }
     ensures no_item { x_of [] (pair_then (number 3 ∷ I.Item ∷ [])) ≡ x_ends (OutOfRange (pos 3)) 7 }
     ensures as_wide { x_of [] (pair_then (I.Widen 2 ∷ I.Length ∷ [])) ≡ x_is (pos 2) 10 }
     ensures no_turn { x_of (K.NList 3 ∷ K.N ∷ []) (I.Load 0 ∷ I.Foreach 1 ∷ I.Next ∷ number 7 ∷ [])
