@@ -1,5 +1,5 @@
 -- The instructions of operators and words, which kinds of code the kinds of expressions are, and how many lines each form takes.
-use Rattle.std.specs.Prelude.{ℕ, ◌+◌, ◌*ℤ◌, ℤ, pos, Bool, List, [], ◌∷◌, ◌++◌, map, reverse, Option, Some, None, unwrap_or, if◌then◌else◌}
+use Rattle.std.specs.Prelude.{ℕ, ◌+◌, ◌*ℤ◌, ℤ, pos, List, [], ◌∷◌, map, reverse, Option, Some, None, unwrap_or, if◌then◌else◌}
 use Rattle.rw_base.specs.Dimension.{Dimension}
 use Rattle.rw_base.specs.Unit.{units, unit_in}
 use Rattle.rpl_code.specs.declared.kind.ValueKind.{ValueKind}

@@ -1,5 +1,5 @@
 -- Where the code of an expression or statement stands in its block.
-use Rattle.std.specs.Prelude.{ℕ, ◌+◌, List, [], ◌∷◌, map, bytes_eq, if◌then◌else◌}
+use Rattle.std.specs.Prelude.{ℕ, ◌+◌, List, [], ◌∷◌, bytes_eq, if◌then◌else◌}
 use Rattle.rpl_tree.specs.Value.{Kind}
 use Rattle.rpl_tree.specs.Tree.{Tree, Act, Acts, Parameter}
 use Rattle.rpl_tree.specs.Kinds.{Head, Names, kind_of_type, tree_kind}

@@ -5,8 +5,8 @@ ghost use Rattle.rpl_code.specs.declared.instruction.Instruction.TheVariants as 
 ghost use Rattle.rpl_tree.specs.declared.words.OneWord.TheVariants.{Known, Length, Minus};
 ghost use Rattle.rpl_tree.specs.declared.words.TwoWord.TheVariants.{And, Less, Minus as Less_by, Or, Plus, Unequal};
 ghost use Rattle.rpl_tree.specs.Tree.{bind, branch, choice, no_acts, now, one, truth, two, with_name};
-ghost use Rattle.rpl_tree.specs.Worked.{both_call, cap_and_base, count_call, l_name, n_name, of_unit, one_or_two, one_to_x, over, pair, s_name, sum_ahead, three, twice_each, whole, x_put, x_rule, y_now, acts_of};
-ghost use Rattle.rpl_verify.specs.Worked.{cap_and_base_code, rule_with, sum_ahead_code};
+ghost use Rattle.rpl_tree.specs.Worked.{both_call, cap_and_base, count_call, hundredth, l_name, n_name, n_to_x, of_unit, one_or_two, one_to_x, over, pair, raise_and_reset, s_name, sum_ahead, three, twice_each, whole, x_put, x_rule, y_now};
+ghost use Rattle.rpl_verify.specs.Worked.{cap_and_base_code, hundredth_code, raise_and_reset_code, rule_with, sum_ahead_code};
 ghost use Rattle.rpl_compile.specs.Translate.{translate};
 ghost use Rattle.rpl_compile.specs.Worked.{behind_functions, lines_beside_functions, lines_of_acts, lines_of_tree, number, put_x, putting};
 
@@ -14,6 +14,8 @@ ghost use Rattle.rpl_compile.specs.Worked.{behind_functions, lines_beside_functi
 pub fn rulesets()
     ensures cap_and_base { translate cap_and_base ≡ cap_and_base_code }
     ensures sum_ahead { translate sum_ahead ≡ sum_ahead_code }
+    ensures hundredth { translate hundredth ≡ hundredth_code }
+    ensures raise_and_reset { translate raise_and_reset ≡ raise_and_reset_code }
     ensures local { translate (x_rule (bind (codes "l") (pair (pos 7) (pos 8)) (one Length l_name)))
         ≡ rule_with (K.NList 2 ∷ []) (putting (number 7 ∷ number 8 ∷ I.List 2 ∷ I.Store 0
         ∷ I.Load 0 ∷ I.Length ∷ [])) ∷ [] }
@@ -83,7 +85,7 @@ pub fn room()
 
 /// Statements: a WITH is a local, and an IF without a second part jumps over nothing.
 pub fn statements()
-    ensures with_name { lines_of_acts (with_name (codes "n") (whole (pos 7)) (acts_of (x_put n_name ∷ [])) ∷ [])
+    ensures with_name { lines_of_acts (with_name (codes "n") (whole (pos 7)) n_to_x ∷ [])
         ≡ putting (number 7 ∷ I.Store 0 ∷ I.Load 0 ∷ []) }
     ensures choice { lines_of_acts (branch (truth false) one_to_x no_acts ∷ [])
         ≡ I.Bool false ∷ I.Branch 5 ∷ number 1 ∷ put_x ∷ I.Jump 6 ∷ I.Target [] ∷ I.Target []
