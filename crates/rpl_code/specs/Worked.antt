@@ -1,0 +1,45 @@
+-- Worked codes and texts.
+use Rattle.std.specs.Prelude.{ℕ, true, false, List, [], ◌∷◌, pos, negsuc, codes}
+use Rattle.rpl_code.specs.declared.kind.ValueKind.TheVariants as K
+use Rattle.rpl_code.specs.declared.instruction.Instruction.{Instruction}
+use Rattle.rpl_code.specs.declared.instruction.Instruction.TheVariants as I
+use Rattle.rpl_code.specs.declared.block.BlockHead.TheVariants.{Rule, Function}
+use Rattle.rpl_code.specs.declared.block.Block.{Block}
+use Rattle.rpl_code.specs.Spelling.{ended}
+
+-- a rule without locals, and its lines
+abbrev pub plain_rule : List Instruction → List Block
+plain_rule lines = record { head = Rule; locals = []; lines = lines } ∷ []
+
+-- the storage of a dam is capped
+abbrev pub capped : List Block
+capped = plain_rule (I.Slot (codes "Dam") (codes "Storage") ∷ I.Now ∷ I.Read ∷ I.Num (pos 1020) ∷ I.Call (codes "Min")
+    ∷ I.Put (codes "Dam") (codes "Storage") 0 ∷ [])
+
+abbrev pub capped_text : List ℕ
+capped_text = ended (codes "CODE 1" ∷ codes "RULE" ∷ codes "LOCALS -" ∷ codes "slot Dam.Storage" ∷ codes "now" ∷ codes "read"
+    ∷ codes "num 1020" ∷ codes "call Min" ∷ codes "put Dam.Storage 0" ∷ codes "END" ∷ [])
+
+-- a function of two parameters, and a rule with three locals that uses each instruction with words behind it
+abbrev pub mixed : List Block
+mixed =
+    record { head = Function K.N (K.N ∷ K.SList 12 ∷ []); locals = K.B ∷ K.D ∷ []; lines = I.Load 0 ∷ I.Neg ∷ [] }
+    ∷ record {
+      head = Rule;
+      locals = K.N ∷ K.S ∷ K.NList 4096 ∷ [];
+      lines = I.Num (negsuc 6) ∷ I.Bool true ∷ I.Bool false ∷ I.Store 4294967295 ∷ I.ToElevation (codes "Dam")
+          ∷ I.ToStorage (codes "_d2") ∷ I.Invoke 1 ∷ I.List 2 ∷ I.Widen 4096 ∷ I.Jump 9 ∷ I.Branch 10
+          ∷ I.Target [] ∷ I.Target (K.NList 2 ∷ K.D ∷ []) ∷ I.Foreach 0 ∷ I.Next ∷ I.Map 1 ∷ I.Yield ∷ [];
+    }
+    ∷ []
+
+abbrev pub mixed_text : List ℕ
+mixed_text = ended (codes "CODE 1" ∷ codes "FUNCTION N N,S*12" ∷ codes "LOCALS B,D" ∷ codes "load 0" ∷ codes "neg" ∷ codes "END"
+    ∷ codes "RULE" ∷ codes "LOCALS N,S,N*4096" ∷ codes "num -7" ∷ codes "bool true" ∷ codes "bool false" ∷ codes "store 4294967295"
+    ∷ codes "toelevation Dam" ∷ codes "tostorage _d2" ∷ codes "invoke 1" ∷ codes "list 2" ∷ codes "widen 4096" ∷ codes "jump 9"
+    ∷ codes "branch 10" ∷ codes "target -" ∷ codes "target N*2,D" ∷ codes "foreach 0" ∷ codes "next" ∷ codes "map 1"
+    ∷ codes "yield" ∷ codes "END" ∷ [])
+
+-- a rule of one line, which is a whole text
+abbrev pub rule_of : List ℕ → List ℕ
+rule_of line = ended (codes "CODE 1" ∷ codes "RULE" ∷ codes "LOCALS -" ∷ line ∷ codes "END" ∷ [])

@@ -1,0 +1,26 @@
+use crate::{Kinds, Lines, ValueKind};
+
+/// What a block stands for.
+#[derive(Debug, Drop)]
+pub enum BlockHead {
+    /// A rule.
+    Rule,
+    /// A function, with the kinds of its result and of its parameters.
+    Function {
+        /// The kind of its result.
+        result: ValueKind,
+        /// The kinds of its parameters. They are its first locals.
+        parameters: Kinds,
+    },
+}
+
+/// A block of code: a rule or a function.
+#[derive(Debug, Drop)]
+pub struct Block {
+    /// Which of the two.
+    pub head: BlockHead,
+    /// The kinds of its locals, without the parameters.
+    pub locals: Kinds,
+    /// Its instructions.
+    pub lines: Lines,
+}

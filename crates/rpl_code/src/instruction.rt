@@ -1,0 +1,105 @@
+use crate::{Kinds, Name};
+
+/// An instruction of a block. A local is named by its number, and so is a block; a place is a line of the block. Each
+/// counts from 0, but blocks from 1.
+#[derive(Debug, Drop)]
+pub enum Instruction {
+    /// A number, from -Q to Q.
+    Num(i64),
+    /// A truth value.
+    Bool(bool),
+    /// The timestep of the firing.
+    Now,
+    /// A slot.
+    Slot {
+        /// The object that has it.
+        object: Name,
+        /// Its name there.
+        slot: Name,
+    },
+    /// The value of a local.
+    Load(u32),
+    /// A value becomes that of a local.
+    Store(u32),
+    /// The sum.
+    Add,
+    /// The difference.
+    Sub,
+    /// The product.
+    Mul,
+    /// The quotient, rounded down.
+    Div,
+    /// The number with the other sign.
+    Neg,
+    /// The timestep so many later.
+    Shift,
+    /// The timestep so many earlier.
+    Back,
+    /// How many timesteps the first is after the second.
+    Between,
+    /// Whether two numbers are equal.
+    Eq,
+    /// Whether the first number is less.
+    Lt,
+    /// Whether the first number is at most the second.
+    Le,
+    /// Whether two timesteps are equal.
+    Deq,
+    /// Whether the first timestep is earlier.
+    Dlt,
+    /// Whether the first timestep is no later than the second.
+    Dle,
+    /// The other truth value.
+    Not,
+    /// What a slot holds at a timestep.
+    Read,
+    /// Whether a slot holds a value at a timestep.
+    Known,
+    /// The month in which a timestep begins.
+    Month,
+    /// The day of the month on which a timestep begins.
+    Day,
+    /// The year in which a timestep begins.
+    Year,
+    /// The elevation at which a reservoir has a storage.
+    ToElevation(Name),
+    /// The storage that a reservoir has at an elevation.
+    ToStorage(Name),
+    /// A predefined function.
+    Call(Name),
+    /// A function block, by its number.
+    Invoke(u32),
+    /// A list of so many values.
+    List(u16),
+    /// A list with one value more.
+    Append,
+    /// The same list, with room for so many.
+    Widen(u16),
+    /// A value of a list, by its place.
+    Item,
+    /// How many values a list has.
+    Length,
+    /// On to a place.
+    Jump(u32),
+    /// On to a place where the truth value is false.
+    Branch(u32),
+    /// A place that is jumped to, with the kinds of all operands there, bottom first.
+    Target(Kinds),
+    /// The loop up to its `Next` begins, once for each value of a list, which becomes that of a local.
+    Foreach(u32),
+    /// The end of a loop that `Foreach` began.
+    Next,
+    /// The loop up to its `Yield` begins, once for each value of a list, which becomes that of a local.
+    Map(u32),
+    /// The end of a loop that `Map` began: its number goes into the list that the loop makes.
+    Yield,
+    /// A slot is given a value, so many timesteps ahead.
+    Put {
+        /// The object that has the slot.
+        object: Name,
+        /// The slot's name there.
+        slot: Name,
+        /// How many timesteps after that of the firing.
+        ahead: u8,
+    },
+}

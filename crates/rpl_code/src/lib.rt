@@ -1,0 +1,24 @@
+//! The code of a policy: what a block of instructions is, and the text that spells it. `specs/Spelling.antt` says for
+//! every code which text that is, and `specs/Reading.antt` what any text is read as, or at which line it is refused.
+//! `write_code` answers the text of a code. What a code computes is not said here.
+#![tactic(auto)]
+
+mod block;
+mod code;
+mod instruction;
+mod kind;
+mod kinds;
+pub mod law;
+mod lines;
+mod name;
+mod spelling;
+mod writing;
+
+pub use block::{Block, BlockHead};
+pub use code::Code;
+pub use instruction::Instruction;
+pub use kind::ValueKind;
+pub use kinds::Kinds;
+pub use lines::Lines;
+pub use name::Name;
+pub use writing::write_code;

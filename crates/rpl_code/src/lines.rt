@@ -1,0 +1,35 @@
+ghost use Rattle.std.specs.Prelude.{◌≡◌};
+
+use crate::Instruction;
+use std::marker::Model;
+
+/// The instructions of a block, which contracts see as a list. Places count from 0.
+#[derive(Debug, Drop)]
+pub struct Lines {
+    items: Vec<Instruction>,
+}
+
+impl Model for Lines {
+    ghost use Rattle.std.specs.Prelude.{List};
+    ghost use Rattle.rpl_code.specs.declared.instruction.Instruction.{Instruction};
+
+    ghost Value = { List Instruction };
+
+    ghost view = { λ lines. lines.items.items };
+}
+
+impl Lines {
+    /// These instructions, in their order.
+    pub fn of(items: Vec<Instruction>) -> Lines
+        ensures { result ≡ items.items }
+    {
+        Lines { items }
+    }
+
+    /// The instructions, in their order.
+    pub fn as_slice(&self) -> &[Instruction]
+        ensures { result.now ≡ self.now }
+    {
+        self.items.as_slice()
+    }
+}

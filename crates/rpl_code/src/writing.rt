@@ -1,0 +1,117 @@
+// The lines of a code.
+ghost use Rattle.std.specs.Prelude.{◌≡◌, ◌++◌, ◌∷◌, [], OnOk, IfOk, string_bytes, map, flat_map};
+ghost use Rattle.rpl_code.specs.Bounds.{IsCode};
+ghost use Rattle.rpl_code.specs.Spelling.{instruction_line, head_line, locals_line, block_lines, ended, spelt};
+
+use crate::spelling::{push_kind, push_kinds_word, push_operands, word_of};
+use crate::{Block, BlockHead, Code, Instruction, Kinds};
+use rw_base::NoMemory;
+use std::alloc::Global;
+
+fn push_instruction(text: &mut String, instruction: &Instruction) -> Result<(), NoMemory>
+    ensures { OnOk result (string_bytes text.new ≡ string_bytes text.old
+        ++ ended (instruction_line instruction.now ∷ [])) }
+{
+    text.push_str(word_of(instruction))?;
+    push_operands(text, instruction)?;
+    text.push_str("\n")?;
+    Ok(())
+}
+
+fn push_instructions(text: &mut String, lines: &[Instruction]) -> Result<(), NoMemory>
+    ensures { OnOk result (string_bytes text.new ≡ string_bytes text.old
+        ++ ended (map instruction_line lines.now)) }
+{
+    for instruction in lines {
+        push_instruction(text, instruction)?;
+    }
+    Ok(())
+}
+
+fn push_head(text: &mut String, head: &BlockHead) -> Result<(), NoMemory>
+    ensures { OnOk result (string_bytes text.new ≡ string_bytes text.old ++ head_line head.now) }
+{
+    match head {
+        BlockHead::Rule => {
+            text.push_str("RULE")?;
+            Ok(())
+        }
+        BlockHead::Function { result, parameters } => {
+            text.push_str("FUNCTION ")?;
+            push_kind(text, *result)?;
+            push_kinds_word(text, parameters)
+        }
+    }
+}
+
+fn push_locals(text: &mut String, locals: &Kinds) -> Result<(), NoMemory>
+    ensures { OnOk result (string_bytes text.new ≡ string_bytes text.old
+        ++ locals_line locals.now) }
+{
+    text.push_str("LOCALS")?;
+    push_kinds_word(text, locals)
+}
+
+fn push_block(text: &mut String, block: &Block) -> Result<(), NoMemory>
+    ensures { OnOk result (string_bytes text.new ≡ string_bytes text.old
+        ++ ended (block_lines block.now)) }
+{
+    push_head(text, &block.head)?;
+    text.push_str("\n")?;
+    push_locals(text, &block.locals)?;
+    text.push_str("\n")?;
+    push_instructions(text, block.lines.as_slice())?;
+    text.push_str("END\n")?;
+    Ok(())
+}
+
+fn push_blocks(text: &mut String, blocks: &[Block]) -> Result<(), NoMemory>
+    ensures { OnOk result (string_bytes text.new ≡ string_bytes text.old
+        ++ ended (flat_map block_lines blocks.now)) }
+{
+    for block in blocks {
+        push_block(text, block)?;
+    }
+    Ok(())
+}
+
+/// The text of a code: a line for each head, for the locals, for each instruction and for each end, and `CODE 1` before
+/// all. Want of memory is the one other answer.
+pub fn write_code(alloc: Global, code: &Code) -> Result<Vec<u8>, NoMemory>
+    ensures { IfOk result (λ text. text.items ≡ spelt code.now) }
+{
+    let mut text = String::new(alloc);
+    text.push_str("CODE 1\n")?;
+    push_blocks(&mut text, code.blocks())?;
+    Ok(text.into_bytes())
+}
+
+#[cfg(test)]
+mod tests {
+    use super::write_code;
+    use crate::{Block, BlockHead, Code, Kinds, Lines};
+    use std::alloc::Global;
+    use std::test::Fail;
+
+    // What is written of a code of these blocks.
+    fn written(alloc: Global, blocks: Vec<Block>) -> Result<Vec<u8>, Fail>
+        requires { IsCode blocks.items }
+    {
+        Ok(write_code(alloc, &Code::of(blocks))?)
+    }
+
+    #[test]
+    fn codes_are_written(rt: HostRuntime) -> Result<(), Fail> {
+        let none = written(rt.alloc(), Vec::new(rt.alloc()))?;
+        assert_eq!(rt; none.as_slice(), b"CODE 1\n".as_slice());
+        let mut blocks = Vec::new(rt.alloc());
+        blocks.push(Block {
+            head: BlockHead::Rule,
+            locals: Kinds::of(Vec::new(rt.alloc())),
+            lines: Lines::of(Vec::new(rt.alloc())),
+        })?;
+        let one = written(rt.alloc(), blocks)?;
+        assert_eq!(rt; one.as_slice(), b"CODE 1\nRULE\nLOCALS -\nEND\n".as_slice());
+        Ok(())
+    }
+}

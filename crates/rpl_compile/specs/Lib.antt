@@ -1,0 +1,5 @@
+pub mod Operations
+pub mod Size
+pub mod Site
+pub mod Translate
+pub mod Worked

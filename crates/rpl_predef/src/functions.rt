@@ -1,0 +1,53 @@
+// The six functions of the table, each of which is proved to be its row. A row with fewer than three arguments doesn't
+// look at the others.
+ghost use Rattle.std.specs.Prelude.{◌≡◌};
+ghost use Rattle.rw_base.specs.Predefined.{predefined_of};
+
+use rw_base::{Qty, law};
+
+/// The lesser of a and b.
+pub fn least(a: Qty, b: Qty, _c: Qty) -> Qty
+    ensures { result ≡ predefined_of 1 a b _c }
+{
+    if a.get() <= b.get() { a } else { b }
+}
+
+/// The greater of a and b.
+pub fn greatest(a: Qty, b: Qty, _c: Qty) -> Qty
+    ensures { result ≡ predefined_of 2 a b _c }
+{
+    if a.get() >= b.get() { a } else { b }
+}
+
+/// a without its sign.
+pub fn absolute(a: Qty, _b: Qty, _c: Qty) -> Qty
+    ensures { result ≡ predefined_of 3 a _b _c }
+{
+    Qty::of(a.get().abs()).unwrap()
+}
+
+/// a brought to at most c, and then to at least b.
+pub fn clamped(a: Qty, b: Qty, c: Qty) -> Qty
+    ensures { result ≡ predefined_of 4 a b c }
+{
+    greatest(b, least(a, c, a), a)
+}
+
+/// The multiple of b nearest to a between 0 and a, and a itself where b is 0.
+pub fn rounded_down(a: Qty, b: Qty, _c: Qty) -> Qty
+    ensures { result ≡ predefined_of 5 a b _c }
+{
+    law::predefined_answers();
+    let (number, step) = (a.get(), b.get());
+    if step == 0 {
+        return a;
+    }
+    Qty::of(number - number % step).unwrap()
+}
+
+/// -1 below 0, 0 at 0, 1 above.
+pub fn sign(a: Qty, _b: Qty, _c: Qty) -> Qty
+    ensures { result ≡ predefined_of 6 a _b _c }
+{
+    Qty::of(a.get().signum()).unwrap()
+}

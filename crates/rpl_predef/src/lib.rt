@@ -1,0 +1,13 @@
+//! The functions that rules call by name: Min, Max, Abs, Clamp, RoundDown and Sign, by their numbers 1 to 6. A `Predef`
+//! is a function of the program's own beside the fact that it computes its row of the table, and `Predefs` has one for
+//! each row: a call of row k answers what the table says. No call takes memory.
+#![tactic(auto)]
+
+mod functions;
+pub mod law;
+mod predef;
+mod predefs;
+
+pub use functions::{absolute, clamped, greatest, least, rounded_down, sign};
+pub use predef::Predef;
+pub use predefs::{Predefs, PredefsFault};

@@ -1,0 +1,126 @@
+ghost use Rattle.std.specs.Prelude.{◌≡◌, ◌≢◌, ◌↔◌, ◌≤◌, ℕ, map, length, IfOk, IsOk, Err, Some};
+ghost use Rattle.rpl_predef.specs.declared.predefs.PredefsFault.TheVariants as PredefsFault;
+ghost use Rattle.rw_base.specs.Predefined.{predefined_of};
+ghost use Rattle.rpl_predef.specs.Rows.{IsRow, first_wrong, AreInOrder};
+
+use crate::Predef;
+use rw_base::Qty;
+
+// How many rows the table has.
+const ROWS: usize = 6;
+
+/// Why functions are no table.
+#[derive(Clone, Copy, Debug, PartialEq, Eq)]
+pub enum PredefsFault {
+    /// There aren't 6 functions, but so many.
+    WrongCount(usize),
+    /// The function in this place, counted from 1, is of another row.
+    WrongPlace(u8),
+}
+
+/// One function for each row of the table, in the order of the rows' numbers.
+#[derive(Drop)]
+pub struct Predefs {
+    /// The functions, in that order.
+    pub rows: Vec<Predef>,
+    ghost whole: { length rows.items ≡ 6 },
+    ghost ordered: { AreInOrder (map (λ p. p.row) rows.items) },
+}
+
+// The first place, counted from 1, with a function of another row.
+fn first_wrong(rows: &[Predef]) -> Option<u8>
+    requires { length rows.now ≤ 6 }
+    ensures { result ≡ first_wrong 1 (map (λ p. p.row) rows.now) }
+{
+    let mut place = 1u8;
+    for predef in rows {
+        if predef.row != place {
+            return Some(place);
+        }
+        place += 1;
+    }
+    None
+}
+
+impl Predefs {
+    /// The table of these functions: Min, Max, Abs, Clamp, RoundDown, Sign.
+    ///
+    /// Their count is judged first. `WrongPlace` names the first function of another row.
+    pub fn of(rows: Vec<Predef>) -> Result<Predefs, PredefsFault>
+        ensures accepted { IsOk result
+            ↔ ((length rows.items ≡ 6) × AreInOrder (map (λ p. p.row) rows.items)) }
+        ensures rows { IfOk result (λ predefs. predefs.rows ≡ rows) }
+        ensures count { (found : ℕ) → result ≡ Err (PredefsFault.WrongCount found)
+            → (found ≡ length rows.items) × (found ≢ 6) }
+        ensures place { (place : ℕ) → result ≡ Err (PredefsFault.WrongPlace place)
+            → (length rows.items ≡ 6) × (first_wrong 1 (map (λ p. p.row) rows.items) ≡ Some place) }
+    {
+        if rows.len() != ROWS {
+            return Err(PredefsFault::WrongCount(rows.len()));
+        }
+        if let Some(place) = first_wrong(&rows) {
+            return Err(PredefsFault::WrongPlace(place));
+        }
+        Ok(Predefs { rows })
+    }
+
+    /// What row `k` of the table says of these arguments, by the function that was handed in for it. It takes no memory.
+    pub fn call(&self, k: u8, a: Qty, b: Qty, c: Qty) -> Qty
+        requires { IsRow k }
+        ensures { result ≡ predefined_of k a b c }
+    {
+        self.rows[usize::from(k) - 1].call(a, b, c)
+    }
+}
+
+#[cfg(test)]
+mod tests {
+    use super::{Predefs, PredefsFault};
+    use crate::{Predef, absolute, clamped, greatest, least, rounded_down, sign};
+    use rw_base::Qty;
+    use std::test::Fail;
+
+    #[test]
+    fn functions_are_called_by_number(rt: HostRuntime) -> Result<(), Fail> {
+        let mut rows = Vec::new(rt.alloc());
+        rows.push(Predef::of(1, least))?;
+        rows.push(Predef::of(2, greatest))?;
+        rows.push(Predef::of(3, absolute))?;
+        rows.push(Predef::of(4, clamped))?;
+        rows.push(Predef::of(5, rounded_down))?;
+        rows.push(Predef::of(6, sign))?;
+        let Ok(predefs) = Predefs::of(rows) else {
+            return Err(Fail::from("a table is refused"));
+        };
+        let (seven, three, zero) = (quantity(7)?, quantity(3)?, quantity(0)?);
+        assert_eq!(rt; predefs.call(5, quantity(-7)?, three, zero).get(), -6);
+        assert_eq!(rt; predefs.call(5, seven, zero, zero).get(), 7);
+        Ok(())
+    }
+
+    #[test]
+    fn exchanged_functions_are_refused(rt: HostRuntime) -> Result<(), Fail> {
+        let mut rows = Vec::new(rt.alloc());
+        rows.push(Predef::of(2, greatest))?;
+        rows.push(Predef::of(1, least))?;
+        rows.push(Predef::of(3, absolute))?;
+        rows.push(Predef::of(4, clamped))?;
+        rows.push(Predef::of(5, rounded_down))?;
+        rows.push(Predef::of(6, sign))?;
+        assert!(rt; matches!(Predefs::of(rows), Err(PredefsFault::WrongPlace(1))));
+        Ok(())
+    }
+
+    #[test]
+    fn missing_functions_are_refused(rt: HostRuntime) -> Result<(), Fail> {
+        let mut rows = Vec::new(rt.alloc());
+        rows.push(Predef::of(1, least))?;
+        rows.push(Predef::of(2, greatest))?;
+        assert!(rt; matches!(Predefs::of(rows), Err(PredefsFault::WrongCount(2))));
+        Ok(())
+    }
+
+    fn quantity(value: i64) -> Result<Qty, Fail> {
+        Ok(Qty::of(value).ok_or("no quantity")?)
+    }
+}

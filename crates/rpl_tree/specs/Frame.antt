@@ -1,0 +1,8 @@
+-- In what a firing depends on the cells: in what it looks at.
+use Rattle.std.specs.Prelude.{◌≡◌, List, [], ◌∷◌}
+use Rattle.rw_base.specs.declared.number.Cell.{Cell}
+
+-- each of these cells is alike in both
+abbrev pub AreAlike : {A : Type 0} → (Cell → A) → (Cell → A) → List Cell → Type 0
+AreAlike one other [] = Unit {0}
+AreAlike one other (cell ∷ cells) = (one cell ≡ other cell) × AreAlike one other cells

@@ -1,0 +1,15 @@
+pub mod Value
+pub mod Outcome
+pub mod Operators
+pub mod Tree
+pub mod World
+pub mod Kinds
+pub mod Mean
+pub mod Seen
+pub mod Frame
+pub mod Count
+pub mod Cost
+pub mod Locals
+pub mod Words
+pub mod Budget
+pub mod Worked

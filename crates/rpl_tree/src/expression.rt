@@ -1,0 +1,104 @@
+use crate::{ConvertWord, OneWord, SlotText, TwoWord};
+
+/// An expression.
+#[derive(Debug, Drop)]
+pub enum Expr {
+    /// `12` or `12 "unit"`.
+    Number {
+        /// The number that is written.
+        value: i64,
+        /// The unit word, if there is one.
+        unit: Option<Vec<u8>>,
+    },
+    /// `TRUE` or `FALSE`.
+    Truth(bool),
+    /// `t`, the timestep in which the rule fires.
+    Now,
+    /// `Object.Slot`.
+    Slot(SlotText),
+    /// A variable or a parameter.
+    Name(Vec<u8>),
+    /// `name(args)`.
+    Call {
+        /// A predefined function, or one of the ruleset.
+        name: Vec<u8>,
+        /// The arguments, in order.
+        args: Vec<Expr>,
+    },
+    /// `(x)`.
+    Brackets(Box<Expr>),
+    /// `{x, y}`.
+    List(Vec<Expr>),
+    /// `IF condition THEN yes ELSE no ENDIF`.
+    If {
+        /// Which of the two is taken.
+        condition: Box<Expr>,
+        /// Where it is true.
+        yes: Box<Expr>,
+        /// Where it is false.
+        no: Box<Expr>,
+    },
+    /// `LET name := value IN body ENDLET`.
+    Let {
+        /// The variable.
+        name: Vec<u8>,
+        /// What it stands for in the body.
+        value: Box<Expr>,
+        /// What is answered.
+        body: Box<Expr>,
+    },
+    /// `FOR name IN list WITH total := first DO body ENDFOR`.
+    For {
+        /// The variable that stands for each element in turn.
+        name: Vec<u8>,
+        /// The list.
+        list: Box<Expr>,
+        /// The accumulator, which each turn sets to what its body answers.
+        total: Vec<u8>,
+        /// Its first value.
+        first: Box<Expr>,
+        /// The body.
+        body: Box<Expr>,
+    },
+    /// `MAP name IN list DO body ENDMAP`.
+    Map {
+        /// The variable that stands for each element in turn.
+        name: Vec<u8>,
+        /// The list.
+        list: Box<Expr>,
+        /// What stands in the place of the element.
+        body: Box<Expr>,
+    },
+    /// A word and one expression, as `NOT x`.
+    One {
+        /// The word.
+        word: OneWord,
+        /// The expression.
+        arg: Box<Expr>,
+    },
+    /// A word and two expressions, as `x + y` or `ITEM(x, y)`.
+    Two {
+        /// The word.
+        word: TwoWord,
+        /// The first expression.
+        left: Box<Expr>,
+        /// The second expression.
+        right: Box<Expr>,
+    },
+    /// `StorageToElevation(object, x)` or `ElevationToStorage(object, x)`.
+    Convert {
+        /// Which of the two.
+        word: ConvertWord,
+        /// The reservoir whose table is read.
+        object: Vec<u8>,
+        /// The storage or elevation.
+        arg: Box<Expr>,
+    },
+    /// `slot[step]`: the value of a slot at a date.
+    At {
+        /// The slot.
+        slot: Box<Expr>,
+        /// The date.
+        step: Box<Expr>,
+    },
+}

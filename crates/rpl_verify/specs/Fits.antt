@@ -1,0 +1,249 @@
+-- When code fits a basin: what each place asks of the operands and loops before it, and the first place that doesn't get it.
+use Rattle.std.specs.Prelude.{◌≡◌, ℕ, suc, ◌&&◌, Bool, true, false, nat_lt, ◌==◌, List, [], ◌∷◌, ◌++◌, length, map, reverse, slice_get, Option, Some, None, Result, Ok, Err, if◌then◌else◌}
+use Rattle.rw_model.specs.Draft.{Draft}
+use Rattle.rpl_code.specs.declared.kind.ValueKind.{ValueKind}
+use Rattle.rpl_code.specs.declared.kind.ValueKind.TheVariants as K
+use Rattle.rpl_code.specs.declared.instruction.Instruction.{Instruction}
+use Rattle.rpl_code.specs.declared.instruction.Instruction.TheVariants as I
+use Rattle.rpl_code.specs.declared.block.BlockHead.{BlockHead}
+use Rattle.rpl_code.specs.declared.block.BlockHead.TheVariants.{Rule, Function}
+use Rattle.rpl_code.specs.declared.block.Block.{Block}
+use Rattle.rpl_verify.specs.declared.misfit.Misfit.{Misfit}
+use Rattle.rpl_verify.specs.declared.misfit.Misfit.TheVariants.{TooMany, BackwardJump, JumpOutside, WrongShape}
+use Rattle.rpl_verify.specs.Kinds.{are_same_kinds, is_kind, room_of, element_of}
+use Rattle.rpl_verify.specs.Table.{row, operands_behind}
+use Rattle.rpl_verify.specs.Places.{Loop, visiting, mapping, is_same_loop, Spot, spots}
+use Rattle.rpl_verify.specs.Names.{Scope, name_misfit}
+
+-- a loop that is open: where it begins, which it is, for how many elements its list has room, and the operands under that list
+pub record Open : Type 0 where
+  pub start : ℕ
+  pub loop : Loop
+  pub room : ℕ
+  pub under : List ValueKind
+
+-- what is before a place: the kinds of the operands, last one first, and the open loops, innermost first
+pub record Before : Type 0 where
+  pub kinds : List ValueKind
+  pub loops : List Open
+
+abbrev pub before : List ValueKind → List Open → Before
+before kinds loops = record { kinds = kinds; loops = loops }
+
+-- goes on with what there is, unless something is refused
+abbrev pub then_do : {A B E : Type 0} → Result A E → (A → Result B E) → Result B E
+then_do (Ok x) go = go x
+then_do (Err refusal) go = Err refusal
+
+abbrev pub if_fits : {A : Type 0} → Bool → A → Result A Misfit
+if_fits true x = Ok x
+if_fits false x = Err WrongShape
+
+abbrev pub unless_misfit : {A : Type 0} → Option Misfit → Result A Misfit → Result A Misfit
+unless_misfit None r = r
+unless_misfit (Some misfit) r = Err misfit
+
+-- ---- operands
+
+-- the instruction takes its operands, and leaves others in their place
+abbrev pub taken : Scope → Instruction → Before → Result Before Misfit
+taken scope i b = then_do (operands_behind (row scope.heads scope.locals i) b.kinds) (λ kinds. Ok (before kinds b.loops))
+
+-- the operands are those that are declared where they are carried to
+abbrev pub carried : List ValueKind → Before → Result Before Misfit
+carried declared b = if_fits (are_same_kinds declared b.kinds) b
+
+-- ---- jumps
+
+abbrev pub is_same_place : Option ℕ → Option ℕ → Bool
+is_same_place None None = true
+is_same_place (Some a) (Some b) = a == b
+is_same_place _ _ = false
+
+abbrev pub innermost : List Open → Option ℕ
+innermost [] = None
+innermost (o ∷ os) = Some o.start
+
+-- what is declared at a spot, from a place in the loop that begins there
+abbrev pub lands_on : Option ℕ → Spot → Option (List ValueKind) → Result (List ValueKind) Misfit
+lands_on here spot None = Err JumpOutside
+lands_on here spot (Some kinds) = if is_same_place here spot.innermost then Ok kinds else Err JumpOutside
+
+abbrev pub landing : Option ℕ → Option Spot → Result (List ValueKind) Misfit
+landing here None = Err JumpOutside
+landing here (Some spot) = lands_on here spot spot.declares
+
+-- what is declared where a jump from a place to another lands
+abbrev pub found : Scope → ℕ → ℕ → Before → Result (List ValueKind) Misfit
+found scope place to b =
+    if nat_lt place to then landing (innermost b.loops) (slice_get scope.spots to) else Err BackwardJump
+
+-- a branch takes its truth value, and carries the others
+abbrev pub branched : Scope → ℕ → ℕ → Before → Result Before Misfit
+branched scope place to b =
+    then_do (found scope place to b) (λ declared. then_do (taken scope (I.Branch to) b) (carried declared))
+
+abbrev pub declared_at : Option Spot → Option (List ValueKind)
+declared_at None = None
+declared_at (Some spot) = spot.declares
+
+-- behind a jump stands a target, and before that the operands that it declares
+abbrev pub restarted : Option (List ValueKind) → Before → Result Before Misfit
+restarted None b = Err WrongShape
+restarted (Some kinds) b = Ok (before kinds b.loops)
+
+abbrev pub jumped : Scope → ℕ → ℕ → Before → Result Before Misfit
+jumped scope place to b =
+    then_do (found scope place to b) (λ declared. then_do (carried declared b)
+    (restarted (declared_at (slice_get scope.spots (suc place)))))
+
+-- ---- loops
+
+abbrev pub element_on_top : List ValueKind → Option ValueKind
+element_on_top [] = None
+element_on_top (k ∷ ks) = element_of k
+
+abbrev pub room_on_top : List ValueKind → ℕ
+room_on_top [] = 0
+room_on_top (k ∷ ks) = room_of k
+
+-- a loop over the list on top, whose element becomes that of a local of its kind
+abbrev pub opened : Scope → ℕ → Loop → ℕ → Instruction → Before → Result Before Misfit
+opened scope place loop local i b =
+    then_do (taken scope i b) (λ c.
+    let o : Open = record { start = place; loop = loop; room = room_on_top b.kinds; under = c.kinds } in
+    if_fits (is_kind (slice_get scope.locals local) (element_on_top b.kinds)) (before c.kinds (o ∷ b.loops)))
+
+-- the operands behind a loop: a mapping leaves its list
+abbrev pub behind_loop : Loop → ℕ → List ValueKind → List ValueKind
+behind_loop visiting room under = under
+behind_loop mapping room under = K.NList room ∷ under
+
+-- the end of the innermost loop, with the operands under its list
+abbrev pub shut : Loop → List ValueKind → List Open → Result Before Misfit
+shut loop kinds [] = Err WrongShape
+shut loop kinds (o ∷ os) =
+    if_fits (is_same_loop loop o.loop && are_same_kinds o.under kinds) (before (behind_loop o.loop o.room o.under) os)
+
+abbrev pub closed : Scope → Loop → Instruction → Before → Result Before Misfit
+closed scope loop i b = then_do (taken scope i b) (λ c. shut loop c.kinds c.loops)
+
+-- ---- a place
+
+-- an instruction whose names are there, at a place
+abbrev pub behind : Scope → ℕ → Before → Instruction → Result Before Misfit
+behind scope place b (I.Jump to) = jumped scope place to b
+behind scope place b (I.Branch to) = branched scope place to b
+behind scope place b (I.Target kinds) = carried (reverse kinds) b
+behind scope place b (I.Foreach n) = opened scope place visiting n (I.Foreach n) b
+behind scope place b I.Next = closed scope visiting I.Next b
+behind scope place b (I.Map n) = opened scope place mapping n (I.Map n) b
+behind scope place b I.Yield = closed scope mapping I.Yield b
+behind scope place b i = taken scope i b
+
+-- what is before the next place, or the first misfit of this one
+abbrev pub judged : Scope → ℕ → Before → Instruction → Result Before Misfit
+judged scope place b i = unless_misfit (name_misfit scope i) (behind scope place b i)
+
+-- no operands, or a function's result
+abbrev pub end_kinds : BlockHead → List ValueKind
+end_kinds Rule = []
+end_kinds (Function result parameters) = result ∷ []
+
+-- no loop is open at the end
+abbrev pub ended : BlockHead → Before → List Open → Result Before Misfit
+ended head b [] = carried (end_kinds head) b
+ended head b (o ∷ os) = Err WrongShape
+
+-- ---- a block
+
+pub record Misplaced : Type 0 where
+  pub misfit : Misfit
+  pub place : ℕ
+
+abbrev pub at_place : {A B : Type 0} → ℕ → Result A Misfit → (A → Result B Misplaced) → Result B Misplaced
+at_place place (Ok x) go = go x
+at_place place (Err misfit) go = Err (record { misfit = misfit; place = place })
+
+-- what is before each place from this one on, and at the end; or the first misfit
+abbrev pub befores : Scope → ℕ → Before → List Instruction → Result (List Before) Misplaced
+befores scope place b [] = at_place place (ended scope.head b b.loops) (λ c. Ok (c ∷ []))
+befores scope place b (i ∷ is) =
+    at_place place (judged scope place b i) (λ c. then_do (befores scope (suc place) c is) (λ bs. Ok (b ∷ bs)))
+
+abbrev pub parameters_of : BlockHead → List ValueKind
+parameters_of Rule = []
+parameters_of (Function result parameters) = parameters
+
+-- the kinds of a block's locals, which begin with its parameters
+abbrev pub locals_of : Block → List ValueKind
+locals_of block = parameters_of block.head ++ block.locals
+
+abbrev pub heads_of : List Block → List BlockHead
+heads_of blocks = map (λ (block : Block). block.head) blocks
+
+abbrev pub scope_of : Draft → List Block → ℕ → Block → Scope
+scope_of basin blocks number block = record {
+  basin = basin;
+  heads = heads_of blocks;
+  number = number;
+  head = block.head;
+  locals = locals_of block;
+  spots = spots block.lines;
+}
+
+-- both are rules, or both functions
+abbrev pub is_alike : BlockHead → BlockHead → Bool
+is_alike Rule Rule = true
+is_alike (Function r ps) (Function s qs) = true
+is_alike _ _ = false
+
+abbrev pub count_alike : BlockHead → List Block → ℕ
+count_alike head [] = 0
+count_alike head (block ∷ blocks) =
+    if is_alike head block.head then suc (count_alike head blocks) else count_alike head blocks
+
+-- a block behind others, among all blocks
+abbrev pub block_befores : Draft → List Block → List Block → Block → Result (List Before) Misplaced
+block_befores basin blocks earlier block =
+    if nat_lt (count_alike block.head earlier) 200
+    then befores (scope_of basin blocks (suc (length earlier)) block) 0 (before [] []) block.lines
+    else Err (record { misfit = TooMany; place = 0 })
+
+-- ---- code
+
+-- blocks count from 1, places from 0
+pub record Refusal : Type 0 where
+  pub misfit : Misfit
+  pub block : ℕ
+  pub place : ℕ
+
+abbrev pub refusal : Misfit → ℕ → ℕ → Refusal
+refusal misfit block place = record { misfit = misfit; block = block; place = place }
+
+abbrev pub in_block : {A B : Type 0} → ℕ → Result A Misplaced → (A → Result B Refusal) → Result B Refusal
+in_block number (Ok x) go = go x
+in_block number (Err wrong) go = Err (refusal wrong.misfit number wrong.place)
+
+-- what each block is judged as, where a block is judged by itself, the blocks before it, and what those were judged as
+abbrev pub each_block : {A : Type 0} → (List Block → List A → Block → Result A Misplaced)
+    → List Block → List A → List Block → Result (List A) Refusal
+each_block judge earlier done [] = Ok done
+each_block judge earlier done (block ∷ blocks) =
+    in_block (suc (length earlier)) (judge earlier done block)
+    (λ x. each_block judge (earlier ++ block ∷ []) (done ++ x ∷ []) blocks)
+
+-- what is before each place of each block, or the first misfit
+abbrev pub fitting : Draft → List Block → Result (List (List Before)) Refusal
+fitting basin blocks = each_block (λ earlier done block. block_befores basin blocks earlier block) [] [] blocks
+
+abbrev pub refusal_in : {A : Type 0} → Result A Refusal → Option Refusal
+refusal_in (Ok x) = None
+refusal_in (Err why) = Some why
+
+abbrev pub first_misfit : Draft → List Block → Option Refusal
+first_misfit basin blocks = refusal_in (fitting basin blocks)
+
+-- no block has a misfit
+abbrev pub AreFit : Draft → List Block → Type 0
+AreFit basin blocks = first_misfit basin blocks ≡ None

@@ -1,0 +1,9 @@
+pub mod Kinds
+pub mod Table
+pub mod Places
+pub mod Names
+pub mod Fits
+pub mod Budget
+pub mod Operations
+pub mod Machine
+pub mod Worked

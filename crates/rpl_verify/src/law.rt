@@ -1,0 +1,279 @@
+// What the definitions of this crate come to, on codes that were worked out by hand.
+ghost use Rattle.std.specs.Prelude.{All, List, ◌≡◌, [], ◌∷◌, Err, None, Ok, Some, codes, neg_ℤ, pos, replicate, true, ◌+ℤ◌};
+ghost use Rattle.rw_base.specs.Quantity.{quantity_max};
+ghost use Rattle.rpl_code.specs.declared.kind.ValueKind.TheVariants as K;
+ghost use Rattle.rpl_code.specs.declared.instruction.Instruction.TheVariants as I;
+ghost use Rattle.rpl_code.specs.declared.block.Block.{Block};
+ghost use Rattle.rpl_code.specs.Worked.{plain_rule};
+ghost use Rattle.rw_model.specs.Draft.{Draft};
+ghost use Rattle.rw_series.specs.declared.fire.FireEnd.TheVariants.{Done, OutOfRange, Unknown, ZeroDivisor};
+ghost use Rattle.rpl_tree.specs.Budget.{Budget, budget};
+ghost use Rattle.rpl_tree.specs.World.{cell_of, put_to};
+ghost use Rattle.rpl_tree.specs.Worked.{all_cells, done_by, ended_by, fire, only_slot, unknown_cells, x_ends, x_is};
+ghost use Rattle.rpl_verify.specs.declared.misfit.Misfit.TheVariants.{BackwardJump, JumpOutside, LaterCall, MissingOperand, NoSuchName, NotSettable, PutInFunction, TargetStep, TooCostly, TooDeep, TooMany, TooManyPuts, TooManyReads, WrongOperand, WrongShape};
+ghost use Rattle.rpl_verify.specs.Budget.{AreAccepted, IsWithinLimits};
+ghost use Rattle.rpl_verify.specs.Machine.{fire_of_code};
+ghost use Rattle.rpl_verify.specs.Fits.{AreFit, first_misfit, refusal};
+ghost use Rattle.rpl_verify.specs.Worked.{cap_and_base_code, code_does, dam_and_flow, doubled_items, earlier_code, hundredth_code, long_locals, many_puts, misfit_at, misfit_in, function_with, misfit_of, nested, number, number_function, numbers_basin, one_dam, one_or_sum, one_or_two, over_a_list, pair_then, put_outflow, put_spill, raise_and_reset_code, rule_with, ruled, second_slot, seven_kept, skipped, sum_of_slots, spilling_dam, sum_ahead_code, sum_or_two, three_counted, tower, two_puts, x_by_truth, x_of, x_of_pool, x_slot, y_slot};
+
+/// Codes that fit. What a jump leaves out is judged as well, with the operands that the target behind the jump declares.
+pub fn codes_that_fit()
+    ensures none { AreFit one_dam [] }
+    ensures empty { AreFit one_dam (plain_rule []) }
+    ensures two_puts { AreFit one_dam two_puts }
+    ensures seven_kept { AreFit one_dam seven_kept }
+    ensures sum_ahead { AreFit dam_and_flow sum_ahead_code }
+    ensures one_or_two { AreFit one_dam one_or_two }
+    ensures doubled_items { AreFit one_dam doubled_items }
+    ensures skipped { AreFit one_dam skipped }
+    ensures arguments { AreFit numbers_basin earlier_code }
+    ensures second_slot { AreFit numbers_basin second_slot }
+    ensures sum_of_slots { AreFit numbers_basin sum_of_slots }
+{}
+
+/// Names that aren't there, or that can't be used so. Of two misfits at a place the one with the lesser number counts.
+pub fn misfits_of_names()
+    ensures too_many { misfit_in (replicate 201 (rule_with [] []))
+        ≡ Some (refusal TooMany 201 0) }
+    ensures slot { misfit_of [] (I.Slot (codes "Dam") (codes "Level") ∷ [])
+        ≡ misfit_at NoSuchName 0 }
+    ensures function { misfit_of [] (I.Call (codes "Twice") ∷ []) ≡ misfit_at NoSuchName 0 }
+    ensures table { misfit_of [] (number 1 ∷ I.ToElevation (codes "Dam") ∷ [])
+        ≡ misfit_at NoSuchName 1 }
+    ensures derived { first_misfit spilling_dam (rule_with [] (number 1 ∷ put_spill 0 ∷ []) ∷ [])
+        ≡ misfit_at NotSettable 1 }
+    ensures in_function { misfit_in (number_function (number 1 ∷ put_outflow 0 ∷ []) ∷ [])
+        ≡ misfit_at PutInFunction 1 }
+    ensures ahead { misfit_of [] (number 1 ∷ put_outflow 1 ∷ []) ≡ misfit_at TargetStep 1 }
+    ensures derived_first { first_misfit spilling_dam (number_function (put_spill 1 ∷ []) ∷ [])
+        ≡ misfit_at NotSettable 0 }
+    ensures function_first { misfit_in (number_function (put_outflow 1 ∷ []) ∷ [])
+        ≡ misfit_at PutInFunction 0 }
+    ensures ahead_first { misfit_of [] (put_outflow 1 ∷ []) ≡ misfit_at TargetStep 0 }
+{}
+
+/// Calls of blocks. A block calls functions before it, and no rule.
+pub fn misfits_of_calls()
+    ensures later { misfit_in (rule_with [] (I.Invoke 2 ∷ [])
+        ∷ number_function (number 1 ∷ []) ∷ [])
+        ≡ misfit_at LaterCall 0 }
+    ensures itself { misfit_in (number_function (I.Invoke 1 ∷ []) ∷ []) ≡ misfit_at LaterCall 0 }
+    ensures no_block { misfit_of [] (I.Invoke 0 ∷ []) ≡ misfit_at NoSuchName 0 }
+    ensures arguments { misfit_in (function_with (K.D ∷ K.N ∷ []) K.D [] (I.Load 0 ∷ [])
+        ∷ rule_with [] (number 3 ∷ I.Now ∷ I.Invoke 1 ∷ []) ∷ [])
+        ≡ Some (refusal WrongOperand 2 2) }
+    ensures rule { misfit_in (rule_with [] [] ∷ rule_with [] (I.Invoke 1 ∷ []) ∷ [])
+        ≡ Some (refusal NoSuchName 2 0) }
+{}
+
+/// Jumps. They are judged before the operands, but for those that they carry.
+pub fn misfits_of_jumps()
+    ensures backward { misfit_of [] (I.Target [] ∷ I.Jump 0 ∷ I.Target [] ∷ [])
+        ≡ misfit_at BackwardJump 1 }
+    ensures no_target { misfit_of [] (I.Jump 2 ∷ I.Target [] ∷ number 1 ∷ [])
+        ≡ misfit_at JumpOutside 0 }
+    ensures beyond { misfit_of [] (I.Bool true ∷ I.Branch 9 ∷ []) ≡ misfit_at JumpOutside 1 }
+    ensures operands_later { misfit_of [] (I.Branch 0 ∷ []) ≡ misfit_at BackwardJump 0 }
+    ensures carried { misfit_of []
+        (I.Bool true ∷ I.Branch 4 ∷ number 1 ∷ I.Jump 4 ∷ I.Target [] ∷ [])
+        ≡ misfit_at WrongShape 3 }
+    ensures fallen { misfit_of [] (number 1 ∷ I.Target [] ∷ []) ≡ misfit_at WrongShape 1 }
+    ensures bottom_first { misfit_of [] (number 1 ∷ I.Bool true ∷ I.Target (K.N ∷ K.B ∷ []) ∷ [])
+        ≡ misfit_at WrongShape 3 }
+    ensures top_first { misfit_of [] (number 1 ∷ I.Bool true ∷ I.Target (K.B ∷ K.N ∷ []) ∷ [])
+        ≡ misfit_at WrongShape 2 }
+    ensures nothing_behind { misfit_of [] (I.Jump 2 ∷ number 1 ∷ I.Target [] ∷ [])
+        ≡ misfit_at WrongShape 0 }
+{}
+
+/// Loops, and jumps out of them, into them and over their ends. What ends another loop than the innermost ends none.
+pub fn misfits_of_loops()
+    ensures jump_out { over_a_list K.N
+        (I.Foreach 0 ∷ I.Jump 7 ∷ I.Target [] ∷ I.Next ∷ I.Target [] ∷ [])
+        ≡ misfit_at JumpOutside 4 }
+    ensures jump_in { misfit_of (K.N ∷ [])
+        (I.Jump 6 ∷ I.Target [] ∷ pair_then (I.Foreach 0 ∷ I.Target [] ∷ I.Next ∷ []))
+        ≡ misfit_at JumpOutside 0 }
+    ensures jump_over { misfit_of [] (I.Jump 3 ∷ I.Target [] ∷ I.Next ∷ I.Target [] ∷ [])
+        ≡ misfit_at WrongShape 2 }
+    ensures other_end { over_a_list K.N (I.Foreach 0 ∷ number 1 ∷ I.Yield ∷ [])
+        ≡ misfit_at WrongShape 5 }
+    ensures other_next { over_a_list K.N (I.Map 0 ∷ I.Next ∷ []) ≡ misfit_at WrongShape 4 }
+    ensures no_end { over_a_list K.N (I.Foreach 0 ∷ []) ≡ misfit_at WrongShape 4 }
+    ensures left { over_a_list K.N (I.Foreach 0 ∷ number 1 ∷ I.Next ∷ [])
+        ≡ misfit_at WrongShape 5 }
+    ensures element { over_a_list K.B (I.Foreach 0 ∷ I.Next ∷ []) ≡ misfit_at WrongShape 3 }
+    ensures no_list { misfit_of [] (number 1 ∷ I.Map 0 ∷ []) ≡ misfit_at WrongOperand 1 }
+    ensures no_operand { misfit_of [] (I.Foreach 0 ∷ []) ≡ misfit_at MissingOperand 0 }
+{}
+
+/// Operands. They are counted before their kinds are looked at, and a local that isn't there comes last.
+pub fn misfits_of_operands()
+    ensures missing { misfit_of [] (I.Add ∷ []) ≡ misfit_at MissingOperand 0 }
+    ensures counted { misfit_of [] (I.Bool true ∷ I.Add ∷ []) ≡ misfit_at MissingOperand 1 }
+    ensures wrong { misfit_of [] (I.Bool true ∷ number 1 ∷ I.Add ∷ [])
+        ≡ misfit_at WrongOperand 2 }
+    ensures stored { misfit_of (K.N ∷ []) (I.Bool true ∷ I.Store 0 ∷ [])
+        ≡ misfit_at WrongOperand 1 }
+    ensures no_local { misfit_of [] (number 1 ∷ I.Store 0 ∷ []) ≡ misfit_at WrongShape 1 }
+    ensures nothing_stored { misfit_of [] (I.Store 0 ∷ []) ≡ misfit_at MissingOperand 0 }
+    ensures nothing_loaded { misfit_of [] (I.Load 0 ∷ []) ≡ misfit_at WrongShape 0 }
+    ensures mixed { misfit_of [] (number 1 ∷ I.Bool true ∷ I.List 2 ∷ [])
+        ≡ misfit_at WrongOperand 2 }
+    ensures no_room { misfit_of (K.NList 4096 ∷ []) (I.Load 0 ∷ number 1 ∷ I.Append ∷ [])
+        ≡ misfit_at WrongOperand 2 }
+    ensures too_long { misfit_of [] (pair_then (I.Widen 1 ∷ [])) ≡ misfit_at WrongOperand 3 }
+    ensures left { misfit_of [] (number 1 ∷ []) ≡ misfit_at WrongShape 1 }
+    ensures no_result { misfit_in (number_function [] ∷ []) ≡ misfit_at WrongShape 0 }
+{}
+
+/// The budgets of accepted codes, block by block: what a firing counts, looks and puts at most, and the words that it keeps.
+/// Of two branches the dearer counts, a loop's body for each element that its list has room for, and what nothing reaches
+/// doesn't count.
+pub fn budgets()
+    ensures empty { ruled (plain_rule []) ≡ Ok (budget 0 0 0 0 ∷ []) }
+    ensures seven_kept { ruled seven_kept ≡ Ok (budget 4 0 1 2 ∷ []) }
+    ensures two_puts { ruled two_puts ≡ Ok (budget 12 0 2 7 ∷ []) }
+    ensures cap_and_base { ruled cap_and_base_code ≡ Ok (budget 6 1 1 2 ∷ budget 2 0 1 1 ∷ []) }
+    ensures sum_ahead { AreAccepted dam_and_flow sum_ahead_code
+        (budget 5 1 0 4 ∷ budget 34 2 1 13 ∷ []) }
+    ensures one_or_two { ruled one_or_two ≡ Ok (budget 6 0 1 1 ∷ []) }
+    ensures sum_or_two { ruled sum_or_two ≡ Ok (budget 8 0 1 2 ∷ []) }
+    ensures one_or_sum { ruled one_or_sum ≡ Ok (budget 8 0 1 2 ∷ []) }
+    ensures nested { ruled nested ≡ Ok (budget 24 0 0 12 ∷ []) }
+    ensures doubled_items { ruled doubled_items ≡ Ok (budget 21 0 1 11 ∷ []) }
+    ensures three_counted { ruled three_counted ≡ Ok (budget 12 0 1 4 ∷ []) }
+    ensures skipped { ruled skipped ≡ Ok (budget 2 0 0 0 ∷ []) }
+    ensures arguments { AreAccepted numbers_basin earlier_code
+        (budget 3 0 0 4 ∷ budget 11 0 1 7 ∷ []) }
+    ensures sum_of_slots { AreAccepted numbers_basin sum_of_slots (budget 51 5 1 13 ∷ []) }
+    ensures long_locals { ruled (long_locals 244) ≡ Ok (budget 0 0 0 999668 ∷ []) }
+{}
+
+/// Codes that fit, and whose budgets are above a limit: at the end of the first such block.
+pub fn budgets_above_limits()
+    ensures count { ruled (tower (number 1 ∷ [])) ≡ Err (refusal TooCostly 19 3) }
+    ensures looks { ruled (tower (I.Slot (codes "Dam") (codes "Inflow") ∷ I.Now ∷ I.Read ∷ []))
+        ≡ Err (refusal TooManyReads 16 3) }
+    ensures puts { ruled (many_puts 2001) ≡ Err (refusal TooManyPuts 1 4002) }
+    ensures words { ruled (long_locals 245) ≡ Err (refusal TooDeep 1 0) }
+{}
+
+/// What firings of these codes do: each looks, puts, counts and ends as the rule does that it is the code of.
+pub fn firings_of_rules()
+    ensures cap { fire_of_code cap_and_base_code one_dam 1 1 (only_slot 3 (pos 1050))
+        ≡ done_by (cell_of 3 1 ∷ []) 3 (pos 1020) 6 }
+    ensures base { fire_of_code cap_and_base_code one_dam 2 1 unknown_cells
+        ≡ done_by [] 2 (pos 50) 2 }
+    ensures no_rule { fire_of_code cap_and_base_code one_dam 3 1 unknown_cells ≡ None }
+    ensures unknown { code_does raise_and_reset_code unknown_cells
+        ≡ ended_by Unknown (cell_of 1 1 ∷ []) 3 }
+    ensures raised { code_does raise_and_reset_code (all_cells (pos 0))
+        ≡ done_by (cell_of 1 1 ∷ []) 1 (pos 10) 6 }
+    ensures third { code_does hundredth_code (only_slot 2 (pos 3))
+        ≡ done_by (cell_of 2 1 ∷ []) 1 (pos 33) 6 }
+    ensures zero { code_does hundredth_code (only_slot 2 (pos 0))
+        ≡ ended_by ZeroDivisor (cell_of 2 1 ∷ []) 5 }
+    ensures sum { fire_of_code sum_ahead_code dam_and_flow 1 1 (only_slot 1 (pos 100))
+        ≡ done_by (cell_of 1 1 ∷ cell_of 1 2 ∷ []) 4 (pos 200) 34 }
+    ensures last { fire_of_code sum_ahead_code dam_and_flow 1 3 (only_slot 1 (pos 100))
+        ≡ ended_by Unknown (cell_of 1 3 ∷ []) 29 }
+{}
+
+/// What firings of codes do that are no rule's.
+pub fn firings_of_codes()
+    ensures seven_kept { fire_of_code seven_kept one_dam 1 1 unknown_cells
+        ≡ done_by [] 2 (pos 50) 4 }
+    ensures two_puts { fire_of_code two_puts one_dam 1 1 unknown_cells
+        ≡ fire Done [] (put_to 2 (pos 4) ∷ put_to 2 (pos 5) ∷ []) 12 }
+    ensures nothing { fire_of_code (long_locals 244) one_dam 1 1 unknown_cells ≡ fire Done [] [] 0 }
+    ensures skipped { fire_of_code skipped one_dam 1 1 unknown_cells ≡ fire Done [] [] 2 }
+    ensures branch { fire_of_code one_or_two one_dam 1 1 unknown_cells ≡ done_by [] 2 (pos 2) 6 }
+    ensures nested { fire_of_code nested one_dam 1 1 unknown_cells ≡ fire Done [] [] 24 }
+    ensures doubled_items { fire_of_code doubled_items one_dam 1 1 unknown_cells
+        ≡ done_by [] 2 (pos 10) 21 }
+    ensures three_counted { fire_of_code three_counted one_dam 1 1 unknown_cells
+        ≡ done_by [] 2 (pos 3) 12 }
+{}
+
+/// Operations on numbers, timesteps and truth values.
+pub fn operations()
+    ensures sub { x_of [] (number 3 ∷ number 5 ∷ I.Sub ∷ []) ≡ x_is (neg_ℤ (pos 2)) 4 }
+    ensures mul { x_of [] (number 3 ∷ number 5 ∷ I.Mul ∷ []) ≡ x_is (pos 15) 4 }
+    ensures neg { x_of [] (number 3 ∷ I.Neg ∷ []) ≡ x_is (neg_ℤ (pos 3)) 3 }
+    ensures beyond { x_of [] (I.Num quantity_max ∷ number 1 ∷ I.Add ∷ [])
+        ≡ x_ends (OutOfRange (quantity_max +ℤ pos 1)) 3 }
+    ensures shift { x_of [] (I.Now ∷ number 3 ∷ I.Shift ∷ I.Now ∷ I.Between ∷ []) ≡ x_is (pos 3) 6 }
+    ensures back { x_of [] (I.Now ∷ number 3 ∷ I.Back ∷ I.Now ∷ I.Between ∷ [])
+        ≡ x_is (neg_ℤ (pos 3)) 6 }
+    ensures eq { x_by_truth (number 2 ∷ number 2 ∷ I.Eq ∷ []) ≡ x_is (pos 1) 8 }
+    ensures lt { x_by_truth (number 2 ∷ number 2 ∷ I.Lt ∷ []) ≡ x_is (pos 2) 8 }
+    ensures le { x_by_truth (number 2 ∷ number 2 ∷ I.Le ∷ []) ≡ x_is (pos 1) 8 }
+    ensures deq { x_by_truth (I.Now ∷ I.Now ∷ I.Deq ∷ []) ≡ x_is (pos 1) 8 }
+    ensures dlt { x_by_truth (I.Now ∷ I.Now ∷ I.Dlt ∷ []) ≡ x_is (pos 2) 8 }
+    ensures dle { x_by_truth (I.Now ∷ I.Now ∷ I.Dle ∷ []) ≡ x_is (pos 1) 8 }
+    ensures not { x_by_truth (I.Bool true ∷ I.Not ∷ []) ≡ x_is (pos 2) 7 }
+    ensures known { x_by_truth (y_slot ∷ I.Now ∷ I.Known ∷ [])
+        ≡ done_by (cell_of 2 1 ∷ []) 1 (pos 2) 8 }
+    ensures elevation { x_of_pool (number 250 ∷ I.ToElevation (codes "Pool") ∷ [])
+        ≡ x_is (pos 501) 3 }
+    ensures storage { x_of_pool (number 2000 ∷ I.ToStorage (codes "Pool") ∷ [])
+        ≡ x_is (pos 1500) 3 }
+    ensures arguments { code_does earlier_code unknown_cells ≡ x_is (pos 3) 11 }
+{}
+
+/// The month, the day and the year of the moment at which a timestep begins.
+#[tactic(auto, unfolding(rw_calendar::specs::Moment::hours_later))]
+pub fn dates()
+    ensures month { x_of_pool (I.Now ∷ I.Month ∷ []) ≡ x_is (pos 1) 3 }
+    ensures day { x_of_pool (I.Now ∷ I.Day ∷ []) ≡ x_is (pos 1) 3 }
+    ensures year { x_of_pool (I.Now ∷ I.Year ∷ []) ≡ x_is (pos 2020) 3 }
+    ensures no_month { x_of_pool (I.Now ∷ number 1 ∷ I.Back ∷ I.Month ∷ []) ≡ x_ends Unknown 4 }
+{}
+
+/// Operations on lists, and what locals begin as. A loop over an empty list is left out, and a mapping leaves an empty list.
+pub fn lists()
+    ensures slots { code_does second_slot (all_cells (pos 4))
+        ≡ done_by (cell_of 2 1 ∷ []) 1 (pos 4) 10 }
+    ensures sum_of_slots { code_does sum_of_slots (all_cells (pos 4))
+        ≡ done_by (cell_of 1 1 ∷ cell_of 2 1 ∷ []) 1 (pos 8) 30 }
+    ensures no_item { x_of [] (pair_then (number 3 ∷ I.Item ∷ [])) ≡ x_ends (OutOfRange (pos 3)) 7 }
+    ensures as_wide { x_of [] (pair_then (I.Widen 2 ∷ I.Length ∷ [])) ≡ x_is (pos 2) 10 }
+    ensures no_turn { x_of (K.NList 3 ∷ K.N ∷ []) (I.Load 0 ∷ I.Foreach 1 ∷ I.Next ∷ number 7 ∷ [])
+        ≡ x_is (pos 7) 7 }
+    ensures empty { x_of (K.NList 3 ∷ K.N ∷ [])
+        (I.Load 0 ∷ I.Map 1 ∷ I.Load 1 ∷ I.Yield ∷ I.Length ∷ [])
+        ≡ x_is (pos 0) 7 }
+    ensures first_number { x_of (K.N ∷ []) (I.Load 0 ∷ []) ≡ x_is (pos 0) 2 }
+    ensures first_truth { x_of (K.B ∷ K.N ∷ [])
+        (I.Load 0 ∷ I.Branch 2 ∷ I.Target [] ∷ I.Load 1 ∷ [])
+        ≡ x_is (pos 0) 5 }
+    ensures first_step { x_of (K.D ∷ []) (I.Now ∷ I.Load 0 ∷ I.Between ∷ []) ≡ x_is (pos 1) 4 }
+    ensures first_slot { x_of (K.S ∷ []) (I.Load 0 ∷ I.Now ∷ I.Read ∷ [])
+        ≡ ended_by Unknown (cell_of 1 1 ∷ []) 3 }
+{}
+
+/// Codes that are stuck: they would take operands that aren't there or are of another kind, jump where nothing is declared of
+/// the kind, end another loop than the innermost, or leave something behind.
+pub fn stuck_codes()
+    ensures missing { x_of [] (I.Add ∷ []) ≡ None }
+    ensures wrong { x_of [] (I.Now ∷ number 3 ∷ I.Add ∷ I.Now ∷ I.Between ∷ []) ≡ None }
+    ensures stored { x_of (K.N ∷ []) (I.Bool true ∷ I.Store 0 ∷ number 1 ∷ []) ≡ None }
+    ensures no_target { x_of [] (I.Jump 1 ∷ number 1 ∷ []) ≡ None }
+    ensures carried { x_of [] (I.Jump 1 ∷ I.Target (K.N ∷ []) ∷ []) ≡ None }
+    ensures declared { x_of [] (number 1 ∷ I.Target [] ∷ []) ≡ None }
+    ensures no_loop { x_of [] (number 1 ∷ I.Next ∷ []) ≡ None }
+    ensures other_loop { x_of (K.N ∷ [])
+        (pair_then (I.Foreach 0 ∷ number 1 ∷ I.Yield ∷ number 1 ∷ [])) ≡ None }
+    ensures element { x_of (K.B ∷ []) (pair_then (I.Foreach 0 ∷ I.Next ∷ number 1 ∷ [])) ≡ None }
+    ensures left { x_of [] (number 1 ∷ number 2 ∷ []) ≡ None }
+    ensures beyond { x_of [] (number 1 ∷ I.Invoke 2 ∷ []) ≡ None }
+{}
+
+/// Code that is accepted fits, and each of its blocks keeps within the limits.
+pub fn accepted_code()
+    ensures fits { (basin : Draft) (blocks : List Block) (budgets : List Budget)
+        → AreAccepted basin blocks budgets → AreFit basin blocks }
+    ensures within { (basin : Draft) (blocks : List Block) (budgets : List Budget)
+        → AreAccepted basin blocks budgets → All IsWithinLimits budgets }
+{}
