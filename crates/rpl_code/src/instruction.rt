@@ -1,4 +1,5 @@
-use crate::{Kinds, Name};
+use crate::Kinds;
+use rw_model::Name;
 
 /// An instruction of a block. A local is named by its number, and so is a block; a place is a line of the block. Each
 /// counts from 0, but blocks from 1.

@@ -10,7 +10,6 @@ mod kind;
 mod kinds;
 pub mod law;
 mod lines;
-mod name;
 mod spelling;
 mod writing;
 
@@ -20,5 +19,4 @@ pub use instruction::Instruction;
 pub use kind::ValueKind;
 pub use kinds::Kinds;
 pub use lines::Lines;
-pub use name::Name;
 pub use writing::write_code;

@@ -3,9 +3,10 @@ ghost use Rattle.std.specs.Prelude.{◌≡◌, ◌++◌, ◌∷◌, [], OnOk, st
 ghost use Rattle.std.specs.Fmt.{decimal, signed_decimal};
 ghost use Rattle.rpl_code.specs.Spelling.{each_after, kind_text, kinds_text, slot_text, truth_text, word_of, operands_of};
 
-use crate::{Instruction, Kinds, Name, ValueKind};
+use crate::{Instruction, Kinds, ValueKind};
 use itoa::Buffer;
 use rw_base::NoMemory;
+use rw_model::Name;
 
 // Appends a blank and a word.
 fn push_word(text: &mut String, word: &str) -> Result<(), NoMemory>

@@ -1,14 +1,9 @@
 -- How many lines the code of an expression or statement takes, by the kinds of the names that it uses.
-use Rattle.std.specs.Prelude.{ℕ, ◌+◌, List, [], ◌∷◌, bytes_eq, if◌then◌else◌}
+use Rattle.std.specs.Prelude.{ℕ, ◌+◌, List, [], ◌∷◌}
 use Rattle.rpl_tree.specs.Value.{Kind, element_of}
 use Rattle.rpl_tree.specs.Tree.{Tree, Trees, call, brackets, list, choice, bind, each, mapped, one, two, convert, at, no_trees, tree, Act, Acts, assign, branch, with_name, no_acts, act}
-use Rattle.rpl_tree.specs.Kinds.{Head, Names, tree_kind}
+use Rattle.rpl_tree.specs.Kinds.{Head, Names, takes_named, tree_kind}
 use Rattle.rpl_compile.specs.Operations.{choice_size, one_size, two_size, widening_size}
-
--- the kinds of the parameters of the function that is called so
-abbrev pub takes_named : List Head → List ℕ → List Kind
-takes_named [] f = []
-takes_named (head ∷ heads) f = if bytes_eq head.name f then head.takes else takes_named heads f
 
 module _ (heads : List Head) where
   abbrev mutual

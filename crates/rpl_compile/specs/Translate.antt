@@ -9,11 +9,10 @@ use Rattle.rpl_tree.specs.declared.words.OneWord.TheVariants.{Known}
 use Rattle.rpl_tree.specs.declared.words.TwoWord.TheVariants.{Or, And}
 use Rattle.rpl_tree.specs.Value.{Kind, truth_kind, element_of}
 use Rattle.rpl_tree.specs.Tree.{Tree, Trees, literal, truth, now, slot, name, call, brackets, list, choice, bind, each, mapped, one, two, convert, at, no_trees, tree, Act, Acts, assign, branch, with_name, no_acts, act, Parameter, Declared, rule, function}
-use Rattle.rpl_tree.specs.Kinds.{Head, count_of, kind_of_type}
+use Rattle.rpl_tree.specs.Kinds.{Head, count_of, kind_of_type, takes_named}
 use Rattle.rpl_tree.specs.Locals.{local_kinds, acts_local_kinds}
 use Rattle.rpl_tree.specs.Mean.{heads_of, param_kinds, predefined_functions}
 use Rattle.rpl_compile.specs.Operations.{code_kind, code_kinds, convert_line, number_line, one_line, target, two_lines, widening, widening_size}
-use Rattle.rpl_compile.specs.Size.{takes_named}
 use Rattle.rpl_compile.specs.Site.{Site, behind, behind_act, behind_acts, bound, keeping, kind_at, knowing, local_named, names_in, on, over, parameters_from, start}
 
 -- a function that can be called, and its block, but of a predefined one

@@ -6,7 +6,7 @@ use Rattle.rpl_tree.specs.declared.words.TwoWord.{TwoWord}
 use Rattle.rpl_tree.specs.declared.words.TwoWord.TheVariants.{Or, And, Unequal, Greater, GreaterEqual, Append}
 use Rattle.rpl_tree.specs.Value.{Kind, room_of, element_of, is_same_kind, weight, weights}
 use Rattle.rpl_tree.specs.Tree.{Tree, Trees, name, call, brackets, list, choice, bind, each, mapped, one, two, convert, at, no_trees, tree, Act, Acts, assign, branch, with_name, no_acts, act, Parameter, Declared, rule, function}
-use Rattle.rpl_tree.specs.Kinds.{Head, Names, kind_named, kind_of_type, count_of, tree_kind}
+use Rattle.rpl_tree.specs.Kinds.{Head, Names, kind_named, kind_of_type, count_of, takes_named, tree_kind}
 use Rattle.rpl_tree.specs.Mean.{Function, predefined_functions, param_kinds}
 
 -- what is paid for a step that counts so much, for a look, and for a put
@@ -36,10 +36,6 @@ costed_heads functions = map (λ (f : Costed). f.head) functions
 abbrev pub most_named : List Costed → List ℕ → ℕ
 most_named [] f = 0
 most_named (known ∷ functions) f = if bytes_eq known.head.name f then known.most else most_named functions f
-
-abbrev pub takes_named : List Costed → List ℕ → List Kind
-takes_named [] f = []
-takes_named (known ∷ functions) f = if bytes_eq known.head.name f then known.head.takes else takes_named functions f
 
 -- each predefined function, at one cost
 abbrev pub predefined_costs : ℕ → List Costed
@@ -76,7 +72,7 @@ module _ (price : Price) (functions : List Costed) where
   abbrev mutual
     pub most : Names → Tree → ℕ
     most names (name x) = price.step (weight (kind_named names x))
-    most names (call f ts) = most_arguments names (takes_named functions f) ts + most_named functions f
+    most names (call f ts) = most_arguments names (takes_named (costed_heads functions) f) ts + most_named functions f
     most names (brackets t) = most names t
     most names (list ts) = most_of names ts + price.step (count_of ts + 1)
     most names (choice c y n) =

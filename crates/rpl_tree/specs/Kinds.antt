@@ -26,6 +26,11 @@ abbrev pub result_named : List Head → List ℕ → Kind
 result_named [] f = number_kind
 result_named (head ∷ heads) f = if bytes_eq head.name f then head.result else result_named heads f
 
+-- the kinds that it takes
+abbrev pub takes_named : List Head → List ℕ → List Kind
+takes_named [] f = []
+takes_named (head ∷ heads) f = if bytes_eq head.name f then head.takes else takes_named heads f
+
 abbrev pub kind_of_type : TypeName → Kind
 kind_of_type (numeric unit) = number_kind
 kind_of_type boolean = truth_kind

@@ -5,10 +5,10 @@ use Rattle.rpl_tree.specs.declared.words.TwoWord.{TwoWord}
 use Rattle.rpl_tree.specs.declared.words.TwoWord.TheVariants.{Or, And}
 use Rattle.rpl_tree.specs.Value.{Kind, room_of, element_of, weight, weights}
 use Rattle.rpl_tree.specs.Tree.{Tree, Trees, name, call, brackets, list, choice, bind, each, mapped, one, two, convert, at, no_trees, tree, Act, Acts, assign, branch, with_name, no_acts, act, Declared, rule, function}
-use Rattle.rpl_tree.specs.Kinds.{Names, kind_named, kind_of_type, count_of, tree_kind}
+use Rattle.rpl_tree.specs.Kinds.{Names, kind_named, kind_of_type, count_of, takes_named, tree_kind}
 use Rattle.rpl_tree.specs.Locals.{acts_local_kinds, local_kinds}
 use Rattle.rpl_tree.specs.Mean.{param_kinds}
-use Rattle.rpl_tree.specs.Cost.{Costed, costed_heads, most_named, takes_named, param_names, predefined_costs}
+use Rattle.rpl_tree.specs.Cost.{Costed, costed_heads, most_named, param_names, predefined_costs}
 
 -- a second value is made while the first one waits, but OR and AND have let go of it
 abbrev pub two_words : TwoWord → Kind → ℕ → ℕ → ℕ
@@ -25,8 +25,8 @@ module _ (functions : List Costed) where
     pub height : Names → Tree → ℕ
     height names (name x) = weight (kind_named names x)
     height names (call f ts) =
-        max (height_of_arguments names (takes_named functions f) ts)
-        (max (weights (takes_named functions f) + most_named functions f) (weight (kind_among names (call f ts))))
+        max (height_of_arguments names (takes_named (costed_heads functions) f) ts)
+        (max (weights (takes_named (costed_heads functions) f) + most_named functions f) (weight (kind_among names (call f ts))))
     height names (brackets t) = height names t
     height names (list ts) = max (height_of_all names ts) (count_of ts + 1)
     height names (choice c y n) =
