@@ -1,6 +1,6 @@
 -- What an object puts, it can put.
 use Rattle.std.proofs.Common.{◌≡◌, ◌<◌, ◌&&◌, ℕ, true, List, Option, Some, None, refl, sym, ap, ◌∙◌, arith}
-use Rattle.std.specs.Prelude.{ℤ, int_le, All, IsSome, option_map, unwrap_or, slice_index_or}
+use Rattle.std.specs.Prelude.{ℤ, int_le, IsSome, option_map, unwrap_or, slice_index_or}
 use Rattle.std.proofs.lemmas.Bool.{and_parts}
 use Rattle.std.proofs.lemmas.Int.{ints}
 use Rattle.rw_model.specs.declared.kind.Kind.{Kind}
@@ -19,7 +19,7 @@ use Rattle.rw_method.specs.Solve.{solve_of}
 use Rattle.rw_log.specs.Log.{Cells}
 use Rattle.rw_log.proofs.SolvedPuts.{solve-puts}
 use Rattle.rw_log.specs.Dispatch.{bounds_in_place, view_of, solved_by}
-use Rattle.rw_dispatch.specs.Putting.{CanPut}
+use Rattle.rw_dispatch.specs.Putting.{ArePuts, CanPut}
 use Rattle.rw_dispatch.proofs.Viewed.{has_slot, bounds_at-view}
 
 -- a put to a slot of the kind, of a value that the slot can have
@@ -27,11 +27,6 @@ pub record IsFitting (kind : Kind) (view : View) (put : Put) : Type 0 where
   pub near : put.place < 12
   pub slot : IsSome (slot_in kind put.place)
   pub bounded : is_bounded view put ≡ true
-
-pub solved_fit : (kind : Kind) (view : View) (puts : List Put) → IsKind kind → solve_of kind view ≡ Puts puts → All (λ (put : Put). IsFitting kind view put) puts
-solved_fit kind view puts sound solved = λ k d near.
-    let put = (solve-puts kind view puts sound solved).0 k d near in
-    record { near = put.own.few; slot = put.own.slot; bounded = put.bounded }
 
 pub there : {X : Type 0} (found : Option X) → IsSome found → (x : X) × (found ≡ Some x)
 there None some = absurd (cc)
@@ -53,17 +48,22 @@ CanPut-fitting basin cells object step kind put own is fitting =
     let slot = there (slot_in kind put.place) fitting.slot in
     let at = has_slot basin.objects object put.place kind slot.0 own.first is slot.1 in
     record {
+      few = fitting.near;
       slot = some_slot (slot_in_place basin.objects object put.place) at.0 at.1;
       between = between (bounds_at (view_of basin cells object step) put.place) (bounds_in_place basin object put.place) put.value
           (bounds_at-view basin cells object step put.place fitting.near) fitting.bounded;
     }
 
-pub all_can : (basin : Draft) (cells : Cells) (object step : ℕ) (kind : Kind) (seen : View) (puts : List Put) → IsObject basin.objects object
+pub are_puts : (basin : Draft) (cells : Cells) (object step : ℕ) (kind : Kind) (seen : View) (puts : List Put) → IsObject basin.objects object
     → option_map (λ (found : Object). found.kind) (object_at basin.objects object) ≡ Some kind → IsKind kind → seen ≡ view_of basin cells object step → solve_of kind seen ≡ Puts puts
-    → All (λ (put : Put). CanPut basin object put) puts
-all_can basin cells object step kind seen puts own is sound same solved = λ k d near.
-    CanPut-fitting basin cells object step kind (slice_index_or puts k d) own is
-    (solved_fit kind (view_of basin cells object step) puts sound (ap (solve_of kind) (sym same) ∙ solved) k d near)
+    → ArePuts basin object puts
+are_puts basin cells object step kind seen puts own is sound same solved =
+    let by = solve-puts kind (view_of basin cells object step) puts sound (ap (solve_of kind) (sym same) ∙ solved) in record {
+      few = by.1;
+      can = λ k d near.
+          let put = by.0 k d near in
+          CanPut-fitting basin cells object step kind (slice_index_or puts k d) own is (record { near = put.own.few; slot = put.own.slot; bounded = put.bounded });
+    }
 
 of_object : (found : Option Object) (kind : Kind) (view : View) → option_map (λ (object : Object). object.kind) found ≡ Some kind
     → solve_of kind view ≡ unwrap_or (option_map (λ (object : Object). solve_of object.kind view) found) Idle

@@ -1,5 +1,5 @@
 -- Puts are made one after another.
-use Rattle.std.proofs.Common.{◌≡◌, ℕ, Bool, true, false, List, [], ◌∷◌, Option, Some, None, refl, sym, ap, subst, ◌∙◌, if◌then◌else◌}
+use Rattle.std.proofs.Common.{◌≡◌, ◌<◌, ◌+◌, ℕ, suc, arith, drop, drop-cons, length, slice_index_or, Bool, true, false, List, [], ◌∷◌, Option, Some, None, refl, sym, ap, subst, ◌∙◌, if◌then◌else◌}
 use Rattle.std.specs.Prelude.{option_map, unwrap_or, pos}
 use Rattle.std.specs.Option.{option_or}
 use Rattle.rw_base.specs.declared.number.Cell.{Cell}
@@ -12,7 +12,7 @@ use Rattle.rw_series.specs.Series.{Series, held, is_shared, Sets}
 use Rattle.rw_series.proofs.Bounds.{bounds-shared}
 use Rattle.rw_log.specs.Log.{Asked, Cells, last_put}
 use Rattle.rw_log.specs.Dispatch.{asked_by, bounds_in_place, slot_or_none}
-use Rattle.rw_dispatch.specs.Answer.{AreBounded}
+use Rattle.rw_dispatch.specs.Stage.{AreBounded}
 use Rattle.rw_dispatch.specs.Putting.{CanPut}
 use Rattle.rw_dispatch.proofs.CanPuts.{there}
 
@@ -28,6 +28,13 @@ put-set basin put old new sets cell = sets cell ∙ chosen (is_shared basin put.
 -- what is left to be put, over what was put, is what was to be put
 abbrev pub IsPutting : Draft → Cells → Cells → List Asked → List Asked → Type 0
 IsPutting basin first now all left = (cell : Cell) → option_or (last_put basin left cell) (now cell) ≡ option_or (last_put basin all cell) (first cell)
+
+-- the next put is taken out of those that are left
+pub next-put : (items puts : List Put) (place : ℕ) (put : Put) → items ≡ puts → place < length items → put ≡ slice_index_or items place put
+    → drop place puts ≡ put ∷ drop (place + 1) puts
+next-put items puts place put same near is =
+    let next : suc place ≡ place + 1 = omega arith in
+    rw (← same) (drop-cons items place put near ∙ ap (λ (first : Put). first ∷ drop (suc place) items) (sym is) ∙ ap (λ k. put ∷ drop k items) next)
 
 -- ---- what is put is within bounds
 

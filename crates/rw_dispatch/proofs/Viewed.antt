@@ -20,7 +20,7 @@ use Rattle.rw_method.specs.declared.view.View.{View}
 use Rattle.rw_method.specs.View.{known, known_value, bounds_at, IsBounded, IsViewOf}
 use Rattle.rw_log.specs.Log.{Cells}
 use Rattle.rw_log.specs.Dispatch.{cell_at, content_in, bounds_in_place, past_value, places, view_of}
-use Rattle.rw_dispatch.specs.Answer.{AreBounded}
+use Rattle.rw_dispatch.specs.Stage.{AreBounded}
 
 -- ---- an object's slot in a place is its kind's
 

@@ -1,36 +1,36 @@
--- What a dispatch answers, by the event that it is.
-use Rattle.std.specs.Prelude.{◌≡◌, ℕ, List, map, Some}
-use Rattle.rw_base.specs.declared.number.Cell.{Cell}
-use Rattle.rw_model.specs.declared.content.Content.{Content}
+-- What the answer of a dispatch tells of the event that it is.
+use Rattle.std.specs.Prelude.{◌≡◌, ℕ, List, []}
 use Rattle.rw_model.specs.Draft.{Draft}
-use Rattle.rw_model.specs.Links.{IsBetween, bounds_in}
 use Rattle.rw_method.specs.declared.put.Put.{Put}
-use Rattle.rw_series.specs.Series.{IsCell}
+use Rattle.rw_series.specs.declared.look.Look.{Look}
 use Rattle.rw_log.specs.declared.fault.RunFault.TheVariants.{Conflict as FaultConflict, ObjectOutOfRange}
-use Rattle.rw_log.specs.Log.{Cells, Event, idle, solved, fault}
-use Rattle.rw_log.specs.Log.{Dispatch}
-use Rattle.rw_log.specs.Dispatch.{asked_by}
+use Rattle.rw_log.specs.Log.{Event, idle, solved, fault}
+use Rattle.rw_log.specs.Dispatch.{asked_for}
 use Rattle.rw_dispatch.specs.declared.dispatched.Dispatched.{Dispatched}
 use Rattle.rw_dispatch.specs.declared.dispatched.Dispatched.TheVariants.{Idle, Solved, Conflict, OutOfRange}
+use Rattle.rw_dispatch.specs.Putting.{ArePuts}
 
--- what a cell holds is within the bounds of its slot
-abbrev pub AreBounded : Draft → Cells → Type 0
-AreBounded basin cells = (cell : Cell) (content : Content) → IsCell basin cell → cells cell ≡ Some content
-    → IsBetween (bounds_in basin.objects basin.links basin.bounds cell.slot.0) content.value
+-- the event, where the object had these looks at the timestep
+abbrev pub event_of : Draft → List Look → ℕ → ℕ → Dispatched → Event
+event_of basin looked object step Idle = idle object step looked
+event_of basin looked object step (Solved asked written) = solved (record {
+  object = object;
+  step = step;
+  looked = looked;
+  asked = asked_for basin object step asked;
+  written = asked_for basin object step written;
+})
+event_of basin looked object step (Conflict slot held solves) =
+    fault (FaultConflict (record { 0 = object }) slot (record { 0 = step }) held solves)
+event_of basin looked object step (OutOfRange slot value) =
+    fault (ObjectOutOfRange (record { 0 = object }) slot (record { 0 = step }) value)
 
--- the object asked for these puts at the timestep, and those were written
-pub record IsSolved (basin : Draft) (object step : ℕ) (dispatch : Dispatch) (asked written : List Put) : Type 0 where
-  pub own : dispatch.object ≡ object
-  pub now : dispatch.step ≡ step
-  pub all : dispatch.asked ≡ map (asked_by basin object step) asked
-  pub those : dispatch.written ≡ map (asked_by basin object step) written
+-- the puts that were written
+abbrev pub written_in : Dispatched → List Put
+written_in (Solved asked written) = written
+written_in answer = []
 
--- the answer tells of the event
-abbrev pub IsAnswer : Draft → ℕ → ℕ → Event → Dispatched → Type 0
-IsAnswer basin object step (idle other at looked) Idle = (other ≡ object) × (at ≡ step)
-IsAnswer basin object step (solved dispatch) (Solved asked written) = IsSolved basin object step dispatch asked written
-IsAnswer basin object step (fault (FaultConflict other slot at held solves)) (Conflict own there here) =
-    (other.0 ≡ object) × (slot ≡ own) × (at.0 ≡ step) × (held ≡ there) × (solves ≡ here)
-IsAnswer basin object step (fault (ObjectOutOfRange other slot at value)) (OutOfRange own here) =
-    (other.0 ≡ object) × (slot ≡ own) × (at.0 ≡ step) × (value ≡ here)
-IsAnswer basin object step _ _ = ⊥
+-- the answer tells of the event, and what was written are puts that the object may make
+pub record Tells (basin : Draft) (looked : List Look) (object step : ℕ) (event : Event) (answer : Dispatched) : Type 0 where
+  pub is : event ≡ event_of basin looked object step answer
+  pub puts : ArePuts basin object (written_in answer)

@@ -1,20 +1,37 @@
--- The puts of a dispatch, one by one.
-use Rattle.std.specs.Prelude.{ℕ, ℤ, IsSome}
+-- The puts of a dispatch.
+use Rattle.std.specs.Prelude.{◌≡◌, ◌≤◌, ◌<◌, ℕ, ℤ, Bool, List, [], ◌∷◌, IsSome, None, cond, length, All}
 use Rattle.rw_base.specs.declared.number.SlotNo.{SlotNo}
 use Rattle.rw_model.specs.Draft.{Draft}
 use Rattle.rw_model.specs.Objects.{slot_in_place}
 use Rattle.rw_model.specs.Links.{IsBetween}
 use Rattle.rw_method.specs.declared.put.Put.{Put}
 use Rattle.rw_log.specs.declared.fault.RunFault.TheVariants.{Conflict}
-use Rattle.rw_log.specs.Log.{Event, fault}
-use Rattle.rw_log.specs.Dispatch.{bounds_in_place}
+use Rattle.rw_log.specs.Log.{Asked, Cells, Event, fault}
+use Rattle.rw_log.specs.Dispatch.{asked_for, bounds_in_place, denied_by, end_in, judged, puts_written}
 
 -- a put to a slot of the object, of a value that the slot can have
 pub record CanPut (basin : Draft) (object : ℕ) (put : Put) : Type 0 where
+  pub few : put.place < 12
   pub slot : IsSome (slot_in_place basin.objects object put.place)
   pub between : IsBetween (bounds_in_place basin object put.place) put.value
+
+-- what an object may put in one dispatch
+pub record ArePuts (basin : Draft) (object : ℕ) (puts : List Put) : Type 0 where
+  pub few : length puts ≤ 8
+  pub can : All (λ (put : Put). CanPut basin object put) puts
 
 -- an object's conflict
 abbrev pub conflict : ℕ → ℕ → SlotNo → ℤ → ℤ → Event
 conflict object step slot held solved =
     fault (Conflict (record { 0 = object }) slot (record { 0 = step }) held solved)
+
+-- the put isn't denied, and this says whether it is written
+pub record IsPassed (cells : Cells) (put : Asked) (is_written : Bool) : Type 0 where
+  pub passes : denied_by (end_in cells put) put ≡ None
+  pub writes : puts_written cells (put ∷ []) ≡ cond is_written (put ∷ []) []
+
+-- none of the puts is denied, and these of them are written
+pub record ArePassed (basin : Draft) (cells : Cells) (object step : ℕ) (asked written : List Put) : Type 0 where
+  pub passes : (rest : Event) → judged cells object (asked_for basin object step asked) rest ≡ rest
+  pub writes : asked_for basin object step written ≡ puts_written cells (asked_for basin object step asked)
+  pub puts : ArePuts basin object written

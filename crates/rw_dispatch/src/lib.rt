@@ -4,17 +4,16 @@
 #![tactic(auto)]
 
 mod dispatched;
-mod dispatching;
-mod judging;
-mod making;
+mod judged;
 mod owners;
 mod past;
 mod queue;
-mod seeing;
-mod solving;
+mod turn;
+mod view;
+mod written;
 
 pub use dispatched::Dispatched;
-pub use dispatching::dispatch;
 pub use past::past_cell;
 pub use queue::Queue;
-pub use seeing::slot_or_none;
+pub use turn::dispatch;
+pub use view::slot_or_none;

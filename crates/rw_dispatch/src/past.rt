@@ -28,15 +28,15 @@ fn past_in(kind: &Kind) -> Option<(u8, u16)>
 }
 
 // The slot whose earlier value an object looks at, and how many timesteps ago.
-fn past_of(basin: &Basin, o: ObjectNo) -> Option<(SlotNo, u16)>
-    requires { IsObject basin.now.objects o.0 }
-    ensures past { option_map (λ (past : SlotNo × ℕ). past_seen past) result ≡ past_of basin.now o.0 }
+fn past_of(basin: &Basin, object: ObjectNo) -> Option<(SlotNo, u16)>
+    requires { IsObject basin.now.objects object.0 }
+    ensures past { option_map (λ (past : SlotNo × ℕ). past_seen past) result ≡ past_of basin.now object.0 }
     ensures known { IfSome result (λ past. IsSlot basin.now.objects past.0.0) }
 {
-    let Some((place, ago)) = past_in(basin.kind(o)) else {
+    let Some((place, ago)) = past_in(basin.kind(object)) else {
         return None;
     };
-    let Some(slot) = basin.slot_at(o, place) else {
+    let Some(slot) = basin.slot_at(object, place) else {
         return None;
     };
     Some((slot, ago))
@@ -45,27 +45,27 @@ fn past_of(basin: &Basin, o: ObjectNo) -> Option<(SlotNo, u16)>
 /// The cell of the earlier timestep at which a dispatch of an object looks: the storage of a reservoir at the timestep
 /// before, or the inflow of a reach as many timesteps ago as its lag. `None` exactly where it looks at none, or at one that
 /// is before the run.
-pub fn past_cell(basin: &Basin, o: ObjectNo, t: StepNo) -> Option<Cell>
-    requires object { IsObject basin.now.objects o.0 }
-    requires first { 1 ≤ t.0 }
-    requires last { t.0 ≤ basin.now.control.stamps.count }
-    ensures cell { result ≡ past_cell_of basin.now o.0 t.0 }
+pub fn past_cell(basin: &Basin, object: ObjectNo, step: StepNo) -> Option<Cell>
+    requires object { IsObject basin.now.objects object.0 }
+    requires first { 1 ≤ step.0 }
+    requires last { step.0 ≤ basin.now.control.stamps.count }
+    ensures cell { result ≡ past_cell_of basin.now object.0 step.0 }
     ensures known { IfSome result (IsCell basin.now) }
 {
-    let Some((slot, ago)) = past_of(basin, o) else {
+    let Some((slot, ago)) = past_of(basin, object) else {
         return None;
     };
-    cell_of_past(t, slot, ago)
+    cell_of_past(step, slot, ago)
 }
 
 // The cell of a slot so many timesteps ago, where that isn't before the run.
-fn cell_of_past(t: StepNo, slot: SlotNo, ago: u16) -> Option<Cell>
-    ensures cell { result ≡ cell_of_past t.0 (past_seen (slot, ago)) }
+fn cell_of_past(step: StepNo, slot: SlotNo, ago: u16) -> Option<Cell>
+    ensures cell { result ≡ cell_of_past step.0 (past_seen (slot, ago)) }
 {
-    if ago < t.0 {
+    if ago < step.0 {
         Some(Cell {
             slot,
-            step: StepNo(t.0 - ago),
+            step: StepNo(step.0 - ago),
         })
     } else {
         None
@@ -83,23 +83,23 @@ fn value_in(series: &Series, cell: Cell) -> Option<Qty>
 }
 
 // The value of a slot so many timesteps ago, which may be before the run.
-fn value_of_past(basin: &Basin, series: &Series, t: StepNo, slot: SlotNo, ago: u16) -> Option<Qty>
+fn value_of_past(basin: &Basin, series: &Series, step: StepNo, slot: SlotNo, ago: u16) -> Option<Qty>
     requires { IsSlot basin.now.objects slot.0 }
-    ensures { result ≡ value_of_past basin.now (held series.now) t.0 (past_seen (slot, ago)) }
+    ensures { result ≡ value_of_past basin.now (held series.now) step.0 (past_seen (slot, ago)) }
 {
-    match cell_of_past(t, slot, ago) {
+    match cell_of_past(step, slot, ago) {
         Some(cell) => value_in(series, cell),
-        None => basin.before(slot, i64::from(t.0) - i64::from(ago)),
+        None => basin.before(slot, i64::from(step.0) - i64::from(ago)),
     }
 }
 
 /// The earlier value at which a dispatch of an object looks. `None` where it looks at none, or where it is unknown.
-pub(crate) fn past_value(basin: &Basin, series: &Series, o: ObjectNo, t: StepNo) -> Option<Qty>
-    requires { IsObject basin.now.objects o.0 }
-    ensures { result ≡ past_value basin.now (held series.now) o.0 t.0 }
+pub(crate) fn past_value(basin: &Basin, series: &Series, object: ObjectNo, step: StepNo) -> Option<Qty>
+    requires { IsObject basin.now.objects object.0 }
+    ensures { result ≡ past_value basin.now (held series.now) object.0 step.0 }
 {
-    let Some((slot, ago)) = past_of(basin, o) else {
+    let Some((slot, ago)) = past_of(basin, object) else {
         return None;
     };
-    value_of_past(basin, series, t, slot, ago)
+    value_of_past(basin, series, step, slot, ago)
 }

@@ -47,7 +47,8 @@ impl Queue {
     /// Takes out the object that is to be dispatched next. `None` exactly where none waits.
     pub fn next(&mut self) -> Option<ObjectNo>
         ensures objects { self.new.objects ≡ self.old.objects }
-        ensures taken { MatchOption result ((self.old.waiting ≡ []) × (self.new.waiting ≡ [])) (λ object. self.old.waiting ≡ object.0 ∷ self.new.waiting) }
+        ensures taken { MatchOption result ((self.old.waiting ≡ []) × (self.new.waiting ≡ []))
+            (λ object. self.old.waiting ≡ object.0 ∷ self.new.waiting) }
         ensures known { IfSome result (λ object. (1 ≤ object.0) × (object.0 ≤ self.old.objects)) }
     {
         let Some(object) = self.items.pop_front() else {
@@ -77,7 +78,8 @@ impl Queue {
         requires made { IsQueueOf basin.now self.old }
         requires slots { All (λ (slot : SlotNo). IsSlot basin.now.objects slot.0) slots.now }
         ensures made { IsQueueOf basin.now self.new }
-        ensures woken { self.new.waiting ≡ self.old.waiting ++ woken basin.now (option_map (λ object. object.0) but) self.old.waiting (numbers_of slots.now) }
+        ensures woken { self.new.waiting ≡ self.old.waiting ++ woken basin.now
+            (option_map (λ object. object.0) but) self.old.waiting (numbers_of slots.now) }
     {
         let mut last = 0;
         while let Some(owner) = next_owner(basin, slots, last) {
@@ -116,8 +118,8 @@ impl Queue {
     fn is_woken(&self, basin: &Basin, but: Option<ObjectNo>, owner: u16) -> bool
         requires made { IsQueueOf basin.now self.now }
         requires known { IsObject basin.now.objects owner }
-        ensures { (slots : List ℕ) → is_owner basin.now slots owner ≡ true
-            → result ≡ is_woken basin.now (option_map (λ other. other.0) but) self.now.waiting slots owner }
+        ensures { (slots : List ℕ) → is_owner basin.now slots owner ≡ true → result ≡ is_woken
+            basin.now (option_map (λ other. other.0) but) self.now.waiting slots owner }
     {
         !is_data(basin, ObjectNo(owner)) && !is_but(but, owner) && !self.waits(owner)
     }

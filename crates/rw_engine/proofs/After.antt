@@ -1,55 +1,106 @@
 -- The state after the dispatch of an object.
-use Rattle.std.proofs.Common.{◌≡◌, ◌≤◌, ◌++◌, ℕ, List, length, set, sym, ap, subst, ◌∙◌}
-use Rattle.std.specs.Prelude.{All}
-use Rattle.std.proofs.Common.{length-set}
-use Rattle.rw_base.specs.declared.number.Cell.{Cell}
+use Rattle.std.proofs.Common.{◌≡◌, ◌≤◌, ◌++◌, ◌-◌, ℕ, List, length, length-set, sym, ap, subst, ◌∙◌, [], append-nil, ◌<◌, Option, Some, None, Ok, arith}
 use Rattle.rw_model.specs.Draft.{Draft, IsObject}
-use Rattle.rw_series.specs.Series.{Series, held, IsCell, IsSeriesOf}
-use Rattle.rw_log.specs.Log.{Cells, Event, held_after}
-use Rattle.rw_log.specs.Waiting.{queued_after}
-use Rattle.rw_log.specs.Dispatch.{dispatched, places}
+use Rattle.rw_series.specs.Series.{held}
+use Rattle.rw_log.specs.declared.fault.RunFault.{RunFault}
+use Rattle.rw_log.specs.Dispatch.{dispatched, looks_of, places}
 use Rattle.rw_log.proofs.Ready.{AreReady, queued_after-ready}
-use Rattle.rw_dispatch.specs.Answer.{AreBounded}
-use Rattle.rw_dispatch.specs.Queue.{IsQueueOf}
+use Rattle.rw_dispatch.specs.declared.dispatched.Dispatched.{Dispatched}
+use Rattle.rw_dispatch.specs.Answer.{Tells}
+use Rattle.rw_dispatch.specs.Stage.{IsStageOf, Leaves, stage}
+use Rattle.rw_dispatch.specs.Turn.{IsStep}
 use Rattle.rw_engine.specs.declared.state.State.{State}
-use Rattle.rw_engine.specs.declared.undone.Undone.{Undone}
-use Rattle.rw_engine.specs.Undoing.{undone_in, CanUndo}
-use Rattle.rw_engine.specs.State.{IsWithinStep}
-use Rattle.rw_engine.proofs.Own.{owns_cells, dispatch_own}
-use Rattle.rw_engine.proofs.Undo.{undo-kept, undo-more}
+use Rattle.rw_engine.specs.Counts.{IsCounted, count_of, raised, room}
+use Rattle.rw_engine.specs.Lines.{Grows}
+use Rattle.rw_engine.specs.Undone.{AreCells, undone_in}
+use Rattle.rw_engine.specs.State.{IsOnTheWay, IsWithinStep, Keeps, end_by, ended_by}
+use Rattle.rw_engine.proofs.Raises.{room_falls}
+use Rattle.rw_engine.proofs.Own.{owns_cells, own_written}
+use Rattle.rw_engine.proofs.TakenBack.{undo-kept, undo-more}
 
-pub within_after : (basin : Draft) (old new : State) (event : Event) (place count : ℕ) → IsWithinStep basin old → IsSeriesOf basin new.series
-    → AreBounded basin (held new.series) → IsQueueOf basin new.queue → new.queue.waiting ≡ queued_after basin event old.queue.waiting
-    → new.counts.items ≡ set old.counts.items place count → new.closed ≡ old.closed → All (λ (undone : Undone). IsCell basin undone.cell) new.undo.items → IsWithinStep basin new
-within_after basin old new event place count within series bounded queue waiting counts last undo = record {
-  made = record {
-    engine = record {
-      valid = within.made.engine.valid;
-      objects = queue;
-      series = series;
-      bounded = bounded;
-      closed_steps = subst (λ n. n ≤ basin.control.stamps.count) (sym last) within.made.engine.closed_steps;
+-- each object has a count
+pub counted : (basin : Draft) (state : State) (object : ℕ) → IsWithinStep basin state → IsObject basin.objects object → IsCounted state.counts object
+counted basin state object within known =
+    let many = within.made.counts in let last = known.last in record { first = known.first; last = omega (arith, many, last) }
+
+module _ (basin : Draft) (old new : State) (object step : ℕ) (within : IsWithinStep basin old) (at : IsStep basin step) where
+  counts_kept : new.counts ≡ raised old.counts object → length new.counts ≡ length basin.objects
+  counts_kept counts = ap length counts ∙ length-set old.counts (object - 1) _ ∙ within.made.counts
+
+  -- what its slots hold, or some of it, was noted, and nothing changed
+  pub keeps_noted : (some : List ℕ) → new.series ≡ old.series → new.queue ≡ old.queue → new.counts ≡ raised old.counts object → new.closed ≡ old.closed
+      → new.trace ≡ old.trace → AreCells basin new.undo.items → new.undo.items ≡ old.undo.items ++ undone_in basin (held old.series) object step some
+      → Keeps basin old new
+  keeps_noted some series queue counts closed trace cells noted = record {
+    within = record {
+      made = record {
+        engine = record {
+          valid = within.made.engine.valid;
+          objects = ap (λ (q : _). q.objects) queue ∙ within.made.engine.objects;
+          series = rw series within.made.engine.series;
+          closed_steps = rw closed within.made.engine.closed_steps;
+        };
+        counts = counts_kept counts;
+      };
+      ready = rw queue within.ready;
+      undo = cells;
     };
-    counts = ap length counts ∙ length-set old.counts.items place count ∙ within.made.counts;
-  };
-  ready = subst (AreReady basin) (sym waiting) (queued_after-ready basin event old.queue.waiting within.ready);
-  undo = undo;
-}
+    undo = λ before can. rw (series, noted)
+        (undo-kept basin old.undo.items (held old.series) before object step some within.made.engine.series.made.shared (owns_cells basin object step at) can);
+    grows = ([], trace ∙ sym (append-nil old.trace));
+  }
 
--- what was added can be taken back, where nothing changed
-pub can_undo : (basin : Draft) (old : State) (undo : List Undone) (object step : ℕ) (some : List ℕ) (before : Cells) → IsWithinStep basin old → 1 ≤ step
-    → step ≤ basin.control.stamps.count → undo ≡ old.undo.items ++ undone_in basin (held old.series) object step some
-    → CanUndo basin old.undo.items old.series before → CanUndo basin undo old.series before
-can_undo basin old undo object step some before within first last is can =
-    subst (λ us. CanUndo basin us old.series before) (sym is)
-    (undo-kept basin old.undo.items (held old.series) before object step some within.made.engine.series.shared (owns_cells basin object step first last) can)
+  -- the dispatch was made
+  pub keeps_done : (answer : Dispatched) → IsStageOf basin (stage new.series new.queue)
+      → Tells basin (looks_of basin (held old.series) object step) object step (dispatched basin (held old.series) object step) answer
+      → Leaves basin (dispatched basin (held old.series) object step) (stage old.series old.queue) (stage new.series new.queue)
+      → new.counts ≡ raised old.counts object → new.closed ≡ old.closed → Grows old.trace new.trace → AreCells basin new.undo.items
+      → new.undo.items ≡ old.undo.items ++ undone_in basin (held old.series) object step places → Keeps basin old new
+  keeps_done answer made tells leaves counts closed grows cells noted = record {
+    within = record {
+      made = record {
+        engine = record {
+          valid = within.made.engine.valid;
+          objects = made.queue;
+          series = made.series;
+          closed_steps = subst (λ n. n ≤ basin.control.stamps.count) (sym closed) within.made.engine.closed_steps;
+        };
+        counts = counts_kept counts;
+      };
+      ready = subst (AreReady basin) (sym leaves.queue) (queued_after-ready basin (dispatched basin (held old.series) object step) old.queue.waiting within.ready);
+      undo = cells;
+    };
+    undo = λ before can. rw noted
+        (undo-more basin (dispatched basin (held old.series) object step) old.undo.items (held old.series) (held new.series) before object step
+        within.made.engine.series.made.shared (owns_cells basin object step at)
+        (own_written basin (looks_of basin (held old.series) object step) object step (dispatched basin (held old.series) object step) answer tells) leaves.cells can);
+    grows = grows;
+  }
 
--- and where a dispatch was made
-pub can_undo_after : (basin : Draft) (old : State) (series : Series) (undo : List Undone) (object step : ℕ) (before : Cells) → IsWithinStep basin old
-    → IsObject basin.objects object → 1 ≤ step → step ≤ basin.control.stamps.count → undo ≡ old.undo.items ++ undone_in basin (held old.series) object step places
-    → ((cell : Cell) → held series cell ≡ held_after basin (dispatched basin (held old.series) object step) (held old.series) cell)
-    → CanUndo basin old.undo.items old.series before → CanUndo basin undo series before
-can_undo_after basin old series undo object step before within own first last is after can =
-    subst (λ us. CanUndo basin us series before) (sym is)
-    (undo-more basin (dispatched basin (held old.series) object step) old.undo.items (held old.series) (held series) before object step
-    within.made.engine.series.shared (owns_cells basin object step first last) (dispatch_own basin (held old.series) object step within.made.engine.valid own) after can)
+-- and so where the run ends by a fault
+pub keeps_ended : (basin : Draft) (old new : State) (why : Option RunFault) → Keeps basin old new → Keeps basin old (ended_by why new)
+keeps_ended basin old new None keeps = keeps
+keeps_ended basin old new (Some why) keeps =
+    let engine = keeps.within.made.engine in record {
+      within = record {
+        made = record {
+          engine = record { valid = engine.valid; objects = engine.objects; series = engine.series; closed_steps = engine.closed_steps };
+          counts = keeps.within.made.counts;
+        };
+        ready = keeps.within.ready;
+        undo = keeps.within.undo;
+      };
+      undo = keeps.undo;
+      grows = keeps.grows;
+    }
+
+-- where no fault came, less is left to do
+pub on_the_way : (basin : Draft) (old new : State) (object : ℕ) (why : Option RunFault) → IsWithinStep basin old → IsObject basin.objects object
+    → count_of old.counts object < basin.control.object_limit → new.counts ≡ raised old.counts object → new.closed ≡ old.closed → new.end ≡ old.end
+    → IsOnTheWay basin (Ok (end_by why)) old (ended_by why new)
+on_the_way basin old new object None within known below counts closed end = (
+  record { closed_steps = closed; end = end },
+  subst (λ cs. room basin.control.object_limit cs < room basin.control.object_limit old.counts) (sym counts)
+      (room_falls basin.control.object_limit old.counts object (counted basin old object within known) below),
+)
+on_the_way basin old new object (Some why) within known below counts closed end = tt

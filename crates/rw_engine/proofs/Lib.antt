@@ -1,5 +1,6 @@
+pub mod Raises
 pub mod Places
-pub mod Undo
+pub mod TakenBack
 pub mod Own
 pub mod Events
 pub mod Steps

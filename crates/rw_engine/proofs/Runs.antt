@@ -11,7 +11,7 @@ use Rattle.rw_log.specs.RunOf.{IsRunOf}
 use Rattle.rw_engine.specs.Engine.{Engine}
 use Rattle.rw_engine.specs.declared.step_end.StepEnd.TheVariants.{Closed as IsClosed, Fault as IsFault}
 use Rattle.rw_engine.specs.Givens.{givens}
-use Rattle.rw_engine.specs.Stands.{Shows, IsBefore}
+use Rattle.rw_engine.specs.Shows.{Shows, IsBefore}
 use Rattle.rw_engine.specs.Passing.{Passes, Stands, ComesTo}
 use Rattle.rw_engine.proofs.Starts.{standing-placed}
 use Rattle.rw_engine.proofs.Steps.{leads_on}

@@ -3,7 +3,7 @@ use Rattle.std.proofs.Common.{◌≡◌, ℕ, List, [], ◌∷◌, refl, ◌∙�
 use Rattle.std.specs.Prelude.{ℤ}
 use Rattle.rw_base.specs.declared.number.Cell.{Cell}
 use Rattle.rw_log.specs.declared.run.RunEnd.TheVariants.{Settled}
-use Rattle.rw_log.specs.Log.{given, opened, closed, idle, solved, fired, fault, Log}
+use Rattle.rw_log.specs.Log.{given, fault, Log}
 use Rattle.rw_log.specs.Runs.{placed, standing, rests}
 use Rattle.rw_log.specs.RunOf.{trace_of, end_of, last_closed}
 
@@ -26,10 +26,5 @@ standing-placed log (input ∷ inputs) is = standing-placed (given input.0 input
 -- a log between timesteps has no fault
 pub settled_at_rest : (log : Log) (step : ℕ) → standing log ≡ rests step → end_of log ≡ Settled
 settled_at_rest [] step is = refl
-settled_at_rest (given cell value ∷ log) step is = refl
-settled_at_rest (opened at ∷ log) step is = refl
-settled_at_rest (closed at ∷ log) step is = refl
-settled_at_rest (idle object at looked ∷ log) step is = refl
-settled_at_rest (solved dispatch ∷ log) step is = refl
-settled_at_rest (fired firing ∷ log) step is = refl
 settled_at_rest (fault why ∷ log) step is = absurd (cc)
+settled_at_rest (event ∷ log) step is = refl

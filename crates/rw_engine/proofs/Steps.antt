@@ -1,5 +1,5 @@
 -- A timestep of the engine, over the log that it shows.
-use Rattle.std.proofs.Common.{◌≡◌, ◌<◌, ◌≤◌, ◌+◌, ◌-◌, ℕ, Bool, true, false, List, [], ◌∷◌, ◌++◌, length, get_or, Some, None, nat_lt, refl, sym, ap, subst, ◌∙◌, arith, append_assoc}
+use Rattle.std.proofs.Common.{◌≡◌, ◌≤◌, ◌+◌, ℕ, Bool, true, false, List, [], ◌∷◌, ◌++◌, Some, None, nat_lt, refl, sym, ap, subst, ◌∙◌, arith, append_assoc}
 use Rattle.std.proofs.lemmas.Bool.Decides.{nat_tests}
 use Rattle.std.specs.Prelude.{if◌then◌else◌}
 use Rattle.rw_model.specs.Draft.{Draft}
@@ -13,9 +13,10 @@ use Rattle.rw_log.specs.declared.run.RunEnd.TheVariants.{Settled}
 use Rattle.rw_log.proofs.Waits.{opens}
 use Rattle.rw_engine.specs.declared.state.State.{State}
 use Rattle.rw_engine.specs.declared.step_end.StepEnd.{StepEnd}
-use Rattle.rw_engine.specs.Telling.{Grows}
-use Rattle.rw_engine.specs.Stands.{Shows, IsBefore}
-use Rattle.rw_engine.specs.State.{seen, Holds, Goes, Reached}
+use Rattle.rw_engine.specs.Counts.{count_of}
+use Rattle.rw_engine.specs.Lines.{Grows}
+use Rattle.rw_engine.specs.Shows.{Shows, IsBefore}
+use Rattle.rw_engine.specs.State.{IsStill, seen, Holds, Goes, Reached}
 use Rattle.rw_engine.specs.Passing.{Passes}
 
 pub leads_more : (basin : Draft) (policy : Policy) (old : Log) (events : List Event) (event : Event) (new : Log) → Leads basin policy old events new
@@ -34,10 +35,9 @@ follows_inside : (basin : Draft) (state : State) (step : ℕ) (log : Log) (waits
 follows_inside basin state step log waits holds = ap (follows_in basin no_rules log) holds.open_step
 
 pub opens_step : (basin : Draft) (old new : State) (step : ℕ) (log : Log) → Shows basin (seen old) log → new.series ≡ old.series
-    → new.queue.waiting ≡ all_waiting basin → length new.counts.items ≡ length basin.objects
-    → ((k : ℕ) → k < length new.counts.items → get_or new.counts.items k 0 ≡ 0) → new.trace ≡ old.trace ++ lines (opened step)
+    → new.queue.waiting ≡ all_waiting basin → ((object : ℕ) → count_of new.counts object ≡ 0) → new.trace ≡ old.trace ++ lines (opened step)
     → new.closed ≡ old.closed → new.end ≡ Settled → Holds basin new step (opened step ∷ log) new.queue.waiting
-opens_step basin old new step log shows series queue count counts trace last end = record {
+opens_step basin old new step log shows series queue counts trace last end = record {
   open_step = refl;
   shows = record {
     cells = λ cell. ap (λ (s : Series). held s cell) series ∙ shows.cells cell;
@@ -46,7 +46,7 @@ opens_step basin old new step log shows series queue count counts trace last end
     end = end;
   };
   queue = queue ∙ sym (opens basin log step);
-  counts = λ object known. counts (object - 1) (let f = known.first in let l = known.last in omega arith);
+  counts = λ object known. counts object;
 }
 
 pub reached_more : (basin : Draft) (start : Log) (old new : State) (step : ℕ) → Reached basin start old step
@@ -87,3 +87,7 @@ ends_step basin log old new step end reached goes before =
 
 pub grows_more : {A : Type 0} (x y z : List A) → Grows x y → Grows y z → Grows x z
 grows_more x y z one other = (one.0 ++ other.0, other.1 ∙ ap (λ xs. xs ++ other.0) one.1 ∙ append_assoc x one.0 other.0)
+
+pub still_more : (one other last : State) → IsStill one other → IsStill other last → IsStill one last
+still_more one other last before after =
+    record { closed_steps = after.closed_steps ∙ before.closed_steps; end = after.end ∙ before.end }

@@ -1,7 +1,8 @@
+pub mod Counts
 pub mod Givens
-pub mod Undoing
-pub mod Telling
+pub mod Undone
+pub mod Lines
 pub mod Engine
-pub mod Stands
+pub mod Shows
 pub mod State
 pub mod Passing

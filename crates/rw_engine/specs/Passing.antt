@@ -10,7 +10,7 @@ use Rattle.rw_inputs.specs.Inputs.{Inputs}
 use Rattle.rw_engine.specs.Givens.{givens}
 use Rattle.rw_engine.specs.Engine.{Engine}
 use Rattle.rw_engine.specs.declared.step_end.StepEnd.{StepEnd}
-use Rattle.rw_engine.specs.Stands.{Shows, EndsBy}
+use Rattle.rw_engine.specs.Shows.{Shows, EndsBy}
 
 -- the events of the timestep follow, up to its closing or to the fault, and the engine shows them
 pub record Passes (basin : Draft) (log : Log) (end : StepEnd) (engine : Engine) (step : ℕ) : Type 0 where

@@ -1,16 +1,22 @@
 -- The state of an engine, and what it has within a timestep.
-use Rattle.std.specs.Prelude.{◌≡◌, ℕ, ◌+◌, ◌-◌, false, List, [], ◌∷◌, length, All, Option, Some, None, slice_index_or}
+use Rattle.std.specs.Prelude.{◌≡◌, ℕ, ◌<◌, false, List, ◌∷◌, length, All, Option, Some, None, Result, Ok, Err}
+use Rattle.rw_base.specs.declared.memory.NoMemory.{NoMemory}
 use Rattle.rw_model.specs.Draft.{Draft, IsObject}
-use Rattle.rw_series.specs.Series.{IsCell}
-use Rattle.rw_log.specs.Log.{Event, Log}
+use Rattle.rw_series.specs.Series.{held}
+use Rattle.rw_log.specs.Log.{Cells, Event, Log}
 use Rattle.rw_log.specs.Waiting.{is_data, waiting}
 use Rattle.rw_log.specs.Next.{next, dispatches, no_rules}
 use Rattle.rw_log.specs.Runs.{Leads, standing, inside}
+use Rattle.rw_engine.specs.Counts.{count_of, room}
 use Rattle.rw_engine.specs.Engine.{Engine}
-use Rattle.rw_engine.specs.Stands.{IsEngineOf, Shows, EndsBy}
+use Rattle.rw_engine.specs.Lines.{Grows}
+use Rattle.rw_engine.specs.Shows.{IsEngineOf, Shows, EndsBy}
+use Rattle.rw_engine.specs.Undone.{AreCells, CanUndo}
 use Rattle.rw_engine.specs.declared.state.State.{State}
 use Rattle.rw_engine.specs.declared.step_end.StepEnd.{StepEnd}
-use Rattle.rw_engine.specs.declared.undone.Undone.{Undone}
+use Rattle.rw_engine.specs.declared.step_end.StepEnd.TheVariants.{Fault as StepFault}
+use Rattle.rw_log.specs.declared.fault.RunFault.{RunFault}
+use Rattle.rw_log.specs.declared.run.RunEnd.TheVariants.{Fault}
 
 -- the engine that a state is seen as
 abbrev pub seen : State → Engine
@@ -25,20 +31,20 @@ seen state = record {
 -- a state made for the basin, with a count for each object
 pub record IsStateOf (basin : Draft) (state : State) : Type 0 where
   pub engine : IsEngineOf basin (seen state)
-  pub counts : length state.counts.items ≡ length basin.objects
+  pub counts : length state.counts ≡ length basin.objects
 
 -- within a timestep only objects with a method wait, and what can be undone are cells
 pub record IsWithinStep (basin : Draft) (state : State) : Type 0 where
   pub made : IsStateOf basin state
   pub ready : All (λ object. is_data basin object ≡ false) state.queue.waiting
-  pub undo : All (λ (undone : Undone). IsCell basin undone.cell) state.undo.items
+  pub undo : AreCells basin state.undo.items
 
 -- there it also has those that wait, and how often each object was dispatched
 pub record Holds (basin : Draft) (state : State) (step : ℕ) (log : Log) (waits : List ℕ) : Type 0 where
   pub open_step : standing log ≡ inside step
   pub shows : Shows basin (seen state) log
   pub queue : waits ≡ waiting basin log
-  pub counts : (object : ℕ) → IsObject basin.objects object → slice_index_or state.counts.items (object - 1) 0 ≡ dispatches log object
+  pub counts : (object : ℕ) → IsObject basin.objects object → count_of state.counts object ≡ dispatches log object
 
 -- after an event: the timestep goes on, or it ended by the event
 abbrev pub GoesTo : Draft → Option StepEnd → State → ℕ → Log → Event → Type 0
@@ -58,7 +64,44 @@ pub record Reached (basin : Draft) (start : Log) (state : State) (step : ℕ) : 
   pub leads : Leads basin no_rules start events log
   pub holds : Holds basin state step log state.queue.waiting
 
--- how many dispatches are left below the limit
-abbrev pub room : ℕ → List ℕ → ℕ
-room limit [] = 0
-room limit (count ∷ counts) = (limit - count) + room limit counts
+-- ---- what work within a timestep keeps
+
+-- lines may have been added, and who waits and what was counted may be another
+pub record OnlyTells (old new : State) : Type 0 where
+  pub series : new.series ≡ old.series
+  pub undo : new.undo ≡ old.undo
+  pub closed_steps : new.closed ≡ old.closed
+  pub end : new.end ≡ old.end
+  pub grows : Grows old.trace new.trace
+
+-- the run didn't come nearer to its end
+pub record IsStill (old new : State) : Type 0 where
+  pub closed_steps : new.closed ≡ old.closed
+  pub end : new.end ≡ old.end
+
+-- where there is a fault the run ends by it
+abbrev pub ended_by : Option RunFault → State → State
+ended_by None state = state
+ended_by (Some why) state = record state { end = Fault why }
+
+abbrev pub end_by : Option RunFault → Option StepEnd
+end_by None = None
+end_by (Some why) = Some (StepFault why)
+
+-- all can still be taken back
+pub record Keeps (basin : Draft) (old new : State) : Type 0 where
+  pub within : IsWithinStep basin new
+  pub undo : (before : Cells) → CanUndo basin old.undo.items old.series before → CanUndo basin new.undo.items new.series before
+  pub grows : Grows old.trace new.trace
+
+-- what was done since then can be taken back
+pub record IsRevocable (basin : Draft) (old new : State) : Type 0 where
+  pub cells : AreCells basin new.undo.items
+  pub undo : CanUndo basin new.undo.items new.series (held old.series)
+  pub grows : Grows old.trace new.trace
+
+-- unless the timestep ended, the run is still, and where it goes on, less is left to do in the timestep
+abbrev pub IsOnTheWay : Draft → Result (Option StepEnd) NoMemory → State → State → Type 0
+IsOnTheWay basin (Ok None) old new = IsStill old new × (room basin.control.object_limit new.counts < room basin.control.object_limit old.counts)
+IsOnTheWay basin (Ok (Some end)) old new = Unit {0}
+IsOnTheWay basin (Err fault) old new = IsStill old new

@@ -5,8 +5,9 @@ ghost use Rattle.rw_inputs.specs.Inputs.{IsInputsOf};
 ghost use Rattle.rw_log.specs.Log.{Log};
 ghost use Rattle.rw_log.specs.Runs.{placed};
 ghost use Rattle.rw_log.specs.RunOf.{IsRunOf};
+ghost use Rattle.rw_dispatch.specs.Turn.{IsStep};
 ghost use Rattle.rw_engine.specs.Givens.{givens};
-ghost use Rattle.rw_engine.specs.Stands.{IsEngineOf, Shows, IsBefore};
+ghost use Rattle.rw_engine.specs.Shows.{IsEngineOf, Shows, IsBefore};
 ghost use Rattle.rw_engine.specs.Passing.{Passes};
 
 use crate::state::State;
@@ -35,7 +36,7 @@ impl Model for Engine {
 
     ghost view = { λ engine. seen engine.state };
 
-    ghost invariant = { λ engine. length engine.state.counts.items ≡ engine.state.queue.objects };
+    ghost invariant = { λ engine. length engine.state.counts ≡ engine.state.queue.objects };
 }
 
 impl Engine {
@@ -43,7 +44,8 @@ impl Engine {
     pub fn for_run(alloc: Global, basin: &Basin, inputs: &Inputs) -> Result<Engine, NoMemory>
         requires inputs { IsInputsOf basin.now inputs.now }
         ensures made { IfOk result (IsEngineOf basin.now) }
-        ensures shows { IfOk result (λ engine. Shows basin.now engine (placed [] (givens basin.now inputs.now))) }
+        ensures shows { IfOk result
+            (λ engine. Shows basin.now engine (placed [] (givens basin.now inputs.now))) }
     {
         Ok(Engine {
             state: State::for_run(alloc, basin, inputs)?,
@@ -56,24 +58,26 @@ impl Engine {
         &mut self,
         basin: &Basin,
         methods: &Catalogue,
-        t: StepNo,
+        step: StepNo,
     ) -> Result<StepEnd, NoMemory>
         requires made { IsEngineOf basin.now self.old }
         requires order { AreInOrder (map (λ b. code (b.vtable, b.value)) methods.now.methods.items) }
-        requires first { 1 ≤ t.0 }
-        requires last { t.0 ≤ basin.now.control.stamps.count }
+        requires step { IsStep basin.now step.0 }
         ensures made { IsEngineOf basin.now self.new }
-        ensures passes { (log : Log) → Shows basin.now self.old log → IsBefore basin.now t.0 log
-            → IfOk result (λ end. Passes basin.now log end self.new t.0) }
-        ensures before { (log : Log) → Shows basin.now self.old log → IfErr result (λ _. Shows basin.now self.new log) }
+        ensures passes { (log : Log) → Shows basin.now self.old log → IsBefore basin.now step.0 log
+            → IfOk result (λ end. Passes basin.now log end self.new step.0) }
+        ensures before { (log : Log) → Shows basin.now self.old log
+            → IfErr result (λ _. Shows basin.now self.new log) }
     {
-        self.state.run_step(basin, methods, t)
+        self.state.run_step(basin, methods, step)
     }
 
     /// What the run came to, or so far where timesteps are left. It takes no memory.
     pub fn finish(self) -> Run
-        ensures run { (basin : Draft) (log : Log) → IsEngineOf basin self → Shows basin self log → IsRunOf basin log result }
-        ensures closed { (basin : Draft) → IsEngineOf basin self → result.closed ≤ basin.control.stamps.count }
+        ensures run { (basin : Draft) (log : Log) → IsEngineOf basin self → Shows basin self log
+            → IsRunOf basin log result }
+        ensures closed { (basin : Draft) → IsEngineOf basin self
+            → result.closed ≤ basin.control.stamps.count }
     {
         self.state.finish()
     }

@@ -4,14 +4,14 @@
 //! (`rw_log`). After want of memory an engine shows the same log as before.
 #![tactic(auto)]
 
+mod counts;
 mod engine;
 mod placing;
 mod running;
 mod state;
 mod step_end;
-mod telling;
-mod undoing;
-mod undone;
+mod trace_lines;
+mod undo;
 
 pub use engine::Engine;
 pub use running::run_all;

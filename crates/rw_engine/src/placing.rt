@@ -1,11 +1,11 @@
 //! Placing the inputs of a run.
 ghost use Rattle.std.specs.Prelude.{◌≡◌, ◌≤◌, option_map};
 ghost use Rattle.rw_model.specs.Draft.{IsSlot};
-ghost use Rattle.rw_series.specs.Series.{held, IsCell, IsSeriesOf};
+ghost use Rattle.rw_series.specs.Series.{IsCell};
 ghost use Rattle.rw_inputs.specs.Inputs.{IsInputsOf, value_at};
 ghost use Rattle.rw_log.specs.Log.{Log};
 ghost use Rattle.rw_log.specs.Runs.{placed};
-ghost use Rattle.rw_dispatch.specs.Answer.{AreBounded};
+ghost use Rattle.rw_dispatch.specs.Stage.{IsHeldIn};
 ghost use Rattle.rw_engine.specs.Givens.{if_given, givens_of, givens, HoldsAll};
 
 use rw_base::{Cell, SlotNo, StepNo};
@@ -17,12 +17,11 @@ use rw_series::Series;
 fn place_cell(basin: &Basin, inputs: &Inputs, series: &mut Series, cell: Cell)
     requires inputs { IsInputsOf basin.now inputs.now }
     requires cell { IsCell basin.now cell }
-    requires made { IsSeriesOf basin.now series.old }
-    requires bounded { AreBounded basin.now (held series.old) }
-    ensures made { IsSeriesOf basin.now series.new }
-    ensures bounded { AreBounded basin.now (held series.new) }
+    requires made { IsHeldIn basin.now series.old }
+    ensures made { IsHeldIn basin.now series.new }
     ensures placed { (log : Log) → HoldsAll basin.now series.old log
-        → HoldsAll basin.now series.new (placed log (if_given cell.slot.0 cell.step.0 (value_at inputs.now cell.slot.0 cell.step.0))) }
+        → HoldsAll basin.now series.new (placed log
+        (if_given cell.slot.0 cell.step.0 (value_at inputs.now cell.slot.0 cell.step.0))) }
 {
     if let Some(value) = inputs.value(cell) {
         let content = Content {
@@ -38,12 +37,11 @@ fn place_cell(basin: &Basin, inputs: &Inputs, series: &mut Series, cell: Cell)
 fn place_slot(basin: &Basin, inputs: &Inputs, series: &mut Series, slot: SlotNo)
     requires inputs { IsInputsOf basin.now inputs.now }
     requires slot { IsSlot basin.now.objects slot.0 }
-    requires made { IsSeriesOf basin.now series.old }
-    requires bounded { AreBounded basin.now (held series.old) }
-    ensures made { IsSeriesOf basin.now series.new }
-    ensures bounded { AreBounded basin.now (held series.new) }
+    requires made { IsHeldIn basin.now series.old }
+    ensures made { IsHeldIn basin.now series.new }
     ensures placed { (log : Log) → HoldsAll basin.now series.old log
-        → HoldsAll basin.now series.new (placed log (givens_of inputs.now slot.0 basin.now.control.stamps.count)) }
+        → HoldsAll basin.now series.new
+        (placed log (givens_of inputs.now slot.0 basin.now.control.stamps.count)) }
 {
     let steps = basin.control().stamps.count();
     for before in 0..steps {
@@ -55,11 +53,10 @@ fn place_slot(basin: &Basin, inputs: &Inputs, series: &mut Series, slot: SlotNo)
 /// Places all inputs, slot by slot, and for each slot timestep by timestep.
 pub(crate) fn place(basin: &Basin, inputs: &Inputs, series: &mut Series)
     requires inputs { IsInputsOf basin.now inputs.now }
-    requires made { IsSeriesOf basin.now series.old }
-    requires bounded { AreBounded basin.now (held series.old) }
-    ensures made { IsSeriesOf basin.now series.new }
-    ensures bounded { AreBounded basin.now (held series.new) }
-    ensures placed { (log : Log) → HoldsAll basin.now series.old log → HoldsAll basin.now series.new (placed log (givens basin.now inputs.now)) }
+    requires made { IsHeldIn basin.now series.old }
+    ensures made { IsHeldIn basin.now series.new }
+    ensures placed { (log : Log) → HoldsAll basin.now series.old log
+        → HoldsAll basin.now series.new (placed log (givens basin.now inputs.now)) }
 {
     for before in 0..basin.slot_count() {
         place_slot(basin, inputs, series, SlotNo(before + 1));

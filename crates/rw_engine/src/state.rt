@@ -1,26 +1,23 @@
-ghost use Rattle.std.specs.Prelude.{◌≡◌, ◌<◌, ◌≤◌, ◌∷◌, [], ℕ, List, All, map, None, Some, IfOk, IfErr, EachIndex, slice_index, length, false};
-ghost use Rattle.rw_model.specs.Draft.{Draft, IsObject};
+ghost use Rattle.std.specs.Prelude.{◌≡◌, ◌<◌, ◌≤◌, ◌∷◌, [], ℕ, List, map, Some, IfOk, IfErr};
+ghost use Rattle.rw_model.specs.Draft.{Draft};
 ghost use Rattle.rw_method.specs.Catalogue.{AreInOrder};
-ghost use Rattle.rw_series.specs.Series.{held, IsCell};
 ghost use Rattle.rw_inputs.specs.Inputs.{IsInputsOf};
-ghost use Rattle.rw_log.specs.Log.{Log, Cells, opened};
+ghost use Rattle.rw_log.specs.Log.{Log, opened};
 ghost use Rattle.rw_log.specs.Next.{dispatches};
 ghost use Rattle.rw_log.specs.Runs.{placed};
 ghost use Rattle.rw_log.specs.RunOf.{IsRunOf};
-ghost use Rattle.rw_log.specs.Waiting.{is_data};
-ghost use Rattle.rw_engine.specs.declared.undone.Undone.{Undone};
+ghost use Rattle.rw_dispatch.specs.Turn.{IsStep, IsTurn};
+ghost use Rattle.rw_engine.specs.Counts.{count_of};
 ghost use Rattle.rw_engine.specs.Givens.{givens};
-ghost use Rattle.rw_engine.specs.Undoing.{CanUndo};
-ghost use Rattle.rw_engine.specs.Telling.{Grows};
-ghost use Rattle.rw_engine.specs.Stands.{IsEngineOf, Shows, IsBefore};
-ghost use Rattle.rw_engine.specs.State.{seen, IsStateOf, IsWithinStep, Holds, Goes, room};
+ghost use Rattle.rw_engine.specs.Shows.{IsEngineOf, Shows, IsBefore};
+ghost use Rattle.rw_engine.specs.State.{seen, IsOnTheWay, IsRevocable, IsStateOf, IsStill, IsWithinStep, Holds, Goes, Keeps, OnlyTells, end_by, ended_by};
 ghost use Rattle.rw_engine.specs.Passing.{Passes};
 
+use crate::counts::Counts;
 use crate::placing::place;
 use crate::step_end::StepEnd;
-use crate::telling::tell;
-use crate::undoing::{remember, take_back};
-use crate::undone::Undone;
+use crate::trace_lines::tell;
+use crate::undo::{Undone, remember, take_back};
 use rw_base::{NoMemory, ObjectNo, StepNo};
 use rw_dispatch::{Queue, dispatch};
 use rw_inputs::Inputs;
@@ -35,21 +32,11 @@ use std::alloc::Global;
 pub(crate) struct State {
     series: Series,
     queue: Queue,
-    counts: Vec<u8>,
+    counts: Counts,
     trace: Trace,
     closed: u16,
     end: RunEnd,
     undo: Vec<Undone>,
-}
-
-// Sets all to 0.
-fn zero(counts: &mut Vec<u8>)
-    ensures zero { EachIndex counts.new.items (λ k. slice_index counts.new.items k ≡ 0) }
-    ensures length { length counts.new.items ≡ length counts.old.items }
-{
-    for count in counts.iter_mut() {
-        *count = 0;
-    }
 }
 
 impl State {
@@ -57,11 +44,12 @@ impl State {
     pub(crate) fn for_run(alloc: Global, basin: &Basin, inputs: &Inputs) -> Result<State, NoMemory>
         requires inputs { IsInputsOf basin.now inputs.now }
         ensures made { IfOk result (IsStateOf basin.now) }
-        ensures shows { IfOk result (λ state. Shows basin.now (seen state) (placed [] (givens basin.now inputs.now))) }
+        ensures shows { IfOk result
+            (λ state. Shows basin.now (seen state) (placed [] (givens basin.now inputs.now))) }
     {
         let mut series = Series::sized(alloc, basin)?;
         let queue = Queue::for_basin(alloc, basin)?;
-        let counts = Vec::from_elem(alloc, 0, usize::from(basin.object_count()))?;
+        let counts = Counts::zero(alloc, basin.object_count())?;
         place(basin, inputs, &mut series);
         Ok(State {
             series,
@@ -77,33 +65,28 @@ impl State {
     // Opens a timestep.
     fn open(&mut self, basin: &Basin, step: StepNo) -> Result<(), NoMemory>
         requires made { IsStateOf basin.now self.old }
+        requires cleared { self.old.undo.items ≡ [] }
         ensures made { IsStateOf basin.now self.new }
-        ensures ready { IfOk result (λ _. All (λ object. is_data basin.now object ≡ false) self.new.queue.waiting) }
-        ensures series { self.new.series ≡ self.old.series }
-        ensures undo { self.new.undo ≡ self.old.undo }
-        ensures closed_steps { self.new.closed ≡ self.old.closed }
-        ensures end { self.new.end ≡ self.old.end }
-        ensures opened { IfOk result (λ _. (log : Log) → Shows basin.now (seen self.old) log → IsBefore basin.now step.0 log
+        ensures within { IfOk result (λ _. IsWithinStep basin.now self.new) }
+        ensures tells { OnlyTells self.old self.new }
+        ensures opened { IfOk result (λ _. (log : Log)
+            → Shows basin.now (seen self.old) log → IsBefore basin.now step.0 log
             → Holds basin.now self.new step.0 (opened step.0 ∷ log) self.new.queue.waiting) }
-        ensures grows { Grows self.old.trace self.new.trace }
     {
         self.trace.push(TraceEvent::Opened(step))?;
         self.queue.begin_step(basin);
-        zero(&mut self.counts);
+        self.counts.clear();
         Ok(())
     }
 
     // Closes the open timestep.
     fn close(&mut self, basin: &Basin, step: StepNo) -> Result<StepEnd, NoMemory>
         requires within { IsWithinStep basin.now self.old }
-        requires last { step.0 ≤ basin.now.control.stamps.count }
-        ensures within { IsWithinStep basin.now self.new }
-        ensures series { self.new.series ≡ self.old.series }
-        ensures undo { self.new.undo ≡ self.old.undo }
-        ensures closed_steps { IfErr result (λ _. self.new.closed ≡ self.old.closed) }
-        ensures end { self.new.end ≡ self.old.end }
-        ensures goes { (log : Log) → Holds basin.now self.old step.0 log [] → IfOk result (λ end. Goes basin.now (Some end) self.new step.0 log) }
-        ensures grows { Grows self.old.trace self.new.trace }
+        requires step { IsStep basin.now step.0 }
+        ensures keeps { Keeps basin.now self.old self.new }
+        ensures still { IfErr result (λ _. IsStill self.old self.new) }
+        ensures goes { (log : Log) → Holds basin.now self.old step.0 log []
+            → IfOk result (λ end. Goes basin.now (Some end) self.new step.0 log) }
     {
         self.trace.push(TraceEvent::Closed(step))?;
         self.closed = step.0;
@@ -120,14 +103,11 @@ impl State {
     ) -> Result<StepEnd, NoMemory>
         requires within { IsWithinStep basin.now self.old }
         requires limit { basin.now.control.object_limit ≤ count }
-        ensures within { IsWithinStep basin.now self.new }
-        ensures series { self.new.series ≡ self.old.series }
-        ensures undo { self.new.undo ≡ self.old.undo }
-        ensures closed_steps { self.new.closed ≡ self.old.closed }
-        ensures end { IfErr result (λ _. self.new.end ≡ self.old.end) }
-        ensures goes { (log : Log) (rest : List ℕ) → Holds basin.now self.old step.0 log (object.0 ∷ rest) → count ≡ dispatches log object.0
+        ensures keeps { Keeps basin.now self.old self.new }
+        ensures still { IfErr result (λ _. IsStill self.old self.new) }
+        ensures goes { (log : Log) (rest : List ℕ)
+            → Holds basin.now self.old step.0 log (object.0 ∷ rest) → count ≡ dispatches log object.0
             → IfOk result (λ end. Goes basin.now (Some end) self.new step.0 log) }
-        ensures grows { Grows self.old.trace self.new.trace }
     {
         let fault = RunFault::ObjectLimit {
             object,
@@ -139,8 +119,22 @@ impl State {
         Ok(StepEnd::Fault(fault))
     }
 
-    // Dispatches the object that was taken out of the queue.
-    fn ask(
+    // Ends the run by the fault, if there is one.
+    fn end_by(&mut self, fault: Option<RunFault>) -> Option<StepEnd>
+        ensures state { self.new ≡ ended_by fault self.old }
+        ensures end { result ≡ end_by fault }
+    {
+        match fault {
+            None => None,
+            Some(fault) => {
+                self.end = RunEnd::Fault(fault);
+                Some(StepEnd::Fault(fault))
+            }
+        }
+    }
+
+    // Dispatches the object that was taken out of the queue, below its limit.
+    fn act(
         &mut self,
         basin: &Basin,
         methods: &Catalogue,
@@ -149,28 +143,15 @@ impl State {
     ) -> Result<Option<StepEnd>, NoMemory>
         requires within { IsWithinStep basin.now self.old }
         requires order { AreInOrder (map (λ b. code (b.vtable, b.value)) methods.now.methods.items) }
-        requires object { IsObject basin.now.objects object.0 }
-        requires balance { is_data basin.now object.0 ≡ false }
-        requires first { 1 ≤ step.0 }
-        requires last { step.0 ≤ basin.now.control.stamps.count }
-        ensures within { IsWithinStep basin.now self.new }
-        ensures goes { (log : Log) → Holds basin.now self.old step.0 log (object.0 ∷ self.old.queue.waiting)
+        requires turn { IsTurn basin.now object.0 step.0 }
+        requires below { count_of self.old.counts object.0 < basin.now.control.object_limit }
+        ensures keeps { Keeps basin.now self.old self.new }
+        ensures on_the_way { IsOnTheWay basin.now result self.old self.new }
+        ensures goes { (log : Log)
+            → Holds basin.now self.old step.0 log (object.0 ∷ self.old.queue.waiting)
             → IfOk result (λ end. Goes basin.now end self.new step.0 log) }
-        ensures undo { (before : Cells) → CanUndo basin.now self.old.undo.items self.old.series before
-            → CanUndo basin.now self.new.undo.items self.new.series before }
-        ensures closed_steps { self.new.closed ≡ self.old.closed }
-        ensures end { IfErr result (λ _. self.new.end ≡ self.old.end) }
-        ensures going { IfOk result (λ end. end ≡ None → self.new.end ≡ self.old.end) }
-        ensures grows { Grows self.old.trace self.new.trace }
-        ensures falls { IfOk result (λ end. end ≡ None
-            → room basin.now.control.object_limit self.new.counts.items < room basin.now.control.object_limit self.old.counts.items) }
     {
-        let place = usize::from(object.0) - 1;
-        let count = self.counts[place];
-        if basin.control().object_limit <= count {
-            return Ok(Some(self.exceed(basin, object, step, count)?));
-        }
-        self.counts[place] = count + 1;
+        self.counts.raise(object.0);
         remember(&mut self.undo, basin, &self.series, object, step)?;
         let answer = dispatch(
             basin,
@@ -180,11 +161,32 @@ impl State {
             object,
             step,
         );
-        let Some(fault) = tell(&mut self.trace, basin, object, step, &answer)? else {
-            return Ok(None);
-        };
-        self.end = RunEnd::Fault(fault);
-        Ok(Some(StepEnd::Fault(fault)))
+        let fault = tell(&mut self.trace, basin, object, step, &answer)?;
+        Ok(self.end_by(fault))
+    }
+
+    // Dispatches the object that was taken out of the queue, unless its limit is reached.
+    fn ask(
+        &mut self,
+        basin: &Basin,
+        methods: &Catalogue,
+        object: ObjectNo,
+        step: StepNo,
+    ) -> Result<Option<StepEnd>, NoMemory>
+        requires within { IsWithinStep basin.now self.old }
+        requires order { AreInOrder (map (λ b. code (b.vtable, b.value)) methods.now.methods.items) }
+        requires turn { IsTurn basin.now object.0 step.0 }
+        ensures keeps { Keeps basin.now self.old self.new }
+        ensures on_the_way { IsOnTheWay basin.now result self.old self.new }
+        ensures goes { (log : Log)
+            → Holds basin.now self.old step.0 log (object.0 ∷ self.old.queue.waiting)
+            → IfOk result (λ end. Goes basin.now end self.new step.0 log) }
+    {
+        let count = self.counts.get(object.0);
+        if basin.control().object_limit <= count {
+            return Ok(Some(self.exceed(basin, object, step, count)?));
+        }
+        self.act(basin, methods, object, step)
     }
 
     // The event that follows in the open timestep.
@@ -196,20 +198,11 @@ impl State {
     ) -> Result<Option<StepEnd>, NoMemory>
         requires within { IsWithinStep basin.now self.old }
         requires order { AreInOrder (map (λ b. code (b.vtable, b.value)) methods.now.methods.items) }
-        requires first { 1 ≤ step.0 }
-        requires last { step.0 ≤ basin.now.control.stamps.count }
-        ensures within { IsWithinStep basin.now self.new }
+        requires step { IsStep basin.now step.0 }
+        ensures keeps { Keeps basin.now self.old self.new }
+        ensures on_the_way { IsOnTheWay basin.now result self.old self.new }
         ensures goes { (log : Log) → Holds basin.now self.old step.0 log self.old.queue.waiting
             → IfOk result (λ end. Goes basin.now end self.new step.0 log) }
-        ensures undo { (before : Cells) → CanUndo basin.now self.old.undo.items self.old.series before
-            → CanUndo basin.now self.new.undo.items self.new.series before }
-        ensures closed_steps { IfErr result (λ _. self.new.closed ≡ self.old.closed) }
-        ensures still { IfOk result (λ end. end ≡ None → self.new.closed ≡ self.old.closed) }
-        ensures end { IfErr result (λ _. self.new.end ≡ self.old.end) }
-        ensures going { IfOk result (λ end. end ≡ None → self.new.end ≡ self.old.end) }
-        ensures grows { Grows self.old.trace self.new.trace }
-        ensures falls { IfOk result (λ end. end ≡ None
-            → room basin.now.control.object_limit self.new.counts.items < room basin.now.control.object_limit self.old.counts.items) }
     {
         match self.queue.next() {
             Some(object) => self.ask(basin, methods, object, step),
@@ -225,18 +218,15 @@ impl State {
         step: StepNo,
     ) -> Result<StepEnd, NoMemory>
         requires made { IsStateOf basin.now self.old }
-        requires order { AreInOrder (map (λ b. code (b.vtable, b.value)) methods.now.methods.items) }
-        requires first { 1 ≤ step.0 }
-        requires last { step.0 ≤ basin.now.control.stamps.count }
         requires cleared { self.old.undo.items ≡ [] }
+        requires order { AreInOrder (map (λ b. code (b.vtable, b.value)) methods.now.methods.items) }
+        requires step { IsStep basin.now step.0 }
         ensures made { IsStateOf basin.now self.new }
-        ensures passes { (log : Log) → Shows basin.now (seen self.old) log → IsBefore basin.now step.0 log
+        ensures revocable { IsRevocable basin.now self.old self.new }
+        ensures still { IfErr result (λ _. IsStill self.old self.new) }
+        ensures passes { (log : Log)
+            → Shows basin.now (seen self.old) log → IsBefore basin.now step.0 log
             → IfOk result (λ end. Passes basin.now log end (seen self.new) step.0) }
-        ensures cells { All (λ (undone : Undone). IsCell basin.now undone.cell) self.new.undo.items }
-        ensures undo { CanUndo basin.now self.new.undo.items self.new.series (held self.old.series) }
-        ensures closed_steps { IfErr result (λ _. self.new.closed ≡ self.old.closed) }
-        ensures end { IfErr result (λ _. self.new.end ≡ self.old.end) }
-        ensures grows { Grows self.old.trace self.new.trace }
     {
         self.open(basin, step)?;
         loop {
@@ -255,12 +245,13 @@ impl State {
     ) -> Result<StepEnd, NoMemory>
         requires made { IsStateOf basin.now self.old }
         requires order { AreInOrder (map (λ b. code (b.vtable, b.value)) methods.now.methods.items) }
-        requires first { 1 ≤ step.0 }
-        requires last { step.0 ≤ basin.now.control.stamps.count }
+        requires step { IsStep basin.now step.0 }
         ensures made { IsStateOf basin.now self.new }
-        ensures passes { (log : Log) → Shows basin.now (seen self.old) log → IsBefore basin.now step.0 log
+        ensures passes { (log : Log)
+            → Shows basin.now (seen self.old) log → IsBefore basin.now step.0 log
             → IfOk result (λ end. Passes basin.now log end (seen self.new) step.0) }
-        ensures before { (log : Log) → Shows basin.now (seen self.old) log → IfErr result (λ _. Shows basin.now (seen self.new) log) }
+        ensures before { (log : Log) → Shows basin.now (seen self.old) log
+            → IfErr result (λ _. Shows basin.now (seen self.new) log) }
     {
         self.undo.clear();
         let mark = self.trace.len();
@@ -276,7 +267,8 @@ impl State {
 
     /// What the run came to.
     pub(crate) fn finish(self) -> Run
-        ensures run { (basin : Draft) (log : Log) → IsEngineOf basin (seen self) → Shows basin (seen self) log → IsRunOf basin log result }
+        ensures run { (basin : Draft) (log : Log) → IsEngineOf basin (seen self)
+            → Shows basin (seen self) log → IsRunOf basin log result }
         ensures closed { result.closed ≡ self.closed }
     {
         Run {

@@ -1,5 +1,5 @@
 -- Two logs that hold alike what a timestep's events look at go alike through it.
-use Rattle.std.proofs.Common.{◌≡◌, ℕ, ◌-◌, ◌==◌, ℤ, pos, ◌-ℤ◌, Bool, true, false, not, ◌&&◌, ◌||◌, cond, List, [], ◌∷◌, ◌++◌, map, length, Option, Some, None, nat_lt, nat_le, refl, sym, ap, ap₂, subst, ◌∙◌, arith}
+use Rattle.std.proofs.Common.{◌≡◌, ℕ, ◌-◌, ℤ, pos, ◌-ℤ◌, Bool, true, false, not, ◌&&◌, ◌||◌, cond, List, [], ◌∷◌, ◌++◌, map, length, Option, Some, None, nat_lt, nat_le, refl, sym, ap, ap₂, subst, ◌∙◌, arith}
 use Rattle.std.specs.Prelude.{is_some, if◌then◌else◌, option_and_then, option_map, unwrap_or}
 use Rattle.std.specs.Option.{option_or}
 use Rattle.std.specs.List.{cons_option, filter, filter_map, find}
@@ -18,48 +18,19 @@ use Rattle.rw_series.specs.declared.fire.FireEnd.{FireEnd}
 use Rattle.rw_series.specs.declared.fire.FireEnd.TheVariants.{Done, Unknown, ZeroDivisor as DividesByZero, OutOfRange as EndsOutside}
 use Rattle.rw_series.specs.declared.look.Look.{Look}
 use Rattle.rw_log.specs.declared.fault.RunFault.TheVariants.{ObjectLimit, RuleLimit}
-use Rattle.rw_log.specs.Log.{Asked, Cells, Log, Event, Firing, given, opened, closed, idle, solved, fired, fault, cells_of, last_put, written_by, value_in}
+use Rattle.rw_log.specs.Log.{Asked, Cells, Log, Event, Firing, opened, idle, solved, fired, fault, cells_of, firing_in, is_opened, last_put, written_by, value_in}
 use Rattle.rw_log.specs.Waiting.{waiting, since, wakes, ends_wait, numbers, is_data, first_of}
 use Rattle.rw_log.specs.Dispatch.{Past, bounds_in_place, places, cell_in, past_of, cell_of_past, cell_at, past_cell_of, value_of_past, view_of, if_cell, looked_cells, looks_at, solved_by, asked_by, end_in, is_written, puts_written, denied_by, or_fault, judged, dispatch_of, answered, dispatched}
-use Rattle.rw_log.specs.Next.{Policy, next, next_of, after_objects, asked_next, firing_of, ended, agenda_of, count_if, dispatches, firings, last_firing, last_looks, is_changed, is_same_value, first_due, is_put_again, last_ones, asked_of_rule}
+use Rattle.rw_log.specs.Next.{Policy, next, next_of, after_objects, asked_next, firing_of, ended, agenda_of, count, dispatches, firings, is_dispatch_of, is_firing_of, last_looks, newest_firing, since_opening, is_changed, is_same_value, first_due, is_put_again, last_ones, asked_of_rule}
 use Rattle.rw_log.specs.Frame.{IsFault, cells_looked, cells_asked, looked_by, looked_in, AreAlike, Goes, IsFramed}
 use Rattle.rw_log.proofs.Lists.{filter-same}
 use Rattle.rw_log.proofs.Waits.{waiting-more, opens}
 
 -- ---- what looks back to the opening alone is the same over both logs
 
-counts_same : (events : Log) (step : ℕ) (x y : Log) (object : ℕ) → dispatches (events ++ opened step ∷ x) object ≡ dispatches (events ++ opened step ∷ y) object
-counts_same [] step x y object = refl
-counts_same (given cell value ∷ events) step x y object = counts_same events step x y object
-counts_same (opened s ∷ events) step x y object = refl
-counts_same (closed s ∷ events) step x y object = counts_same events step x y object
-counts_same (idle other s looked ∷ events) step x y object = ap (count_if (other == object)) (counts_same events step x y object)
-counts_same (solved dispatch ∷ events) step x y object = ap (count_if (dispatch.object == object)) (counts_same events step x y object)
-counts_same (fired firing ∷ events) step x y object = counts_same events step x y object
-counts_same (fault why ∷ events) step x y object = counts_same events step x y object
-
-firings_same : (events : Log) (step : ℕ) (x y : Log) (rule : ℕ) → firings (events ++ opened step ∷ x) rule ≡ firings (events ++ opened step ∷ y) rule
-firings_same [] step x y rule = refl
-firings_same (given cell value ∷ events) step x y rule = firings_same events step x y rule
-firings_same (opened s ∷ events) step x y rule = refl
-firings_same (closed s ∷ events) step x y rule = firings_same events step x y rule
-firings_same (idle object s looked ∷ events) step x y rule = firings_same events step x y rule
-firings_same (solved dispatch ∷ events) step x y rule = firings_same events step x y rule
-firings_same (fired firing ∷ events) step x y rule = ap (count_if (firing.rule == rule)) (firings_same events step x y rule)
-firings_same (fault why ∷ events) step x y rule = firings_same events step x y rule
-
-last_same : (events : Log) (step : ℕ) (x y : Log) (rule : ℕ) → last_firing (events ++ opened step ∷ x) rule ≡ last_firing (events ++ opened step ∷ y) rule
-last_same [] step x y rule = refl
-last_same (given cell value ∷ events) step x y rule = last_same events step x y rule
-last_same (opened s ∷ events) step x y rule = refl
-last_same (closed s ∷ events) step x y rule = last_same events step x y rule
-last_same (idle object s looked ∷ events) step x y rule = last_same events step x y rule
-last_same (solved dispatch ∷ events) step x y rule = last_same events step x y rule
-last_same (fired firing ∷ events) step x y rule = ap (λ last. if firing.rule == rule then Some firing else last) (last_same events step x y rule)
-last_same (fault why ∷ events) step x y rule = last_same events step x y rule
-
-looks_same : (events : Log) (step : ℕ) (x y : Log) (rule : ℕ) → last_looks (events ++ opened step ∷ x) rule ≡ last_looks (events ++ opened step ∷ y) rule
-looks_same events step x y rule = ap (option_map (λ (firing : Firing). firing.looked)) (last_same events step x y rule)
+pub same_since : (events : Log) (step : ℕ) (x y : Log) → since_opening (events ++ opened step ∷ x) ≡ since_opening (events ++ opened step ∷ y)
+same_since [] step x y = refl
+same_since (event ∷ events) step x y = ap (λ later. if is_opened event then [] else event ∷ later) (same_since events step x y)
 
 some_if : (w : Bool) (m n : ℕ) → is_some (if w then Some m else None) ≡ is_some (if w then Some n else None)
 some_if true m n = refl
@@ -137,28 +108,44 @@ changed_same f g (look ∷ looks) a =
 abbrev looks_of : Option Firing → Option (List Look)
 looks_of = option_map (λ (firing : Firing). firing.looked)
 
-if_changed : (f g : Cells) (test : Bool) (firing : Firing) (rest : Option Firing) → is_changed f (looks_of rest) ≡ is_changed g (looks_of rest)
-    → is_changed f (Some firing.looked) ≡ is_changed g (Some firing.looked)
-    → is_changed f (looks_of (if test then Some firing else rest)) ≡ is_changed g (looks_of (if test then Some firing else rest))
-if_changed f g true firing rest u v = v
-if_changed f g false firing rest u v = u
+if_changed : (f g : Cells) (test : Bool) (one other : Option Firing) → is_changed f (looks_of other) ≡ is_changed g (looks_of other)
+    → is_changed f (looks_of one) ≡ is_changed g (looks_of one)
+    → is_changed f (looks_of (if test then one else other)) ≡ is_changed g (looks_of (if test then one else other))
+if_changed f g true one other u v = v
+if_changed f g false one other u v = u
+
+if_since : (test : Bool) (event : Event) (events : Log) (f g : Cells) → AreAlike f g (looked_by event ++ looked_in events)
+    → AreAlike f g (looked_in events) → AreAlike f g (looked_in (if test then [] else event ∷ events))
+if_since true event events f g all rest = tt
+if_since false event events f g all rest = all
+
+-- where looks are those of a firing, they are among those of its event
+fired_same : (f g : Cells) (event : Event) → AreAlike f g (looked_by event)
+    → is_changed f (looks_of (firing_in event)) ≡ is_changed g (looks_of (firing_in event))
+fired_same f g (fired firing) a = changed_same f g firing.looked (alike_left f g _ (cells_asked firing.asked) a)
+fired_same f g event a = refl
+
+newest_same : (f g : Cells) (rule : ℕ) (events : Log) → AreAlike f g (looked_in events)
+    → is_changed f (looks_of (newest_firing rule events)) ≡ is_changed g (looks_of (newest_firing rule events))
+newest_same f g rule [] a = refl
+newest_same f g rule (event ∷ events) a =
+    if_changed f g (is_firing_of rule event) (firing_in event) (newest_firing rule events)
+    (newest_same f g rule events (alike_right f g (looked_by event) (looked_in events) a))
+    (fired_same f g event (alike_left f g (looked_by event) (looked_in events) a))
+
+since_looked : (f g : Cells) (events : Log) (step : ℕ) (x : Log) → AreAlike f g (looked_in events)
+    → AreAlike f g (looked_in (since_opening (events ++ opened step ∷ x)))
+since_looked f g [] step x a = tt
+since_looked f g (event ∷ events) step x a =
+    let later = since_looked f g events step x (alike_right f g (looked_by event) (looked_in events) a) in
+    if_since (is_opened event) event (since_opening (events ++ opened step ∷ x)) f g
+    (alike_both f g (looked_by event) (looked_in (since_opening (events ++ opened step ∷ x))) (alike_left f g (looked_by event) (looked_in events) a) later) later
 
 -- the looks of the last firing are among those of the timestep
 due_same : (f g : Cells) (events : Log) (step : ℕ) (x : Log) (rule : ℕ) → AreAlike f g (looked_in events)
     → is_changed f (last_looks (events ++ opened step ∷ x) rule) ≡ is_changed g (last_looks (events ++ opened step ∷ x) rule)
-due_same f g [] step x rule a = refl
-due_same f g (given cell value ∷ events) step x rule a = due_same f g events step x rule a
-due_same f g (opened s ∷ events) step x rule a = refl
-due_same f g (closed s ∷ events) step x rule a = due_same f g events step x rule a
-due_same f g (idle object s looked ∷ events) step x rule a =
-    due_same f g events step x rule (alike_right f g (looked_by (idle object s looked)) (looked_in events) a)
-due_same f g (solved dispatch ∷ events) step x rule a =
-    due_same f g events step x rule (alike_right f g (looked_by (solved dispatch)) (looked_in events) a)
-due_same f g (fault why ∷ events) step x rule a = due_same f g events step x rule a
-due_same f g (fired firing ∷ events) step x rule a =
-    if_changed f g (firing.rule == rule) firing (last_firing (events ++ opened step ∷ x) rule)
-    (due_same f g events step x rule (alike_right f g (looked_by (fired firing)) (looked_in events) a))
-    (changed_same f g firing.looked (alike_left f g _ (cells_asked firing.asked) (alike_left f g (looked_by (fired firing)) (looked_in events) a)))
+due_same f g events step x rule a =
+    newest_same f g rule (since_opening (events ++ opened step ∷ x)) (since_looked f g events step x a)
 
 find_same : (f g : ℕ → Bool) (xs : List ℕ) → ((x : ℕ) → f x ≡ g x) → find f xs ≡ find g xs
 find_same f g [] h = refl
@@ -167,7 +154,7 @@ find_same f g (x ∷ xs) h = rw (h x) (ap (λ z. cond (g x) (Some x) z) (find_sa
 first_due_same : (basin : Draft) (policy : Policy) (f g : Cells) (events : Log) (step : ℕ) (x y : Log) → AreAlike f g (looked_in events)
     → first_due basin policy f (events ++ opened step ∷ x) ≡ first_due basin policy g (events ++ opened step ∷ y)
 first_due_same basin policy f g events step x y a =
-    find_same _ _ (agenda_of basin.control.agenda policy.rules) (λ r. due_same f g events step x r a ∙ ap (is_changed g) (looks_same events step x y r))
+    find_same _ _ (agenda_of basin.control.agenda policy.rules) (λ r. due_same f g events step x r a ∙ ap (λ later. is_changed g (looks_of (newest_firing r later))) (same_since events step x y))
 
 -- ---- a dispatch
 
@@ -204,7 +191,7 @@ answered_same : (basin : Draft) (f g : Cells) (cells : List Cell) (object step :
     → AreAlike f g (looked_by (answered basin f (looks_at f cells) object step answer)) → ¬ IsFault (answered basin f (looks_at f cells) object step answer)
     → AreAlike f g cells × (answered basin f (looks_at f cells) object step answer ≡ answered basin g (looks_at g cells) object step answer)
 answered_same basin f g cells object step Idle a fine =
-    let l : AreAlike f g cells = subst (AreAlike f g) (cells_of_looks f cells) a in
+    let l : AreAlike f g cells = subst (AreAlike f g) (cells_of_looks f cells) (alike_left f g (cells_looked (looks_at f cells)) [] a) in
     (l, ap (idle object step) (looks_at_same f g cells l))
 answered_same basin f g cells object step (Conflict place held solves) a fine = absurd (fine tt)
 answered_same basin f g cells object step (OutOfRange place value) a fine = absurd (fine tt)
@@ -353,7 +340,8 @@ going basin policy step x y framed done (event ∷ events) goes a c =
     let later = alike_right (cells_of basin x) (cells_of basin y) (looked_by event) (looked_in events) c in
     let same : next basin policy step v ≡ Some event =
     ap (λ q. next_of basin policy (cells_of basin v) v step (first_of q)) (sym (waiting_same basin done step x y))
-    ∙ next_of_same basin policy (cells_of basin u) (cells_of basin v) u v step (first_of (waiting basin u)) event framed (counts_same done step x y) (firings_same done step x y)
+    ∙ next_of_same basin policy (cells_of basin u) (cells_of basin v) u v step (first_of (waiting basin u)) event framed (λ o. ap (count (is_dispatch_of o)) (same_since done step x y))
+    (λ r. ap (count (is_firing_of r)) (same_since done step x y))
     (first_due_same basin policy (cells_of basin u) (cells_of basin v) done step x y (alike_over basin done step x y (looked_in done) a))
     goes.0 (alike_over basin done step x y (looked_by event) own) goes.1 in
     (same, goes.1, going basin policy step x y framed (event ∷ done) events goes.2 (alike_both (cells_of basin x) (cells_of basin y) (looked_by event) (looked_in done) own a) later)

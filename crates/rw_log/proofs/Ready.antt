@@ -2,7 +2,7 @@
 use Rattle.std.proofs.Common.{◌≡◌, ℕ, Bool, true, false, not, ◌&&◌, List, length, All, Option, Some, None, refl}
 use Rattle.std.proofs.lemmas.List.Elements.{All-append, filter_passes}
 use Rattle.rw_model.specs.Draft.{Draft}
-use Rattle.rw_log.specs.Log.{Event, given, opened, closed, idle, solved, fired, fault}
+use Rattle.rw_log.specs.Log.{Event, opened, solved, fired}
 use Rattle.rw_log.specs.Waiting.{numbers, is_data, all_waiting, is_woken, woken, slots_at, queued_after}
 
 -- no object of the list is a data object
@@ -27,14 +27,11 @@ woken-ready basin but queue slots =
 
 -- nor is it after an event
 pub queued_after-ready : (basin : Draft) (event : Event) (queue : List ℕ) → AreReady basin queue → AreReady basin (queued_after basin event queue)
-queued_after-ready basin (given cell value) queue ready = ready
 queued_after-ready basin (opened step) queue ready = all_waiting-ready basin
-queued_after-ready basin (closed step) queue ready = ready
-queued_after-ready basin (idle object step looked) queue ready = ready
 queued_after-ready basin (solved dispatch) queue ready =
     All-append (λ object. is_data basin object ≡ false) queue (woken basin (Some dispatch.object) queue (slots_at dispatch.step dispatch.written))
     ready (woken-ready basin (Some dispatch.object) queue (slots_at dispatch.step dispatch.written))
 queued_after-ready basin (fired firing) queue ready =
     All-append (λ object. is_data basin object ≡ false) queue (woken basin None queue (slots_at firing.step firing.written))
     ready (woken-ready basin None queue (slots_at firing.step firing.written))
-queued_after-ready basin (fault why) queue ready = ready
+queued_after-ready basin event queue ready = ready

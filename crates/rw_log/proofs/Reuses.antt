@@ -8,7 +8,7 @@ use Rattle.rw_model.specs.declared.content.Content.{Content}
 use Rattle.rw_model.specs.Draft.{Draft}
 use Rattle.rw_series.specs.Series.{is_shared}
 use Rattle.rw_series.specs.declared.look.Look.{Look}
-use Rattle.rw_log.specs.Log.{Asked, Cells, Log, Event, given, opened, closed, idle, solved, fired, fault, cells_of, last_put}
+use Rattle.rw_log.specs.Log.{Asked, Cells, Log, Event, given, opened, closed, fault, cells_of, last_put}
 use Rattle.rw_log.specs.Next.{Policy, next, is_changed, is_same_value}
 use Rattle.rw_log.specs.Runs.{Leads, follows, follows_in, standing, Standing, rests, inside, over}
 use Rattle.rw_log.specs.Frame.{IsFault, looked_in, AreAlike, Goes, IsFramed, IsStepFrom, log_after}
@@ -19,12 +19,7 @@ use Rattle.rw_log.proofs.Frames.{frame}
 
 stands_by : (event : Event) (log : Log) → standing (event ∷ log) ≡ standing (event ∷ [])
 stands_by (given cell value) log = refl
-stands_by (opened step) log = refl
-stands_by (closed step) log = refl
-stands_by (idle object step looked) log = refl
-stands_by (solved dispatch) log = refl
-stands_by (fired firing) log = refl
-stands_by (fault why) log = refl
+stands_by event log = refl
 
 abbrev IsGoingOn : Standing → Type 0
 IsGoingOn (rests step) = Unit {0}
@@ -32,13 +27,8 @@ IsGoingOn (inside step) = Unit {0}
 IsGoingOn over = ⊥
 
 fault_is_over : (event : Event) → IsFault event → standing (event ∷ []) ≡ over
-fault_is_over (given cell value) why = absurd why
-fault_is_over (opened step) why = absurd why
-fault_is_over (closed step) why = absurd why
-fault_is_over (idle object step looked) why = absurd why
-fault_is_over (solved dispatch) why = absurd why
-fault_is_over (fired firing) why = absurd why
 fault_is_over (fault found) why = refl
+fault_is_over event why = absurd why
 
 no_fault : (event : Event) (step : ℕ) → standing (event ∷ []) ≡ inside step → ¬ IsFault event
 no_fault event step s why = subst IsGoingOn (sym s ∙ fault_is_over event why) tt

@@ -1,5 +1,5 @@
 -- Policies that do the same have the same runs.
-use Rattle.std.proofs.Common.{◌≡◌, ◌<◌, ◌≤◌, ◌+◌, ◌==◌, ℕ, zero, suc, ℤ, Bool, true, false, cond, List, [], ◌∷◌, ◌++◌, Option, Some, None, find, reverse, nat_le, nat_lt, refl, sym, ap, subst, ◌∙◌, arith}
+use Rattle.std.proofs.Common.{◌≡◌, ◌<◌, ◌+◌, ◌==◌, ℕ, ℤ, Bool, true, false, cond, List, [], ◌∷◌, Option, Some, None, find, reverse, nat_le, refl, sym, ap, subst, ◌∙◌, arith}
 use Rattle.std.specs.Prelude.{if◌then◌else◌, option_map}
 use Rattle.std.proofs.lemmas.Bool.Decides.{nat_tests}
 use Rattle.std.proofs.lemmas.List.{reverse-append}
@@ -15,7 +15,7 @@ use Rattle.rw_log.specs.Times.{times}
 use Rattle.rw_log.specs.Waiting.{numbers, first_waiting}
 use Rattle.rw_log.specs.Next.{Policy, agenda_of, after_objects, ended, firing_of, firings, first_due, is_due, next_of, no_rules}
 use Rattle.rw_log.specs.Policy.{FireAlike, IsRule}
-use Rattle.rw_log.specs.Runs.{IsOver, IsRun, Leads, Standing, rests, inside, over, follows, follows_by, placed, standing}
+use Rattle.rw_log.specs.Runs.{IsRun, Leads, Standing, rests, inside, over, follows_by, placed, standing}
 use Rattle.rw_log.proofs.Lists.{times-append, times-numbers}
 
 -- ---- what is found on the agenda is a rule

@@ -1,5 +1,5 @@
 -- A run exists: in a timestep each event but its closing and a fault leaves fewer dispatches and firings below their limits.
-use Rattle.std.proofs.Common.{◌≡◌, ◌<◌, ◌≤◌, ◌+◌, ◌-◌, ◌==◌, ℕ, zero, suc, ℤ, Bool, true, false, cond, List, [], ◌∷◌, ◌++◌, length, map, Option, Some, None, is_some, IsSome, nat_le, nat_lt, refl, sym, ap, ap₂, subst, ◌∙◌, arith, inl, inr}
+use Rattle.std.proofs.Common.{◌≡◌, ◌<◌, ◌≤◌, ◌+◌, ◌-◌, ◌==◌, ℕ, zero, suc, ℤ, Bool, true, false, cond, List, [], ◌∷◌, length, map, Option, Some, None, is_some, IsSome, nat_le, nat_lt, refl, sym, ap, subst, ◌∙◌, arith, inl, inr}
 use Rattle.std.specs.Prelude.{◌⊎◌, if◌then◌else◌, option_map}
 use Rattle.std.proofs.lemmas.Bool.Decides.{nat_tests}
 use Rattle.std.proofs.lemmas.Option.{same_Some, none-some}
@@ -14,10 +14,10 @@ use Rattle.rw_series.specs.declared.look.Look.{Look}
 use Rattle.rw_log.specs.declared.fault.RunFault.TheVariants.{ObjectLimit, RuleLimit}
 use Rattle.rw_log.specs.Dispatch.{asked_by, answered, denied_by, dispatch_of, dispatched, end_in, judged, looked_cells, looks_at, or_fault, solved_by}
 use Rattle.rw_log.specs.Frame.{IsFault}
-use Rattle.rw_log.specs.Log.{Asked, Cells, Event, Log, cells_of, given, opened, closed, idle, solved, fired, fault, value_in}
+use Rattle.rw_log.specs.Log.{Asked, Cells, Event, Log, cells_of, given, opened, closed, idle, solved, fault, value_in}
 use Rattle.rw_log.specs.Next.{Policy, after_objects, asked_next, count_if, dispatches, ended, firing_of, firings, first_due, next, next_of, no_rules}
 use Rattle.rw_log.specs.Policy.{IsPolicyOf, IsRule}
-use Rattle.rw_log.specs.Runs.{IsOver, IsRun, Leads, rests, inside, over, follows, follows_in, placed, standing}
+use Rattle.rw_log.specs.Runs.{IsOver, IsRun, Leads, rests, inside, follows, follows_in, placed, standing}
 use Rattle.rw_log.specs.Times.{times}
 use Rattle.rw_log.specs.Waiting.{first_of, first_waiting, numbers, since, waiting}
 use Rattle.rw_log.proofs.Lists.{times-numbers}
@@ -72,13 +72,9 @@ counted_here a n = let own : (a == a) ≡ true = grind (arith, nat_tests) in rw 
 
 -- a dispatch of the object at the timestep that ends in no fault
 abbrev IsAsked : ℕ → ℕ → Event → Type 0
-IsAsked o step (given cell value) = ⊥
-IsAsked o step (opened at) = ⊥
-IsAsked o step (closed at) = ⊥
 IsAsked o step (idle other at looked) = (other ≡ o) × (at ≡ step)
 IsAsked o step (solved dispatch) = (dispatch.object ≡ o) × (dispatch.step ≡ step)
-IsAsked o step (fired firing) = ⊥
-IsAsked o step (fault why) = ⊥
+IsAsked o step event = ⊥
 
 or_fault_asked : (values : Option (ℤ × ℤ)) (o step : ℕ) (put : Asked) (rest : Event) → IsFault rest ⊎ IsAsked o step rest
     → IsFault (or_fault values o put rest) ⊎ IsAsked o step (or_fault values o put rest)
@@ -114,11 +110,6 @@ record Follows (basin : Draft) (policy : Policy) (step : ℕ) (log : Log) : Type
 module _ (basin : Draft) (policy : Policy) (step : ℕ) (log : Log) where
   after_asked : (o : ℕ) (event : Event) → 1 ≤ o → o ≤ length basin.objects → dispatches log o < basin.control.object_limit → IsAsked o step event
       → Outcome basin policy step log event
-  after_asked o (given cell value) first last below is = absurd is
-  after_asked o (opened at) first last below is = absurd is
-  after_asked o (closed at) first last below is = absurd is
-  after_asked o (fired firing) first last below is = absurd is
-  after_asked o (fault why) first last below is = absurd is
   after_asked o (idle other at looked) first last below is =
       let falls = left_falls basin.control.object_limit (dispatches log) (λ k. count_if (other == k) (dispatches log k)) (length basin.objects) o
       (λ k. counted other k (dispatches log k)) first last
@@ -129,6 +120,7 @@ module _ (basin : Draft) (policy : Policy) (step : ℕ) (log : Log) where
       (λ k. counted dispatch.object k (dispatches log k)) first last
       (subst (λ z. dispatches log o < count_if (z == o) (dispatches log o)) (sym is.0) (counted_here o (dispatches log o))) below in
       inr (inr (ap inside is.1, omega (arith, falls)))
+  after_asked o event first last below is = absurd is
 
   -- an object that waits is dispatched
   asked_outcome : (o : ℕ) (reached : Bool) → nat_le basin.control.object_limit (dispatches log o) ≡ reached → 1 ≤ o → o ≤ length basin.objects
@@ -216,13 +208,8 @@ record Ends (basin : Draft) (policy : Policy) (old : Log) : Type 0 where
   end : IsOver basin (standing log)
 
 fault_ends : (basin : Draft) (event : Event) (log : Log) → IsFault event → IsOver basin (standing (event ∷ log))
-fault_ends basin (given cell value) log is = absurd is
-fault_ends basin (opened step) log is = absurd is
-fault_ends basin (closed step) log is = absurd is
-fault_ends basin (idle object step looked) log is = absurd is
-fault_ends basin (solved dispatch) log is = absurd is
-fault_ends basin (fired firing) log is = absurd is
 fault_ends basin (fault why) log is = tt
+fault_ends basin event log is = absurd is
 
 goes_on : (basin : Draft) (policy : Policy) (log : Log) (event : Event) → follows basin policy log ≡ Some event → Ends basin policy (event ∷ log)
     → Ends basin policy log

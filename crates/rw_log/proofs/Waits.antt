@@ -1,6 +1,6 @@
 -- How the waiting objects change with one event more.
-use Rattle.std.proofs.Common.{◌≡◌, ◌≤◌, ◌<◌, ◌+◌, ◌==◌, ℕ, zero, suc, ℤ, Bool, true, false, not, ◌&&◌, ◌||◌, cond, List, [], ◌∷◌, ◌++◌, map, length, Option, Some, None, nat_lt, refl, sym, ap, ap₂, ◌∙◌, arith, inl, inr}
-use Rattle.std.specs.Prelude.{◌⊎◌, is_some, if◌then◌else◌}
+use Rattle.std.proofs.Common.{◌≡◌, ◌≤◌, ◌<◌, ◌+◌, ◌==◌, ℕ, zero, suc, ℤ, Bool, true, false, not, ◌&&◌, ◌||◌, cond, List, [], ◌∷◌, ◌++◌, length, Option, Some, None, nat_lt, refl, sym, ap, ap₂, ◌∙◌, arith}
+use Rattle.std.specs.Prelude.{is_some, if◌then◌else◌}
 use Rattle.std.specs.Option.{option_or}
 use Rattle.std.specs.List.{filter, list_any}
 use Rattle.std.proofs.lemmas.Bool.Decides.{nat_tests}
@@ -10,21 +10,17 @@ use Rattle.std.proofs.lemmas.Option.{same_Some, none-some}
 use Rattle.rw_base.specs.declared.number.Cell.{Cell}
 use Rattle.rw_model.specs.Draft.{Draft}
 use Rattle.rw_series.specs.declared.look.Look.{Look}
-use Rattle.rw_method.specs.declared.solved.Solved.{Solved}
-use Rattle.rw_method.specs.declared.solved.Solved.TheVariants.{Idle, Puts, Conflict, OutOfRange}
 use Rattle.rw_log.specs.declared.fault.RunFault.{RunFault}
-use Rattle.rw_log.specs.Log.{Asked, Cells, Log, Event, Dispatch, Firing, given, opened, closed, idle, solved, fired, fault}
+use Rattle.rw_log.specs.Log.{Asked, Log, Event, Dispatch, Firing, given, opened, closed, idle, solved, fired, fault, is_number}
 use Rattle.rw_log.specs.Times.{times}
-use Rattle.rw_log.specs.Waiting.{numbers, is_data, ends_wait, wakes, since, is_place, is_since, waiting_below, waiting, is_at, is_put_at, is_owner, woken, slots_at, all_waiting, queued_after}
-use Rattle.rw_log.specs.Dispatch.{asked_by, end_in, denied_by, or_fault, judged, dispatch_of, answered, looks_at, looked_cells, solved_by, dispatched}
-use Rattle.rw_log.specs.Frame.{IsFault}
+use Rattle.rw_log.specs.Waiting.{numbers, is_data, ends_wait, wakes, since, is_since, waiting_below, waiting, is_at, is_put_at, is_owner, woken, slots_at, all_waiting}
 use Rattle.rw_log.proofs.Lists.{filter-same, filter-filter, times-append, times-filter, times-numbers, without, none-kept, all-kept, filter-within, any-times}
 
 -- ---- the places since which an object waits
 
 -- a place before the newest event
 older_place : (ends wakes : Bool) (s : Option ℕ) (n place : ℕ) → place < n
-    → is_place place (option_or (if ends then None else s) (if wakes then Some n else None)) ≡ not ends && is_place place s
+    → is_number place (option_or (if ends then None else s) (if wakes then Some n else None)) ≡ not ends && is_number place s
 older_place true true s n place h = grind (arith, nat_tests)
 older_place true false s n place h = refl
 older_place false true None n place h = grind (arith, nat_tests)
@@ -33,7 +29,7 @@ older_place false w (Some q) n place h = refl
 
 -- the place of the newest event
 newest_place : (ends wakes : Bool) (s : Option ℕ) (n : ℕ) → ((q : ℕ) → s ≡ Some q → q < n)
-    → is_place n (option_or (if ends then None else s) (if wakes then Some n else None)) ≡ wakes && (ends || not (is_some s))
+    → is_number n (option_or (if ends then None else s) (if wakes then Some n else None)) ≡ wakes && (ends || not (is_some s))
 newest_place true true s n h = grind (arith, nat_tests)
 newest_place true false s n h = refl
 newest_place false true None n h = grind (arith, nat_tests)
@@ -86,7 +82,7 @@ none_below : (s : Option ℕ) (n : ℕ) → 0 ≡ cond (is_below 0 s) n 0
 none_below None n = refl
 none_below (Some p) n = grind (arith, nat_tests)
 
-more_below : (s : Option ℕ) (n place : ℕ) → cond (is_below place s) n 0 + cond (is_place place s) n 0 ≡ cond (is_below (suc place) s) n 0
+more_below : (s : Option ℕ) (n place : ℕ) → cond (is_below place s) n 0 + cond (is_number place s) n 0 ≡ cond (is_below (suc place) s) n 0
 more_below None n place = omega arith
 more_below (Some p) n place = grind (arith, nat_tests)
 
@@ -245,51 +241,3 @@ fires basin log f =
     at a l =
         rw (owners basin a f.step f.written, is_listed basin log a l)
         (sym (same_all (is_data basin a) (is_some (since basin log a)) (is_put_at basin a f.step f.written)))
-
--- ---- the event that a dispatch is
-
--- the event is of a dispatch of this object that ends in no fault
-abbrev pub IsDone : ℕ → Event → Type 0
-IsDone o (given cell value) = ⊥
-IsDone o (opened step) = ⊥
-IsDone o (closed step) = ⊥
-IsDone o (idle other step looked) = other ≡ o
-IsDone o (solved dispatch) = dispatch.object ≡ o
-IsDone o (fired firing) = ⊥
-IsDone o (fault why) = ⊥
-
--- after it those wait that are queued
-pub queues : (basin : Draft) (log : Log) (event : Event) (o : ℕ) (rest : List ℕ) → IsDone o event → waiting basin log ≡ o ∷ rest
-    → waiting basin (event ∷ log) ≡ queued_after basin event rest
-queues basin log (given cell value) o rest done e = absurd done
-queues basin log (opened step) o rest done e = absurd done
-queues basin log (closed step) o rest done e = absurd done
-queues basin log (idle other step looked) o rest done e = idles basin log other step looked [] rest (e ∙ ap (λ q. q ∷ rest) (sym done))
-queues basin log (solved dispatch) o rest done e = solves basin log dispatch [] rest (e ∙ ap (λ q. q ∷ rest) (sym done))
-queues basin log (fired firing) o rest done e = absurd done
-queues basin log (fault why) o rest done e = absurd done
-
-or_fault_done : (values : Option (ℤ × ℤ)) (o : ℕ) (put : Asked) (rest : Event) → IsFault rest ⊎ IsDone o rest
-    → IsFault (or_fault values o put rest) ⊎ IsDone o (or_fault values o put rest)
-or_fault_done None o put rest h = h
-or_fault_done (Some values) o put rest h = inl tt
-
-judged_done : (cells : Cells) (o : ℕ) (puts : List Asked) (rest : Event) → IsFault rest ⊎ IsDone o rest
-    → IsFault (judged cells o puts rest) ⊎ IsDone o (judged cells o puts rest)
-judged_done cells o [] rest h = h
-judged_done cells o (put ∷ puts) rest h =
-    or_fault_done (denied_by (end_in cells put) put) o put (judged cells o puts rest) (judged_done cells o puts rest h)
-
-answered_done : (basin : Draft) (cells : Cells) (looked : List Look) (o step : ℕ) (answer : Solved)
-    → IsFault (answered basin cells looked o step answer) ⊎ IsDone o (answered basin cells looked o step answer)
-answered_done basin cells looked o step Idle = inr refl
-answered_done basin cells looked o step (Puts puts) =
-    judged_done cells o (map (asked_by basin o step) puts) (dispatch_of cells looked o step (map (asked_by basin o step) puts)) (inr refl)
-answered_done basin cells looked o step (Conflict place held solves) = inl tt
-answered_done basin cells looked o step (OutOfRange place value) = inl tt
-
--- a dispatch of an object ends in a fault, or is done
-pub dispatched-done : (basin : Draft) (cells : Cells) (o step : ℕ)
-    → IsFault (dispatched basin cells o step) ⊎ IsDone o (dispatched basin cells o step)
-dispatched-done basin cells o step =
-    answered_done basin cells (looks_at cells (looked_cells basin o step)) o step (solved_by basin cells o step)

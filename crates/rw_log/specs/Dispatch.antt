@@ -107,6 +107,10 @@ looked_cells basin object step = filter_map (cell_in basin object step) places +
 abbrev pub looks_at : Cells → List Cell → List Look
 looks_at cells at = map (λ cell. record { cell = cell; seen = value_in cells cell }) at
 
+-- what it looks at
+abbrev pub looks_of : Draft → Cells → ℕ → ℕ → List Look
+looks_of basin cells object step = looks_at cells (looked_cells basin object step)
+
 -- ---- what its method answers
 
 abbrev pub solved_by : Draft → Cells → ℕ → ℕ → Solved
@@ -123,6 +127,10 @@ asked_by basin object step put = record {
   cell = cell_at (slot_or_none basin object put.place) step;
   content = record { value = put.value; number = put.number; writer = Object (record { 0 = object }) };
 }
+
+-- all that is asked for in cells
+abbrev pub asked_for : Draft → ℕ → ℕ → List Put → List Asked
+asked_for basin object step puts = map (asked_by basin object step) puts
 
 -- what becomes of a put, by what the cells hold
 abbrev pub end_in : Cells → Asked → PutEnd
@@ -159,12 +167,16 @@ abbrev pub dispatch_of : Cells → List Look → ℕ → ℕ → List Asked → 
 dispatch_of cells looked object step asked =
     solved (record { object = object; step = step; looked = looked; asked = asked; written = puts_written cells asked })
 
+-- the event of a method's puts
+abbrev pub put_by : Draft → Cells → List Look → ℕ → ℕ → List Put → Event
+put_by basin cells looked object step puts =
+    judged cells object (asked_for basin object step puts)
+    (dispatch_of cells looked object step (asked_for basin object step puts))
+
 -- the event of what a method answers
 abbrev pub answered : Draft → Cells → List Look → ℕ → ℕ → Solved → Event
 answered basin cells looked object step Idle = idle object step looked
-answered basin cells looked object step (Puts puts) =
-    judged cells object (map (asked_by basin object step) puts)
-    (dispatch_of cells looked object step (map (asked_by basin object step) puts))
+answered basin cells looked object step (Puts puts) = put_by basin cells looked object step puts
 answered basin cells looked object step (Conflict place held solves) =
     fault (FaultConflict (record { 0 = object }) (record { 0 = slot_or_none basin object place }) (record { 0 = step }) held solves)
 answered basin cells looked object step (OutOfRange place value) =
@@ -173,4 +185,4 @@ answered basin cells looked object step (OutOfRange place value) =
 -- the event that a dispatch of the object is, where the cells hold this
 abbrev pub dispatched : Draft → Cells → ℕ → ℕ → Event
 dispatched basin cells object step =
-    answered basin cells (looks_at cells (looked_cells basin object step)) object step (solved_by basin cells object step)
+    answered basin cells (looks_of basin cells object step) object step (solved_by basin cells object step)

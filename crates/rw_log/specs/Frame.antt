@@ -4,19 +4,14 @@ use Rattle.rw_base.specs.declared.number.Cell.{Cell}
 use Rattle.rw_model.specs.Draft.{Draft}
 use Rattle.rw_series.specs.Fire.{Fire}
 use Rattle.rw_series.specs.declared.look.Look.{Look}
-use Rattle.rw_log.specs.Log.{Asked, Event, given, opened, closed, idle, solved, fired, fault, Log}
+use Rattle.rw_log.specs.Log.{Asked, Event, closed, fault, Log, asked_in, looks_in}
 use Rattle.rw_log.specs.Next.{Policy, next}
 use Rattle.rw_log.specs.Runs.{standing, inside}
 
 -- the run ends with this event
 abbrev pub IsFault : Event → Type 0
-IsFault (given cell value) = ⊥
-IsFault (opened step) = ⊥
-IsFault (closed step) = ⊥
-IsFault (idle object step looked) = ⊥
-IsFault (solved dispatch) = ⊥
-IsFault (fired firing) = ⊥
 IsFault (fault why) = Unit {0}
+IsFault event = ⊥
 
 abbrev pub cells_looked : List Look → List Cell
 cells_looked looks = map (λ (look : Look). look.cell) looks
@@ -26,13 +21,7 @@ cells_asked puts = map (λ (put : Asked). put.cell) puts
 
 -- the cells at which an event looked, and those of the puts that it asked for
 abbrev pub looked_by : Event → List Cell
-looked_by (given cell value) = []
-looked_by (opened step) = []
-looked_by (closed step) = []
-looked_by (idle object step looked) = cells_looked looked
-looked_by (solved dispatch) = cells_looked dispatch.looked ++ cells_asked dispatch.asked
-looked_by (fired firing) = cells_looked firing.looked ++ cells_asked firing.asked
-looked_by (fault why) = []
+looked_by event = cells_looked (looks_in event) ++ cells_asked (asked_in event)
 
 abbrev pub looked_in : List Event → List Cell
 looked_in [] = []

@@ -1,5 +1,5 @@
 -- A log of events, the newest first, and what a cell holds by looking back through it.
-use Rattle.std.specs.Prelude.{ℕ, ℤ, Bool, List, [], ◌∷◌, Option, Some, None, option_map, if◌then◌else◌}
+use Rattle.std.specs.Prelude.{ℕ, ◌==◌, ℤ, Bool, true, false, List, [], ◌∷◌, Option, Some, None, option_map, if◌then◌else◌}
 use Rattle.std.specs.Option.{option_or}
 use Rattle.rw_base.specs.declared.number.Cell.{Cell}
 use Rattle.rw_model.specs.declared.content.Content.{Content}
@@ -59,15 +59,50 @@ last_put basin (put ∷ puts) cell =
 abbrev pub input_content : ℤ → Content
 input_content value = record { value = value; number = 0; writer = Input }
 
+-- ---- what is told of an event
+
+-- this is the number
+abbrev pub is_number : ℕ → Option ℕ → Bool
+is_number number None = false
+is_number number (Some other) = other == number
+
+-- a timestep is opened
+abbrev pub is_opened : Event → Bool
+is_opened (opened step) = true
+is_opened event = false
+
+-- the object that was dispatched
+abbrev pub dispatched_in : Event → Option ℕ
+dispatched_in (idle object step looked) = Some object
+dispatched_in (solved dispatch) = Some dispatch.object
+dispatched_in event = None
+
+-- how a rule fired
+abbrev pub firing_in : Event → Option Firing
+firing_in (fired firing) = Some firing
+firing_in event = None
+
+-- what was looked at
+abbrev pub looks_in : Event → List Look
+looks_in (idle object step looked) = looked
+looks_in (solved dispatch) = dispatch.looked
+looks_in (fired firing) = firing.looked
+looks_in event = []
+
+-- the puts that were asked for
+abbrev pub asked_in : Event → List Asked
+asked_in (solved dispatch) = dispatch.asked
+asked_in (fired firing) = firing.asked
+asked_in event = []
+
 -- the puts that an event wrote
 abbrev pub written_by : Event → List Asked
 written_by (given cell value) = record { cell = cell; content = input_content value } ∷ []
-written_by (opened step) = []
-written_by (closed step) = []
-written_by (idle object step looked) = []
 written_by (solved dispatch) = dispatch.written
 written_by (fired firing) = firing.written
-written_by (fault why) = []
+written_by event = []
+
+-- ---- what cells hold
 
 -- what the cells hold after an event that found this in them
 abbrev pub held_after : Draft → Event → Cells → Cells

@@ -1,5 +1,5 @@
 -- The one event that follows in an open timestep.
-use Rattle.std.specs.Prelude.{ℕ, ◌+◌, ◌==◌, nat_le, ℤ, Bool, true, false, not, List, [], ◌∷◌, map, Option, Some, None, option_map, reverse, if◌then◌else◌}
+use Rattle.std.specs.Prelude.{ℕ, ◌+◌, nat_le, ℤ, Bool, true, false, not, List, [], ◌∷◌, map, Option, Some, None, option_map, reverse, if◌then◌else◌}
 use Rattle.std.specs.List.{list_any, filter, find}
 use Rattle.std.specs.Ordering.{int_eq}
 use Rattle.rw_base.specs.declared.number.Cell.{Cell}
@@ -13,7 +13,7 @@ use Rattle.rw_series.specs.declared.fire.FireEnd.TheVariants.{Done, Unknown, Zer
 use Rattle.rw_series.specs.declared.fire.RulePut.{RulePut}
 use Rattle.rw_series.specs.declared.look.Look.{Look}
 use Rattle.rw_log.specs.declared.fault.RunFault.TheVariants.{ZeroDivisor, RuleOutOfRange, ObjectLimit, RuleLimit}
-use Rattle.rw_log.specs.Log.{Asked, Cells, Event, Firing, given, opened, closed, idle, solved, fired, fault, Log, cells_of, value_in}
+use Rattle.rw_log.specs.Log.{Asked, Cells, Event, Firing, closed, fired, fault, Log, cells_of, dispatched_in, firing_in, is_number, is_opened, value_in}
 use Rattle.rw_log.specs.Waiting.{numbers, first_waiting}
 use Rattle.rw_model.specs.declared.writer.Writer.TheVariants.{Rule}
 use Rattle.rw_log.specs.Dispatch.{cell_at, dispatched, looks_at, puts_written}
@@ -35,41 +35,42 @@ agenda_of LowFirst rules = reverse (numbers rules)
 
 -- ---- counts and looks since the opening of the timestep
 
+-- the events since the opening, the newest first
+abbrev pub since_opening : Log → Log
+since_opening [] = []
+since_opening (event ∷ log) = if is_opened event then [] else event ∷ since_opening log
+
 abbrev pub count_if : Bool → ℕ → ℕ
 count_if test count = if test then count + 1 else count
 
+abbrev pub count : (Event → Bool) → Log → ℕ
+count test [] = 0
+count test (event ∷ events) = count_if (test event) (count test events)
+
+-- a dispatch of the object
+abbrev pub is_dispatch_of : ℕ → Event → Bool
+is_dispatch_of object event = is_number object (dispatched_in event)
+
+-- a firing of the rule
+abbrev pub is_firing_of : ℕ → Event → Bool
+is_firing_of rule event = is_number rule (option_map (λ (firing : Firing). firing.rule) (firing_in event))
+
 -- how often the object was dispatched
 abbrev pub dispatches : Log → ℕ → ℕ
-dispatches [] object = 0
-dispatches (given cell value ∷ log) object = dispatches log object
-dispatches (opened step ∷ log) object = 0
-dispatches (closed step ∷ log) object = dispatches log object
-dispatches (idle other step looked ∷ log) object = count_if (other == object) (dispatches log object)
-dispatches (solved dispatch ∷ log) object = count_if (dispatch.object == object) (dispatches log object)
-dispatches (fired firing ∷ log) object = dispatches log object
-dispatches (fault why ∷ log) object = dispatches log object
+dispatches log object = count (is_dispatch_of object) (since_opening log)
 
 -- how often the rule fired
 abbrev pub firings : Log → ℕ → ℕ
-firings [] rule = 0
-firings (given cell value ∷ log) rule = firings log rule
-firings (opened step ∷ log) rule = 0
-firings (closed step ∷ log) rule = firings log rule
-firings (idle object step looked ∷ log) rule = firings log rule
-firings (solved dispatch ∷ log) rule = firings log rule
-firings (fired firing ∷ log) rule = count_if (firing.rule == rule) (firings log rule)
-firings (fault why ∷ log) rule = firings log rule
+firings log rule = count (is_firing_of rule) (since_opening log)
+
+-- the newest of these events that is a firing of the rule
+abbrev pub newest_firing : ℕ → Log → Option Firing
+newest_firing rule [] = None
+newest_firing rule (event ∷ events) = if is_firing_of rule event then firing_in event else newest_firing rule events
 
 -- the last firing of the rule, if it fired
 abbrev pub last_firing : Log → ℕ → Option Firing
-last_firing [] rule = None
-last_firing (given cell value ∷ log) rule = last_firing log rule
-last_firing (opened step ∷ log) rule = None
-last_firing (closed step ∷ log) rule = last_firing log rule
-last_firing (idle object step looked ∷ log) rule = last_firing log rule
-last_firing (solved dispatch ∷ log) rule = last_firing log rule
-last_firing (fired firing ∷ log) rule = if firing.rule == rule then Some firing else last_firing log rule
-last_firing (fault why ∷ log) rule = last_firing log rule
+last_firing log rule = newest_firing rule (since_opening log)
 
 -- what it looked at
 abbrev pub last_looks : Log → ℕ → Option (List Look)

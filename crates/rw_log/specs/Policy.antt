@@ -1,5 +1,5 @@
 -- What a policy promises of the basin that it is for, and when two policies do the same.
-use Rattle.std.specs.Prelude.{◌≡◌, ◌≢◌, ℕ, ◌≤◌, ℤ, IsTrue, All, List, [], Option, Some, IsSome}
+use Rattle.std.specs.Prelude.{◌≡◌, ◌≢◌, ℕ, ◌≤◌, ℤ, IsTrue, All, [], Option, Some, IsSome}
 use Rattle.std.specs.Option.{ForSome}
 use Rattle.rw_base.specs.declared.number.Cell.{Cell}
 use Rattle.rw_model.specs.Basin.{is_settable}

@@ -1,5 +1,5 @@
 -- Which timesteps go in a later run as they went in an earlier one, so that they need not be run again.
-use Rattle.std.specs.Prelude.{◌≡◌, ◌↔◌, ℕ, ◌<◌, ◌≤◌, List, [], ◌∷◌, Contains, Option, Some, IsSome, All}
+use Rattle.std.specs.Prelude.{◌≡◌, ◌↔◌, ℕ, ◌<◌, ◌≤◌, List, [], ◌∷◌, Contains, Some, IsSome, All}
 use Rattle.rw_model.specs.Draft.{Draft}
 use Rattle.rw_log.specs.Frame.{AreAlike}
 use Rattle.rw_log.specs.Log.{Log, cells_of}

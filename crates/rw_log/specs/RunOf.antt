@@ -34,24 +34,14 @@ trace_of (event ∷ log) = trace_of log ++ lines event
 -- a log that ended in no fault settled
 abbrev pub end_of : Log → RunEnd
 end_of [] = Settled
-end_of (given cell value ∷ log) = Settled
-end_of (opened step ∷ log) = Settled
-end_of (closed step ∷ log) = Settled
-end_of (idle object step looked ∷ log) = Settled
-end_of (solved dispatch ∷ log) = Settled
-end_of (fired firing ∷ log) = Settled
 end_of (fault why ∷ log) = Fault why
+end_of (event ∷ log) = Settled
 
 -- the last timestep that was closed, 0 where none was
 abbrev pub last_closed : Log → ℕ
 last_closed [] = 0
-last_closed (given cell value ∷ log) = last_closed log
-last_closed (opened step ∷ log) = last_closed log
 last_closed (closed step ∷ log) = step
-last_closed (idle object step looked ∷ log) = last_closed log
-last_closed (solved dispatch ∷ log) = last_closed log
-last_closed (fired firing ∷ log) = last_closed log
-last_closed (fault why ∷ log) = last_closed log
+last_closed (event ∷ log) = last_closed log
 
 -- a run that came to what this log comes to
 pub record IsRunOf (basin : Draft) (log : Log) (run : Run) : Type 0 where

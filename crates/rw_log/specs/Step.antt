@@ -1,5 +1,5 @@
 -- A timestep within a log: its events, and what stood before its opening and its closing.
-use Rattle.std.specs.Prelude.{ℕ, ◌==◌, ◌&&◌, Bool, false, List, [], ◌∷◌, ◌++◌, map, length, Option, Some, None, is_some, if◌then◌else◌}
+use Rattle.std.specs.Prelude.{ℕ, ◌==◌, ◌&&◌, Bool, false, List, [], ◌∷◌, ◌++◌, map, length, Option, Some, None, if◌then◌else◌}
 use Rattle.std.specs.List.{filter, flat_map, list_any}
 use Rattle.rw_base.specs.declared.number.Cell.{Cell}
 use Rattle.rw_model.specs.Draft.{Draft}
@@ -8,7 +8,7 @@ use Rattle.rw_log.specs.declared.fault.RunFault.{RunFault}
 use Rattle.rw_log.specs.declared.fault.RunFault.TheVariants.{Conflict, ZeroDivisor, ObjectOutOfRange, RuleOutOfRange, ObjectLimit, RuleLimit}
 use Rattle.rw_log.specs.Dispatch.{cell_at}
 use Rattle.rw_log.specs.Frame.{cells_asked, cells_looked}
-use Rattle.rw_log.specs.Log.{Asked, Event, given, opened, closed, idle, solved, fired, fault, Log}
+use Rattle.rw_log.specs.Log.{Asked, Event, given, opened, closed, idle, solved, fired, fault, Log, asked_in, looks_in}
 use Rattle.rw_log.specs.RunOf.{lines}
 
 -- ---- its events
@@ -67,13 +67,7 @@ cells_reached basin puts = flat_map (cells_with basin) (cells_asked puts)
 
 -- the cells at which an event looked, and those that the puts reach which it asked for, written or not
 abbrev pub reached_by : Draft → Event → List Cell
-reached_by basin (given cell value) = []
-reached_by basin (opened step) = []
-reached_by basin (closed step) = []
-reached_by basin (idle object step looked) = cells_looked looked
-reached_by basin (solved dispatch) = cells_looked dispatch.looked ++ cells_reached basin dispatch.asked
-reached_by basin (fired firing) = cells_looked firing.looked ++ cells_reached basin firing.asked
-reached_by basin (fault why) = []
+reached_by basin event = cells_looked (looks_in event) ++ cells_reached basin (asked_in event)
 
 -- those of all events of a timestep
 abbrev pub looked_at : Draft → ℕ → Log → List Cell

@@ -1,12 +1,12 @@
 -- Which objects wait, and since which event, by looking back through the log.
-use Rattle.std.specs.Prelude.{ℕ, zero, suc, ◌==◌, Bool, true, false, ◌&&◌, not, List, [], ◌∷◌, ◌++◌, length, Option, Some, None, option_map, unwrap_or, if◌then◌else◌}
+use Rattle.std.specs.Prelude.{ℕ, zero, suc, ◌==◌, Bool, false, ◌&&◌, ◌||◌, not, List, [], ◌∷◌, ◌++◌, length, Option, Some, None, option_map, unwrap_or, if◌then◌else◌}
 use Rattle.std.specs.Option.{option_or}
 use Rattle.std.specs.List.{list_any, filter}
 use Rattle.rw_model.specs.Code.{code_of}
 use Rattle.rw_model.specs.Draft.{Draft}
 use Rattle.rw_model.specs.Objects.{object_at}
 use Rattle.rw_model.specs.Links.{group_of, owner_of}
-use Rattle.rw_log.specs.Log.{Asked, Event, given, opened, closed, idle, solved, fired, fault, Log}
+use Rattle.rw_log.specs.Log.{Asked, Event, opened, solved, fired, Log, dispatched_in, is_number, is_opened}
 
 -- the numbers from 1 on, rising
 abbrev pub numbers : ℕ → List ℕ
@@ -28,24 +28,15 @@ is_put_at basin object step written =
 
 -- after this event the object waits no more for anything before it
 abbrev pub ends_wait : Event → ℕ → Bool
-ends_wait (given cell value) object = false
-ends_wait (opened step) object = true
-ends_wait (closed step) object = false
-ends_wait (idle other step looked) object = other == object
-ends_wait (solved dispatch) object = dispatch.object == object
-ends_wait (fired firing) object = false
-ends_wait (fault why) object = false
+ends_wait event object = is_opened event || is_number object (dispatched_in event)
 
 -- this event is one since which the object may wait
 abbrev pub wakes : Draft → Event → ℕ → Bool
-wakes basin (given cell value) object = false
 wakes basin (opened step) object = not (is_data basin object)
-wakes basin (closed step) object = false
-wakes basin (idle other step looked) object = false
 wakes basin (solved dispatch) object =
     not (is_data basin object) && (not (dispatch.object == object) && is_put_at basin object dispatch.step dispatch.written)
 wakes basin (fired firing) object = not (is_data basin object) && is_put_at basin object firing.step firing.written
-wakes basin (fault why) object = false
+wakes basin event object = false
 
 -- the place of the event since which the object waits: the first after its last dispatch that wakes it. An event's place is
 -- the number of events before it, which doesn't move as the log grows
@@ -54,12 +45,8 @@ since basin [] object = None
 since basin (event ∷ log) object =
     option_or (if ends_wait event object then None else since basin log object) (if wakes basin event object then Some (length log) else None)
 
-abbrev pub is_place : ℕ → Option ℕ → Bool
-is_place place None = false
-is_place place (Some other) = other == place
-
 abbrev pub is_since : Draft → Log → ℕ → ℕ → Bool
-is_since basin log place object = is_place place (since basin log object)
+is_since basin log place object = is_number place (since basin log object)
 
 -- of the events in the first places, the earliest first, the objects that wait since each, in order of number
 abbrev pub waiting_below : Draft → Log → ℕ → List ℕ
@@ -108,11 +95,8 @@ slots_at step (put ∷ puts) = if put.cell.step.0 == step then put.cell.slot.0 �
 
 -- those that wait after an event, where these waited before it and the dispatched object was taken out
 abbrev pub queued_after : Draft → Event → List ℕ → List ℕ
-queued_after basin (given cell value) queue = queue
 queued_after basin (opened step) queue = all_waiting basin
-queued_after basin (closed step) queue = queue
-queued_after basin (idle object step looked) queue = queue
 queued_after basin (solved dispatch) queue =
     queue ++ woken basin (Some dispatch.object) queue (slots_at dispatch.step dispatch.written)
 queued_after basin (fired firing) queue = queue ++ woken basin None queue (slots_at firing.step firing.written)
-queued_after basin (fault why) queue = queue
+queued_after basin event queue = queue

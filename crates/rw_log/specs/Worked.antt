@@ -8,7 +8,6 @@ use Rattle.rw_calendar.specs.Moment.{on}
 use Rattle.rw_calendar.specs.declared.step_length.StepLength.TheVariants.{Hours}
 use Rattle.rw_model.specs.Draft.{Draft}
 use Rattle.rw_model.specs.declared.control.AgendaOrder.{AgendaOrder}
-use Rattle.rw_model.specs.declared.control.AgendaOrder.TheVariants.{HighFirst, LowFirst}
 use Rattle.rw_model.specs.declared.kind.Kind.TheVariants.{DataObject}
 use Rattle.rw_series.specs.Fire.{Fire}
 use Rattle.rw_series.specs.declared.fire.FireEnd.TheVariants.{Done, Unknown}

@@ -7,9 +7,11 @@ use Rattle.rw_engine.specs.Givens.{if_given}
 use Rattle.rw_engine.proofs.Places.{given-bounded}
 use Rattle.rw_engine.proofs.placing.place_cell.Goals as goal
 
-pub returns-in-Some-clause-bounded : goal.returns-in-Some-clause-bounded
-returns-in-Some-clause-bounded c =
-    given-bounded c.args.basin.now c.args.inputs.now c.args.cell _ c.args.series.now c.restore.new.self c.requires.inputs (sym c.value.ensures ∙ c.in-Some.is) c.requires.bounded c.restore.ensures.cells
+pub returns-in-Some-clause-made : goal.returns-in-Some-clause-made
+returns-in-Some-clause-made c = record {
+  made = c.restore.ensures.made;
+  bounded = given-bounded c.args.basin.now c.args.inputs.now c.args.cell _ c.args.series.now c.restore.new.self c.requires.inputs (sym c.value.ensures ∙ c.in-Some.is) c.requires.made.bounded c.restore.ensures.cells;
+}
 
 pub returns-in-Some-clause-placed : goal.returns-in-Some-clause-placed
 returns-in-Some-clause-placed c log holds cell =

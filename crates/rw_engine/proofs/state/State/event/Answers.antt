@@ -11,7 +11,6 @@ ask-requires-clause-within g c =
           valid = within.made.engine.valid;
           objects = c.next.ensures.objects ∙ within.made.engine.objects;
           series = within.made.engine.series;
-          bounded = within.made.engine.bounded;
           closed_steps = within.made.engine.closed_steps;
         };
         counts = within.made.counts;

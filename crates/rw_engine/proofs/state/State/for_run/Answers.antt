@@ -1,10 +1,13 @@
-use Rattle.std.proofs.Common.{◌≡◌, Option, None, Some, refl, sym, [], ◌∙◌}
+use Rattle.std.proofs.Common.{refl, sym, [], ◌∙◌}
 use Rattle.rw_engine.specs.Givens.{givens}
 use Rattle.rw_engine.proofs.Starts.{trace-placed, closed-placed, end-placed}
 use Rattle.rw_engine.proofs.state.State.for_run.Goals as goal
 
-pub place-requires-clause-bounded : goal.place-requires-clause-bounded
-place-requires-clause-bounded c cell content known is = let none = sym (c.in_ok-series.ensures.unknown cell) ∙ is in absurd (cc)
+pub place-requires-clause-made : goal.place-requires-clause-made
+place-requires-clause-made c = record {
+  made = c.in_ok-series.ensures.made;
+  bounded = λ cell content known is. let none = sym (c.in_ok-series.ensures.unknown cell) ∙ is in absurd (cc);
+}
 
 pub returns-clause-shows : goal.returns-clause-shows
 returns-clause-shows c =

@@ -1,5 +1,7 @@
 use Rattle.std.proofs.Common.{refl, rules, sym, subst, ◌∙◌}
 use Rattle.rw_log.proofs.Ready.{all_waiting-ready, AreReady}
+use Rattle.std.proofs.lemmas.List.Elements.{All-nil}
+use Rattle.rw_engine.specs.Undone.{AreCells}
 use Rattle.rw_engine.proofs.Starts.{settled_at_rest}
 use Rattle.rw_engine.proofs.Steps.{opens_step}
 use Rattle.rw_engine.proofs.state.State.open.Goals as goal
@@ -10,17 +12,19 @@ returns-clause-made c = record {
     valid = c.requires.made.engine.valid;
     objects = c.begin_step.ensures.made;
     series = c.requires.made.engine.series;
-    bounded = c.requires.made.engine.bounded;
     closed_steps = c.requires.made.engine.closed_steps;
   };
-  counts = c.zero.ensures.length ∙ c.requires.made.counts;
+  counts = c.clear.ensures.many ∙ c.requires.made.counts;
 }
 
-pub returns-clause-ready : goal.returns-clause-ready
-returns-clause-ready c =
-    subst (AreReady c.args.basin.now) (sym c.begin_step.ensures.all) (all_waiting-ready c.args.basin.now)
+pub returns-clause-within : goal.returns-clause-within
+returns-clause-within c = record {
+  made = returns-clause-made c;
+  ready = subst (AreReady c.args.basin.now) (sym c.begin_step.ensures.all) (all_waiting-ready c.args.basin.now);
+  undo = subst (AreCells c.args.basin.now) (sym c.requires.cleared) (All-nil _);
+}
 
 pub returns-clause-opened : goal.returns-clause-opened
 returns-clause-opened c = λ log shows before.
-    opens_step c.args.basin.now c.args.self.now _ c.args.step.0 log shows refl c.begin_step.ensures.all (c.zero.ensures.length ∙ c.requires.made.counts)
-    (search rules) (search rules) refl (shows.end ∙ settled_at_rest log before.last before.rest)
+    opens_step c.args.basin.now c.args.self.now _ c.args.step.0 log shows refl c.begin_step.ensures.all
+    c.clear.ensures.zero (search rules) refl (shows.end ∙ settled_at_rest log before.last before.rest)

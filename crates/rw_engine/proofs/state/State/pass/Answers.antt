@@ -1,5 +1,4 @@
-use Rattle.std.proofs.Common.{◌∙◌}
-use Rattle.rw_engine.proofs.Steps.{grows_more, reached_more, ends_step}
+use Rattle.rw_engine.proofs.Steps.{grows_more, still_more, reached_more, ends_step}
 use Rattle.rw_engine.proofs.state.State.pass.Goals as goal
 
 pub returns-in-Some-clause-passes : goal.returns-in-Some-clause-passes
@@ -7,19 +6,29 @@ returns-in-Some-clause-passes g c = λ log shows before.
     ends_step c.args.basin.now log c.loop-end.self c.event.new.self c.args.step.0 c.in-Some.end (c.loop-end.invariant.reached log shows before)
     (λ l holds. rw c.in-Some.is at c.in_ok-end.ensures.goes l holds) before
 
-pub returns-in-Some-clause-undo : goal.returns-in-Some-clause-undo
-returns-in-Some-clause-undo g c = c.event.ensures.undo _ c.loop-end.invariant.undo
+pub returns-in-Some-clause-revocable : goal.returns-in-Some-clause-revocable
+returns-in-Some-clause-revocable g c = record {
+  cells = c.event.ensures.keeps.within.undo;
+  undo = c.event.ensures.keeps.undo _ c.loop-end.invariant.revocable.undo;
+  grows = grows_more _ c.loop-end.self.trace _ c.loop-end.invariant.revocable.grows c.event.ensures.keeps.grows;
+}
 
-pub returns-in_err-end-clause-undo : goal.returns-in_err-end-clause-undo
-returns-in_err-end-clause-undo g c = c.event.ensures.undo _ c.loop-end.invariant.undo
+pub returns-in_err-end-clause-revocable : goal.returns-in_err-end-clause-revocable
+returns-in_err-end-clause-revocable g c = record {
+  cells = c.event.ensures.keeps.within.undo;
+  undo = c.event.ensures.keeps.undo _ c.loop-end.invariant.revocable.undo;
+  grows = grows_more _ c.loop-end.self.trace _ c.loop-end.invariant.revocable.grows c.event.ensures.keeps.grows;
+}
 
 pub loop-end-preserved : goal.loop-end-preserved
 loop-end-preserved g c = record {
-  within = c.event.ensures.within;
+  within = c.event.ensures.keeps.within;
   reached = λ log shows before. reached_more c.args.basin.now _ c.loop-end.self c.event.new.self c.args.step.0 (c.loop-end.invariant.reached log shows before)
       (λ l holds. rw c.in_default.is at c.in_ok-end.ensures.goes l holds);
-  undo = c.event.ensures.undo _ c.loop-end.invariant.undo;
-  closed_steps = c.in_ok-end.ensures.still c.in_default.is ∙ c.loop-end.invariant.closed_steps;
-  end = c.in_ok-end.ensures.going c.in_default.is ∙ c.loop-end.invariant.end;
-  grows = grows_more _ c.loop-end.self.trace _ c.loop-end.invariant.grows c.event.ensures.grows;
+  revocable = record {
+    cells = c.event.ensures.keeps.within.undo;
+    undo = c.event.ensures.keeps.undo _ c.loop-end.invariant.revocable.undo;
+    grows = grows_more _ c.loop-end.self.trace _ c.loop-end.invariant.revocable.grows c.event.ensures.keeps.grows;
+  };
+  still = still_more c.args.self.now c.loop-end.self c.event.new.self c.loop-end.invariant.still (rw c.in_default.is at c.in_ok-end.ensures.on_the_way).0;
 }

@@ -1,0 +1,12 @@
+use Rattle.std.proofs.Common.{◌≡◌}
+use Rattle.std.specs.Prelude.{pos, None}
+use Rattle.rw_series.specs.Series.{held}
+use Rattle.rw_log.specs.Dispatch.{bounds_in_place, content_in}
+use Rattle.rw_dispatch.proofs.Filling.{filled}
+use Rattle.rw_dispatch.proofs.view.see_slots.Given as goal
+
+abbrev pub invariant-loop-place : goal.invariant-loop-place
+invariant-loop-place l = record {
+  contents : l.now ≡ filled (content_in l.basin (held l.series) l.object.0 l.step.0) None l.place 12;
+  bounds : l.bounds ≡ filled (bounds_in_place l.basin l.object.0) (pos 0, pos 0) l.place 12;
+}

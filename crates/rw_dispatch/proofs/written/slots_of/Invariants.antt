@@ -1,0 +1,15 @@
+use Rattle.std.proofs.Common.{◌≡◌, ◌++◌, drop, length, All}
+use Rattle.std.specs.Prelude.{take}
+use Rattle.rw_base.specs.declared.number.SlotNo.{SlotNo}
+use Rattle.rw_model.specs.Draft.{IsSlot}
+use Rattle.rw_model.specs.Kept.{numbers_of}
+use Rattle.rw_log.specs.Waiting.{slots_at}
+use Rattle.rw_log.specs.Dispatch.{asked_for}
+use Rattle.rw_dispatch.proofs.written.slots_of.Given as goal
+
+abbrev pub invariant-loop-place : goal.invariant-loop-place
+invariant-loop-place l = record {
+  slots : numbers_of (take l.place l.slots) ++ slots_at l.step.0 (asked_for l.basin l.object.0 l.step.0 (drop l.place l.puts)) ≡ slots_at l.step.0 (asked_for l.basin l.object.0 l.step.0 l.puts);
+  whole : length l.slots ≡ 8;
+  known : All (λ (slot : SlotNo). IsSlot l.basin.objects slot.0) (take l.place l.slots);
+}

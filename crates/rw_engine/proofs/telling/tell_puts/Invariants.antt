@@ -1,9 +1,0 @@
-use Rattle.std.proofs.Common.{◌≡◌, ◌++◌, map, take}
-use Rattle.rw_engine.specs.Telling.{line_by, Grows}
-use Rattle.rw_engine.proofs.telling.tell_puts.Given as goal
-
-abbrev pub invariant-loop-put : goal.invariant-loop-put
-invariant-loop-put l = record {
-  told : l.trace ≡ l.fn.trace ++ map (line_by l.basin l.object.0 l.step.0) (take l.put-index l.written);
-  grows : Grows l.fn.trace l.trace;
-}

@@ -1,0 +1,20 @@
+use Rattle.std.proofs.Common.{◌≡◌, ◌++◌, ◌∷◌, [], subst, ◌∙◌}
+use Rattle.std.specs.Prelude.{All}
+use Rattle.rw_series.specs.Series.{held, IsCell}
+use Rattle.rw_engine.specs.declared.undo.Undone.{Undone}
+use Rattle.rw_engine.proofs.TakenBack.{taken_back-last, all-first, all-last}
+use Rattle.rw_engine.proofs.undo.take_back.Goals as goal
+
+pub restore-requires-clause-cell : goal.restore-requires-clause-cell
+restore-requires-clause-cell c =
+    let items = rw c.in-Some.is at c.pop.ensures.items in
+    all-last (λ (undone : Undone). IsCell c.args.basin.now undone.cell) c.pop.new.self.items c.in-Some.undone (subst (All (λ (undone : Undone). IsCell c.args.basin.now undone.cell)) items c.loop-undone.invariant.cells)
+
+pub loop-undone-preserved : goal.loop-undone-preserved
+loop-undone-preserved c =
+    let items : c.loop-undone.undo.items ≡ c.pop.new.self.items ++ c.in-Some.undone ∷ [] = rw c.in-Some.is at c.pop.ensures.items in
+    record {
+      made = c.restore.ensures.made;
+      cells = all-first (λ (undone : Undone). IsCell c.args.basin.now undone.cell) c.pop.new.self.items c.in-Some.undone (subst (All (λ (undone : Undone). IsCell c.args.basin.now undone.cell)) items c.loop-undone.invariant.cells);
+      back = λ cell. taken_back-last c.args.basin.now c.loop-undone.undo.items c.pop.new.self.items c.in-Some.undone (held c.loop-undone.series) (held c.restore.new.self) items c.restore.ensures.cells cell ∙ c.loop-undone.invariant.back cell;
+    }

@@ -1,0 +1,38 @@
+-- The log that an engine stands for.
+use Rattle.std.specs.Prelude.{◌≡◌, ℕ, ◌+◌, ◌≤◌, length}
+use Rattle.rw_base.specs.declared.number.Cell.{Cell}
+use Rattle.rw_model.specs.Draft.{Draft}
+use Rattle.rw_model.specs.Basin.{IsBasin}
+use Rattle.rw_series.specs.Series.{held}
+use Rattle.rw_log.specs.Log.{Event, closed, fault, Log, cells_of}
+use Rattle.rw_log.specs.Runs.{standing, rests}
+use Rattle.rw_log.specs.RunOf.{trace_of, end_of, last_closed}
+use Rattle.rw_dispatch.specs.Stage.{IsHeldIn}
+use Rattle.rw_engine.specs.Engine.{Engine}
+use Rattle.rw_engine.specs.declared.step_end.StepEnd.{StepEnd}
+use Rattle.rw_engine.specs.declared.step_end.StepEnd.TheVariants.{Closed as IsClosed, Fault as IsFault}
+
+-- an engine made for the basin: its slots hold values that they can have
+pub record IsEngineOf (basin : Draft) (engine : Engine) : Type 0 where
+  pub valid : IsBasin basin
+  pub objects : engine.objects ≡ length basin.objects
+  pub series : IsHeldIn basin engine.series
+  pub closed_steps : engine.closed ≤ basin.control.stamps.count
+
+-- what an engine shows of a log: what the cells hold, the trace, the last closed timestep, and the fault if there is one
+pub record Shows (basin : Draft) (engine : Engine) (log : Log) : Type 0 where
+  pub cells : (cell : Cell) → held engine.series cell ≡ cells_of basin log cell
+  pub trace : engine.trace ≡ trace_of log
+  pub closed_steps : engine.closed ≡ last_closed log
+  pub end : engine.end ≡ end_of log
+
+-- the log rests, and this is the timestep after its last closed one
+pub record IsBefore (basin : Draft) (step : ℕ) (log : Log) : Type 0 where
+  pub last : ℕ
+  pub rest : standing log ≡ rests last
+  pub next_one : step ≡ last + 1
+  pub exists : step ≤ basin.control.stamps.count
+
+abbrev pub EndsBy : StepEnd → ℕ → Event → Type 0
+EndsBy IsClosed step event = event ≡ closed step
+EndsBy (IsFault why) step event = event ≡ fault why
