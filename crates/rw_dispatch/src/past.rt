@@ -83,7 +83,13 @@ fn value_in(series: &Series, cell: Cell) -> Option<Qty>
 }
 
 // The value of a slot so many timesteps ago, which may be before the run.
-fn value_of_past(basin: &Basin, series: &Series, step: StepNo, slot: SlotNo, ago: u16) -> Option<Qty>
+fn value_of_past(
+    basin: &Basin,
+    series: &Series,
+    step: StepNo,
+    slot: SlotNo,
+    ago: u16,
+) -> Option<Qty>
     requires { IsSlot basin.now.objects slot.0 }
     ensures { result ≡ value_of_past basin.now (held series.now) step.0 (past_seen (slot, ago)) }
 {
@@ -94,7 +100,12 @@ fn value_of_past(basin: &Basin, series: &Series, step: StepNo, slot: SlotNo, ago
 }
 
 /// The earlier value at which a dispatch of an object looks. `None` where it looks at none, or where it is unknown.
-pub(crate) fn past_value(basin: &Basin, series: &Series, object: ObjectNo, step: StepNo) -> Option<Qty>
+pub(crate) fn past_value(
+    basin: &Basin,
+    series: &Series,
+    object: ObjectNo,
+    step: StepNo,
+) -> Option<Qty>
     requires { IsObject basin.now.objects object.0 }
     ensures { result ≡ past_value basin.now (held series.now) object.0 step.0 }
 {

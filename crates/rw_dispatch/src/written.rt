@@ -31,7 +31,11 @@ fn make_one(basin: &Basin, series: &mut Series, object: ObjectNo, step: StepNo, 
         (last_put basin.now (asked_by basin.now object.0 step.0 put.now ∷ []) cell)
         (held series.old cell) }
 {
-    series.restore(basin, cell_of(basin, object, step, put), Some(content_of(object, put)));
+    series.restore(
+        basin,
+        cell_of(basin, object, step, put),
+        Some(content_of(object, put)),
+    );
 }
 
 /// Makes the puts, one after another.
@@ -80,13 +84,7 @@ fn first(slots: &[SlotNo], count: usize) -> &[SlotNo]
 }
 
 /// Wakes those that the puts of an object reach, but itself.
-pub(crate) fn wake(
-    basin: &Basin,
-    queue: &mut Queue,
-    object: ObjectNo,
-    step: StepNo,
-    puts: &PutList,
-)
+pub(crate) fn wake(basin: &Basin, queue: &mut Queue, object: ObjectNo, step: StepNo, puts: &PutList)
     requires turn { IsTurn basin.now object.0 step.0 }
     requires puts { ArePuts basin.now object.0 puts.now }
     requires made { IsQueueOf basin.now queue.old }

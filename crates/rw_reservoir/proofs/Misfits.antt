@@ -1,11 +1,11 @@
 -- The first misfit of puts that are asked for one after the other.
 use Rattle.std.proofs.Common.{◌≡◌, refl, ap, ◌∙◌, Bool, true, false, List, [], ◌∷◌, ◌++◌, append_assoc, Option, Some, None}
-use Rattle.std.specs.Prelude.{if◌then◌else◌, option_map}
+use Rattle.std.specs.Prelude.{if◌then◌else◌, option_map, Result, Ok, Err}
 use Rattle.rw_method.specs.declared.put.Put.{Put}
 use Rattle.rw_method.specs.declared.solved.Solved.{Solved}
 use Rattle.rw_method.specs.declared.solved.Solved.TheVariants.{Puts, OutOfRange}
 use Rattle.rw_method.specs.Solve.{AllFit, first_misfit, all_or_misfit, judged}
-use Rattle.rw_reservoir.specs.Asking.{IsRefused}
+use Rattle.rw_reservoir.specs.Asking.{Asks, IsRefused}
 
 first_fits : (b : Bool) (rest : Option Put) (put : Put) → (if b then rest else Some put) ≡ None → (b ≡ true) × (rest ≡ None)
 first_fits true rest put is = (refl, is)
@@ -34,6 +34,26 @@ pub refused_at_once : (fit : Put → Bool) (puts more : List Put) (answer : Solv
 refused_at_once fit [] more answer refused = cc
 refused_at_once fit (put ∷ puts) more answer refused =
     kept (λ (misfit : Put). OutOfRange misfit.place misfit.value) (fit put) (first_misfit fit puts) (first_misfit fit (puts ++ more)) put answer refused (refused_at_once fit puts more answer)
+
+-- puts are asked for behind others that all fit
+pub asks_then : {X : Type 0} (fit : Put → Bool) (puts more old mid new : List Put) (result : Result X Solved) → mid ≡ old ++ puts → AllFit fit puts
+    → Asks fit more mid new result → Asks fit (puts ++ more) old new result
+asks_then fit puts more old mid new (Ok done) added fits asks = record {
+  added = asks.added ∙ ap (λ xs. xs ++ more) added ∙ append_assoc old puts more;
+  fits = all_fit fit puts more fits asks.fits;
+  refused = tt;
+}
+asks_then fit puts more old mid new (Err answer) added fits asks = record {
+  added = tt;
+  fits = tt;
+  refused = refused_later fit puts more answer fits asks.refused;
+}
+
+-- what follows puts of which one is refused isn't asked for
+pub asks_at_once : {X : Type 0} (fit : Put → Bool) (puts more old new : List Put) (answer : Solved) → IsRefused fit puts answer
+    → Asks {X = X} fit (puts ++ more) old new (Err answer)
+asks_at_once fit puts more old new answer refused =
+    record { added = tt; fits = tt; refused = refused_at_once fit puts more answer refused }
 
 -- what is answered of all puts
 pub judged_all : (fit : Put → Bool) (puts : List Put) → AllFit fit puts → judged fit puts ≡ Puts puts

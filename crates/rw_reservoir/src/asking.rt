@@ -3,7 +3,7 @@ ghost use Rattle.rw_model.specs.Slot.{all_quantities};
 ghost use Rattle.rw_method.specs.View.{is_between};
 ghost use Rattle.rw_method.specs.Puts.{put};
 ghost use Rattle.rw_method.specs.Solve.{AllFit};
-ghost use Rattle.rw_reservoir.specs.Asking.{can_get, IsRefused};
+ghost use Rattle.rw_reservoir.specs.Asking.{Asks, can_get};
 
 use crate::contents::can_hold;
 use rw_method::{PutList, Solved, View, add_put};
@@ -27,9 +27,9 @@ pub(crate) fn ask(
     number: u16,
 ) -> Result<(), Solved>
     requires { length puts.old < 8 }
-    ensures added { OnOk result (puts.new ≡ puts.old ++ put place value number ∷ []) }
-    ensures fits { OnOk result (AllFit (can_get table.now view.entry.now) (put place value number ∷ [])) }
-    ensures refused { IfErr result (IsRefused (can_get table.now view.entry.now) (put place value number ∷ [])) }
+    ensures asks { Asks (can_get table.now view.entry.now)
+        (put place value number ∷ [])
+        puts.old puts.new result }
 {
     if let Err(answer) = add_put(view, puts, place, value, number) {
         return Err(answer);

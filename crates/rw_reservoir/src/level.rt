@@ -2,7 +2,7 @@ ghost use Rattle.std.specs.Prelude.{◌≡◌, ◌<◌, ◌+◌, ◌≤◌, ◌+
 ghost use Rattle.rw_method.specs.Contents.{basis_of};
 ghost use Rattle.rw_method.specs.Puts.{solved_put, put_found, beside_basis, beside_given, level_puts};
 ghost use Rattle.rw_method.specs.Solve.{AllFit};
-ghost use Rattle.rw_reservoir.specs.Asking.{can_get, IsRefused};
+ghost use Rattle.rw_reservoir.specs.Asking.{Asks, can_get};
 
 use crate::asking::{ask, narrow};
 use crate::basis::{are_both_zero, basis_of};
@@ -20,9 +20,9 @@ fn ask_found(
     number: u16,
 ) -> Result<(), Solved>
     requires { length puts.old < 8 }
-    ensures added { OnOk result (puts.new ≡ puts.old ++ put_found place found number) }
-    ensures fits { OnOk result (AllFit (can_get table.now view.entry.now) (put_found place found number)) }
-    ensures refused { IfErr result (IsRefused (can_get table.now view.entry.now) (put_found place found number)) }
+    ensures asks { Asks (can_get table.now view.entry.now)
+        (put_found place found number)
+        puts.old puts.new result }
     ensures room { OnOk result (length puts.new ≤ length puts.old + 1) }
 {
     match found {
@@ -39,9 +39,9 @@ fn ask_beside(
     basis: Basis,
 ) -> Result<(), Solved>
     requires { length puts.old < 8 }
-    ensures added { OnOk result (puts.new ≡ puts.old ++ beside_basis table.now basis) }
-    ensures fits { OnOk result (AllFit (can_get table.now view.entry.now) (beside_basis table.now basis)) }
-    ensures refused { IfErr result (IsRefused (can_get table.now view.entry.now) (beside_basis table.now basis)) }
+    ensures asks { Asks (can_get table.now view.entry.now)
+        (beside_basis table.now basis)
+        puts.old puts.new result }
     ensures room { OnOk result (length puts.new ≤ length puts.old + 1) }
 {
     match basis {
@@ -66,10 +66,9 @@ fn ask_beside_given(
     elevation: Option<Given>,
 ) -> Result<(), Solved>
     requires { length puts.old < 8 }
-    ensures added { OnOk result (puts.new ≡ puts.old ++ beside_given table.now storage elevation) }
-    ensures fits { OnOk result (AllFit (can_get table.now view.entry.now) (beside_given table.now storage elevation)) }
-    ensures refused { IfErr result
-        (IsRefused (can_get table.now view.entry.now) (beside_given table.now storage elevation)) }
+    ensures asks { Asks (can_get table.now view.entry.now)
+        (beside_given table.now storage elevation)
+        puts.old puts.new result }
     ensures room { OnOk result (length puts.new ≤ length puts.old + 1) }
 {
     if are_both_zero(storage, elevation) {
@@ -89,11 +88,9 @@ pub(crate) fn ask_level(
 ) -> Result<(), Solved>
     requires room { length puts.old < 8 }
     requires fits { AllFit (can_get table.now view.now) (solved_put balanced) }
-    ensures added { OnOk result (puts.new ≡ puts.old ++ level_puts table.now storage elevation balanced) }
-    ensures fits { OnOk result
-        (AllFit (can_get table.now view.entry.now) (level_puts table.now storage elevation balanced)) }
-    ensures refused { IfErr result
-        (IsRefused (can_get table.now view.entry.now) (level_puts table.now storage elevation balanced)) }
+    ensures asks { Asks (can_get table.now view.entry.now)
+        (level_puts table.now storage elevation balanced)
+        puts.old puts.new result }
     ensures room { OnOk result (length puts.new ≤ length puts.old + 1) }
 {
     match balanced {

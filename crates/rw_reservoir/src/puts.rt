@@ -2,7 +2,7 @@ ghost use Rattle.std.specs.Prelude.{◌≡◌, ◌<◌, ◌+◌, ◌≤◌, ◌+
 ghost use Rattle.rw_method.specs.View.{given};
 ghost use Rattle.rw_method.specs.Puts.{solved_put, level_puts, evaporation_put, release_puts, held_after, is_bounded};
 ghost use Rattle.rw_method.specs.Solve.{AllFit, judged};
-ghost use Rattle.rw_reservoir.specs.Asking.{can_get, IsRefused};
+ghost use Rattle.rw_reservoir.specs.Asking.{Asks, can_get};
 
 use crate::asking::ask;
 use crate::level::ask_level;
@@ -18,10 +18,10 @@ fn ask_solved(
     balanced: Balanced,
 ) -> Result<(), Solved>
     requires { length puts.old < 8 }
-    ensures added { OnOk result (puts.new ≡ puts.old ++ solved_put balanced) }
-    ensures fits { OnOk result (AllFit (can_get table.now view.entry.now) (solved_put balanced)) }
+    ensures asks { Asks (can_get table.now view.entry.now)
+        (solved_put balanced)
+        puts.old puts.new result }
     ensures bounded { OnOk result (AllFit (is_bounded view.entry.now) (solved_put balanced)) }
-    ensures refused { IfErr result (IsRefused (can_get table.now view.entry.now) (solved_put balanced)) }
     ensures room { OnOk result (length puts.new ≤ length puts.old + 1) }
 {
     match balanced {
@@ -42,13 +42,11 @@ fn ask_contents(
     balanced: Balanced,
 ) -> Result<(), Solved>
     requires { length puts.old < 7 }
-    ensures added { OnOk result (puts.new ≡ puts.old ++ (solved_put balanced
-        ++ level_puts table.now (given view.entry.now 2) (given view.entry.now 3) balanced)) }
-    ensures fits { OnOk result (AllFit (can_get table.now view.entry.now) (solved_put balanced
-        ++ level_puts table.now (given view.entry.now 2) (given view.entry.now 3) balanced)) }
+    ensures asks { Asks (can_get table.now view.entry.now)
+        (solved_put balanced
+        ++ level_puts table.now (given view.entry.now 2) (given view.entry.now 3) balanced)
+        puts.old puts.new result }
     ensures bounded { OnOk result (AllFit (is_bounded view.entry.now) (solved_put balanced)) }
-    ensures refused { IfErr result (IsRefused (can_get table.now view.entry.now) (solved_put balanced
-        ++ level_puts table.now (given view.entry.now 2) (given view.entry.now 3) balanced)) }
     ensures room { OnOk result (length puts.new ≤ length puts.old + 2) }
 {
     match ask_solved(view, table, puts, balanced) {
@@ -68,12 +66,9 @@ fn ask_derived(
     outflow: Given,
 ) -> Result<(), Solved>
     requires { length puts.old < 6 }
-    ensures added { OnOk result (puts.new
-        ≡ puts.old ++ (evaporation_put evaporation evaporated ++ release_puts max_release outflow)) }
-    ensures fits { OnOk result (AllFit (can_get table.now view.entry.now)
-        (evaporation_put evaporation evaporated ++ release_puts max_release outflow)) }
-    ensures refused { IfErr result (IsRefused (can_get table.now view.entry.now)
-        (evaporation_put evaporation evaporated ++ release_puts max_release outflow)) }
+    ensures asks { Asks (can_get table.now view.entry.now)
+        (evaporation_put evaporation evaporated ++ release_puts max_release outflow)
+        puts.old puts.new result }
 {
     match ask_evaporation(view, table, puts, evaporation, evaporated) {
         Ok(()) => ask_release(view, table, puts, max_release, outflow),

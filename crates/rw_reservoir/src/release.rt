@@ -2,7 +2,7 @@ ghost use Rattle.std.specs.Prelude.{◌≡◌, ◌<◌, ◌+◌, ◌≤◌, ◌+
 ghost use Rattle.std.specs.Int.{int_min};
 ghost use Rattle.rw_method.specs.Puts.{put, evaporation_put, release_puts};
 ghost use Rattle.rw_method.specs.Solve.{AllFit};
-ghost use Rattle.rw_reservoir.specs.Asking.{can_get, IsRefused};
+ghost use Rattle.rw_reservoir.specs.Asking.{Asks, can_get};
 
 use crate::asking::ask;
 use rw_method::{Given, PutList, Solved, View};
@@ -17,9 +17,9 @@ pub(crate) fn ask_evaporation(
     amount: Option<i128>,
 ) -> Result<(), Solved>
     requires { length puts.old < 8 }
-    ensures added { OnOk result (puts.new ≡ puts.old ++ evaporation_put evaporation amount) }
-    ensures fits { OnOk result (AllFit (can_get table.now view.entry.now) (evaporation_put evaporation amount)) }
-    ensures refused { IfErr result (IsRefused (can_get table.now view.entry.now) (evaporation_put evaporation amount)) }
+    ensures asks { Asks (can_get table.now view.entry.now)
+        (evaporation_put evaporation amount)
+        puts.old puts.new result }
     ensures room { OnOk result (length puts.new ≤ length puts.old + 1) }
 {
     if evaporation {
@@ -53,11 +53,9 @@ fn ask_parts(
     number: u16,
 ) -> Result<(), Solved>
     requires { length puts.old < 7 }
-    ensures added { OnOk result (puts.new ≡ puts.old ++ put 9 release number ∷ put 10 spill number ∷ []) }
-    ensures fits { OnOk result
-        (AllFit (can_get table.now view.entry.now) (put 9 release number ∷ put 10 spill number ∷ [])) }
-    ensures refused { IfErr result
-        (IsRefused (can_get table.now view.entry.now) (put 9 release number ∷ put 10 spill number ∷ [])) }
+    ensures asks { Asks (can_get table.now view.entry.now)
+        (put 9 release number ∷ put 10 spill number ∷ [])
+        puts.old puts.new result }
 {
     match ask(view, table, puts, 9, i128::from(release), number) {
         Ok(()) => ask(view, table, puts, 10, spill, number),
@@ -74,9 +72,9 @@ pub(crate) fn ask_release(
     outflow: Given,
 ) -> Result<(), Solved>
     requires { length puts.old < 7 }
-    ensures added { OnOk result (puts.new ≡ puts.old ++ release_puts max_release outflow) }
-    ensures fits { OnOk result (AllFit (can_get table.now view.entry.now) (release_puts max_release outflow)) }
-    ensures refused { IfErr result (IsRefused (can_get table.now view.entry.now) (release_puts max_release outflow)) }
+    ensures asks { Asks (can_get table.now view.entry.now)
+        (release_puts max_release outflow)
+        puts.old puts.new result }
 {
     match max_release {
         Some(most) => {

@@ -12,7 +12,7 @@ returns-in-Err c =
     let balanced = c.args.balanced in
     sym (refused_in_front (can_get table view) (solved_put balanced) (level_puts table (given view 2) (given view 3) balanced)
     (evaporation_put c.args.evaporation c.args.evaporated) (release_puts c.args.max_release (held_after view balanced 1))
-    c.in-Err.answer c.in-Err.ensures.refused)
+    c.in-Err.answer c.in-Err.ensures.asks.refused)
 
 pub returns-in-Ok-ask_derived : goal.returns-in-Ok-ask_derived
 returns-in-Ok-ask_derived c =
@@ -20,11 +20,11 @@ returns-in-Ok-ask_derived c =
     let view = c.args.view.now in
     let balanced = c.args.balanced in
     let outflow = c.held_after-outflow.ensures in
-    let derived = c.in-Ok-ask_derived.ensures in
-    let all = rw (c.in-Ok.ensures.added, c.none-puts.ensures) at derived.added in
+    let derived = c.in-Ok-ask_derived.ensures.asks in
+    let all = rw (c.in-Ok.ensures.asks.added, c.none-puts.ensures) at derived.added in
     rw (← outflow) (sym (four_fit (can_get table view) (solved_put balanced) (level_puts table (given view 2) (given view 3) balanced)
     (evaporation_put c.args.evaporation c.args.evaporated) (release_puts c.args.max_release c.held_after-outflow.result)
-    c.ask_derived.new.puts c.in-Ok.ensures.fits derived.fits all))
+    c.ask_derived.new.puts c.in-Ok.ensures.asks.fits derived.fits all))
 
 pub returns-in-Err-ask_derived : goal.returns-in-Err-ask_derived
 returns-in-Err-ask_derived c =
@@ -34,4 +34,4 @@ returns-in-Err-ask_derived c =
     let outflow = c.held_after-outflow.ensures in
     rw (← outflow) (sym (refused_behind (can_get table view) (solved_put balanced) (level_puts table (given view 2) (given view 3) balanced)
     (evaporation_put c.args.evaporation c.args.evaporated) (release_puts c.args.max_release c.held_after-outflow.result)
-    c.in-Err-ask_derived.answer c.in-Ok.ensures.fits c.in-Err-ask_derived.ensures.refused))
+    c.in-Err-ask_derived.answer c.in-Ok.ensures.asks.fits c.in-Err-ask_derived.ensures.asks.refused))
