@@ -7,6 +7,7 @@ ghost use Rattle.rw_log.specs.Log.{value_in};
 ghost use Rattle.rw_dispatch.specs.Past.{past_seen};
 
 use rw_base::{Cell, ObjectNo, Qty, SlotNo, StepNo};
+use rw_method::places::{INFLOW, STORAGE};
 use rw_model::{Basin, Kind};
 use rw_series::Series;
 
@@ -19,10 +20,10 @@ fn past_in(kind: &Kind) -> Option<(u8, u16)>
             if *lag == 0 {
                 None
             } else {
-                Some((0, u16::from(*lag)))
+                Some((INFLOW, u16::from(*lag)))
             }
         }
-        Kind::Reservoir { .. } => Some((2, 1)),
+        Kind::Reservoir { .. } => Some((STORAGE, 1)),
         _ => None,
     }
 }

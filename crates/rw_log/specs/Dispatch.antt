@@ -14,6 +14,7 @@ use Rattle.rw_model.specs.Links.{bounds_in}
 use Rattle.rw_model.specs.Objects.{object_at, slot_in_place}
 use Rattle.rw_model.specs.Put.{end_of_put}
 use Rattle.rw_model.specs.Slot.{Bounds}
+use Rattle.rw_method.specs.declared.places.TheConstants.{INFLOW, STORAGE}
 use Rattle.rw_method.specs.declared.put.Put.{Put}
 use Rattle.rw_method.specs.declared.solved.Solved.{Solved}
 use Rattle.rw_method.specs.declared.solved.Solved.TheVariants.{Idle, Puts, Conflict, OutOfRange}
@@ -56,8 +57,8 @@ past_in (DataObject slots) = None
 past_in Gage = None
 past_in Confluence = None
 past_in Bifurcation = None
-past_in (Reach lag history local_inflow diversion return_flow) = if lag == 0 then None else Some (0, lag)
-past_in (Reservoir initial_storage table local_inflow diversion return_flow evaporation max_release) = Some (2, 1)
+past_in (Reach lag history local_inflow diversion return_flow) = if lag == 0 then None else Some (INFLOW, lag)
+past_in (Reservoir initial_storage table local_inflow diversion return_flow evaporation max_release) = Some (STORAGE, 1)
 past_in (WaterUser depletion supply) = None
 past_in (Canal seepage) = None
 

@@ -5,6 +5,7 @@ use Rattle.rw_model.specs.declared.kind.Kind.{Kind}
 use Rattle.rw_model.specs.declared.kind.Kind.TheVariants.{DataObject, Gage, Confluence, Bifurcation, Reach, Reservoir, WaterUser, Canal}
 use Rattle.rw_model.specs.declared.kind.Supply.TheVariants.{Request, Rule}
 use Rattle.rw_method.specs.declared.given.Given.{Given}
+use Rattle.rw_method.specs.declared.places.TheConstants.{DIVERSION, DIVERSION_REQUEST, EVAPORATION_RATE, INFLOW, INFLOW_1, INFLOW_2, JOINED_OUTFLOW, OUTFLOW, OUTFLOW_1, OUTFLOW_2, POOL_ELEVATION, REACH_SIDE, RESERVOIR_SIDE, STORAGE}
 use Rattle.rw_method.specs.declared.share.Share.{Share}
 use Rattle.rw_method.specs.declared.share.Share.TheVariants.{Brings, Takes, Conveys}
 use Rattle.rw_method.specs.declared.term.Term.{Term}
@@ -41,7 +42,7 @@ conveys view seepage place = term_at view (Conveys seepage) place
 
 -- the contents as a term, which takes water and is put as the storage
 abbrev pub stores : Option Given → Term
-stores contents = record { place = 2; share = Takes; given = contents }
+stores contents = record { place = STORAGE; share = Takes; given = contents }
 
 -- the value in a place, and 0 where that slot isn't chosen
 abbrev pub chosen : Bool → View → ℕ → Option ℤ
@@ -62,30 +63,30 @@ evaporation_from rows past rate =
 abbrev pub evaporation_of : Bool → Option (List Row) → View → Option ℤ
 evaporation_of evaporation None view = Some (pos 0)
 evaporation_of evaporation (Some rows) view =
-    if evaporation then evaporation_from rows view.past (known_value view 7) else Some (pos 0)
+    if evaporation then evaporation_from rows view.past (known_value view EVAPORATION_RATE) else Some (pos 0)
 
 abbrev pub balance_of : Kind → View → Balance
 -- a data object has none
 balance_of (DataObject slots) view = balance (Some (pos 0)) []
 -- GageOutflow = GageInflow
-balance_of Gage view = balance (Some (pos 0)) (brings view 0 ∷ takes view 1 ∷ [])
+balance_of Gage view = balance (Some (pos 0)) (brings view INFLOW ∷ takes view OUTFLOW ∷ [])
 -- Outflow = Inflow1 + Inflow2
-balance_of Confluence view = balance (Some (pos 0)) (brings view 0 ∷ brings view 1 ∷ takes view 2 ∷ [])
+balance_of Confluence view = balance (Some (pos 0)) (brings view INFLOW_1 ∷ brings view INFLOW_2 ∷ takes view JOINED_OUTFLOW ∷ [])
 -- Inflow = Outflow1 + Outflow2
-balance_of Bifurcation view = balance (Some (pos 0)) (brings view 0 ∷ takes view 1 ∷ takes view 2 ∷ [])
+balance_of Bifurcation view = balance (Some (pos 0)) (brings view INFLOW ∷ takes view OUTFLOW_1 ∷ takes view OUTFLOW_2 ∷ [])
 -- Outflow = Inflow + LocalInflow - Diversion + ReturnFlow
 balance_of (Reach zero history local_inflow diversion return_flow) view =
-    balance (side_flows view 2 local_inflow diversion return_flow) (brings view 0 ∷ takes view 1 ∷ [])
+    balance (side_flows view REACH_SIDE local_inflow diversion return_flow) (brings view INFLOW ∷ takes view OUTFLOW ∷ [])
 -- Outflow = Inflow(t - lag) + LocalInflow - Diversion + ReturnFlow
 balance_of (Reach (suc lag) history local_inflow diversion return_flow) view =
-    balance (sum_of view.past (side_flows view 2 local_inflow diversion return_flow)) (takes view 1 ∷ [])
+    balance (sum_of view.past (side_flows view REACH_SIDE local_inflow diversion return_flow)) (takes view OUTFLOW ∷ [])
 -- Contents = Storage(t - 1) + Inflow + LocalInflow + ReturnFlow - Diversion - Evaporation - Outflow
 balance_of (Reservoir initial_storage table local_inflow diversion return_flow evaporation max_release) view =
-    balance (difference (sum_of view.past (side_flows view 4 local_inflow diversion return_flow)) (evaporation_of evaporation table view))
-    (brings view 0 ∷ takes view 1 ∷ stores (contents_by table (basis_of (given view 2) (given view 3))) ∷ [])
+    balance (difference (sum_of view.past (side_flows view RESERVOIR_SIDE local_inflow diversion return_flow)) (evaporation_of evaporation table view))
+    (brings view INFLOW ∷ takes view OUTFLOW ∷ stores (contents_by table (basis_of (given view STORAGE) (given view POOL_ELEVATION))) ∷ [])
 -- Diversion = DiversionRequest
-balance_of (WaterUser depletion Request) view = balance (known_value view 0) (takes view 1 ∷ [])
+balance_of (WaterUser depletion Request) view = balance (known_value view DIVERSION_REQUEST) (takes view DIVERSION ∷ [])
 -- none, yet Diversion has to be known
-balance_of (WaterUser depletion Rule) view = balance (known_value view 1) []
+balance_of (WaterUser depletion Rule) view = balance (known_value view DIVERSION) []
 -- Outflow = Inflow - floor(Inflow * seepage / 1000)
-balance_of (Canal seepage) view = balance (Some (pos 0)) (conveys view seepage 0 ∷ takes view 1 ∷ [])
+balance_of (Canal seepage) view = balance (Some (pos 0)) (conveys view seepage INFLOW ∷ takes view OUTFLOW ∷ [])

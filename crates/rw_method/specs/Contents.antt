@@ -4,6 +4,7 @@ use Rattle.std.specs.Ordering.{int_eq}
 use Rattle.std.specs.Int.{int_max}
 use Rattle.rw_table.specs.Table.{Row}
 use Rattle.rw_table.specs.Curve.{vol_of, elev_of, first_row}
+use Rattle.rw_method.specs.declared.places.TheConstants.{POOL_ELEVATION, STORAGE}
 use Rattle.rw_method.specs.declared.basis.Basis.{Basis}
 use Rattle.rw_method.specs.declared.basis.Basis.TheVariants.{Nothing, Storage, Elevation}
 use Rattle.rw_method.specs.declared.given.Given.{Given}
@@ -41,9 +42,9 @@ contents_by table (Elevation elevation) =
 abbrev pub fault_of_basis : Option (List Row) → Basis → Option Solved
 fault_of_basis table Nothing = None
 fault_of_basis table (Storage storage) =
-    if can_hold table storage.value then None else Some (OutOfRange 2 storage.value)
+    if can_hold table storage.value then None else Some (OutOfRange STORAGE storage.value)
 fault_of_basis table (Elevation elevation) =
-    if is_some (volume_of table elevation.value) then None else Some (OutOfRange 3 elevation.value)
+    if is_some (volume_of table elevation.value) then None else Some (OutOfRange POOL_ELEVATION elevation.value)
 
 -- both are given with number 0
 abbrev pub are_both_zero : Option Given → Option Given → Bool
@@ -67,7 +68,7 @@ disagreement table None elevation = None
 disagreement table (Some storage) None = None
 disagreement table (Some storage) (Some elevation) =
     if storage.number == 0 && elevation.number == 0 && not (agree table storage.value elevation.value)
-    then Some (Conflict 3 elevation.value (unwrap_or (elevation_of table storage.value) (pos 0)))
+    then Some (Conflict POOL_ELEVATION elevation.value (unwrap_or (elevation_of table storage.value) (pos 0)))
     else None
 
 -- the difference of two values, where both are there

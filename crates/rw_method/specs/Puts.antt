@@ -9,6 +9,7 @@ use Rattle.rw_model.specs.Slot.{all_quantities}
 use Rattle.rw_method.specs.declared.basis.Basis.{Basis}
 use Rattle.rw_method.specs.declared.basis.Basis.TheVariants.{Nothing, Storage, Elevation}
 use Rattle.rw_method.specs.declared.given.Given.{Given}
+use Rattle.rw_method.specs.declared.places.TheConstants.{DEPLETION, DIVERSION, EVAPORATION, INFLOW, OUTFLOW, POOL_ELEVATION, RELEASE, RETURN_FLOW, SEEPAGE, SPILL, STORAGE}
 use Rattle.rw_method.specs.declared.put.Put.{Put}
 use Rattle.rw_method.specs.declared.balanced.Balanced.{Balanced}
 use Rattle.rw_method.specs.declared.balanced.Balanced.TheVariants.{Solves}
@@ -49,8 +50,8 @@ put_found place (Some value) number = put place value number ∷ []
 -- beside the slot that gives the contents, the other of storage and elevation
 abbrev pub beside_basis : Option (List Row) → Basis → List Put
 beside_basis table Nothing = []
-beside_basis table (Storage storage) = put_found 3 (elevation_of table storage.value) storage.number
-beside_basis table (Elevation elevation) = put_found 2 (volume_of table elevation.value) elevation.number
+beside_basis table (Storage storage) = put_found POOL_ELEVATION (elevation_of table storage.value) storage.number
+beside_basis table (Elevation elevation) = put_found STORAGE (volume_of table elevation.value) elevation.number
 
 -- beside the slot that gives the contents the other one, unless both are given with number 0
 abbrev pub beside_given : Option (List Row) → Option Given → Option Given → List Put
@@ -60,38 +61,38 @@ beside_given table storage elevation =
 -- the elevation of a solved storage, or what stands beside given contents
 abbrev pub level_puts : Option (List Row) → Option Given → Option Given → Balanced → List Put
 level_puts table storage elevation (Solves place value number) =
-    if place == 2 then put_found 3 (elevation_of table value) number else beside_given table storage elevation
+    if place == STORAGE then put_found POOL_ELEVATION (elevation_of table value) number else beside_given table storage elevation
 level_puts table storage elevation balanced = beside_given table storage elevation
 
 -- how much evaporates, with number 0
 abbrev pub evaporation_put : Bool → Option ℤ → List Put
-evaporation_put evaporation amount = if evaporation then put 8 (unwrap_or amount (pos 0)) 0 ∷ [] else []
+evaporation_put evaporation amount = if evaporation then put EVAPORATION (unwrap_or amount (pos 0)) 0 ∷ [] else []
 
 -- of an outflow the release, up to the greatest one, and the spill above it
 abbrev pub release_puts : Option ℤ → Given → List Put
 release_puts None outflow = []
 release_puts (Some most) outflow =
-    put 9 (int_min outflow.value most) outflow.number ∷
-    put 10 (outflow.value -ℤ int_min outflow.value most) outflow.number ∷
+    put RELEASE (int_min outflow.value most) outflow.number ∷
+    put SPILL (outflow.value -ℤ int_min outflow.value most) outflow.number ∷
     []
 
 -- of a diversion what is used up, and what flows back
 abbrev pub user_puts : ℕ → Given → List Put
 user_puts depletion diversion =
-    put 2 (per_mille diversion.value depletion) diversion.number ∷
-    put 3 (diversion.value -ℤ per_mille diversion.value depletion) diversion.number ∷
+    put DEPLETION (per_mille diversion.value depletion) diversion.number ∷
+    put RETURN_FLOW (diversion.value -ℤ per_mille diversion.value depletion) diversion.number ∷
     []
 
 -- what seeps away between inflow and outflow
 abbrev pub seepage_put : Given → Given → List Put
-seepage_put inflow outflow = put 2 (inflow.value -ℤ outflow.value) inflow.number ∷ []
+seepage_put inflow outflow = put SEEPAGE (inflow.value -ℤ outflow.value) inflow.number ∷ []
 
 -- all that the object puts, in order of place: what was solved, and what is derived from it
 abbrev pub puts_of : Kind → View → Balanced → List Put
 puts_of (Reservoir initial_storage table local_inflow diversion return_flow evaporation max_release) view balanced =
-    solved_put balanced ++ level_puts table (given view 2) (given view 3) balanced
-    ++ evaporation_put evaporation (evaporation_of evaporation table view) ++ release_puts max_release (held_after view balanced 1)
-puts_of (WaterUser depletion supply) view balanced = solved_put balanced ++ user_puts depletion (held_after view balanced 1)
+    solved_put balanced ++ level_puts table (given view STORAGE) (given view POOL_ELEVATION) balanced
+    ++ evaporation_put evaporation (evaporation_of evaporation table view) ++ release_puts max_release (held_after view balanced OUTFLOW)
+puts_of (WaterUser depletion supply) view balanced = solved_put balanced ++ user_puts depletion (held_after view balanced DIVERSION)
 puts_of (Canal seepage) view balanced =
-    solved_put balanced ++ seepage_put (held_after view balanced 0) (held_after view balanced 1)
+    solved_put balanced ++ seepage_put (held_after view balanced INFLOW) (held_after view balanced OUTFLOW)
 puts_of kind view balanced = solved_put balanced

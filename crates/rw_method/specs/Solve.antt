@@ -3,6 +3,7 @@ use Rattle.std.specs.Prelude.{◌≡◌, ◌==◌, if◌then◌else◌, ℤ, Boo
 use Rattle.rw_table.specs.Table.{Row}
 use Rattle.rw_model.specs.declared.kind.Kind.{Kind}
 use Rattle.rw_model.specs.declared.kind.Kind.TheVariants.{Reservoir}
+use Rattle.rw_method.specs.declared.places.TheConstants.{POOL_ELEVATION, STORAGE}
 use Rattle.rw_method.specs.declared.put.Put.{Put}
 use Rattle.rw_method.specs.declared.solved.Solved.{Solved}
 use Rattle.rw_method.specs.declared.solved.Solved.TheVariants.{Idle, Puts, Conflict, OutOfRange}
@@ -23,19 +24,20 @@ or_else (Some fault) later = Some fault
 abbrev pub fault_of_past : Bool → Option (List Row) → Option ℤ → Option Solved
 fault_of_past evaporation table None = None
 fault_of_past evaporation table (Some storage) =
-    if evaporation && not (can_hold table storage) then Some (OutOfRange 2 storage) else None
+    if evaporation && not (can_hold table storage) then Some (OutOfRange STORAGE storage) else None
 
 -- what is wrong with what a reservoir holds, before its balance is looked at
 abbrev pub fault_of_contents : Kind → View → Option Solved
 fault_of_contents (Reservoir initial_storage table local_inflow diversion return_flow evaporation max_release) view =
     or_else (fault_of_past evaporation table view.past)
-    (or_else (fault_of_basis table (basis_of (given view 2) (given view 3))) (disagreement table (given view 2) (given view 3)))
+    (or_else (fault_of_basis table (basis_of (given view STORAGE) (given view POOL_ELEVATION)))
+    (disagreement table (given view STORAGE) (given view POOL_ELEVATION)))
 fault_of_contents kind view = None
 
 -- whether a storage that is put is one that the reservoir can hold
 abbrev pub is_held : Kind → Put → Bool
 is_held (Reservoir initial_storage table local_inflow diversion return_flow evaporation max_release) put =
-    if put.place == 2 then can_hold table put.value else true
+    if put.place == STORAGE then can_hold table put.value else true
 is_held kind put = true
 
 -- a put can be held, and is a quantity within its slot's bounds

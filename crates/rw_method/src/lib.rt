@@ -13,6 +13,7 @@ mod given;
 mod judging;
 pub mod law;
 mod method;
+pub mod places;
 mod put;
 mod put_list;
 mod settling;

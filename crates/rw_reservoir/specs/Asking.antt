@@ -1,6 +1,7 @@
 -- What becomes of the puts that a reservoir asks for.
 use Rattle.std.specs.Prelude.{◌≡◌, ◌==◌, if◌then◌else◌, Bool, true, ◌&&◌, List, Option, Some, option_map, ◌++◌, Result, OnOk, IfErr}
 use Rattle.rw_table.specs.Table.{Row}
+use Rattle.rw_method.specs.declared.places.TheConstants.{STORAGE}
 use Rattle.rw_method.specs.declared.put.Put.{Put}
 use Rattle.rw_method.specs.declared.solved.Solved.{Solved}
 use Rattle.rw_method.specs.declared.solved.Solved.TheVariants.{OutOfRange}
@@ -11,7 +12,7 @@ use Rattle.rw_method.specs.Solve.{AllFit, first_misfit}
 
 -- a slot can get the value: a storage can be held, and each value is a quantity within its slot's bounds
 abbrev pub can_get : Option (List Row) → View → Put → Bool
-can_get table view put = (if put.place == 2 then can_hold table put.value else true) && is_bounded view put
+can_get table view put = (if put.place == STORAGE then can_hold table put.value else true) && is_bounded view put
 
 -- the answer is the first put that doesn't fit
 abbrev pub IsRefused : (Put → Bool) → List Put → Solved → Type 0

@@ -6,6 +6,7 @@ ghost use Rattle.rw_method.specs.Solve.{AllFit};
 ghost use Rattle.rw_reservoir.specs.Asking.{Asks, can_get};
 
 use crate::contents::can_hold;
+use rw_method::places::STORAGE;
 use rw_method::{PutList, Solved, View, add_put};
 use rw_table::Rating;
 
@@ -34,7 +35,7 @@ pub(crate) fn ask(
     if let Err(answer) = add_put(view, puts, place, value, number) {
         return Err(answer);
     }
-    if place == 2 && !can_hold(table, narrow(value)) {
+    if place == STORAGE && !can_hold(table, narrow(value)) {
         return Err(Solved::OutOfRange { place, value });
     }
     Ok(())

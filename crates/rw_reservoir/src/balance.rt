@@ -1,5 +1,6 @@
 ghost use Rattle.std.specs.Prelude.{◌≡◌, ◌+ℤ◌, ◌-ℤ◌, ◌∷◌, []};
 ghost use Rattle.std.specs.Option.{ForSome};
+ghost use Rattle.rw_method.specs.declared.places.TheConstants.{INFLOW, OUTFLOW, POOL_ELEVATION, STORAGE};
 ghost use Rattle.rw_method.specs.View.{given};
 ghost use Rattle.rw_method.specs.Term.{IsWithin};
 ghost use Rattle.rw_method.specs.Contents.{basis_of, contents_by, difference};
@@ -9,6 +10,7 @@ ghost use Rattle.rw_method.specs.Settling.{settled};
 use crate::basis::basis_of;
 use crate::contents::contents_by;
 use rw_base::Qty;
+use rw_method::places::{INFLOW, OUTFLOW, POOL_ELEVATION, STORAGE};
 use rw_method::{Balanced, Given, Share, Term, View, settle};
 use rw_table::Rating;
 
@@ -49,7 +51,7 @@ fn stores(contents: Option<Given>) -> Term
     ensures { result ≡ stores contents }
 {
     Term {
-        place: 2,
+        place: STORAGE,
         share: Share::Takes,
         given: contents,
     }
@@ -65,13 +67,17 @@ pub(crate) fn balance(
     requires side { ForSome side (IsWithin 3) }
     requires evaporated { ForSome evaporated (IsWithin 1) }
     ensures { result ≡ settled (difference (sum_of view.entry.now.past side) evaporated)
-        (brings view.entry.now 0 ∷ takes view.entry.now 1
-        ∷ stores (contents_by table.now (basis_of (given view.entry.now 2) (given view.entry.now 3))) ∷ []) }
+        (brings view.entry.now INFLOW ∷ takes view.entry.now OUTFLOW
+        ∷ stores (contents_by table.now
+        (basis_of (given view.entry.now STORAGE) (given view.entry.now POOL_ELEVATION))) ∷ []) }
 {
-    let contents = contents_by(table, basis_of(view.given(2), view.given(3)));
+    let contents = contents_by(
+        table,
+        basis_of(view.given(STORAGE), view.given(POOL_ELEVATION)),
+    );
     let terms = [
-        view.term(Share::Brings, 0),
-        view.term(Share::Takes, 1),
+        view.term(Share::Brings, INFLOW),
+        view.term(Share::Takes, OUTFLOW),
         stores(contents),
     ];
     settle(steady(view.past, side, evaporated), &terms)

@@ -1,6 +1,7 @@
 ghost use Rattle.std.specs.Prelude.{◌≡◌, pos, ◌-ℤ◌, ◌≤ℤ◌};
 ghost use Rattle.std.specs.Int.{int_max};
 ghost use Rattle.std.specs.Option.{ForSome};
+ghost use Rattle.rw_method.specs.declared.places.TheConstants.{EVAPORATION_RATE};
 ghost use Rattle.rw_method.specs.View.{known_value};
 ghost use Rattle.rw_method.specs.Term.{IsWithin};
 ghost use Rattle.rw_method.specs.Contents.{difference, evaporated};
@@ -8,6 +9,7 @@ ghost use Rattle.rw_method.specs.Balance.{evaporation_from, evaporation_of};
 
 use rw_base::Qty;
 use rw_method::View;
+use rw_method::places::EVAPORATION_RATE;
 use rw_table::Rating;
 
 fn volume_less(upper: i64, lower: i64) -> i128
@@ -63,9 +65,9 @@ fn evaporation_from(rating: &Rating, past: Option<Qty>, rate: Option<Qty>) -> Op
 }
 
 fn rate(view: &View) -> Option<Qty>
-    ensures { result ≡ known_value view.entry.now 7 }
+    ensures { result ≡ known_value view.entry.now EVAPORATION_RATE }
 {
-    match view.known(7) {
+    match view.known(EVAPORATION_RATE) {
         Some(content) => Some(content.value),
         None => None,
     }

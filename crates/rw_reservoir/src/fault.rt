@@ -5,6 +5,7 @@ ghost use Rattle.rw_method.specs.Solve.{or_else, fault_of_past};
 use crate::basis::basis_of;
 use crate::contents::{can_hold, elevation_of, volume_of};
 use rw_base::Qty;
+use rw_method::places::{POOL_ELEVATION, STORAGE};
 use rw_method::{Basis, Given, Solved};
 use rw_table::Rating;
 
@@ -15,7 +16,7 @@ fn fault_of_past(evaporation: bool, table: &Option<Rating>, past: Option<Qty>) -
     match past {
         Some(storage) if evaporation && !can_hold(table, storage.get()) => {
             Some(Solved::OutOfRange {
-                place: 2,
+                place: STORAGE,
                 value: i128::from(storage.get()),
             })
         }
@@ -29,12 +30,12 @@ fn fault_of_basis(table: &Option<Rating>, basis: Basis) -> Option<Solved>
 {
     match basis {
         Basis::Storage(storage) if !can_hold(table, storage.value) => Some(Solved::OutOfRange {
-            place: 2,
+            place: STORAGE,
             value: i128::from(storage.value),
         }),
         Basis::Elevation(elevation) if volume_of(table, elevation.value).is_none() => {
             Some(Solved::OutOfRange {
-                place: 3,
+                place: POOL_ELEVATION,
                 value: i128::from(elevation.value),
             })
         }
@@ -74,7 +75,7 @@ fn disagreement(
                 && elevation.number == 0
                 && !agree(table, storage.value, elevation.value) => {
             Some(Solved::Conflict {
-                place: 3,
+                place: POOL_ELEVATION,
                 held: i128::from(elevation.value),
                 solved: i128::from(elevation_of(table, storage.value).unwrap_or(0)),
             })

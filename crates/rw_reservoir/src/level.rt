@@ -7,6 +7,7 @@ ghost use Rattle.rw_reservoir.specs.Asking.{Asks, can_get};
 use crate::asking::{ask, narrow};
 use crate::basis::{are_both_zero, basis_of};
 use crate::contents::{elevation_of, volume_of};
+use rw_method::places::{POOL_ELEVATION, STORAGE};
 use rw_method::{Balanced, Basis, Given, PutList, Solved, View};
 use rw_table::Rating;
 
@@ -48,11 +49,11 @@ fn ask_beside(
         Basis::Nothing => Ok(()),
         Basis::Storage(storage) => {
             let found = elevation_of(table, storage.value);
-            ask_found(view, table, puts, 3, found, storage.number)
+            ask_found(view, table, puts, POOL_ELEVATION, found, storage.number)
         }
         Basis::Elevation(elevation) => {
             let found = volume_of(table, elevation.value);
-            ask_found(view, table, puts, 2, found, elevation.number)
+            ask_found(view, table, puts, STORAGE, found, elevation.number)
         }
     }
 }
@@ -102,7 +103,7 @@ pub(crate) fn ask_level(
             view,
             table,
             puts,
-            3,
+            POOL_ELEVATION,
             elevation_of(table, narrow(value)),
             number,
         ),

@@ -1,4 +1,5 @@
 ghost use Rattle.std.specs.Prelude.{◌≡◌, ◌<◌, ◌+◌, ◌≤◌, ◌++◌, length, OnOk, IfErr};
+ghost use Rattle.rw_method.specs.declared.places.TheConstants.{OUTFLOW, POOL_ELEVATION, STORAGE};
 ghost use Rattle.rw_method.specs.View.{given};
 ghost use Rattle.rw_method.specs.Puts.{solved_put, level_puts, evaporation_put, release_puts, held_after, is_bounded};
 ghost use Rattle.rw_method.specs.Solve.{AllFit, judged};
@@ -7,6 +8,7 @@ ghost use Rattle.rw_reservoir.specs.Asking.{Asks, can_get};
 use crate::asking::ask;
 use crate::level::ask_level;
 use crate::release::{ask_evaporation, ask_release};
+use rw_method::places::{OUTFLOW, POOL_ELEVATION, STORAGE};
 use rw_method::{Balanced, Given, PutList, Solved, View, held_after};
 use rw_table::Rating;
 
@@ -44,13 +46,20 @@ fn ask_contents(
     requires { length puts.old < 7 }
     ensures asks { Asks (can_get table.now view.entry.now)
         (solved_put balanced
-        ++ level_puts table.now (given view.entry.now 2) (given view.entry.now 3) balanced)
+        ++ level_puts table.now (given view.entry.now STORAGE) (given view.entry.now POOL_ELEVATION) balanced)
         puts.old puts.new result }
     ensures bounded { OnOk result (AllFit (is_bounded view.entry.now) (solved_put balanced)) }
     ensures room { OnOk result (length puts.new ≤ length puts.old + 2) }
 {
     match ask_solved(view, table, puts, balanced) {
-        Ok(()) => ask_level(view, table, puts, view.given(2), view.given(3), balanced),
+        Ok(()) => ask_level(
+            view,
+            table,
+            puts,
+            view.given(STORAGE),
+            view.given(POOL_ELEVATION),
+            balanced,
+        ),
         Err(answer) => Err(answer),
     }
 }
@@ -86,15 +95,16 @@ pub(crate) fn put_all(
     balanced: Balanced,
 ) -> Solved
     ensures { result ≡ judged (can_get table.now view.entry.now) (solved_put balanced
-        ++ level_puts table.now (given view.entry.now 2) (given view.entry.now 3) balanced
-        ++ evaporation_put evaporation evaporated ++ release_puts max_release (held_after view.entry.now balanced 1)) }
+        ++ level_puts table.now (given view.entry.now STORAGE) (given view.entry.now POOL_ELEVATION) balanced
+        ++ evaporation_put evaporation evaporated ++ release_puts max_release
+        (held_after view.entry.now balanced OUTFLOW)) }
 {
     let mut puts = PutList::none();
     match ask_contents(view, table, &mut puts, balanced) {
         Ok(()) => {}
         Err(answer) => return answer,
     }
-    let outflow = held_after(view, balanced, 1);
+    let outflow = held_after(view, balanced, OUTFLOW);
     match ask_derived(
         view,
         table,

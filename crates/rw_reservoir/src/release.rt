@@ -1,10 +1,12 @@
 ghost use Rattle.std.specs.Prelude.{◌≡◌, ◌<◌, ◌+◌, ◌≤◌, ◌++◌, ◌∷◌, [], length, pos, ◌-ℤ◌, OnOk, IfErr};
 ghost use Rattle.std.specs.Int.{int_min};
+ghost use Rattle.rw_method.specs.declared.places.TheConstants.{RELEASE, SPILL};
 ghost use Rattle.rw_method.specs.Puts.{put, evaporation_put, release_puts};
 ghost use Rattle.rw_method.specs.Solve.{AllFit};
 ghost use Rattle.rw_reservoir.specs.Asking.{Asks, can_get};
 
 use crate::asking::ask;
+use rw_method::places::{EVAPORATION, RELEASE, SPILL};
 use rw_method::{Given, PutList, Solved, View};
 use rw_table::Rating;
 
@@ -23,7 +25,7 @@ pub(crate) fn ask_evaporation(
     ensures room { OnOk result (length puts.new ≤ length puts.old + 1) }
 {
     if evaporation {
-        ask(view, table, puts, 8, amount.unwrap_or(0), 0)
+        ask(view, table, puts, EVAPORATION, amount.unwrap_or(0), 0)
     } else {
         Ok(())
     }
@@ -54,11 +56,11 @@ fn ask_parts(
 ) -> Result<(), Solved>
     requires { length puts.old < 7 }
     ensures asks { Asks (can_get table.now view.entry.now)
-        (put 9 release number ∷ put 10 spill number ∷ [])
+        (put RELEASE release number ∷ put SPILL spill number ∷ [])
         puts.old puts.new result }
 {
-    match ask(view, table, puts, 9, i128::from(release), number) {
-        Ok(()) => ask(view, table, puts, 10, spill, number),
+    match ask(view, table, puts, RELEASE, i128::from(release), number) {
+        Ok(()) => ask(view, table, puts, SPILL, spill, number),
         Err(answer) => Err(answer),
     }
 }

@@ -1,6 +1,7 @@
 ghost use Rattle.std.specs.Prelude.{◌≡◌, ◌++◌, ℤ, Bool};
 ghost use Rattle.std.specs.Option.{ForSome};
 ghost use Rattle.rw_model.specs.declared.kind.Kind.TheVariants as Kind;
+ghost use Rattle.rw_method.specs.declared.places.TheConstants.{OUTFLOW, POOL_ELEVATION, RESERVOIR_SIDE, STORAGE};
 ghost use Rattle.rw_method.specs.View.{given};
 ghost use Rattle.rw_method.specs.Term.{IsWithin};
 ghost use Rattle.rw_method.specs.Balance.{side_flows};
@@ -12,6 +13,7 @@ use crate::balance::balance;
 use crate::evaporation::evaporation_of;
 use crate::fault::fault_of_contents;
 use crate::puts::put_all;
+use rw_method::places::{POOL_ELEVATION, RESERVOIR_SIDE, STORAGE};
 use rw_method::{Balanced, Method, Solved, View, side_flows};
 use rw_model::Kind;
 use rw_table::Rating;
@@ -31,8 +33,9 @@ fn answer_by(
     fault: Option<Solved>,
 ) -> Solved
     ensures { result ≡ answer (can_get table.now view.entry.now) (solved_put balanced
-        ++ level_puts table.now (given view.entry.now 2) (given view.entry.now 3) balanced
-        ++ evaporation_put evaporation evaporated ++ release_puts max_release (held_after view.entry.now balanced 1))
+        ++ level_puts table.now (given view.entry.now STORAGE) (given view.entry.now POOL_ELEVATION) balanced
+        ++ evaporation_put evaporation evaporated ++ release_puts max_release
+        (held_after view.entry.now balanced OUTFLOW))
         balanced fault }
 {
     match (balanced, fault) {
@@ -66,13 +69,13 @@ pub(crate) fn solve_reservoir(
 ) -> Solved
     requires { ForSome side (IsWithin 3) }
     ensures { (initial_storage : ℤ) (local_inflow diversion return_flow : Bool)
-        → side ≡ side_flows view.entry.now 4 local_inflow diversion return_flow
+        → side ≡ side_flows view.entry.now RESERVOIR_SIDE local_inflow diversion return_flow
         → result ≡ solve_of (Kind.Reservoir initial_storage table.now local_inflow diversion return_flow evaporation
         max_release) view.entry.now }
 {
     let evaporated = evaporation_of(evaporation, table, view);
     let balanced = balance(view, table, side, evaporated);
-    let (storage, elevation) = (view.given(2), view.given(3));
+    let (storage, elevation) = (view.given(STORAGE), view.given(POOL_ELEVATION));
     let fault = fault_of_contents(table, evaporation, view.past, storage, elevation);
     answer_by(
         view,
@@ -103,7 +106,13 @@ impl Method for ReservoirMethod {
                 max_release,
                 ..
             } => {
-                let side = side_flows(view, 4, *local_inflow, *diversion, *return_flow);
+                let side = side_flows(
+                    view,
+                    RESERVOIR_SIDE,
+                    *local_inflow,
+                    *diversion,
+                    *return_flow,
+                );
                 solve_reservoir(view, table, side, *evaporation, *max_release)
             }
             _ => unreachable!(),

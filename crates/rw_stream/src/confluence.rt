@@ -2,6 +2,7 @@ ghost use Rattle.std.specs.Prelude.{◌≡◌};
 ghost use Rattle.rw_model.specs.declared.kind.Kind.TheVariants as Kind;
 ghost use Rattle.rw_method.specs.Solve.{solve_of};
 
+use rw_method::places::{INFLOW_1, INFLOW_2, JOINED_OUTFLOW};
 use rw_method::{Method, Share, Solved, View, put_solved, settle};
 use rw_model::Kind;
 
@@ -13,9 +14,9 @@ pub(crate) fn solve_confluence(view: &View) -> Solved
     ensures { result ≡ solve_of Kind.Confluence view.entry.now }
 {
     let terms = [
-        view.term(Share::Brings, 0),
-        view.term(Share::Brings, 1),
-        view.term(Share::Takes, 2),
+        view.term(Share::Brings, INFLOW_1),
+        view.term(Share::Brings, INFLOW_2),
+        view.term(Share::Takes, JOINED_OUTFLOW),
     ];
     put_solved(view, settle(Some(0), &terms))
 }

@@ -2,6 +2,7 @@ ghost use Rattle.std.specs.Prelude.{◌≡◌};
 ghost use Rattle.rw_model.specs.declared.kind.Kind.TheVariants as Kind;
 ghost use Rattle.rw_method.specs.Solve.{solve_of};
 
+use rw_method::places::{INFLOW, OUTFLOW};
 use rw_method::{Method, Share, Solved, View, put_solved, settle};
 use rw_model::Kind;
 
@@ -12,7 +13,10 @@ pub struct GageMethod;
 pub(crate) fn solve_gage(view: &View) -> Solved
     ensures { result ≡ solve_of Kind.Gage view.entry.now }
 {
-    let terms = [view.term(Share::Brings, 0), view.term(Share::Takes, 1)];
+    let terms = [
+        view.term(Share::Brings, INFLOW),
+        view.term(Share::Takes, OUTFLOW),
+    ];
     put_solved(view, settle(Some(0), &terms))
 }
 

@@ -1,11 +1,13 @@
 ghost use Rattle.std.specs.Prelude.{◌≡◌, ◌+ℤ◌, suc, zero, [], ℕ, ℤ, Bool, List};
 ghost use Rattle.std.specs.Option.{ForSome};
 ghost use Rattle.rw_model.specs.declared.kind.Kind.TheVariants as Kind;
+ghost use Rattle.rw_method.specs.declared.places.TheConstants.{REACH_SIDE};
 ghost use Rattle.rw_method.specs.Term.{IsWithin};
 ghost use Rattle.rw_method.specs.Balance.{sum_of, side_flows};
 ghost use Rattle.rw_method.specs.Solve.{solve_of};
 
 use rw_base::Qty;
+use rw_method::places::{INFLOW, OUTFLOW, REACH_SIDE};
 use rw_method::{Method, Share, Solved, View, put_solved, settle, side_flows};
 use rw_model::Kind;
 
@@ -36,20 +38,23 @@ fn lagged_outflow(past: Option<Qty>, side: Option<i128>) -> Option<i128>
 fn solve_unlagged(view: &View, side: Option<i128>) -> Solved
     requires { ForSome side (IsWithin 3) }
     ensures { (history : List ℤ) (local_inflow diversion return_flow : Bool)
-        → side ≡ side_flows view.entry.now 2 local_inflow diversion return_flow
+        → side ≡ side_flows view.entry.now REACH_SIDE local_inflow diversion return_flow
         → result ≡ solve_of (Kind.Reach zero history local_inflow diversion return_flow) view.entry.now }
 {
-    let terms = [view.term(Share::Brings, 0), view.term(Share::Takes, 1)];
+    let terms = [
+        view.term(Share::Brings, INFLOW),
+        view.term(Share::Takes, OUTFLOW),
+    ];
     put_solved(view, settle(side, &terms))
 }
 
 fn solve_lagged(view: &View, side: Option<i128>) -> Solved
     requires { ForSome side (IsWithin 3) }
     ensures { (lag : ℕ) (history : List ℤ) (local_inflow diversion return_flow : Bool)
-        → side ≡ side_flows view.entry.now 2 local_inflow diversion return_flow
+        → side ≡ side_flows view.entry.now REACH_SIDE local_inflow diversion return_flow
         → result ≡ solve_of (Kind.Reach (suc lag) history local_inflow diversion return_flow) view.entry.now }
 {
-    let terms = [view.term(Share::Takes, 1)];
+    let terms = [view.term(Share::Takes, OUTFLOW)];
     put_solved(view, settle(lagged_outflow(view.past, side), &terms))
 }
 
@@ -63,7 +68,7 @@ pub(crate) fn solve_reach(
     ensures { (history : List ℤ)
         → result ≡ solve_of (Kind.Reach lag history local_inflow diversion return_flow) view.entry.now }
 {
-    let side = side_flows(view, 2, local_inflow, diversion, return_flow);
+    let side = side_flows(view, REACH_SIDE, local_inflow, diversion, return_flow);
     if lag == 0 {
         solve_unlagged(view, side)
     } else {

@@ -1,8 +1,10 @@
 ghost use Rattle.std.specs.Prelude.{◌≡◌, ◌≤◌, ◌-ℤ◌, ◌++◌, None};
 ghost use Rattle.rw_model.specs.declared.kind.Kind.TheVariants as Kind;
+ghost use Rattle.rw_method.specs.declared.places.TheConstants.{INFLOW, OUTFLOW};
 ghost use Rattle.rw_method.specs.Puts.{is_bounded, solved_put, seepage_put, held_after};
 ghost use Rattle.rw_method.specs.Solve.{answer, solve_of};
 
+use rw_method::places::{INFLOW, OUTFLOW, SEEPAGE};
 use rw_method::{
     Balanced, Given, Method, Seepage, Share, Solved, View, add_put, begin_puts, held_after, settle,
 };
@@ -21,16 +23,17 @@ fn seeping(inflow: Given, outflow: Given) -> i128
 // What it answers that puts its solved flow, if one is solved, and what seeps away.
 fn put_seepage(view: &View, balanced: Balanced) -> Solved
     ensures { result ≡ answer (is_bounded view.entry.now)
-        (solved_put balanced ++ seepage_put (held_after view.entry.now balanced 0) (held_after view.entry.now balanced 1)) balanced None }
+        (solved_put balanced ++ seepage_put (held_after view.entry.now balanced INFLOW)
+        (held_after view.entry.now balanced OUTFLOW)) balanced None }
 {
     let mut puts = match begin_puts(view, balanced) {
         Ok(puts) => puts,
         Err(answer) => return answer,
     };
-    let inflow = held_after(view, balanced, 0);
-    let outflow = held_after(view, balanced, 1);
+    let inflow = held_after(view, balanced, INFLOW);
+    let outflow = held_after(view, balanced, OUTFLOW);
     let seeping = seeping(inflow, outflow);
-    if let Err(answer) = add_put(view, &mut puts, 2, seeping, inflow.number) {
+    if let Err(answer) = add_put(view, &mut puts, SEEPAGE, seeping, inflow.number) {
         return answer;
     }
     Solved::Puts(puts)
@@ -41,8 +44,8 @@ pub(crate) fn solve_canal(view: &View, seepage: u16) -> Solved
     ensures { result ≡ solve_of (Kind.Canal seepage) view.entry.now }
 {
     let terms = [
-        view.term(Share::Conveys(Seepage::of(seepage)), 0),
-        view.term(Share::Takes, 1),
+        view.term(Share::Conveys(Seepage::of(seepage)), INFLOW),
+        view.term(Share::Takes, OUTFLOW),
     ];
     put_seepage(view, settle(Some(0), &terms))
 }

@@ -1,11 +1,13 @@
 ghost use Rattle.std.specs.Prelude.{◌≡◌, ℕ, ◌-ℤ◌, ◌++◌, None};
 ghost use Rattle.std.specs.Option.{ForSome};
+ghost use Rattle.rw_method.specs.declared.places.TheConstants.{DIVERSION};
 ghost use Rattle.rw_method.specs.Term.{IsWithin, per_mille};
 ghost use Rattle.rw_method.specs.View.{known_value};
 ghost use Rattle.rw_model.specs.declared.kind.Kind.TheVariants as Kind;
 ghost use Rattle.rw_method.specs.Puts.{is_bounded, solved_put, user_puts, held_after};
 ghost use Rattle.rw_method.specs.Solve.{answer, balanced_of, solve_of};
 
+use rw_method::places::{DEPLETION, DIVERSION, DIVERSION_REQUEST, RETURN_FLOW};
 use rw_method::{
     Balanced, Given, Method, Share, Solved, View, add_put, begin_puts, held_after, per_mille,
     settle,
@@ -45,27 +47,31 @@ fn balanced_by(view: &View, supply: Supply) -> Balanced
     ensures { (depletion : ℕ) → result ≡ balanced_of (Kind.WaterUser depletion supply) view.entry.now }
 {
     match supply {
-        Supply::Request => settle(known_flow(view, 0), &[view.term(Share::Takes, 1)]),
-        Supply::Rule => settle(known_flow(view, 1), &[]),
+        Supply::Request => settle(
+            known_flow(view, DIVERSION_REQUEST),
+            &[view.term(Share::Takes, DIVERSION)],
+        ),
+        Supply::Rule => settle(known_flow(view, DIVERSION), &[]),
     }
 }
 
 // What it answers that puts its diversion, if that is solved, and what is used up and flows back of it.
 fn put_uses(view: &View, depletion: u16, balanced: Balanced) -> Solved
     ensures { result ≡ answer (is_bounded view.entry.now)
-        (solved_put balanced ++ user_puts depletion (held_after view.entry.now balanced 1)) balanced None }
+        (solved_put balanced
+        ++ user_puts depletion (held_after view.entry.now balanced DIVERSION)) balanced None }
 {
     let mut puts = match begin_puts(view, balanced) {
         Ok(puts) => puts,
         Err(answer) => return answer,
     };
-    let diversion = held_after(view, balanced, 1);
+    let diversion = held_after(view, balanced, DIVERSION);
     let used = used_up(diversion, depletion);
-    if let Err(answer) = add_put(view, &mut puts, 2, used, diversion.number) {
+    if let Err(answer) = add_put(view, &mut puts, DEPLETION, used, diversion.number) {
         return answer;
     }
     let back = flowing_back(diversion, depletion);
-    if let Err(answer) = add_put(view, &mut puts, 3, back, diversion.number) {
+    if let Err(answer) = add_put(view, &mut puts, RETURN_FLOW, back, diversion.number) {
         return answer;
     }
     Solved::Puts(puts)

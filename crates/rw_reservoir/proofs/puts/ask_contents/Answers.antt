@@ -1,3 +1,4 @@
+use Rattle.rw_method.specs.declared.places.TheConstants.{POOL_ELEVATION, STORAGE}
 use Rattle.rw_method.specs.View.{given}
 use Rattle.rw_method.specs.Puts.{solved_put, level_puts}
 use Rattle.rw_reservoir.specs.Asking.{can_get}
@@ -13,4 +14,4 @@ pub returns-in-Err-clause-asks : goal.returns-in-Err-clause-asks
 returns-in-Err-clause-asks c =
     let view = c.args.view.now in
     asks_at_once (can_get c.args.table.now view) (solved_put c.args.balanced)
-    (level_puts c.args.table.now (given view 2) (given view 3) c.args.balanced) _ _ c.in-Err.answer c.in-Err.ensures.asks.refused
+    (level_puts c.args.table.now (given view STORAGE) (given view POOL_ELEVATION) c.args.balanced) _ _ c.in-Err.answer c.in-Err.ensures.asks.refused

@@ -1,4 +1,5 @@
 use Rattle.std.proofs.Common.{sym}
+use Rattle.rw_method.specs.declared.places.TheConstants.{OUTFLOW, POOL_ELEVATION, STORAGE}
 use Rattle.rw_method.specs.View.{given}
 use Rattle.rw_method.specs.Puts.{solved_put, level_puts, evaporation_put, release_puts, held_after}
 use Rattle.rw_reservoir.specs.Asking.{can_get}
@@ -10,8 +11,8 @@ returns-in-Err c =
     let table = c.args.table.now in
     let view = c.args.view.now in
     let balanced = c.args.balanced in
-    sym (refused_in_front (can_get table view) (solved_put balanced) (level_puts table (given view 2) (given view 3) balanced)
-    (evaporation_put c.args.evaporation c.args.evaporated) (release_puts c.args.max_release (held_after view balanced 1))
+    sym (refused_in_front (can_get table view) (solved_put balanced) (level_puts table (given view STORAGE) (given view POOL_ELEVATION) balanced)
+    (evaporation_put c.args.evaporation c.args.evaporated) (release_puts c.args.max_release (held_after view balanced OUTFLOW))
     c.in-Err.answer c.in-Err.ensures.asks.refused)
 
 pub returns-in-Ok-ask_derived : goal.returns-in-Ok-ask_derived
@@ -22,7 +23,7 @@ returns-in-Ok-ask_derived c =
     let outflow = c.held_after-outflow.ensures in
     let derived = c.in-Ok-ask_derived.ensures.asks in
     let all = rw (c.in-Ok.ensures.asks.added, c.none-puts.ensures) at derived.added in
-    rw (← outflow) (sym (four_fit (can_get table view) (solved_put balanced) (level_puts table (given view 2) (given view 3) balanced)
+    rw (← outflow) (sym (four_fit (can_get table view) (solved_put balanced) (level_puts table (given view STORAGE) (given view POOL_ELEVATION) balanced)
     (evaporation_put c.args.evaporation c.args.evaporated) (release_puts c.args.max_release c.held_after-outflow.result)
     c.ask_derived.new.puts c.in-Ok.ensures.asks.fits derived.fits all))
 
@@ -32,6 +33,6 @@ returns-in-Err-ask_derived c =
     let view = c.args.view.now in
     let balanced = c.args.balanced in
     let outflow = c.held_after-outflow.ensures in
-    rw (← outflow) (sym (refused_behind (can_get table view) (solved_put balanced) (level_puts table (given view 2) (given view 3) balanced)
+    rw (← outflow) (sym (refused_behind (can_get table view) (solved_put balanced) (level_puts table (given view STORAGE) (given view POOL_ELEVATION) balanced)
     (evaporation_put c.args.evaporation c.args.evaporated) (release_puts c.args.max_release c.held_after-outflow.result)
     c.in-Err-ask_derived.answer c.in-Ok.ensures.asks.fits c.in-Err-ask_derived.ensures.asks.refused))

@@ -1,0 +1,48 @@
+//! Where the slots that a balance speaks of stand among those of their kind (`docs/DEFINITIONS.md`, "Slots").
+
+/// What flows into a gage, a bifurcation, a reach, a reservoir or a canal.
+pub const INFLOW: u8 = 0;
+/// What flows out of a gage, a reach, a reservoir or a canal.
+pub const OUTFLOW: u8 = 1;
+
+/// The two that flow into a confluence.
+pub const INFLOW_1: u8 = 0;
+/// The second of them.
+pub const INFLOW_2: u8 = 1;
+/// What flows out of a confluence.
+pub const JOINED_OUTFLOW: u8 = 2;
+
+/// The two that flow out of a bifurcation.
+pub const OUTFLOW_1: u8 = 1;
+/// The second of them.
+pub const OUTFLOW_2: u8 = 2;
+
+/// A reach's LocalInflow, with its Diversion and ReturnFlow in the next two places.
+pub const REACH_SIDE: u8 = 2;
+/// A reservoir's LocalInflow, with its Diversion and ReturnFlow in the next two places.
+pub const RESERVOIR_SIDE: u8 = 4;
+
+/// A reservoir's Storage.
+pub const STORAGE: u8 = 2;
+/// A reservoir's PoolElevation.
+pub const POOL_ELEVATION: u8 = 3;
+/// A reservoir's EvaporationRate.
+pub const EVAPORATION_RATE: u8 = 7;
+/// A reservoir's Evaporation.
+pub const EVAPORATION: u8 = 8;
+/// A reservoir's Release.
+pub const RELEASE: u8 = 9;
+/// A reservoir's Spill.
+pub const SPILL: u8 = 10;
+
+/// A water user's DiversionRequest.
+pub const DIVERSION_REQUEST: u8 = 0;
+/// A water user's Diversion.
+pub const DIVERSION: u8 = 1;
+/// A water user's Depletion.
+pub const DEPLETION: u8 = 2;
+/// A water user's ReturnFlow.
+pub const RETURN_FLOW: u8 = 3;
+
+/// A canal's Seepage.
+pub const SEEPAGE: u8 = 2;
