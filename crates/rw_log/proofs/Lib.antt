@@ -1,6 +1,5 @@
 pub mod Lists
 pub mod Waits
-pub mod SolvedPuts
 pub mod Ready
 mod OneRun
 mod Sinces

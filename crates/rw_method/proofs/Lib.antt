@@ -3,3 +3,4 @@ pub mod LeastInflow
 pub mod GivingWay
 pub mod GreatestBeside
 pub mod SolvedTerm
+pub mod SolvedPuts
