@@ -1,0 +1,31 @@
+-- How answers are handed on.
+use Rattle.std.proofs.Common.{◌≡◌, Option, None, Some, Result, Ok, Err, refl, sym, subst, ap, ◌∙◌}
+use Rattle.std.specs.Result.{IsErrAnd}
+use Rattle.rw_base.specs.Answers.{unless_refused, Finds, IsWhy, Answers}
+
+-- what wasn't refused
+pub not_refused : {R A : Type 0} (found : Option R) (x : A) (y : A) → unless_refused found x ≡ Ok y → found ≡ None
+not_refused None x y e = refl
+not_refused (Some refusal) x y e = cc
+
+-- nothing was found
+pub found_none : {F R : Type 0} (refusal_of : F → Option R) (refusal : Option R) → Finds refusal_of None refusal → refusal ≡ None
+found_none refusal_of None e = refl
+found_none refusal_of (Some r) e = cc
+
+-- a fault was found
+pub found : {F R : Type 0} (refusal_of : F → Option R) (fault : F) (refusal : Option R) → Finds refusal_of (Some fault) refusal → (r : R) × (refusal_of fault ≡ Some r) × (refusal ≡ Some r)
+found refusal_of fault None e = cc
+found refusal_of fault (Some r) e = (r, cc, refl)
+
+pub found_why : {F R A : Type 0} (memory : F) (refusal_of : F → Option R) (refusal : Option R) (x : A) (fault : F)
+    → Finds refusal_of (Some fault) refusal → IsWhy memory refusal_of (unless_refused refusal x) fault
+found_why memory refusal_of refusal x fault e =
+    let is = found refusal_of fault refusal e in
+    (λ other tells. ap (λ f. unless_refused f x) is.2 ∙ ap Err (let same : Some is.0 ≡ Some other = sym is.1 ∙ tells in cc), λ none. absurd (let same : Some is.0 ≡ None = sym is.1 ∙ none in cc))
+
+-- a fault that is handed on
+pub handed_on : {F R X A : Type 0} (memory : F) (refusal_of : F → Option R) (seen : X → A) (result : Result X F) (given : Result A R) (fault : F)
+    → IsErrAnd result (λ e. e ≡ fault) → IsWhy memory refusal_of given fault → Answers memory refusal_of seen result given
+handed_on memory refusal_of seen (Ok x) given fault same why = absurd same
+handed_on memory refusal_of seen (Err e) given fault same why = subst (IsWhy memory refusal_of given) (sym same) why
