@@ -18,11 +18,17 @@ pub found : {F R : Type 0} (refusal_of : F → Option R) (fault : F) (refusal : 
 found refusal_of fault None e = cc
 found refusal_of fault (Some r) e = (r, cc, refl)
 
+-- a fault that tells what is wrong
+pub told_why : {F R A : Type 0} (memory : F) (refusal_of : F → Option R) (refusal : Option R) (x : A) (fault : F) (r : R)
+    → refusal_of fault ≡ Some r → refusal ≡ Some r → IsWhy memory refusal_of (unless_refused refusal x) fault
+told_why memory refusal_of refusal x fault r tells is =
+    (λ other also. ap (λ f. unless_refused f x) is ∙ ap Err (let same : Some r ≡ Some other = sym tells ∙ also in cc), λ none. absurd (let same : Some r ≡ None = sym tells ∙ none in cc))
+
 pub found_why : {F R A : Type 0} (memory : F) (refusal_of : F → Option R) (refusal : Option R) (x : A) (fault : F)
     → Finds refusal_of (Some fault) refusal → IsWhy memory refusal_of (unless_refused refusal x) fault
 found_why memory refusal_of refusal x fault e =
     let is = found refusal_of fault refusal e in
-    (λ other tells. ap (λ f. unless_refused f x) is.2 ∙ ap Err (let same : Some is.0 ≡ Some other = sym is.1 ∙ tells in cc), λ none. absurd (let same : Some is.0 ≡ None = sym is.1 ∙ none in cc))
+    told_why memory refusal_of refusal x fault is.0 is.1 is.2
 
 -- a fault that is handed on
 pub handed_on : {F R X A : Type 0} (memory : F) (refusal_of : F → Option R) (seen : X → A) (result : Result X F) (given : Result A R) (fault : F)
