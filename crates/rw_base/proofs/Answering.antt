@@ -1,5 +1,6 @@
 -- How answers are handed on.
-use Rattle.std.proofs.Common.{◌≡◌, Option, None, Some, Result, Ok, Err, refl, sym, subst, ap, ◌∙◌}
+use Rattle.std.proofs.Common.{◌≡◌, false, Option, None, Some, Result, Ok, Err, refl, sym, subst, ap, ◌∙◌}
+use Rattle.std.proofs.lemmas.Bool.{both_ways}
 use Rattle.std.specs.Result.{IsErrAnd}
 use Rattle.rw_base.specs.Answers.{unless_refused, Finds, IsWhy, Answers}
 
@@ -8,15 +9,10 @@ pub not_refused : {R A : Type 0} (found : Option R) (x : A) (y : A) → unless_r
 not_refused None x y e = refl
 not_refused (Some refusal) x y e = cc
 
--- nothing was found
-pub found_none : {F R : Type 0} (refusal_of : F → Option R) (refusal : Option R) → Finds refusal_of None refusal → refusal ≡ None
-found_none refusal_of None e = refl
-found_none refusal_of (Some r) e = cc
-
--- a fault was found
+-- what is wrong, where a fault was found
 pub found : {F R : Type 0} (refusal_of : F → Option R) (fault : F) (refusal : Option R) → Finds refusal_of (Some fault) refusal → (r : R) × (refusal_of fault ≡ Some r) × (refusal ≡ Some r)
-found refusal_of fault None e = cc
-found refusal_of fault (Some r) e = (r, cc, refl)
+found refusal_of fault None e = absurd (both_ways false refl e.1)
+found refusal_of fault (Some r) e = (r, sym e.0, refl)
 
 -- a fault that tells what is wrong
 pub told_why : {F R A : Type 0} (memory : F) (refusal_of : F → Option R) (refusal : Option R) (x : A) (fault : F) (r : R)

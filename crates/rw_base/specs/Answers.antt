@@ -1,5 +1,5 @@
 -- What a call answers where a definition decides: what the definition gives, or that memory was wanting.
-use Rattle.std.specs.Prelude.{◌≡◌, Option, None, Some, option_map, Result, Ok, Err}
+use Rattle.std.specs.Prelude.{◌≡◌, Option, None, Some, IsSome, MatchOption, Result, Ok, Err}
 use Rattle.std.specs.Option.{ForSome}
 
 -- what is given, unless it is refused
@@ -7,9 +7,9 @@ abbrev pub unless_refused : {R A : Type 0} → Option R → A → Result A R
 unless_refused None x = Ok x
 unless_refused (Some refusal) x = Err refusal
 
--- what a call finds to be wrong, if it finds something, is what is refused
+-- a call that judges finds nothing where nothing is refused, and otherwise a fault that tells what is
 abbrev pub Finds : {F R : Type 0} → (F → Option R) → Option F → Option R → Type 0
-Finds refusal_of found refusal = option_map refusal_of found ≡ option_map (λ r. Some r) refusal
+Finds refusal_of found refusal = MatchOption found (refusal ≡ None) (λ fault. (refusal ≡ refusal_of fault) × IsSome refusal)
 
 -- the refusal that the fault tells is the one that is given. A fault that tells none is want of memory
 abbrev pub IsWhy : {F R A : Type 0} → F → (F → Option R) → Result A R → F → Type 0

@@ -4,9 +4,8 @@ use Rattle.std.specs.Option.{option_or}
 use Rattle.std.specs.Bool.{Decides}
 use Rattle.std.proofs.lemmas.Bool.{cases_eq}
 use Rattle.std.proofs.lemmas.Bool.Decides.{nat_tests, Decides-and, Decides-like}
-use Rattle.std.specs.Prelude.{option_map}
 use Rattle.rw_base.specs.Answers.{Finds}
-use Rattle.rw_base.proofs.Answering.{found, found_none}
+use Rattle.rw_base.proofs.Answering.{found}
 use Rattle.rw_base.proofs.Tests.{Decides-from_to, Decides-int_lt, passed, spared, unless, where-true}
 use Rattle.rw_table.specs.declared.fault.TableFault.{TableFault}
 use Rattle.rw_table.specs.Table.{Row, refusal_of, row_at, IsWithinBounds, IsAbove, IsRisingAt, IsGoodRow, IsTable, TableRefusal, out_of_bounds, not_rising, is_within_bounds, is_above, is_rising_at, row_refusal, rows_refusal, table_refusal}
@@ -86,14 +85,11 @@ pub first-here : (rows : List Row) (k : ℕ) (fault : TableFault) → k < length
     → Finds refusal_of (Some fault) (row_refusal rows k) → Finds refusal_of (Some fault) (rows_refusal rows (length rows))
 first-here rows k fault within before finds =
     let is = found refusal_of fault (row_refusal rows k) finds in
-    ap (λ told. Some told) is.1 ∙ ap (option_map (λ r. Some r))
-    (sym (found-first rows (suc k) (length rows) is.0 (omega arith) (ap (λ first. option_or first (row_refusal rows k)) before ∙ is.2)))
+    let same = found-first rows (suc k) (length rows) is.0 (omega arith) (ap (λ first. option_or first (row_refusal rows k)) before ∙ is.2) in
+    (same ∙ sym is.1, rw same refl)
 
 -- 2 to 200 rows of which none is found to be bad are a table
 pub found-table : (rows : List Row) (result : Option TableFault) → 2 ≤ length rows → length rows ≤ 200
     → Finds refusal_of result (rows_refusal rows (length rows)) → result ≡ None → IsTable rows
-found-table rows result some few finds none = record {
-  some = some;
-  few = few;
-  good = rows-good rows (length rows) (found_none refusal_of _ (subst (λ f. Finds refusal_of f (rows_refusal rows (length rows))) none finds));
-}
+found-table rows None some few finds none = record { some = some; few = few; good = rows-good rows (length rows) finds }
+found-table rows (Some fault) some few finds none = absurd cc

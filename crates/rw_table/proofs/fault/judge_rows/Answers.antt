@@ -1,6 +1,5 @@
 use Rattle.std.proofs.Common.{subst}
 use Rattle.rw_base.specs.Answers.{Finds}
-use Rattle.rw_base.proofs.Answering.{found_none}
 use Rattle.rw_table.specs.Table.{refusal_of, row_refusal}
 use Rattle.rw_table.proofs.Judgement.{first-here, next-none}
 use Rattle.rw_table.proofs.fault.judge_rows.Goals as goal
@@ -10,4 +9,4 @@ returns-in-Some c = first-here c.args.rows.now c.loop-place.place c.in-Some.faul
     (subst (λ found. Finds refusal_of found (row_refusal c.args.rows.now c.loop-place.place)) c.in-Some.is c.judge_row.ensures)
 
 pub loop-place-preserved : goal.loop-place-preserved
-loop-place-preserved c = next-none c.args.rows.now c.loop-place.place c.loop-place.invariant (found_none refusal_of _ c.in_default.ensures)
+loop-place-preserved c = next-none c.args.rows.now c.loop-place.place c.loop-place.invariant c.in_default.ensures
