@@ -20,7 +20,9 @@ use Rattle.rw_model.specs.Slot.{Bounds, IsInside}
 use Rattle.rw_model.specs.Objects.{Object, Placed, object_named, all_slots, slot_at}
 use Rattle.rw_model.specs.Draft.{Bound, IsSound, IsFresh, CanAdd, bound_of, IsSlot, CanBound}
 use Rattle.rw_model.specs.Links.{is_slot}
-use Rattle.rw_model.specs.Refusal.{BuildRefusal, duplicate_name, unknown_slot, bad_parameter, too_many}
+use Rattle.rw_base.specs.Answers.{Finds}
+use Rattle.rw_model.specs.declared.fault.BuildFault.{BuildFault}
+use Rattle.rw_model.specs.Refusal.{refusal_of, BuildRefusal, duplicate_name, unknown_slot, bad_parameter, too_many}
 use Rattle.rw_model.specs.Build.{is_sound, is_fresh, size_refusal, object_refusal, is_allowed, bound_refusal}
 use Rattle.rw_model.proofs.NameFacts.{Decides-name}
 
@@ -134,6 +136,17 @@ object-iff objects object = (
       ∙ where-true (is_fresh objects object) _ _ ((Decides-fresh objects object).1 can.fresh)
       ∙ (few-iff (objects ++ object ∷ [])).1 (can.few_objects, can.few_slots),
 )
+
+-- an object with which nothing is found to be wrong can be added
+pub found-addable : (objects : List Object) (object : Object) (result : Option BuildFault) → Finds refusal_of result (object_refusal objects object)
+    → result ≡ None → CanAdd objects object
+found-addable objects object None finds none = (object-iff objects object).0 finds
+found-addable objects object (Some fault) finds none = absurd cc
+
+-- what is wrong with the numbers, by their two tests
+pub size-is : (objects : List Object) (a b : Bool) → nat_lt 500 (length objects) ≡ a → nat_lt 4000 (length (all_slots objects)) ≡ b
+    → size_refusal objects ≡ (if a then Some (too_many 500) else (if b then Some (too_many 4000) else None))
+size-is objects a b e f = rw (e, f) refl
 
 none-there : {A : Type 0} (o : Option A) → is_some o ≡ false → o ≡ None
 none-there None e = refl

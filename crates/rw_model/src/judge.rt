@@ -4,7 +4,8 @@ ghost use Rattle.rw_model.specs.Slots.{slots_of};
 ghost use Rattle.rw_model.specs.Objects.{placed_from, slot_at};
 ghost use Rattle.rw_model.specs.Links.{is_same_dim, is_alike, shares_owner, link_of, join_refusal, link_refusal};
 ghost use Rattle.rw_model.specs.Kept.{numbers_of};
-ghost use Rattle.rw_model.specs.Draft.{has_slot_named, has_distinct_names, has_distinct_slots, IsSlot};
+ghost use Rattle.rw_model.specs.Draft.{has_slot_named, has_distinct_names, has_distinct_slots, CanAdd, IsSlot, CanBound};
+ghost use Rattle.rw_model.specs.Kind.{IsKind};
 ghost use Rattle.rw_model.specs.Refusal.{refusal_of};
 ghost use Rattle.rw_model.specs.Build.{size_refusal, object_refusal, is_allowed, bound_refusal};
 
@@ -57,6 +58,7 @@ fn has_distinct_slots(kind: &Kind) -> bool
 
 // What is wrong with the numbers of objects and slots, with one object more.
 fn judge_size(objects: &Objects, kind: &Kind) -> Option<BuildFault>
+    requires { IsKind kind.now }
     ensures { (name : List ℕ) → Finds refusal_of result
         (size_refusal (objects.now ++ record { name = name; kind = kind.now } ∷ [])) }
 {
@@ -72,8 +74,9 @@ fn judge_size(objects: &Objects, kind: &Kind) -> Option<BuildFault>
 
 /// What is wrong with an object that is to be added, if something is.
 pub fn judge_object(objects: &Objects, name: &str, kind: &Kind) -> Option<BuildFault>
-    ensures { Finds refusal_of result
+    ensures fault { Finds refusal_of result
         (object_refusal objects.now (record { name = name.now; kind = kind.now })) }
+    ensures can_add { result ≡ None → CanAdd objects.now (record { name = name.now; kind = kind.now }) }
 {
     if !is_name(name) || !is_kind(kind) {
         return Some(BuildFault::BadParameter);
@@ -99,7 +102,8 @@ pub fn judge_bound(
     slot: u16,
     bounds: (i64, i64),
 ) -> Option<BuildFault>
-    ensures { Finds refusal_of result (bound_refusal objects.now given.now slot bounds) }
+    ensures fault { Finds refusal_of result (bound_refusal objects.now given.now slot bounds) }
+    ensures can_bound { result ≡ None → CanBound objects.now given.now slot bounds }
 {
     if slot == 0 || slot > objects.slot_count() {
         return Some(BuildFault::UnknownSlot);
