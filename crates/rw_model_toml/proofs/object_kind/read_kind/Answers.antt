@@ -1,11 +1,12 @@
 use Rattle.std.proofs.Common.{◌∙◌, codes}
 use Rattle.rw_model_toml.specs.Kinds.{kind_of}
-use Rattle.rw_model_toml.proofs.Deciding.{other-word, unless}
+use Rattle.rw_base.proofs.Tests.{unless}
+use Rattle.rw_model_toml.proofs.Words.{other-word}
 use Rattle.rw_model_toml.proofs.object_kind.read_kind.Goals as goal
 
 pub returns-in_ok-key_path-in_default : goal.returns-in_ok-key_path-in_default
 unfolding kind_of
-returns-in_ok-key_path-in_default c = λ refusal is.
+returns-in_ok-key_path-in_default c = (λ refusal is.
     unless _ _ _ (other-word (codes "data") c.args.word.now c.in_default.not-data)
     ∙ unless _ _ _ (other-word (codes "gage") c.args.word.now c.in_default.not-gage)
     ∙ unless _ _ _ (other-word (codes "confluence") c.args.word.now c.in_default.not-confluence)
@@ -14,4 +15,4 @@ returns-in_ok-key_path-in_default c = λ refusal is.
     ∙ unless _ _ _ (other-word (codes "reservoir") c.args.word.now c.in_default.not-reservoir)
     ∙ unless _ _ _ (other-word (codes "water_user") c.args.word.now c.in_default.not-water_user)
     ∙ unless _ _ _ (other-word (codes "canal") c.args.word.now c.in_default.not-canal)
-    ∙ cc c.in_ok-key_path-in_default.ensures
+    ∙ cc c.in_ok-key_path-in_default.ensures, λ none. absurd cc)
