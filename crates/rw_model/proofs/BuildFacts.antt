@@ -1,5 +1,5 @@
 -- The tests of kinds, objects and bounds decide what their words say, and nothing is refused exactly where they can be built.
-use Rattle.std.proofs.Common.{◌≡◌, ◌↔◌, ◌∙◌, ◌≤◌, ◌≤ℤ◌, ℕ, nat_lt, ℤ, pos, ◌-ℤ◌, Bool, true, false, ◌||◌, not, if◌then◌else◌, IsTrue, List, [], ◌∷◌, ◌++◌, length, Option, None, Some, refl, subst, arith}
+use Rattle.std.proofs.Common.{◌≡◌, ◌↔◌, ◌∙◌, ◌≤◌, ℕ, nat_lt, ℤ, pos, ◌-ℤ◌, Bool, true, false, ◌||◌, not, if◌then◌else◌, IsTrue, List, [], ◌∷◌, ◌++◌, length, Option, None, Some, refl, subst, arith}
 use Rattle.std.specs.Prelude.{is_some, IsSome}
 use Rattle.std.specs.Bool.{Decides}
 use Rattle.std.specs.List.{list_all}
@@ -22,7 +22,7 @@ use Rattle.rw_model.specs.Draft.{Bound, IsSound, IsFresh, CanAdd, bound_of, IsSl
 use Rattle.rw_model.specs.Links.{is_slot}
 use Rattle.rw_base.specs.Answers.{Finds}
 use Rattle.rw_model.specs.declared.fault.BuildFault.{BuildFault}
-use Rattle.rw_model.specs.Refusal.{refusal_of, BuildRefusal, duplicate_name, unknown_slot, bad_parameter, too_many}
+use Rattle.rw_model.specs.Refusal.{refusal_of, bad_parameter, too_many}
 use Rattle.rw_model.specs.Build.{is_sound, is_fresh, size_refusal, object_refusal, is_allowed, bound_refusal}
 use Rattle.rw_model.proofs.NameFacts.{Decides-name}
 

@@ -9,7 +9,7 @@ use Rattle.rw_model.specs.Draft.{Draft}
 use Rattle.rw_base.specs.declared.number.SlotNo.{SlotNo}
 use Rattle.rw_model.specs.Kept.{numbers_of}
 use Rattle.rw_model_toml.specs.Model.{in_turn}
-use Rattle.rw_model_toml.specs.Fault.{IsWhy, Gives, refusal_of}
+use Rattle.rw_model_toml.specs.Fault.{IsWhy, Gives}
 use Rattle.std.specs.Result.{IsErrAnd}
 use Rattle.rw_model_toml.specs.Refusal.{Refusal, ◌>>=◌}
 use Rattle.rw_model_toml.specs.Path.{element_path}

@@ -1,5 +1,5 @@
 -- Nothing is wrong with rows exactly where they are a table.
-use Rattle.std.proofs.Common.{◌≡◌, ◌↔◌, ℕ, zero, suc, ◌<◌, ◌≤◌, nat_lt, List, length, Bool, true, false, if◌then◌else◌, Option, None, Some, refl, sym, subst, ◌∙◌, ap, ◌+◌, arith, below_more, inl, inr}
+use Rattle.std.proofs.Common.{◌≡◌, ◌↔◌, ℕ, zero, suc, ◌<◌, ◌≤◌, nat_lt, List, length, Option, None, Some, refl, sym, subst, ◌∙◌, ap, ◌+◌, arith, below_more, inl, inr}
 use Rattle.std.specs.Option.{option_or}
 use Rattle.std.specs.Bool.{Decides}
 use Rattle.std.proofs.lemmas.Bool.{cases_eq}
@@ -8,7 +8,7 @@ use Rattle.rw_base.specs.Answers.{Finds}
 use Rattle.rw_base.proofs.Answering.{found}
 use Rattle.rw_base.proofs.Tests.{Decides-from_to, Decides-int_lt, passed, spared, unless, where-true}
 use Rattle.rw_table.specs.declared.fault.TableFault.{TableFault}
-use Rattle.rw_table.specs.Table.{Row, refusal_of, row_at, IsWithinBounds, IsAbove, IsRisingAt, IsGoodRow, IsTable, TableRefusal, out_of_bounds, not_rising, is_within_bounds, is_above, is_rising_at, row_refusal, rows_refusal, table_refusal}
+use Rattle.rw_table.specs.Table.{Row, refusal_of, row_at, IsWithinBounds, IsAbove, IsRisingAt, IsGoodRow, IsTable, TableRefusal, not_rising, is_within_bounds, is_above, is_rising_at, row_refusal, rows_refusal, table_refusal}
 
 Decides-bounds : (row : Row) → Decides (is_within_bounds row) (IsWithinBounds row)
 Decides-bounds row = Decides-like (is_within_bounds row)
