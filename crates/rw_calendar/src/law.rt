@@ -51,7 +51,8 @@ pub fn refused_timesteps()
         ↔ (IsStart start × ¬ CanBegin length (moment_of start)) }
     ensures beyond { (start : Start) (length : StepLength) (steps : ℕ)
         → (stamps_refusal start length steps ≡ Some beyond_years)
-        ↔ (IsStart start × CanBegin length (moment_of start) × EndsBeyondYears (timesteps_of start length steps)) }
+        ↔ (IsStart start × CanBegin length (moment_of start)
+        × EndsBeyondYears (timesteps_of start length steps)) }
 {}
 
 /// A step begins where the step before it ends.

@@ -81,7 +81,8 @@ impl Stamps {
         ensures beyond { IsErrOf result CalFault.BeyondYears
             ↔ (IsStart start × CanBegin length (moment_of start)
             × EndsBeyondYears (timesteps_of start length steps)) }
-        ensures answers { Answers CalFault.NoMemory refusal_of (λ stamps. stamps) result (stamps_of start length steps) }
+        ensures answers { Answers CalFault.NoMemory refusal_of (λ stamps. stamps) result
+            (stamps_of start length steps) }
         ensures no_memory { IsErrOf result CalFault.NoMemory → CanBeStamped start length steps }
     {
         let Some(first) = first_moment(start) else {

@@ -97,7 +97,8 @@ impl BasinBuilder {
     pub fn link(&mut self, slots: &[SlotNo]) -> Result<(), BuildFault>
         ensures answers { Answers BuildFault.NoMemory refusal_of (λ _. self.new) result
             (with_link self.old (numbers_of slots.now)) }
-        ensures memory { IsErrOf result BuildFault.NoMemory → IsOk (with_link self.old (numbers_of slots.now)) }
+        ensures memory { IsErrOf result BuildFault.NoMemory
+            → IsOk (with_link self.old (numbers_of slots.now)) }
         ensures unchanged { OnErr result (self.new ≡ self.old) }
     {
         if let Some(fault) = judge_link(&self.objects, &self.links, slots) {
@@ -117,7 +118,8 @@ impl BasinBuilder {
     pub fn bound(&mut self, slot: SlotNo, min: i64, max: i64) -> Result<(), BuildFault>
         ensures answers { Answers BuildFault.NoMemory refusal_of (λ _. self.new) result
             (with_bound self.old slot.0 (min, max)) }
-        ensures memory { IsErrOf result BuildFault.NoMemory → IsOk (with_bound self.old slot.0 (min, max)) }
+        ensures memory { IsErrOf result BuildFault.NoMemory
+            → IsOk (with_bound self.old slot.0 (min, max)) }
         ensures unchanged { OnErr result (self.new ≡ self.old) }
     {
         self.give(slot.0, (min, max))
@@ -127,7 +129,8 @@ impl BasinBuilder {
     fn give(&mut self, slot: u16, bounds: (i64, i64)) -> Result<(), BuildFault>
         ensures answers { Answers BuildFault.NoMemory refusal_of (λ _. self.new) result
             (with_bound self.old slot bounds) }
-        ensures memory { IsErrOf result BuildFault.NoMemory → IsOk (with_bound self.old slot bounds) }
+        ensures memory { IsErrOf result BuildFault.NoMemory
+            → IsOk (with_bound self.old slot bounds) }
         ensures unchanged { OnErr result (self.new ≡ self.old) }
     {
         if let Some(fault) = judge_bound(&self.objects, &self.bounds, slot, bounds) {
@@ -145,7 +148,8 @@ impl BasinBuilder {
     /// all timesteps, else `LinkBounds` where the bounds of linked slots leave them no value. `NoMemory` comes only where
     /// none of these holds.
     pub fn finish(self) -> Result<Basin, BuildFault>
-        ensures answers { Answers BuildFault.NoMemory refusal_of (λ basin. basin) result (finished self) }
+        ensures answers { Answers BuildFault.NoMemory refusal_of (λ basin. basin) result
+            (finished self) }
         ensures valid { OnOk result (IsBasin self) }
         ensures memory { IsErrOf result BuildFault.NoMemory → IsOk (finished self) }
     {

@@ -76,7 +76,8 @@ fn judge_size(objects: &Objects, kind: &Kind) -> Option<BuildFault>
 pub fn judge_object(objects: &Objects, name: &str, kind: &Kind) -> Option<BuildFault>
     ensures fault { Finds refusal_of result
         (object_refusal objects.now (record { name = name.now; kind = kind.now })) }
-    ensures can_add { result ≡ None → CanAdd objects.now (record { name = name.now; kind = kind.now }) }
+    ensures can_add { result ≡ None
+        → CanAdd objects.now (record { name = name.now; kind = kind.now }) }
 {
     if !is_name(name) || !is_kind(kind) {
         return Some(BuildFault::BadParameter);
@@ -153,7 +154,8 @@ fn is_same_dim(a: Dim, b: Dim) -> bool
 // What is wrong with a slot that a link names after others.
 fn join_fault(objects: &Objects, links: &Links, before: &[SlotNo], slot: u16) -> Option<BuildFault>
     requires { All (λ (other : SlotNo). IsSlot objects.now other.0) before.now }
-    ensures fault { Finds refusal_of result (join_refusal objects.now links.now (numbers_of before.now) slot) }
+    ensures fault { Finds refusal_of result
+        (join_refusal objects.now links.now (numbers_of before.now) slot) }
     ensures known { result ≡ None → IsSlot objects.now slot }
     ensures free { result ≡ None → link_of links.now slot ≡ None }
 {
@@ -175,7 +177,8 @@ fn join_fault(objects: &Objects, links: &Links, before: &[SlotNo], slot: u16) ->
 
 /// What is wrong with a link, if something is.
 pub fn judge_link(objects: &Objects, links: &Links, slots: &[SlotNo]) -> Option<BuildFault>
-    ensures fault { Finds refusal_of result (link_refusal objects.now links.now (numbers_of slots.now)) }
+    ensures fault { Finds refusal_of result
+        (link_refusal objects.now links.now (numbers_of slots.now)) }
     ensures known { result ≡ None → All (λ (slot : SlotNo). IsSlot objects.now slot.0) slots.now }
     ensures free { result ≡ None → All (λ (slot : SlotNo). link_of links.now slot.0 ≡ None) slots.now }
 {

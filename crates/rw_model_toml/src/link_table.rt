@@ -54,7 +54,8 @@ fn add_link(
     at: &str,
     slots: &[SlotNo],
 ) -> Result<(), ModelFault>
-    ensures { Gives (λ _. builder.new) result (link_told at.now builder.old (numbers_of slots.now)) }
+    ensures { Gives (λ _. builder.new) result
+        (link_told at.now builder.old (numbers_of slots.now)) }
 {
     match builder.link(slots) {
         Ok(()) => Ok(()),

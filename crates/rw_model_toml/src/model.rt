@@ -68,7 +68,8 @@ fn read_draft(alloc: Global, table: &Table) -> Result<BasinBuilder, ModelFault>
 
 // The basin that the builder makes.
 fn finish(alloc: Global, builder: BasinBuilder) -> Result<Basin, ModelFault>
-    ensures read { Gives (λ basin. basin) result (refused_as (bad_build (codes "basin")) (finished builder)) }
+    ensures read { Gives (λ basin. basin) result
+        (refused_as (bad_build (codes "basin")) (finished builder)) }
     ensures valid { IfOk result IsBasin }
 {
     match builder.finish() {
@@ -106,7 +107,8 @@ fn read_basin(alloc: Global, table: &Table) -> Result<Basin, ModelFault>
 /// A refusal is the first thing that is wrong, in the order in which the format judges, with the path of its key. Its
 /// inner fault is never a want of memory. `NoMemory` says nothing of the file.
 pub fn read_model(alloc: Global, text: &[u8]) -> Result<Basin, ModelFault>
-    ensures answers { Answers ModelFault.NoMemory refusal_of (λ basin. basin) result (model_of text.now) }
+    ensures answers { Answers ModelFault.NoMemory refusal_of (λ basin. basin) result
+        (model_of text.now) }
     ensures valid { IfOk result IsBasin }
 {
     let table = read_table(alloc, text)?;

@@ -23,7 +23,8 @@ fn add_object(
     name: &str,
     kind: Kind,
 ) -> Result<(), ModelFault>
-    ensures { Gives (λ _. builder.new) result (object_told at.now builder.old (record { name = name.now; kind = kind })) }
+    ensures { Gives (λ _. builder.new) result
+        (object_told at.now builder.old (record { name = name.now; kind = kind })) }
 {
     match builder.object(name, kind) {
         Ok(_) => Ok(()),

@@ -12,7 +12,8 @@ use std::alloc::Global;
 
 /// What a builder's fault at the path tells of the model.
 pub fn told(alloc: Global, path: &str, fault: BuildFault) -> ModelFault
-    ensures { (given : Result Draft BuildRefusal) → IsWhyOf BuildFault.NoMemory refusal_of given fault
+    ensures { (given : Result Draft BuildRefusal)
+        → IsWhyOf BuildFault.NoMemory refusal_of given fault
         → IsWhy (refused_as (bad_build path.now) given) result }
 {
     if let BuildFault::NoMemory = fault {

@@ -34,7 +34,8 @@ impl Rating {
     pub fn of(alloc: Global, rows: &[(i64, i64)]) -> Result<Rating, TableFault>
         ensures rows { IfOk result (λ rating. rating ≡ rows.now) }
         ensures table { OnOk result (IsTable rows.now) }
-        ensures answers { Answers TableFault.NoMemory refusal_of (λ rating. rating) result (table_of rows.now) }
+        ensures answers { Answers TableFault.NoMemory refusal_of (λ rating. rating) result
+            (table_of rows.now) }
         ensures memory { IsErrOf result TableFault.NoMemory → IsOk (table_of rows.now) }
     {
         if let Some(fault) = judge(rows) {
