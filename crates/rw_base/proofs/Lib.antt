@@ -4,3 +4,5 @@ pub mod OneAnswer
 pub mod Units
 pub mod Rounding
 pub mod Predefined
+pub mod Tests
+pub mod Answering

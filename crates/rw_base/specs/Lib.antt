@@ -3,3 +3,5 @@ pub mod Quotient
 pub mod Dimension
 pub mod Predefined
 pub mod Unit
+pub mod Answers
+pub mod Range

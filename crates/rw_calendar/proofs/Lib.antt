@@ -3,3 +3,4 @@ pub mod ClockFacts
 pub mod MomentsSoFar
 pub mod TextFacts
 pub mod TimestepFacts
+pub mod Refusals

@@ -1,11 +1,14 @@
 -- The stamps of timesteps: where each step begins and ends, and how a moment is written.
-use Rattle.std.specs.Prelude.{◌≡◌, ℕ, zero, suc, ◌+◌, ◌-◌, ◌/◌, ◌%◌, ◌<◌, ◌≤◌, List, [], ◌∷◌, ◌++◌, length, slice_index_or, codes}
+use Rattle.std.specs.Prelude.{◌≡◌, ℕ, zero, suc, ◌+◌, ◌-◌, ◌/◌, ◌%◌, ◌<◌, ◌≤◌, nat_lt, if◌then◌else◌, List, [], ◌∷◌, ◌++◌, length, slice_index_or, codes, Option, Some, None, Result}
+use Rattle.rw_base.specs.Answers.{unless_refused}
+use Rattle.rw_calendar.specs.declared.fault.CalFault.{CalFault}
+use Rattle.rw_calendar.specs.declared.fault.CalFault.TheVariants.{BadStart, NotFirstOfMonth, BeyondYears, NoMemory}
 use Rattle.rw_calendar.specs.declared.start.Start.{Start}
 use Rattle.rw_calendar.specs.declared.step_length.StepLength.{StepLength}
 use Rattle.rw_calendar.specs.declared.moment.Moment.{Moment}
 use Rattle.rw_calendar.specs.Moment.{IsDated}
-use Rattle.rw_calendar.specs.Start.{moment_of, IsStart}
-use Rattle.rw_calendar.specs.StepLength.{CanBegin, moment_after}
+use Rattle.rw_calendar.specs.Start.{moment_of, IsStart, is_start}
+use Rattle.rw_calendar.specs.StepLength.{CanBegin, can_begin, moment_after}
 
 -- the timesteps of a run
 pub record Timesteps : Type 0 where
@@ -41,6 +44,32 @@ pub record CanBeStamped (start : Start) (length : StepLength) (steps : ℕ) : Ty
   pub valid : IsStart start
   pub begin : CanBegin length (moment_of start)
   pub within : (end_of (timesteps_of start length steps) steps).year ≤ 9999
+
+-- why steps have no stamps
+pub data CalRefusal : Type 0 where
+  bad_start : CalRefusal
+  not_first_of_month : CalRefusal
+  beyond_years : CalRefusal
+
+-- what a fault tells of the steps. Want of memory tells nothing of them
+abbrev pub refusal_of : CalFault → Option CalRefusal
+refusal_of BadStart = Some bad_start
+refusal_of NotFirstOfMonth = Some not_first_of_month
+refusal_of BeyondYears = Some beyond_years
+refusal_of NoMemory = None
+
+-- why so many steps of one length have no stamps, if they have none
+abbrev pub stamps_refusal : Start → StepLength → ℕ → Option CalRefusal
+stamps_refusal start length steps =
+    if is_start start
+    then (if can_begin length (moment_of start)
+    then (if nat_lt 9999 (end_of (timesteps_of start length steps) steps).year then Some beyond_years else None)
+    else Some not_first_of_month)
+    else Some bad_start
+
+-- their stamps
+abbrev pub stamps_of : Start → StepLength → ℕ → Result Timesteps CalRefusal
+stamps_of start length steps = unless_refused (stamps_refusal start length steps) (timesteps_of start length steps)
 
 -- a moment so many step lengths after the start, of a year that dates are written with
 pub record IsMomentAfter (start : Moment) (step_length : StepLength) (k : ℕ) (m : Moment) : Type 0 where

@@ -1,5 +1,5 @@
 -- Step lengths: which there are, where steps of one can begin, and where so many of them lead.
-use Rattle.std.specs.Prelude.{◌≡◌, ℕ, ◌*◌, ◌⊎◌}
+use Rattle.std.specs.Prelude.{◌≡◌, ℕ, ◌*◌, ◌⊎◌, ◌==◌, Bool, true, ◌&&◌}
 use Rattle.rw_calendar.specs.declared.step_length.StepLength.{StepLength}
 use Rattle.rw_calendar.specs.declared.step_length.StepLength.TheVariants.{Hours, Month}
 use Rattle.rw_calendar.specs.declared.moment.Moment.{Moment}
@@ -14,6 +14,11 @@ IsStepLength Month = Unit {0}
 abbrev pub CanBegin : StepLength → Moment → Type 0
 CanBegin (Hours h) m = Unit {0}
 CanBegin Month m = (m.day ≡ 1) × (m.hour ≡ 0)
+
+-- the same, as a test
+abbrev pub can_begin : StepLength → Moment → Bool
+can_begin (Hours h) m = true
+can_begin Month m = m.day == 1 && m.hour == 0
 
 -- so many step lengths after a moment
 abbrev pub moment_after : Moment → StepLength → ℕ → Moment

@@ -1,13 +1,14 @@
 //! Laws: what the definitions of moments amount to. Each is a function that does nothing, and its contract is the law.
-ghost use Rattle.std.specs.Prelude.{◌≡◌, ◌≤◌, ℕ, ◌+◌, ◌*◌, pos, ◌+ℤ◌};
+ghost use Rattle.std.specs.Prelude.{◌≡◌, ◌≤◌, ◌↔◌, ℕ, ◌+◌, ◌*◌, pos, ◌+ℤ◌, None, Some};
 ghost use Rattle.jiff.specs.Types.{DateTime};
 ghost use Rattle.jiff.specs.Words.{civil_nanos, epoch_day, add_months};
 ghost use Rattle.rw_calendar.specs.declared.step_length.StepLength.TheVariants.{Hours, Month};
 ghost use Rattle.rw_calendar.specs.Clock.{moment_at, IsOnTheHour, Shows};
 ghost use Rattle.rw_calendar.specs.declared.moment.Moment.{Moment};
 ghost use Rattle.rw_calendar.specs.Moment.{IsMoment, on, next_month, next_day, next_hour, hours_later, months_later};
-ghost use Rattle.rw_calendar.specs.StepLength.{moment_after};
-ghost use Rattle.rw_calendar.specs.Stamps.{AreTimesteps, CanBeStamped, Timesteps, begin_of, end_of, timesteps_of};
+ghost use Rattle.rw_calendar.specs.Start.{IsStart, moment_of};
+ghost use Rattle.rw_calendar.specs.StepLength.{CanBegin, moment_after};
+ghost use Rattle.rw_calendar.specs.Stamps.{AreTimesteps, CanBeStamped, EndsBeyondYears, bad_start, not_first_of_month, beyond_years, stamps_refusal, Timesteps, begin_of, end_of, timesteps_of};
 ghost use Rattle.rw_calendar.specs.declared.start.Start.{Start};
 ghost use Rattle.rw_calendar.specs.declared.step_length.StepLength.{StepLength};
 
@@ -37,6 +38,21 @@ pub fn later_moments_exist()
 pub fn stamped_timesteps()
     ensures { (start : Start) (length : StepLength) (steps : ℕ) → 1 ≤ steps → steps ≤ 4096
         → CanBeStamped start length steps → AreTimesteps (timesteps_of start length steps) }
+{}
+
+/// The calendar's refusals stand exactly where their words say, and steps are stamped exactly where none stands.
+pub fn refused_timesteps()
+    ensures stamped { (start : Start) (length : StepLength) (steps : ℕ)
+        → (stamps_refusal start length steps ≡ None) ↔ CanBeStamped start length steps }
+    ensures bad_start { (start : Start) (length : StepLength) (steps : ℕ)
+        → (stamps_refusal start length steps ≡ Some bad_start) ↔ (¬ IsStart start) }
+    ensures not_first { (start : Start) (length : StepLength) (steps : ℕ)
+        → (stamps_refusal start length steps ≡ Some not_first_of_month)
+        ↔ (IsStart start × ¬ CanBegin length (moment_of start)) }
+    ensures beyond { (start : Start) (length : StepLength) (steps : ℕ)
+        → (stamps_refusal start length steps ≡ Some beyond_years)
+        ↔ (IsStart start × CanBegin length (moment_of start)
+        × EndsBeyondYears (timesteps_of start length steps)) }
 {}
 
 /// A step begins where the step before it ends.

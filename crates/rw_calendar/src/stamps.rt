@@ -1,10 +1,11 @@
 ghost use Rattle.std.specs.Prelude.{◌≡◌, ◌↔◌, ◌+◌, ◌<◌, ◌≤◌, pos, unsigned_abs, OnOk, IfOk, IsErrOf, string_bytes};
 ghost use Rattle.std.specs.Int.{IsInRange};
+ghost use Rattle.rw_base.specs.Answers.{Answers};
 ghost use Rattle.rw_calendar.specs.declared.fault.CalFault.TheVariants as CalFault;
 ghost use Rattle.rw_calendar.specs.Clock.{moment_at, IsOnTheHour};
 ghost use Rattle.rw_calendar.specs.Start.{IsStart, moment_of};
 ghost use Rattle.rw_calendar.specs.StepLength.{IsStepLength, CanBegin, moment_after};
-ghost use Rattle.rw_calendar.specs.Stamps.{AreTimesteps, Timesteps, EndsBeyondYears, CanBeStamped, IsMomentAfter, HasMoments, timesteps_of, begin_of, end_of, stamp_text};
+ghost use Rattle.rw_calendar.specs.Stamps.{AreTimesteps, Timesteps, EndsBeyondYears, CanBeStamped, IsMomentAfter, HasMoments, refusal_of, stamps_of, timesteps_of, begin_of, end_of, stamp_text};
 
 use crate::later::{after, can_begin, first_moment, moment_shown};
 use crate::{CalFault, Moment, Start, StepLength};
@@ -80,6 +81,8 @@ impl Stamps {
         ensures beyond { IsErrOf result CalFault.BeyondYears
             ↔ (IsStart start × CanBegin length (moment_of start)
             × EndsBeyondYears (timesteps_of start length steps)) }
+        ensures answers { Answers CalFault.NoMemory refusal_of (λ stamps. stamps) result
+            (stamps_of start length steps) }
         ensures no_memory { IsErrOf result CalFault.NoMemory → CanBeStamped start length steps }
     {
         let Some(first) = first_moment(start) else {

@@ -10,14 +10,13 @@ use Rattle.std.proofs.lemmas.List.{length-append, map-append}
 use Rattle.std.proofs.lemmas.List.Elements.{All-nil, All-cons, All-head, All-tail, All-push, All-weaker, All-contains, filter-append}
 use Rattle.std.proofs.lemmas.Map.Keys.{IsDistinct-push}
 use Rattle.rw_base.specs.Dimension.{Dimension, dimension}
-use Rattle.rw_model.specs.declared.fault.BuildFault.{BuildFault}
-use Rattle.rw_model.specs.declared.fault.BuildFault.TheVariants.{BadParameter}
+use Rattle.rw_model.specs.Refusal.{BuildRefusal, bad_parameter}
 use Rattle.rw_model.specs.Slot.{Bounds, IsInside}
 use Rattle.rw_model.specs.Slots.{slots_of}
 use Rattle.rw_model.specs.Objects.{Object, Placed, placed_from, object_from, all_slots, slot_at}
 use Rattle.rw_model.specs.declared.control.RunControl.{RunControl}
 use Rattle.rw_model.specs.Draft.{Draft, IsControl, Bound, IsSound, IsSlot, CanAdd, CanBound, bound_of, has_distinct_slots}
-use Rattle.rw_model.specs.Links.{is_among, is_slot, owner_of, dim_of, link_from, link_of, is_same_dim, join_fault, joins_fault, link_fault}
+use Rattle.rw_model.specs.Links.{is_among, is_slot, owner_of, dim_of, link_from, link_of, is_same_dim, join_refusal, joins_refusal, link_refusal}
 use Rattle.rw_model.specs.Basin.{IsLink, link_count, IsBound, IsDraft}
 use Rattle.rw_model.proofs.ObjectFacts.{slots_from-push}
 use Rattle.rw_model.proofs.Linking.{among_all, joined}
@@ -149,7 +148,7 @@ IsDraft-bound draft slot bounds whole given =
 is_slot-known : (objects : List Object) (slot : ℕ) → is_slot objects slot ≡ true → IsSlot objects slot
 is_slot-known objects slot test = record { first = grind arith; last = grind arith }
 
-both_none : (a b : Option BuildFault) → option_or a b ≡ None → (a ≡ None) × (b ≡ None)
+both_none : (a b : Option BuildRefusal) → option_or a b ≡ None → (a ≡ None) × (b ≡ None)
 both_none None b none = (refl, none)
 both_none (Some x) b none = absurd (cc)
 
@@ -164,13 +163,13 @@ list_any-map p f [] = refl
 list_any-map p f (x ∷ xs) = ap (λ rest. p (f x) || rest) (list_any-map p f xs)
 
 -- the slots that a link names after others are known, in no link, and of objects that differ
-joins : (objects : List Object) (links : List (List ℕ)) (before slots : List ℕ) → joins_fault objects links before slots ≡ None
+joins : (objects : List Object) (links : List (List ℕ)) (before slots : List ℕ) → joins_refusal objects links before slots ≡ None
     → IsDistinct (λ (a : ℕ) b. a == b) (map (owner_of objects) before)
     → All (IsSlot objects) slots × All (λ slot. link_of links slot ≡ None) slots × IsDistinct (λ (a : ℕ) b. a == b) (map (owner_of objects) (before ++ slots))
 joins objects links before [] none distinct =
     (All-nil (IsSlot objects), All-nil (λ slot. link_of links slot ≡ None), subst (λ slots. IsDistinct (λ (a : ℕ) b. a == b) (map (owner_of objects) slots)) (sym (append-nil before)) distinct)
 joins objects links before (slot ∷ slots) none distinct =
-    let facts = both_none (join_fault objects links before slot) (joins_fault objects links (before ++ slot ∷ []) slots) none in
+    let facts = both_none (join_refusal objects links before slot) (joins_refusal objects links (before ++ slot ∷ []) slots) none in
     let join = joined objects links before slot facts.0 in
     let apart : list_any (λ o. owner_of objects slot == o) (map (owner_of objects) before) ≡ false =
     list_any-map (λ o. owner_of objects slot == o) (owner_of objects) before ∙ join.apart in
@@ -198,35 +197,35 @@ same_dim a b same =
     ∙ ap (λ e. dimension b.volume b.length b.step e) ((Decides-int_eq a.energy b.energy).0 three.1)
 
 -- and measure what the first one measures
-alikes : (objects : List Object) (links : List (List ℕ)) (first : ℕ) (before slots : List ℕ) → joins_fault objects links (first ∷ before) slots ≡ None
+alikes : (objects : List Object) (links : List (List ℕ)) (first : ℕ) (before slots : List ℕ) → joins_refusal objects links (first ∷ before) slots ≡ None
     → All (λ slot. dim_of objects first ≡ dim_of objects slot) slots
 alikes objects links first before [] none = All-nil (λ slot. dim_of objects first ≡ dim_of objects slot)
 alikes objects links first before (slot ∷ slots) none =
-    let facts = both_none (join_fault objects links (first ∷ before) slot) (joins_fault objects links (first ∷ before ++ slot ∷ []) slots) none in
+    let facts = both_none (join_refusal objects links (first ∷ before) slot) (joins_refusal objects links (first ∷ before ++ slot ∷ []) slots) none in
     let join = joined objects links (first ∷ before) slot facts.0 in
     All-cons (λ s. dim_of objects first ≡ dim_of objects s) slot slots (same_dim (dim_of objects first) (dim_of objects slot) join.alike)
     (alikes objects links first (before ++ slot ∷ []) slots facts.1)
 
-all_alike : (objects : List Object) (links : List (List ℕ)) (slots : List ℕ) → joins_fault objects links [] slots ≡ None
+all_alike : (objects : List Object) (links : List (List ℕ)) (slots : List ℕ) → joins_refusal objects links [] slots ≡ None
     → (a b : ℕ) → Contains slots a → Contains slots b → dim_of objects a ≡ dim_of objects b
 all_alike objects links [] none a b in_a in_b = absurd (omega (arith, in_a.1))
 all_alike objects links (first ∷ slots) none a b in_a in_b =
-    let facts = both_none (join_fault objects links [] first) (joins_fault objects links (first ∷ []) slots) none in
+    let facts = both_none (join_refusal objects links [] first) (joins_refusal objects links (first ∷ []) slots) none in
     let like : All (λ s. dim_of objects first ≡ dim_of objects s) (first ∷ slots) =
     All-cons (λ s. dim_of objects first ≡ dim_of objects s) first slots refl (alikes objects links first [] slots facts.1) in
     sym (All-contains (λ s. dim_of objects first ≡ dim_of objects s) (first ∷ slots) a like in_a)
     ∙ All-contains (λ s. dim_of objects first ≡ dim_of objects s) (first ∷ slots) b like in_b
 
-few_enough : (test : Bool) (rest : Option BuildFault) → (if test then rest else Some BadParameter) ≡ None → (test ≡ true) × (rest ≡ None)
+few_enough : (test : Bool) (rest : Option BuildRefusal) → (if test then rest else Some bad_parameter) ≡ None → (test ≡ true) × (rest ≡ None)
 few_enough true rest none = (refl, none)
 few_enough false rest none = absurd (cc)
 
 -- a link with which nothing is wrong is a link
-pub IsLink-judged : (objects : List Object) (links : List (List ℕ)) (slots : List ℕ) → link_fault objects links slots ≡ None
+pub IsLink-judged : (objects : List Object) (links : List (List ℕ)) (slots : List ℕ) → link_refusal objects links slots ≡ None
     → IsLink objects slots × All (λ slot. link_of links slot ≡ None) slots
 unfolding IsDistinct
 IsLink-judged objects links slots none =
-    let facts = few_enough (nat_le 2 (length slots) && nat_le (length slots) 8) (joins_fault objects links [] slots) none in
+    let facts = few_enough (nat_le 2 (length slots) && nat_le (length slots) 8) (joins_refusal objects links [] slots) none in
     let counted = both_true (nat_le 2 (length slots)) (nat_le (length slots) 8) facts.0 in
     let each = joins objects links [] slots facts.1 tt in (
       record {
@@ -243,7 +242,7 @@ one_more : (test : Bool) (link : List ℕ) (before : List (List ℕ)) → (test 
 one_more true link before none few = let free = none refl in omega (arith, free, length-append before (link ∷ []))
 one_more false link before none few = omega (arith, few, length-append before [])
 
-pub IsDraft-link : (draft : Draft) (slots : List ℕ) → IsDraft draft → link_fault draft.objects draft.links slots ≡ None
+pub IsDraft-link : (draft : Draft) (slots : List ℕ) → IsDraft draft → link_refusal draft.objects draft.links slots ≡ None
     → IsDraft (record draft { links = draft.links ++ slots ∷ [] })
 IsDraft-link draft slots whole none =
     let facts = IsLink-judged draft.objects draft.links slots none in
@@ -285,7 +284,7 @@ either_objects (Ok x) draft object new whole added ok err = subst (λ os. IsDraf
 either_objects (Err e) draft object new whole added ok err = subst (λ os. IsDraft (record draft { objects = os })) (sym err) whole
 
 pub either_links : {A E : Type 0} (result : Result A E) (draft : Draft) (slots : List ℕ) (new : List (List ℕ)) → IsDraft draft
-    → link_fault draft.objects draft.links slots ≡ None
+    → link_refusal draft.objects draft.links slots ≡ None
     → OnOk result (new ≡ draft.links ++ slots ∷ []) → OnErr result (new ≡ draft.links) → IsDraft (record draft { links = new })
 either_links (Ok x) draft slots new whole none ok err = subst (λ ls. IsDraft (record draft { links = ls })) (sym ok) (IsDraft-link draft slots whole none)
 either_links (Err e) draft slots new whole none ok err = subst (λ ls. IsDraft (record draft { links = ls })) (sym err) whole

@@ -3,7 +3,8 @@ pub mod Inside
 pub mod ObjectFacts
 pub mod EntryFacts
 pub mod Numbering
-pub mod Faults
+pub mod NameFacts
+pub mod BuildFacts
 pub mod Linking
 pub mod Drafting
 pub mod Grouping

@@ -1,5 +1,5 @@
 -- What the definitions of links, groups and bounds come to.
-use Rattle.std.proofs.Common.{◌≡◌, ◌↔◌, ◌⊎◌, ℕ, zero, suc, ◌+◌, ◌-◌, ◌<◌, ◌≤◌, ◌==◌, nat_le, List, [], ◌∷◌, length, Bool, true, false, ◌||◌, Option, Some, None, cond, refl, sym, ap, ◌∙◌, arith, ℤ, ◌≤ℤ◌}
+use Rattle.std.proofs.Common.{◌≡◌, ◌↔◌, ℕ, zero, suc, ◌+◌, ◌-◌, ◌<◌, ◌≤◌, ◌==◌, nat_le, List, [], ◌∷◌, length, Bool, true, false, ◌||◌, Option, Some, None, cond, refl, sym, ap, ◌∙◌, arith, ℤ, ◌≤ℤ◌}
 use Rattle.std.specs.Prelude.{All, Contains, if◌then◌else◌, slice_get}
 use Rattle.std.specs.List.{filter}
 use Rattle.std.specs.Int.{int_max, int_min}
@@ -7,41 +7,33 @@ use Rattle.std.specs.Prelude.{int_lt}
 use Rattle.std.proofs.lemmas.Bool.{cond_both}
 use Rattle.std.proofs.lemmas.Cmp.{nat_eq_equiv}
 use Rattle.std.proofs.lemmas.Map.Views.{list_any-from_Contains, Contains-from_any}
-use mathlib.Core.Logic.{⊎_elim, inl, inr}
 use Rattle.std.proofs.lemmas.Int.{ints, fold-int_max_bounds, fold-int_min_bounds}
 use Rattle.std.proofs.lemmas.List.Elements.{All-nil, All-cons, All-head, All-tail, All-contains, filter_passes}
 use Rattle.std.proofs.lemmas.List.FromFn.{length-range_with_len, get_or-range_with_len}
 use Rattle.std.proofs.lemmas.Option.{slice_get-get_or}
-use Rattle.rw_model.specs.declared.fault.BuildFault.{BuildFault}
-use Rattle.rw_model.specs.declared.fault.BuildFault.TheVariants.{NoMemory, BadParameter, LinkBounds, TooMany}
+use Rattle.std.proofs.lemmas.Bool.Decides.{nat_tests}
+use Rattle.rw_base.proofs.Tests.{passed, spared, unless, where-true}
+use Rattle.rw_model.specs.Refusal.{link_bounds}
 use Rattle.rw_model.specs.Slot.{Bounds}
 use Rattle.rw_model.specs.Objects.{Object, all_slots}
 use Rattle.rw_model.specs.Draft.{Draft, Bound, IsSlot}
-use Rattle.rw_model.specs.Links.{is_among, link_from, link_of, is_same_link, is_together, slot_numbers, group_of, link_fault, IsLinkFault, IsBetween, own_bounds, meet, meet_all}
-use Rattle.rw_model.specs.Basin.{IsLink, IsDraft, link_count, IsBasin, finish_fault, IsFinishFault, cell_count, has_crossed_bounds}
+use Rattle.rw_model.specs.Links.{is_among, link_from, link_of, is_same_link, is_together, slot_numbers, group_of, IsBetween, own_bounds, meet, meet_all}
+use Rattle.rw_model.specs.Basin.{IsLink, IsDraft, link_count, IsBasin, finish_refusal, cell_count, has_crossed_bounds}
 
-one_of : (f g : BuildFault) (found : Option BuildFault) → (found ≡ Some f) ⊎ ((f ≡ NoMemory) × (found ≡ None)) → (found ≡ Some g) ⊎ ((g ≡ NoMemory) × (found ≡ None)) → f ≡ g
-one_of f g found p q =
-    ⊎_elim (λ a. ⊎_elim (λ b. let both : Some f ≡ Some g = sym a ∙ b in cc) (λ b. let both : Some f ≡ None = sym a ∙ b.1 in absurd (cc)) q)
-    (λ a. ⊎_elim (λ b. let both : None ≡ Some g = sym a.1 ∙ b in absurd (cc)) (λ b. a.0 ∙ sym b.0) q) p
-
-pub one-link-fault : (objects : List Object) (links : List (List ℕ)) (slots : List ℕ) (f g : BuildFault)
-    → IsLinkFault objects links slots f → IsLinkFault objects links slots g → f ≡ g
-one-link-fault objects links slots f g p q = one_of f g (link_fault objects links slots) p q
-
-no_finish_fault : (empty few : Bool) (crossed : Bool) → empty ≡ false → few ≡ true → crossed ≡ false
-    → (if empty then Some BadParameter else if few then (if crossed then Some LinkBounds else None) else Some (TooMany 1000000)) ≡ None
-no_finish_fault empty few crossed a b c = rw (a, b, c) refl
-
-pub basin-no-fault : (draft : Draft) → IsBasin draft → finish_fault draft ≡ None
-basin-no-fault draft basin =
-    let some : nat_le (length draft.objects) 0 ≡ false = let n = basin.some in grind arith in
-    let few : nat_le (cell_count draft) 1000000 ≡ true = let n = basin.few_cells in grind arith in
-    no_finish_fault (nat_le (length draft.objects) 0) (nat_le (cell_count draft) 1000000) (has_crossed_bounds draft) some few basin.meets
-
-pub one-finish-fault : (draft : Draft) (f g : BuildFault) → IsFinishFault draft f → IsFinishFault draft g → f ≡ g
-one-finish-fault draft f g p q =
-    one_of f g (finish_fault draft) (⊎_elim (λ a. inl a) (λ a. inr (a.0, basin-no-fault draft a.1)) p) (⊎_elim (λ b. inl b) (λ b. inr (b.0, basin-no-fault draft b.1)) q)
+pub basin-iff : (draft : Draft) → IsDraft draft → (finish_refusal draft ≡ None) ↔ IsBasin draft
+basin-iff draft whole = (
+  λ e.
+      let first = spared (nat_le (length draft.objects) 0) _ _ e in
+      let second = passed (nat_le (cell_count draft) 1000000) _ _ first.1 in
+      let third = spared (has_crossed_bounds draft) None link_bounds second.1 in
+      record { whole = whole; some = grind (arith, nat_tests); few_cells = grind (arith, nat_tests); meets = third.0 },
+  λ basin.
+      let some = basin.some in
+      let few = basin.few_cells in
+      unless (nat_le (length draft.objects) 0) _ _ (grind (arith, nat_tests))
+      ∙ where-true (nat_le (cell_count draft) 1000000) _ _ (grind (arith, nat_tests))
+      ∙ unless (has_crossed_bounds draft) _ _ basin.meets,
+)
 
 max_lower : (a b value : ℤ) → int_max a b ≤ℤ value → (a ≤ℤ value) × (b ≤ℤ value)
 max_lower a b value above =

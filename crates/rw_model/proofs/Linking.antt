@@ -4,10 +4,10 @@ use Rattle.std.specs.Prelude.{All, is_some, if◌then◌else◌}
 use Rattle.std.specs.Option.{option_or}
 use Rattle.std.proofs.lemmas.List.Elements.{All-head, All-tail, All-map}
 use Rattle.rw_base.specs.declared.number.SlotNo.{SlotNo}
-use Rattle.rw_model.specs.declared.fault.BuildFault.TheVariants.{UnknownSlot, LinkedTwice, LinkWithinObject, LinkDimension}
+use Rattle.rw_model.specs.Refusal.{unknown_slot, linked_twice, link_within_object, link_dimension}
 use Rattle.rw_model.specs.Kept.{numbers_of, KeepsPlaces}
 use Rattle.rw_model.specs.Objects.{Object}
-use Rattle.rw_model.specs.Links.{is_among, is_slot, link_from, link_of, is_alike, shares_owner, join_fault}
+use Rattle.rw_model.specs.Links.{is_among, is_slot, link_from, link_of, is_alike, shares_owner, join_refusal}
 
 -- ---- which link has a slot
 
@@ -75,7 +75,7 @@ pub record IsJoined (objects : List Object) (links : List (List ℕ)) (before : 
   pub alike : is_alike objects slot before ≡ true
 
 no_fault : (known : Bool) (link : Option ℕ) (shares alike : Bool)
-    → (if not known then Some UnknownSlot else if is_some link then Some LinkedTwice else if shares then Some LinkWithinObject else if alike then None else Some LinkDimension) ≡ None
+    → (if not known then Some unknown_slot else if is_some link then Some linked_twice else if shares then Some link_within_object else if alike then None else Some link_dimension) ≡ None
     → (known ≡ true) × (link ≡ None) × (shares ≡ false) × (alike ≡ true)
 no_fault false link shares alike none = absurd (cc)
 no_fault true (Some link) shares alike none = absurd (cc)
@@ -83,7 +83,7 @@ no_fault true None true alike none = absurd (cc)
 no_fault true None false false none = absurd (cc)
 no_fault true None false true none = (refl, refl, refl, refl)
 
-pub joined : (objects : List Object) (links : List (List ℕ)) (before : List ℕ) (slot : ℕ) → join_fault objects links before slot ≡ None → IsJoined objects links before slot
+pub joined : (objects : List Object) (links : List (List ℕ)) (before : List ℕ) (slot : ℕ) → join_refusal objects links before slot ≡ None → IsJoined objects links before slot
 joined objects links before slot none =
     let facts = no_fault (is_slot objects slot) (link_of links slot) (shares_owner objects slot before) (is_alike objects slot before) none in
     record { known = facts.0; free = facts.1; apart = facts.2; alike = facts.3 }

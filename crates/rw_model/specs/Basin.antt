@@ -1,8 +1,7 @@
 -- When a basin is valid, and what is wrong with what a builder was told where it makes none.
-use Rattle.std.specs.Prelude.{◌≡◌, ◌⊎◌, ℕ, ◌==◌, ◌*◌, ◌≤◌, nat_le, Bool, true, false, int_lt, IsTrue, if◌then◌else◌, List, length, map, All, Contains, Option, Some, None, bytes_eq}
+use Rattle.std.specs.Prelude.{◌≡◌, ℕ, ◌==◌, ◌*◌, ◌≤◌, nat_le, Bool, true, false, int_lt, IsTrue, if◌then◌else◌, List, length, map, All, Contains, Option, Some, None, bytes_eq}
 use Rattle.std.specs.List.{list_any, filter, IsDistinct}
-use Rattle.rw_model.specs.declared.fault.BuildFault.{BuildFault}
-use Rattle.rw_model.specs.declared.fault.BuildFault.TheVariants.{LinkBounds, BadParameter, TooMany, NoMemory}
+use Rattle.rw_model.specs.Refusal.{BuildRefusal, link_bounds, bad_parameter, too_many}
 use Rattle.rw_model.specs.declared.role.Role.{Role}
 use Rattle.rw_model.specs.declared.role.Role.TheVariants.{Solvable, Fixed, Derived, Neither}
 use Rattle.rw_model.specs.Slot.{Bounds}
@@ -61,14 +60,10 @@ pub record IsBasin (draft : Draft) : Type 0 where
   pub meets : has_crossed_bounds draft ≡ false
 
 -- why what a builder was told is no basin, if it isn't: it has no object, or too many values, or a group can have none
-abbrev pub finish_fault : Draft → Option BuildFault
-finish_fault draft =
-    if nat_le (length draft.objects) 0 then Some BadParameter else
-    if nat_le (cell_count draft) 1000000 then (if has_crossed_bounds draft then Some LinkBounds else None) else Some (TooMany 1000000)
-
--- why a builder makes no basin; only what is one wants memory
-abbrev pub IsFinishFault : Draft → BuildFault → Type 0
-IsFinishFault draft fault = (finish_fault draft ≡ Some fault) ⊎ ((fault ≡ NoMemory) × IsBasin draft)
+abbrev pub finish_refusal : Draft → Option BuildRefusal
+finish_refusal draft =
+    if nat_le (length draft.objects) 0 then Some bad_parameter else
+    if nat_le (cell_count draft) 1000000 then (if has_crossed_bounds draft then Some link_bounds else None) else Some (too_many 1000000)
 
 -- all slots but those that a method derives can be set by inputs and rules
 abbrev pub is_settable : Role → Bool

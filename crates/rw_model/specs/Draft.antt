@@ -1,12 +1,10 @@
--- What a builder was told, and the first fault of what it is told next.
+-- What a builder was told, and what it can be told next.
 use Rattle.std.specs.Option.{ForSome}
 use Rattle.rw_model.specs.Slot.{Bounds, IsInside}
-use Rattle.std.specs.Prelude.{Option, ◌≢◌, ◌==◌, if◌then◌else◌, Some, ◌≡◌, ℕ, ◌<◌, ◌≤◌, ◌⊎◌, Bool, true, false, ◌&&◌, ◌||◌, not, IsTrue, List, [], ◌∷◌, ◌++◌, length, None, bytes_eq}
+use Rattle.std.specs.Prelude.{Option, ◌==◌, if◌then◌else◌, Some, ◌≡◌, ℕ, ◌≤◌, Bool, true, false, ◌&&◌, ◌||◌, not, IsTrue, List, [], ◌∷◌, ◌++◌, length, None, bytes_eq}
 use Rattle.rw_calendar.specs.Stamps.{AreTimesteps}
 use Rattle.rw_model.specs.declared.control.RunControl.{RunControl}
 use Rattle.rw_model.specs.declared.data_slots.DataSlot.{DataSlot}
-use Rattle.rw_model.specs.declared.fault.BuildFault.{BuildFault}
-use Rattle.rw_model.specs.declared.fault.BuildFault.TheVariants.{DuplicateName, UnknownSlot, LinkedTwice, LinkWithinObject, LinkDimension, LinkBounds, BadParameter, TooMany, NoMemory}
 use Rattle.rw_model.specs.declared.kind.Kind.{Kind}
 use Rattle.rw_model.specs.declared.kind.Kind.TheVariants.{DataObject, Gage, Confluence, Bifurcation, Reach, Reservoir, WaterUser, Canal}
 use Rattle.rw_model.specs.Name.{IsName}
@@ -64,31 +62,12 @@ pub record IsFresh (objects : List Object) (object : Object) : Type 0 where
   pub name : object_named objects object.name ≡ None
   pub slots : IsTrue (has_distinct_slots object.kind)
 
--- there are more than 500 objects; or they have more than 4000 slots
-abbrev pub IsTooMany : List Object → ℕ → Type 0
-IsTooMany objects most =
-    ((most ≡ 500) × (500 < length objects))
-    ⊎ ((most ≡ 4000) × (length objects ≤ 500) × (4000 < length (all_slots objects)))
-
 -- the object can be added to the objects that there are
 pub record CanAdd (objects : List Object) (object : Object) : Type 0 where
   pub sound : IsSound object
   pub fresh : IsFresh objects object
   pub few_objects : length (objects ++ object ∷ []) ≤ 500
   pub few_slots : length (all_slots (objects ++ object ∷ [])) ≤ 4000
-
--- why an object isn't added. Its name and parameters are judged first, then what it shares a name with, then numbers; only
--- an object that can be added wants memory
-abbrev pub IsObjectFault : List Object → Object → BuildFault → Type 0
-IsObjectFault objects object BadParameter = ¬ IsSound object
-IsObjectFault objects object DuplicateName = IsSound object × ¬ IsFresh objects object
-IsObjectFault objects object (TooMany most) = IsSound object × IsFresh objects object × IsTooMany (objects ++ object ∷ []) most
-IsObjectFault objects object UnknownSlot = ⊥
-IsObjectFault objects object LinkedTwice = ⊥
-IsObjectFault objects object LinkWithinObject = ⊥
-IsObjectFault objects object LinkDimension = ⊥
-IsObjectFault objects object LinkBounds = ⊥
-IsObjectFault objects object NoMemory = CanAdd objects object
 
 -- the bounds that the slot was given, if it was
 abbrev pub bound_of : List Bound → ℕ → Option Bounds
@@ -114,16 +93,3 @@ pub record CanBound (objects : List Object) (given : List Bound) (slot : ℕ) (b
   pub known : IsSlot objects slot
   pub free : bound_of given slot ≡ None
   pub within : IsWithinWidest objects slot bounds
-
--- why a slot isn't given the bounds. A slot has bounds of its own at most once
-abbrev pub IsBoundFault : List Object → List Bound → ℕ → Bounds → BuildFault → Type 0
-IsBoundFault objects given slot bounds UnknownSlot = ¬ IsSlot objects slot
-IsBoundFault objects given slot bounds DuplicateName = IsSlot objects slot × (bound_of given slot ≢ None)
-IsBoundFault objects given slot bounds BadParameter =
-    IsSlot objects slot × (bound_of given slot ≡ None) × ¬ IsWithinWidest objects slot bounds
-IsBoundFault objects given slot bounds NoMemory = CanBound objects given slot bounds
-IsBoundFault objects given slot bounds LinkedTwice = ⊥
-IsBoundFault objects given slot bounds LinkWithinObject = ⊥
-IsBoundFault objects given slot bounds LinkDimension = ⊥
-IsBoundFault objects given slot bounds LinkBounds = ⊥
-IsBoundFault objects given slot bounds (TooMany most) = ⊥

@@ -1,13 +1,15 @@
 -- The parameters that the kinds may have.
-use Rattle.std.specs.Prelude.{◌≡◌, ℕ, ◌≤◌, ℤ, pos, ◌≤ℤ◌, Bool, IsTrue, List, length, All, Option, IsSome}
+use Rattle.std.specs.Prelude.{◌≡◌, ℕ, ◌≤◌, ◌==◌, nat_le, ℤ, pos, ◌-ℤ◌, ◌≤ℤ◌, Bool, true, ◌&&◌, ◌||◌, not, IsTrue, List, length, All, Option, None, Some, is_some, IsSome}
+use Rattle.std.specs.List.{list_all}
 use Rattle.std.specs.Option.{ForSome}
 use Rattle.rw_base.specs.Quantity.{quantity_max, IsQuantity}
+use Rattle.rw_base.specs.Range.{is_from_to}
 use Rattle.rw_table.specs.Table.{Row}
-use Rattle.rw_table.specs.Curve.{IsVolumeInside}
+use Rattle.rw_table.specs.Curve.{first_row, last_row, IsVolumeInside}
 use Rattle.rw_model.specs.declared.data_slots.DataSlot.{DataSlot}
 use Rattle.rw_model.specs.declared.kind.Kind.{Kind}
 use Rattle.rw_model.specs.declared.kind.Kind.TheVariants.{DataObject, Gage, Confluence, Bifurcation, Reach, Reservoir, WaterUser, Canal}
-use Rattle.rw_model.specs.Name.{IsName}
+use Rattle.rw_model.specs.Name.{IsName, is_name}
 
 -- a whole number from 0 to Q
 pub record IsAmount (z : ℤ) : Type 0 where
@@ -44,3 +46,38 @@ IsKind (Reservoir initial_storage table local_inflow diversion return_flow evapo
     IsStored initial_storage table evaporation max_release
 IsKind (WaterUser depletion supply) = depletion ≤ 1000
 IsKind (Canal seepage) = seepage ≤ 999
+
+-- ---- the same, as tests
+
+abbrev pub is_data_slots : List DataSlot → Bool
+is_data_slots slots =
+    nat_le 1 (length slots) && (nat_le (length slots) 8 && list_all (λ (slot : DataSlot). is_name slot.name) slots)
+
+abbrev pub is_lagged : ℕ → List ℤ → Bool
+is_lagged lag history =
+    nat_le lag 30 && (length history == lag && list_all (is_from_to (pos 0 -ℤ quantity_max) quantity_max) history)
+
+-- the table has the storage, if there is a table
+abbrev pub is_inside : Option (List Row) → ℤ → Bool
+is_inside None storage = true
+is_inside (Some rows) storage = is_from_to (first_row rows).1 (last_row rows).1 storage
+
+abbrev pub is_release : Option ℤ → Bool
+is_release None = true
+is_release (Some most) = is_from_to (pos 0) quantity_max most
+
+abbrev pub is_stored : ℤ → Option (List Row) → Bool → Option ℤ → Bool
+is_stored initial_storage table evaporation max_release =
+    is_from_to (pos 0) quantity_max initial_storage && (is_inside table initial_storage
+    && ((not evaporation || is_some table) && is_release max_release))
+
+abbrev pub is_kind : Kind → Bool
+is_kind (DataObject slots) = is_data_slots slots
+is_kind Gage = true
+is_kind Confluence = true
+is_kind Bifurcation = true
+is_kind (Reach lag history local_inflow diversion return_flow) = is_lagged lag history
+is_kind (Reservoir initial_storage table local_inflow diversion return_flow evaporation max_release) =
+    is_stored initial_storage table evaporation max_release
+is_kind (WaterUser depletion supply) = nat_le depletion 1000
+is_kind (Canal seepage) = nat_le seepage 999

@@ -1,4 +1,5 @@
 pub mod Code
+pub mod Refusal
 pub mod Slot
 pub mod Slots
 pub mod Put
@@ -10,3 +11,4 @@ pub mod Draft
 pub mod Links
 pub mod Before
 pub mod Basin
+pub mod Build

@@ -1,13 +1,12 @@
 -- Links between slots: what is wrong with a link, the groups that links make, and which values the bounds of a group leave.
-use Rattle.std.specs.Prelude.{◌≡◌, ◌⊎◌, ℕ, ℤ, ◌≤ℤ◌, ◌+◌, ◌==◌, nat_le, Bool, true, false, ◌&&◌, ◌||◌, not, if◌then◌else◌, List, [], ◌∷◌, ◌++◌, length, Option, Some, None, is_some, pos, option_map, unwrap_or, option_and_then}
+use Rattle.std.specs.Prelude.{ℕ, ℤ, ◌≤ℤ◌, ◌+◌, ◌==◌, nat_le, Bool, true, false, ◌&&◌, ◌||◌, not, if◌then◌else◌, List, [], ◌∷◌, ◌++◌, length, Option, Some, None, is_some, pos, option_map, unwrap_or, option_and_then}
 use Rattle.std.specs.Prelude.{slice_get}
 use Rattle.std.specs.List.{list_any, filter, range_with_len}
 use Rattle.std.specs.Option.{option_or}
 use Rattle.std.specs.Ordering.{int_eq}
 use Rattle.std.specs.Int.{int_max, int_min}
 use Rattle.rw_base.specs.Dimension.{Dimension, dimension}
-use Rattle.rw_model.specs.declared.fault.BuildFault.{BuildFault}
-use Rattle.rw_model.specs.declared.fault.BuildFault.TheVariants.{UnknownSlot, LinkedTwice, LinkWithinObject, LinkDimension, BadParameter, NoMemory}
+use Rattle.rw_model.specs.Refusal.{BuildRefusal, unknown_slot, linked_twice, link_within_object, link_dimension, bad_parameter}
 use Rattle.rw_model.specs.Slot.{Bounds, all_quantities}
 use Rattle.rw_model.specs.Objects.{Object, all_slots, slot_at}
 use Rattle.rw_model.specs.Draft.{Bound, bound_of}
@@ -53,28 +52,23 @@ abbrev pub shares_owner : List Object → ℕ → List ℕ → Bool
 shares_owner objects slot slots = list_any (λ other. owner_of objects slot == owner_of objects other) slots
 
 -- what is wrong with a slot that a link names after others, if something is
-abbrev pub join_fault : List Object → List (List ℕ) → List ℕ → ℕ → Option BuildFault
-join_fault objects links before slot =
-    if not (is_slot objects slot) then Some UnknownSlot else
-    if is_some (link_of links slot) then Some LinkedTwice else
-    if shares_owner objects slot before then Some LinkWithinObject else
-    if is_alike objects slot before then None else Some LinkDimension
+abbrev pub join_refusal : List Object → List (List ℕ) → List ℕ → ℕ → Option BuildRefusal
+join_refusal objects links before slot =
+    if not (is_slot objects slot) then Some unknown_slot else
+    if is_some (link_of links slot) then Some linked_twice else
+    if shares_owner objects slot before then Some link_within_object else
+    if is_alike objects slot before then None else Some link_dimension
 
 -- the first of these slots with which something is wrong, where a link names others before them
-abbrev pub joins_fault : List Object → List (List ℕ) → List ℕ → List ℕ → Option BuildFault
-joins_fault objects links before [] = None
-joins_fault objects links before (slot ∷ slots) =
-    option_or (join_fault objects links before slot) (joins_fault objects links (before ++ slot ∷ []) slots)
+abbrev pub joins_refusal : List Object → List (List ℕ) → List ℕ → List ℕ → Option BuildRefusal
+joins_refusal objects links before [] = None
+joins_refusal objects links before (slot ∷ slots) =
+    option_or (join_refusal objects links before slot) (joins_refusal objects links (before ++ slot ∷ []) slots)
 
 -- what is wrong with a link, if something is: it has 2 to 8 slots, and then slot by slot
-abbrev pub link_fault : List Object → List (List ℕ) → List ℕ → Option BuildFault
-link_fault objects links slots =
-    if nat_le 2 (length slots) && nat_le (length slots) 8 then joins_fault objects links [] slots else Some BadParameter
-
--- why slots aren't linked; only a link with which nothing is wrong wants memory
-abbrev pub IsLinkFault : List Object → List (List ℕ) → List ℕ → BuildFault → Type 0
-IsLinkFault objects links slots fault =
-    (link_fault objects links slots ≡ Some fault) ⊎ ((fault ≡ NoMemory) × (link_fault objects links slots ≡ None))
+abbrev pub link_refusal : List Object → List (List ℕ) → List ℕ → Option BuildRefusal
+link_refusal objects links slots =
+    if nat_le 2 (length slots) && nat_le (length slots) 8 then joins_refusal objects links [] slots else Some bad_parameter
 
 -- ---- the groups that links make
 

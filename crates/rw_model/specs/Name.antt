@@ -1,5 +1,6 @@
 -- The names that objects and data slots may have.
-use Rattle.std.specs.Prelude.{ℕ, ◌≤◌, ◌⊎◌, ◌≡◌, List, [], ◌∷◌, length, All, Contains, slice_index, codes}
+use Rattle.std.specs.Prelude.{ℕ, ◌≤◌, ◌⊎◌, ◌≡◌, ◌==◌, nat_le, Bool, ◌&&◌, ◌||◌, not, List, [], ◌∷◌, length, All, Contains, slice_index, codes, bytes_eq}
+use Rattle.std.specs.List.{list_all, list_any}
 
 -- a letter, or `_`
 abbrev pub IsLetter : ℕ → Type 0
@@ -27,3 +28,20 @@ pub record IsName (text : List ℕ) : Type 0 where
   pub starts : IsLetter (slice_index text 0)
   pub goes_on : All (λ b. IsLetter b ⊎ IsDigit b) text
   pub free : ¬ Contains reserved_words text
+
+-- ---- the same, as tests
+
+abbrev pub is_letter : ℕ → Bool
+is_letter b = (nat_le 97 b && nat_le b 122) || ((nat_le 65 b && nat_le b 90) || b == 95)
+
+abbrev pub is_digit : ℕ → Bool
+is_digit b = nat_le 48 b && nat_le b 57
+
+-- the text is one of the words
+abbrev pub is_word : List (List ℕ) → List ℕ → Bool
+is_word words text = list_any (bytes_eq text) words
+
+abbrev pub is_name : List ℕ → Bool
+is_name text =
+    nat_le 1 (length text) && (nat_le (length text) 32 && (is_letter (slice_index text 0)
+    && (list_all (λ b. is_letter b || is_digit b) text && not (is_word reserved_words text))))

@@ -1,9 +1,11 @@
-ghost use Rattle.std.specs.Prelude.{◌≡◌, ◌+◌, [], ◌∷◌, ◌++◌, length, None, OnOk, OnErr, IfOk, IfErr, option_map};
+ghost use Rattle.std.specs.Prelude.{◌≡◌, ◌+◌, [], ◌∷◌, ◌++◌, length, None, OnOk, OnErr, IfOk, IfErr, IsOk, IsErrOf, option_map};
+ghost use Rattle.rw_base.specs.Answers.{Answers, Finds};
 ghost use Rattle.rw_model.specs.Objects.{slot_named};
-ghost use Rattle.rw_model.specs.Basin.{IsDraft, IsBasin, finish_fault, IsFinishFault};
+ghost use Rattle.rw_model.specs.Basin.{IsDraft, IsBasin, finish_refusal};
 ghost use Rattle.rw_model.specs.Kept.{numbers_of};
-ghost use Rattle.rw_model.specs.Links.{link_fault, IsLinkFault};
-ghost use Rattle.rw_model.specs.Draft.{IsControl, CanAdd, IsObjectFault, CanBound, IsBoundFault};
+ghost use Rattle.rw_model.specs.Draft.{IsControl};
+ghost use Rattle.rw_model.specs.Refusal.{refusal_of};
+ghost use Rattle.rw_model.specs.Build.{with_object, with_link, with_bound, finished};
 
 use crate::basin::Basin;
 use crate::bounds::has_crossed_bounds;
@@ -69,14 +71,16 @@ impl BasinBuilder {
     /// object has the name or two slots of a data object have the same, else `TooMany` with 500 for objects and 4000 for
     /// slots. `NoMemory` comes only where none of these holds. After each of them the builder is as it was.
     pub fn object(&mut self, name: &str, kind: Kind) -> Result<ObjectNo, BuildFault>
-        ensures added { OnOk result (self.new
-            ≡ record self.old { objects = self.old.objects ++ record { name = name.now; kind = kind } ∷ [] }) }
         ensures number { IfOk result (λ object. object.0 ≡ length self.new.objects) }
-        ensures can_add { OnOk result (CanAdd self.old.objects (record { name = name.now; kind = kind })) }
-        ensures refused { IfErr result (IsObjectFault self.old.objects (record { name = name.now; kind = kind })) }
+        ensures answers { Answers BuildFault.NoMemory refusal_of (λ _. self.new) result
+            (with_object self.old (record { name = name.now; kind = kind })) }
+        ensures memory { IsErrOf result BuildFault.NoMemory
+            → IsOk (with_object self.old (record { name = name.now; kind = kind })) }
         ensures unchanged { OnErr result (self.new ≡ self.old) }
     {
-        judge_object(&self.objects, name, &kind)?;
+        if let Some(fault) = judge_object(&self.objects, name, &kind) {
+            return Err(fault);
+        }
         let number = self.objects.count() + 1;
         match self.objects.add(name, kind) {
             Ok(()) => Ok(ObjectNo(number)),
@@ -91,9 +95,10 @@ impl BasinBuilder {
     /// earlier slot of this link is of the same object, else `LinkDimension` where it doesn't measure what the first one
     /// does. `NoMemory` comes only where none of these holds. After each of them the builder is as it was.
     pub fn link(&mut self, slots: &[SlotNo]) -> Result<(), BuildFault>
-        ensures added { OnOk result (self.new ≡ record self.old { links = self.old.links ++ numbers_of slots.now ∷ [] }) }
-        ensures can_link { OnOk result (link_fault self.old.objects self.old.links (numbers_of slots.now) ≡ None) }
-        ensures refused { IfErr result (IsLinkFault self.old.objects self.old.links (numbers_of slots.now)) }
+        ensures answers { Answers BuildFault.NoMemory refusal_of (λ _. self.new) result
+            (with_link self.old (numbers_of slots.now)) }
+        ensures memory { IsErrOf result BuildFault.NoMemory
+            → IsOk (with_link self.old (numbers_of slots.now)) }
         ensures unchanged { OnErr result (self.new ≡ self.old) }
     {
         if let Some(fault) = judge_link(&self.objects, &self.links, slots) {
@@ -111,10 +116,10 @@ impl BasinBuilder {
     /// `BadParameter` where the least is above the greatest or one is outside the widest that the slot can have. `NoMemory`
     /// comes only where none of these holds. After each of them the builder is as it was.
     pub fn bound(&mut self, slot: SlotNo, min: i64, max: i64) -> Result<(), BuildFault>
-        ensures added { OnOk result (self.new
-            ≡ record self.old { bounds = self.old.bounds ++ record { slot = slot.0; bounds = (min, max) } ∷ [] }) }
-        ensures can_bound { OnOk result (CanBound self.old.objects self.old.bounds slot.0 (min, max)) }
-        ensures refused { IfErr result (IsBoundFault self.old.objects self.old.bounds slot.0 (min, max)) }
+        ensures answers { Answers BuildFault.NoMemory refusal_of (λ _. self.new) result
+            (with_bound self.old slot.0 (min, max)) }
+        ensures memory { IsErrOf result BuildFault.NoMemory
+            → IsOk (with_bound self.old slot.0 (min, max)) }
         ensures unchanged { OnErr result (self.new ≡ self.old) }
     {
         self.give(slot.0, (min, max))
@@ -122,13 +127,13 @@ impl BasinBuilder {
 
     // Gives the slot of this number bounds of its own.
     fn give(&mut self, slot: u16, bounds: (i64, i64)) -> Result<(), BuildFault>
-        ensures added { OnOk result (self.new
-            ≡ record self.old { bounds = self.old.bounds ++ record { slot = slot; bounds = bounds } ∷ [] }) }
-        ensures can_bound { OnOk result (CanBound self.old.objects self.old.bounds slot bounds) }
-        ensures refused { IfErr result (IsBoundFault self.old.objects self.old.bounds slot bounds) }
+        ensures answers { Answers BuildFault.NoMemory refusal_of (λ _. self.new) result
+            (with_bound self.old slot bounds) }
+        ensures memory { IsErrOf result BuildFault.NoMemory
+            → IsOk (with_bound self.old slot bounds) }
         ensures unchanged { OnErr result (self.new ≡ self.old) }
     {
-        if let Err(fault) = judge_bound(&self.objects, &self.bounds, slot, bounds) {
+        if let Some(fault) = judge_bound(&self.objects, &self.bounds, slot, bounds) {
             return Err(fault);
         }
         match self.bounds.add(slot, bounds) {
@@ -143,9 +148,10 @@ impl BasinBuilder {
     /// all timesteps, else `LinkBounds` where the bounds of linked slots leave them no value. `NoMemory` comes only where
     /// none of these holds.
     pub fn finish(self) -> Result<Basin, BuildFault>
-        ensures finished { IfOk result (λ basin. basin ≡ self) }
+        ensures answers { Answers BuildFault.NoMemory refusal_of (λ basin. basin) result
+            (finished self) }
         ensures valid { OnOk result (IsBasin self) }
-        ensures refused { IfErr result (IsFinishFault self) }
+        ensures memory { IsErrOf result BuildFault.NoMemory → IsOk (finished self) }
     {
         if let Some(fault) = self.judge_finish() {
             return Err(fault);
@@ -158,7 +164,7 @@ impl BasinBuilder {
 
     // Why what was told is no basin.
     fn judge_finish(&self) -> Option<BuildFault>
-        ensures fault { result ≡ finish_fault self.now }
+        ensures fault { Finds refusal_of result (finish_refusal self.now) }
         ensures told { IsDraft self.now }
     {
         if self.objects.count() == 0 {

@@ -1,9 +1,13 @@
-ghost use Rattle.std.specs.Prelude.{◌≡◌, ◌↔◌, ◌≤◌, length, All, None, IsTrue, MatchResult};
+ghost use Rattle.std.specs.Prelude.{◌≡◌, ◌↔◌, ◌≤◌, ℕ, List, [], ◌∷◌, ◌++◌, length, All, None};
+ghost use Rattle.rw_base.specs.Answers.{Finds};
 ghost use Rattle.rw_model.specs.Slots.{slots_of};
-ghost use Rattle.rw_model.specs.Objects.{placed_from};
-ghost use Rattle.rw_model.specs.Links.{is_same_dim, is_alike, shares_owner, link_of, join_fault, link_fault};
+ghost use Rattle.rw_model.specs.Objects.{placed_from, slot_at};
+ghost use Rattle.rw_model.specs.Links.{is_same_dim, is_alike, shares_owner, link_of, join_refusal, link_refusal};
 ghost use Rattle.rw_model.specs.Kept.{numbers_of};
-ghost use Rattle.rw_model.specs.Draft.{has_slot_named, has_distinct_names, has_distinct_slots, CanAdd, IsObjectFault, IsSlot, IsWithinWidest, CanBound, IsBoundFault};
+ghost use Rattle.rw_model.specs.Draft.{has_slot_named, has_distinct_names, has_distinct_slots, CanAdd, IsSlot};
+ghost use Rattle.rw_model.specs.Kind.{IsKind};
+ghost use Rattle.rw_model.specs.Refusal.{refusal_of};
+ghost use Rattle.rw_model.specs.Build.{size_refusal, object_refusal, is_allowed, bound_refusal};
 
 use crate::links::Links;
 use crate::objects::Objects;
@@ -52,57 +56,65 @@ fn has_distinct_slots(kind: &Kind) -> bool
     }
 }
 
-/// Whether an object can be added, and if not, what is wrong with it.
-pub fn judge_object(objects: &Objects, name: &str, kind: &Kind) -> Result<(), BuildFault>
-    ensures { MatchResult result
-        (λ _. CanAdd objects.now (record { name = name.now; kind = kind.now }))
-        (IsObjectFault objects.now (record { name = name.now; kind = kind.now })) }
+// What is wrong with the numbers of objects and slots, with one object more.
+fn judge_size(objects: &Objects, kind: &Kind) -> Option<BuildFault>
+    requires { IsKind kind.now }
+    ensures { (name : List ℕ) → Finds refusal_of result
+        (size_refusal (objects.now ++ record { name = name; kind = kind.now } ∷ [])) }
 {
-    if !is_name(name) || !is_kind(kind) {
-        return Err(BuildFault::BadParameter);
-    }
-    if objects.find(name).is_some() || !has_distinct_slots(kind) {
-        return Err(BuildFault::DuplicateName);
-    }
     let owner = objects.count() + 1;
     if owner > OBJECTS_MAX {
-        return Err(BuildFault::TooMany(u32::from(OBJECTS_MAX)));
+        return Some(BuildFault::TooMany(u32::from(OBJECTS_MAX)));
     }
     if objects.slot_count() + count_places(kind, owner) > SLOTS_MAX {
-        return Err(BuildFault::TooMany(u32::from(SLOTS_MAX)));
+        return Some(BuildFault::TooMany(u32::from(SLOTS_MAX)));
     }
-    Ok(())
+    None
+}
+
+/// What is wrong with an object that is to be added, if something is.
+pub fn judge_object(objects: &Objects, name: &str, kind: &Kind) -> Option<BuildFault>
+    ensures fault { Finds refusal_of result
+        (object_refusal objects.now (record { name = name.now; kind = kind.now })) }
+    ensures can_add { result ≡ None
+        → CanAdd objects.now (record { name = name.now; kind = kind.now }) }
+{
+    if !is_name(name) || !is_kind(kind) {
+        return Some(BuildFault::BadParameter);
+    }
+    if objects.find(name).is_some() || !has_distinct_slots(kind) {
+        return Some(BuildFault::DuplicateName);
+    }
+    judge_size(objects, kind)
 }
 
 // Whether the bounds are ordered, and within the widest that the slot can have.
 fn is_within_widest(objects: &Objects, slot: u16, bounds: (i64, i64)) -> bool
     requires { IsSlot objects.now slot }
-    ensures { IsTrue result ↔ IsWithinWidest objects.now slot bounds }
+    ensures { result ≡ is_allowed (slot_at objects.now slot) bounds }
 {
     objects.slot(slot).allows(bounds)
 }
 
-/// Whether a slot can be given bounds, and if not, what is wrong with them.
+/// What is wrong with bounds that a slot is to be given, if something is.
 pub fn judge_bound(
     objects: &Objects,
     given: &OwnBounds,
     slot: u16,
     bounds: (i64, i64),
-) -> Result<(), BuildFault>
-    ensures { MatchResult result
-        (λ _. CanBound objects.now given.now slot bounds)
-        (IsBoundFault objects.now given.now slot bounds) }
+) -> Option<BuildFault>
+    ensures { Finds refusal_of result (bound_refusal objects.now given.now slot bounds) }
 {
     if slot == 0 || slot > objects.slot_count() {
-        return Err(BuildFault::UnknownSlot);
+        return Some(BuildFault::UnknownSlot);
     }
     if given.get(slot).is_some() {
-        return Err(BuildFault::DuplicateName);
+        return Some(BuildFault::DuplicateName);
     }
     if !is_within_widest(objects, slot, bounds) {
-        return Err(BuildFault::BadParameter);
+        return Some(BuildFault::BadParameter);
     }
-    Ok(())
+    None
 }
 
 // Whether an object of one of the slots is that of the slot.
@@ -141,7 +153,8 @@ fn is_same_dim(a: Dim, b: Dim) -> bool
 // What is wrong with a slot that a link names after others.
 fn join_fault(objects: &Objects, links: &Links, before: &[SlotNo], slot: u16) -> Option<BuildFault>
     requires { All (λ (other : SlotNo). IsSlot objects.now other.0) before.now }
-    ensures fault { result ≡ join_fault objects.now links.now (numbers_of before.now) slot }
+    ensures fault { Finds refusal_of result
+        (join_refusal objects.now links.now (numbers_of before.now) slot) }
     ensures known { result ≡ None → IsSlot objects.now slot }
     ensures free { result ≡ None → link_of links.now slot ≡ None }
 {
@@ -163,7 +176,8 @@ fn join_fault(objects: &Objects, links: &Links, before: &[SlotNo], slot: u16) ->
 
 /// What is wrong with a link, if something is.
 pub fn judge_link(objects: &Objects, links: &Links, slots: &[SlotNo]) -> Option<BuildFault>
-    ensures fault { result ≡ link_fault objects.now links.now (numbers_of slots.now) }
+    ensures fault { Finds refusal_of result
+        (link_refusal objects.now links.now (numbers_of slots.now)) }
     ensures known { result ≡ None → All (λ (slot : SlotNo). IsSlot objects.now slot.0) slots.now }
     ensures free { result ≡ None → All (λ (slot : SlotNo). link_of links.now slot.0 ≡ None) slots.now }
 {
@@ -171,9 +185,8 @@ pub fn judge_link(objects: &Objects, links: &Links, slots: &[SlotNo]) -> Option<
         return Some(BuildFault::BadParameter);
     }
     for (place, slot) in slots.iter().enumerate() {
-        let fault = join_fault(objects, links, &slots[..place], slot.0);
-        if fault.is_some() {
-            return fault;
+        if let Some(fault) = join_fault(objects, links, &slots[..place], slot.0) {
+            return Some(fault);
         }
     }
     None

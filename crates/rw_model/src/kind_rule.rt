@@ -1,10 +1,10 @@
-ghost use Rattle.std.specs.Prelude.{◌↔◌, ◌≤◌, IsTrue, All, IsSome};
+ghost use Rattle.std.specs.Prelude.{◌≡◌, ◌↔◌, ◌≤◌, IsTrue, All, IsSome};
 ghost use Rattle.std.specs.Option.{ForSome};
 ghost use Rattle.rw_base.specs.Quantity.{IsQuantity};
 ghost use Rattle.rw_table.specs.Curve.{IsVolumeInside};
 ghost use Rattle.rw_model.specs.declared.data_slots.DataSlot.{DataSlot as Slot};
 ghost use Rattle.rw_model.specs.Name.{IsName};
-ghost use Rattle.rw_model.specs.Kind.{IsAmount, IsDataSlots, IsLagged, IsStored, IsKind};
+ghost use Rattle.rw_model.specs.Kind.{IsAmount, IsDataSlots, IsLagged, IsStored, IsKind, is_kind};
 
 use crate::name_rule::is_name;
 use crate::{DataSlot, Kind};
@@ -78,7 +78,8 @@ fn is_stored(
 
 /// Whether the kind's parameters are in range.
 pub fn is_kind(kind: &Kind) -> bool
-    ensures { IsTrue result ↔ IsKind kind.now }
+    ensures kind { IsTrue result ↔ IsKind kind.now }
+    ensures test { result ≡ is_kind kind.now }
 {
     match kind {
         Kind::DataObject { slots } => are_data_slots(slots.as_slice()),

@@ -1,15 +1,18 @@
 //! What the definitions of this crate come to in plain words. Each law is the `ensures` of a function that does
 //! nothing.
-ghost use Rattle.std.specs.Prelude.{◌≡◌, ◌<◌, ◌≤◌, ◌↔◌, ℕ, ℤ, List, [], ◌∷◌, All, Contains, None, Some};
-ghost use Rattle.rw_model.specs.declared.fault.BuildFault.{BuildFault};
+ghost use Rattle.std.specs.Prelude.{◌≡◌, ◌<◌, ◌≤◌, ◌↔◌, IsTrue, ℕ, ℤ, List, [], ◌∷◌, All, Contains, None, Some};
 ghost use Rattle.rw_model.specs.declared.content.Content.{Content};
 ghost use Rattle.rw_model.specs.declared.put.PutEnd.TheVariants as PutEnd;
 ghost use Rattle.rw_model.specs.declared.writer.Writer.TheVariants as Writer;
-ghost use Rattle.rw_model.specs.Objects.{Object};
-ghost use Rattle.rw_model.specs.Draft.{Draft, Bound, IsObjectFault, IsBoundFault, IsSlot};
-ghost use Rattle.rw_model.specs.Links.{link_of, link_fault, IsLinkFault, group_of, own_bounds, linked_with, bounds_in, IsBetween};
-ghost use Rattle.rw_model.specs.Basin.{IsLink, IsDraft, IsFinishFault};
+ghost use Rattle.rw_model.specs.Objects.{Object, slot_at};
+ghost use Rattle.rw_model.specs.Draft.{Draft, Bound, IsSound, IsFresh, CanAdd, IsSlot, IsWithinWidest, CanBound};
+ghost use Rattle.rw_model.specs.Links.{link_of, link_refusal, group_of, own_bounds, linked_with, bounds_in, IsBetween};
+ghost use Rattle.rw_model.specs.Basin.{IsLink, IsDraft, IsBasin, finish_refusal};
 ghost use Rattle.rw_model.specs.Slot.{Bounds};
+ghost use Rattle.rw_model.specs.declared.kind.Kind.{Kind};
+ghost use Rattle.rw_model.specs.Name.{IsName, is_name};
+ghost use Rattle.rw_model.specs.Kind.{IsKind, is_kind};
+ghost use Rattle.rw_model.specs.Build.{is_sound, is_fresh, is_allowed, object_refusal, bound_refusal};
 ghost use Rattle.rw_model.specs.Put.{end_of_put, IsSameObject};
 
 /// The put rules, in their order. An unknown cell is written. The held value under a number that isn't smaller is
@@ -31,36 +34,36 @@ pub fn put_rules()
         → 0 < held.number → held.number < new.number → end_of_put (Some held) new ≡ PutEnd.Denied held }
 {}
 
-/// There is one answer at most to why an object isn't added.
-pub fn one_object_fault()
-    ensures { (objects : List Object) (object : Object) (fault other : BuildFault)
-        → IsObjectFault objects object fault → IsObjectFault objects object other → fault ≡ other }
+/// The tests of names and objects pass exactly where their words hold, and that of bounds where a slot can have them.
+pub fn tests_and_words()
+    ensures name { (text : List ℕ) → IsTrue (is_name text) ↔ IsName text }
+    ensures kind { (kind : Kind) → IsTrue (is_kind kind) ↔ IsKind kind }
+    ensures sound { (object : Object) → IsTrue (is_sound object) ↔ IsSound object }
+    ensures fresh { (objects : List Object) (object : Object)
+        → IsTrue (is_fresh objects object) ↔ IsFresh objects object }
+    ensures allowed { (objects : List Object) (slot : ℕ) (bounds : Bounds)
+        → IsTrue (is_allowed (slot_at objects slot) bounds) ↔ IsWithinWidest objects slot bounds }
 {}
 
-/// There is one answer at most to why a slot isn't given bounds.
-pub fn one_bound_fault()
-    ensures { (objects : List Object) (given : List Bound) (slot : ℕ) (bounds : Bounds) (fault other : BuildFault)
-        → IsBoundFault objects given slot bounds fault → IsBoundFault objects given slot bounds other → fault ≡ other }
+/// Nothing is wrong with an object exactly where it can be added, and with bounds exactly where a slot can have them.
+pub fn faultless_parts()
+    ensures object { (objects : List Object) (object : Object)
+        → (object_refusal objects object ≡ None) ↔ CanAdd objects object }
+    ensures bound { (objects : List Object) (given : List Bound) (slot : ℕ) (bounds : Bounds)
+        → (bound_refusal objects given slot bounds ≡ None) ↔ CanBound objects given slot bounds }
 {}
 
-/// There is one answer at most to why slots aren't linked.
-pub fn one_link_fault()
-    ensures { (objects : List Object) (links : List (List ℕ)) (slots : List ℕ) (fault other : BuildFault)
-        → IsLinkFault objects links slots fault → IsLinkFault objects links slots other → fault ≡ other }
-{}
-
-/// There is one answer at most to why a builder makes no basin.
-pub fn one_finish_fault()
-    ensures { (draft : Draft) (fault other : BuildFault)
-        → IsFinishFault draft fault → IsFinishFault draft other → fault ≡ other }
+/// Nothing is wrong with all that a builder was told exactly where it makes a valid basin.
+pub fn faultless_basins()
+    ensures { (draft : Draft) → IsDraft draft → (finish_refusal draft ≡ None) ↔ IsBasin draft }
 {}
 
 /// Slots with which nothing is wrong are 2 to 8, of different objects, measure the same, and are in no earlier link.
 pub fn linked_slots()
     ensures link { (objects : List Object) (links : List (List ℕ)) (slots : List ℕ)
-        → link_fault objects links slots ≡ None → IsLink objects slots }
+        → link_refusal objects links slots ≡ None → IsLink objects slots }
     ensures free { (objects : List Object) (links : List (List ℕ)) (slots : List ℕ)
-        → link_fault objects links slots ≡ None → All (λ slot. link_of links slot ≡ None) slots }
+        → link_refusal objects links slots ≡ None → All (λ slot. link_of links slot ≡ None) slots }
 {}
 
 /// The group of a slot that no link has is the slot alone. In a valid basin the group of a slot that a link has is that

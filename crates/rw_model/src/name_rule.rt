@@ -1,5 +1,5 @@
-ghost use Rattle.std.specs.Prelude.{◌↔◌, ◌⊎◌, IsTrue, Contains, map};
-ghost use Rattle.rw_model.specs.Name.{IsLetter, IsDigit, IsName, reserved_words};
+ghost use Rattle.std.specs.Prelude.{◌≡◌, ◌↔◌, ◌⊎◌, IsTrue, Contains, map};
+ghost use Rattle.rw_model.specs.Name.{IsLetter, IsDigit, IsName, is_name, reserved_words};
 
 // The words that the language of rules keeps for itself.
 const RESERVED_WORDS: [&str; 40] = [
@@ -80,7 +80,8 @@ fn is_reserved(text: &str) -> bool
 
 /// Whether it is a name: a letter or `_`, then letters, digits and `_`, at most 32 bytes, and no reserved word.
 pub fn is_name(text: &str) -> bool
-    ensures { IsTrue result ↔ IsName text.now }
+    ensures name { IsTrue result ↔ IsName text.now }
+    ensures test { result ≡ is_name text.now }
 {
     let bytes = text.as_bytes();
     !bytes.is_empty()

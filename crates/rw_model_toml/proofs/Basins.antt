@@ -1,35 +1,34 @@
 -- What a file is read as is a valid basin.
-use Rattle.std.proofs.Common.{◌≡◌, ℕ, ◌+◌, ◌≤◌, ℤ, pos, ◌≤ℤ◌, int_lt, unsigned_abs, Bool, true, false, ◌||◌, if◌then◌else◌, List, [], ◌∷◌, ◌++◌, Option, None, Some, Result, Ok, Err, codes, refl, arith}
-use Rattle.std.specs.Prelude.{IfOk, MatchOption}
+use Rattle.std.proofs.Common.{◌≡◌, ℕ, ◌+◌, ◌≤◌, ℤ, pos, ◌<ℤ◌, int_lt, unsigned_abs, Bool, true, false, ◌||◌, if◌then◌else◌, List, [], ◌∷◌, ◌++◌, Option, None, Some, Result, Ok, Err, codes, refl, arith}
+use Rattle.std.specs.Prelude.{IfOk}
 use Rattle.toml.specs.Data.{Data, string, integer, float, boolean, datetime, array, table, Items, no_items, item, Members, get_member}
-use Rattle.rw_model.specs.declared.control.RunControl.{RunControl}
-use Rattle.rw_model.specs.declared.fault.BuildFault.{BuildFault}
-use Rattle.rw_model.specs.Slot.{Bounds}
-use Rattle.rw_model.specs.Objects.{Object}
-use Rattle.rw_model.specs.Links.{link_fault}
-use Rattle.rw_model.specs.Draft.{Draft, IsControl, CanAdd, IsObjectFault, CanBound, IsBoundFault}
-use Rattle.rw_model.specs.Basin.{IsDraft, IsBasin, finish_fault}
+use Rattle.rw_model.specs.Links.{link_refusal}
+use Rattle.rw_model.specs.Draft.{Draft, IsControl}
+use Rattle.rw_model.specs.Basin.{IsDraft, IsBasin, finish_refusal}
+use Rattle.rw_model.specs.Build.{object_refusal, bound_refusal}
+use Rattle.rw_model.proofs.BuildFacts.{object-iff, bound-iff}
+use Rattle.rw_model.proofs.Drafting.{IsDraft-begin, IsDraft-object, IsDraft-link, IsDraft-bound}
+use Rattle.rw_model.proofs.Linked.{basin-iff}
 use Rattle.rw_model_toml.specs.declared.run.Run.{Run}
-use Rattle.rw_model_toml.specs.Refusal.{Refusal, missing, ◌>>=◌, out_of_range}
+use Rattle.rw_model_toml.specs.Refusal.{Refusal, missing, ◌>>=◌, refused_as, bad_build, bad_calendar, out_of_range}
 use Rattle.rw_model_toml.specs.Path.{key_path, element_path}
 use Rattle.rw_model_toml.specs.Value.{integer_of, text_of, items_of, members_of, within, count_of}
 use Rattle.rw_model_toml.specs.Key.{judged_or, required, optional, only_listed}
 use Rattle.rw_model_toml.specs.ListOf.{list_of}
 use Rattle.rw_model_toml.specs.Run.{start_of, step_length_of, agenda_of, run_keys, run_of}
-use Rattle.rw_model_toml.specs.Control.{stamps_fault, stamped, control_of}
+use Rattle.rw_model_toml.specs.Control.{control_of}
 use Rattle.rw_model_toml.specs.Names.{name_of}
 use Rattle.rw_model_toml.specs.Kinds.{kind_of}
-use Rattle.rw_model_toml.specs.Added.{object_fault, bound_fault}
 use Rattle.rw_model_toml.specs.Told as told
-use Rattle.rw_model_toml.specs.Told.{built, object_of, link_of, slot_in, few_linked, slot_number}
+use Rattle.rw_model_toml.specs.Told.{object_told, link_told, bound_told, object_of, link_of, slot_in, few_linked, slot_number}
 use Rattle.rw_model_toml.specs.Model.{in_turn, control_in, empty_draft, objects_from, links_from, bounds_from, filled, file_keys, draft_of, basin_of, toml_of, table_or, model_of}
-use Rattle.rw_model_toml.proofs.AddedFacts.{object-judged, bound-judged}
-use Rattle.rw_model_toml.proofs.Deciding.{not-below}
 use Rattle.std.proofs.lemmas.Int.{ints}
 use Rattle.std.proofs.lemmas.Bool.{both_ways}
-use Rattle.rw_calendar.specs.declared.fault.CalFault.{CalFault}
+use Rattle.rw_base.specs.Answers.{unless_refused}
+use Rattle.rw_base.proofs.Tests.{denied, Decides-int_lt}
+use Rattle.rw_calendar.specs.Stamps.{AreTimesteps, stamps_refusal, stamps_of, timesteps_of}
+use Rattle.rw_calendar.proofs.Refusals.{stamped-iff}
 use Rattle.rw_calendar.proofs.TimestepFacts.{are-stamped}
-use Rattle.rw_model_toml.proofs.Stamped.{stamped-iff}
 
 -- what is read next, whatever was read before it
 next : {A B : Type 0} (P : B → Type 0) (reading : Result A Refusal) (then_ : A → Result B Refusal) → ((x : A) → IfOk (then_ x) P) → IfOk (reading >>= then_) P
@@ -41,9 +40,10 @@ next-by : {A B : Type 0} (Q : A → Type 0) (P : B → Type 0) (reading : Result
 next-by Q P (Ok x) then_ q h = h x q
 next-by Q P (Err refusal) then_ q h = tt
 
-built-by : {A : Type 0} (P : A → Type 0) (path : List ℕ) (fault : Option BuildFault) (x : A) → (fault ≡ None → P x) → IfOk (built path fault x) P
-built-by P path None x h = h refl
-built-by P path (Some fault) x h = tt
+-- what isn't refused below
+kept-by : {R A : Type 0} (P : A → Type 0) (tell : R → Refusal) (refusal : Option R) (x : A) → (refusal ≡ None → P x) → IfOk (refused_as tell (unless_refused refusal x)) P
+kept-by P tell None x h = h refl
+kept-by P tell (Some r) x h = tt
 
 -- ---- the limits of a run
 
@@ -63,8 +63,8 @@ inside-is : (low high : ℕ) (path : List ℕ) (z : ℤ) → IfOk (within (pos l
 inside-is low high path z = by-test low high (out_of_range path) z (int_lt z (pos low) || int_lt (pos high) z)
     (λ e.
     let parts = neither (int_lt z (pos low)) (int_lt (pos high) z) e in
-    let least : (pos low) ≤ℤ z = not-below z (pos low) parts.0 in
-    let most : z ≤ℤ (pos high) = not-below (pos high) z parts.1 in
+    let least : ¬ (z <ℤ pos low) = denied _ (Decides-int_lt z (pos low)) parts.0 in
+    let most : ¬ (pos high <ℤ z) = denied _ (Decides-int_lt (pos high) z) parts.1 in
     (omega (arith, ints), omega (arith, ints)))
 
 count-inside : (low high : ℕ) (path : List ℕ) (d : Data) → IfOk (count_of low high path d) (IsFromTo low high)
@@ -103,18 +103,11 @@ run-inside ms = next InLimits (start_of ms) _ (λ start. next InLimits (step_len
     (λ objects p. next-by (IsFromTo 1 100) InLimits (optional 20 (count_of 1 100) (codes "run") (codes "rule_limit") ms) _ (limit-inside 20 1 100 (codes "rule_limit") ms (omega arith, omega arith))
     (λ rules q. next InLimits (only_listed run_keys (codes "run") ms) _ (λ listed. (p, q, r))))))))
 
-stamped-by : (found : Option CalFault) (control : RunControl) → (found ≡ None → IsControl control) → IfOk (stamped found control) IsControl
-stamped-by None control is = is refl
-stamped-by (Some fault) control is = tt
-
 control-inside : (run : Run) → InLimits run → IfOk (control_of run) IsControl
-control-inside run p = stamped-by (stamps_fault run.start run.step_length run.steps) _ (λ none. record {
-  timesteps = are-stamped run.start run.step_length run.steps p.2.0 p.2.1 ((stamped-iff run.start run.step_length run.steps).0 none);
-  least_object = p.0.0;
-  most_object = p.0.1;
-  least_rule = p.1.0;
-  most_rule = p.1.1;
-})
+control-inside run p = next-by AreTimesteps IsControl (refused_as bad_calendar (stamps_of run.start run.step_length run.steps)) _
+    (kept-by AreTimesteps bad_calendar (stamps_refusal run.start run.step_length run.steps) (timesteps_of run.start run.step_length run.steps)
+    (λ none. are-stamped run.start run.step_length run.steps p.2.0 p.2.1 ((stamped-iff run.start run.step_length run.steps).0 none)))
+    (λ stamps are. record { timesteps = are; least_object = p.0.0; most_object = p.0.1; least_rule = p.1.0; most_rule = p.1.1 })
 
 in-control : (ms : Members) → IfOk (control_in ms) IsControl
 unfolding control_in
@@ -124,51 +117,34 @@ in-control ms = next IsControl (required (count_of 1 1) [] (codes "format") ms) 
 
 -- ---- what a builder is told
 
-judged-free : (P : Type 0) (F : BuildFault → Type 0) (found : Option BuildFault) → MatchOption found P F → found ≡ None → P
-judged-free P F None h e = h
-judged-free P F (Some fault) h e = cc
-
--- what a builder was told stays in order
-abbrev pub GrowsByObject : Type 0
-GrowsByObject = (draft : Draft) (object : Object) → IsDraft draft → CanAdd draft.objects object → IsDraft (record draft { objects = draft.objects ++ object ∷ [] })
-
-abbrev pub GrowsByLink : Type 0
-GrowsByLink = (draft : Draft) (slots : List ℕ) → IsDraft draft → link_fault draft.objects draft.links slots ≡ None → IsDraft (record draft { links = draft.links ++ slots ∷ [] })
-
-abbrev pub GrowsByBound : Type 0
-GrowsByBound = (draft : Draft) (slot : ℕ) (bounds : Bounds) → IsDraft draft → CanBound draft.objects draft.bounds slot bounds
-    → IsDraft (record draft { bounds = draft.bounds ++ record { slot = slot; bounds = bounds } ∷ [] })
-
 -- each table keeps what was told in order
 abbrev Keeps : (List ℕ → Data → Draft → Result Draft Refusal) → Type 0
 Keeps step = (at : List ℕ) (d : Data) (draft : Draft) → IsDraft draft → IfOk (step at d draft) IsDraft
 
-object-keeps : GrowsByObject → Keeps object_of
-unfolding object_of
-object-keeps grows at d draft is = next IsDraft (members_of at d) _ (λ ms. next IsDraft (name_of at ms) _
+object-keeps : Keeps object_of
+unfolding object_of object_told
+object-keeps at d draft is = next IsDraft (members_of at d) _ (λ ms. next IsDraft (name_of at ms) _
     (λ name. next IsDraft (required text_of at (codes "kind") ms) _ (λ word. next IsDraft (kind_of at word ms) _
-    (λ kind. built-by IsDraft at (object_fault draft.objects (record { name = name; kind = kind })) (record draft { objects = draft.objects ++ record { name = name; kind = kind } ∷ [] })
-    (λ free. grows draft (record { name = name; kind = kind }) is
-    (judged-free (CanAdd draft.objects (record { name = name; kind = kind })) (IsObjectFault draft.objects (record { name = name; kind = kind })) _ (object-judged draft.objects (record { name = name; kind = kind })) free))))))
+    (λ kind. kept-by IsDraft (bad_build at) (object_refusal draft.objects (record { name = name; kind = kind })) (record draft { objects = draft.objects ++ record { name = name; kind = kind } ∷ [] })
+    (λ free. IsDraft-object draft (record { name = name; kind = kind }) is ((object-iff draft.objects (record { name = name; kind = kind })).0 free))))))
 
-link-keeps : GrowsByLink → Keeps link_of
-unfolding link_of
-link-keeps grows at d draft is = next IsDraft (members_of at d) _ (λ ms. next IsDraft (required items_of at (codes "slots") ms) _
+link-keeps : Keeps link_of
+unfolding link_of link_told
+link-keeps at d draft is = next IsDraft (members_of at d) _ (λ ms. next IsDraft (required items_of at (codes "slots") ms) _
     (λ ds. next IsDraft (list_of (slot_in draft.objects) (key_path at (codes "slots")) 1 ds) _
     (λ slots. next IsDraft (few_linked (key_path at (codes "slots")) slots) _
     (λ few. next IsDraft (only_listed (codes "slots" ∷ []) at ms) _
-    (λ listed. built-by IsDraft at (link_fault draft.objects draft.links slots) (record draft { links = draft.links ++ slots ∷ [] }) (grows draft slots is))))))
+    (λ listed. kept-by IsDraft (bad_build at) (link_refusal draft.objects draft.links slots) (record draft { links = draft.links ++ slots ∷ [] }) (IsDraft-link draft slots is))))))
 
-bound-keeps : GrowsByBound → Keeps told.bound_of
-unfolding told.bound_of
-bound-keeps grows at d draft is = next IsDraft (members_of at d) _ (λ ms. next IsDraft (required text_of at (codes "slot") ms) _
+bound-keeps : Keeps told.bound_of
+unfolding told.bound_of bound_told
+bound-keeps at d draft is = next IsDraft (members_of at d) _ (λ ms. next IsDraft (required text_of at (codes "slot") ms) _
     (λ text. next IsDraft (required integer_of at (codes "min") ms) _ (λ min. next IsDraft (required integer_of at (codes "max") ms) _
     (λ max. next IsDraft (only_listed (codes "slot" ∷ codes "min" ∷ codes "max" ∷ []) at ms) _
-    (λ listed. built-by IsDraft at (bound_fault draft.objects draft.bounds (slot_number draft.objects text) (min, max))
+    (λ listed. kept-by IsDraft (bad_build at) (bound_refusal draft.objects draft.bounds (slot_number draft.objects text) (min, max))
     (record draft { bounds = draft.bounds ++ record { slot = slot_number draft.objects text; bounds = (min, max) } ∷ [] })
-    (λ free. grows draft (slot_number draft.objects text) (min, max) is
-    (judged-free (CanBound draft.objects draft.bounds (slot_number draft.objects text) (min, max)) (IsBoundFault draft.objects draft.bounds (slot_number draft.objects text) (min, max)) _
-    (bound-judged draft.objects draft.bounds (slot_number draft.objects text) (min, max)) free)))))))
+    (λ free. IsDraft-bound draft (slot_number draft.objects text) (min, max) is
+    ((bound-iff draft.objects draft.bounds (slot_number draft.objects text) (min, max)).0 free)))))))
 
 turn-keeps : (step : List ℕ → Data → Draft → Result Draft Refusal) (path : List ℕ) (number : ℕ) (ds : Items) (draft : Draft) → Keeps step → IsDraft draft
     → IfOk (in_turn step path number ds draft) IsDraft
@@ -179,31 +155,30 @@ turn-keeps step path number (item d ds) draft keeps is =
 
 -- ---- the file
 
-objects-keep : GrowsByObject → (ms : Members) (draft : Draft) → IsDraft draft → IfOk (objects_from ms draft) IsDraft
-objects-keep by_object ms draft is = next IsDraft (required items_of [] (codes "object") ms) _
-    (λ items. turn-keeps object_of (codes "object") 1 items draft (object-keeps by_object) is)
+objects-keep : (ms : Members) (draft : Draft) → IsDraft draft → IfOk (objects_from ms draft) IsDraft
+objects-keep ms draft is = next IsDraft (required items_of [] (codes "object") ms) _
+    (λ items. turn-keeps object_of (codes "object") 1 items draft object-keeps is)
 
-links-keep : GrowsByLink → (ms : Members) (draft : Draft) → IsDraft draft → IfOk (links_from ms draft) IsDraft
-links-keep by_link ms draft is = next IsDraft (optional no_items items_of [] (codes "link") ms) _
-    (λ items. turn-keeps link_of (codes "link") 1 items draft (link-keeps by_link) is)
+links-keep : (ms : Members) (draft : Draft) → IsDraft draft → IfOk (links_from ms draft) IsDraft
+links-keep ms draft is = next IsDraft (optional no_items items_of [] (codes "link") ms) _
+    (λ items. turn-keeps link_of (codes "link") 1 items draft link-keeps is)
 
-bounds-keep : GrowsByBound → (ms : Members) (draft : Draft) → IsDraft draft → IfOk (bounds_from ms draft) IsDraft
-bounds-keep by_bound ms draft is = next IsDraft (optional no_items items_of [] (codes "bound") ms) _
-    (λ items. turn-keeps told.bound_of (codes "bound") 1 items draft (bound-keeps by_bound) is)
+bounds-keep : (ms : Members) (draft : Draft) → IsDraft draft → IfOk (bounds_from ms draft) IsDraft
+bounds-keep ms draft is = next IsDraft (optional no_items items_of [] (codes "bound") ms) _
+    (λ items. turn-keeps told.bound_of (codes "bound") 1 items draft bound-keeps is)
 
-filled-keeps : GrowsByObject → GrowsByLink → GrowsByBound → (ms : Members) (draft : Draft) → IsDraft draft → IfOk (filled ms draft) IsDraft
+filled-keeps : (ms : Members) (draft : Draft) → IsDraft draft → IfOk (filled ms draft) IsDraft
 unfolding filled
-filled-keeps by_object by_link by_bound ms draft is = next-by IsDraft IsDraft (objects_from ms draft) _ (objects-keep by_object ms draft is)
-    (λ with_objects objects_are. next-by IsDraft IsDraft (links_from ms with_objects) _ (links-keep by_link ms with_objects objects_are)
-    (λ with_links links_are. bounds-keep by_bound ms with_links links_are))
+filled-keeps ms draft is = next-by IsDraft IsDraft (objects_from ms draft) _ (objects-keep ms draft is)
+    (λ with_objects objects_are. next-by IsDraft IsDraft (links_from ms with_objects) _ (links-keep ms with_objects objects_are)
+    (λ with_links links_are. bounds-keep ms with_links links_are))
 
--- what a file says is a valid basin, where a builder keeps what it was told in order
-pub model-valid : ((control : RunControl) → IsControl control → IsDraft (empty_draft control)) → GrowsByObject → GrowsByLink → GrowsByBound
-    → ((draft : Draft) → IsDraft draft → finish_fault draft ≡ None → IsBasin draft) → (bytes : List ℕ) → IfOk (model_of bytes) IsBasin
+-- what a file says is a valid basin
+pub model-valid : (bytes : List ℕ) → IfOk (model_of bytes) IsBasin
 unfolding basin_of draft_of
-model-valid begun by_object by_link by_bound finished bytes = next IsBasin (table_or (toml_of bytes)) basin_of
+model-valid bytes = next IsBasin (table_or (toml_of bytes)) basin_of
     (λ ms. next-by IsDraft IsBasin (draft_of ms) _
     (next-by IsControl IsDraft (control_in ms) _ (in-control ms)
-    (λ control limits. next-by IsDraft IsDraft (filled ms (empty_draft control)) _ (filled-keeps by_object by_link by_bound ms (empty_draft control) (begun control limits))
+    (λ control limits. next-by IsDraft IsDraft (filled ms (empty_draft control)) _ (filled-keeps ms (empty_draft control) (IsDraft-begin control limits))
     (λ draft is. next IsDraft (only_listed file_keys [] ms) _ (λ listed. is))))
-    (λ draft is. built-by IsBasin (codes "basin") (finish_fault draft) draft (finished draft is)))
+    (λ draft is. kept-by IsBasin (bad_build (codes "basin")) (finish_refusal draft) draft (basin-iff draft is).0))

@@ -1,11 +1,5 @@
 pub mod Forms
 pub mod Lists
-pub mod NameFacts
-pub mod Deciding
-pub mod RowFacts
-pub mod AddedFacts
-pub mod Plain
+pub mod Words
 pub mod Utf8
-pub mod Stamped
 pub mod Basins
-pub mod Drafts

@@ -5,17 +5,13 @@ use Rattle.toml.specs.View.{view, items_view}
 use Rattle.toml.proofs.Views.{items_view-drop}
 use Rattle.toml.specs.Data.{no_items, Data, Items, item}
 use Rattle.rw_model_toml.specs.declared.fault.ModelFault.{ModelFault}
-use Rattle.rw_model_toml.specs.declared.fault.ModelFault.TheVariants.{NoMemory}
-use Rattle.rw_model.specs.declared.fault.BuildFault.{BuildFault}
-use Rattle.rw_model.specs.declared.fault.BuildFault.TheVariants.{DuplicateName, UnknownSlot, LinkedTwice, LinkWithinObject, LinkDimension, LinkBounds, BadParameter, TooMany, NoMemory as BuildNoMemory}
 use Rattle.rw_model.specs.Draft.{Draft}
 use Rattle.rw_base.specs.declared.number.SlotNo.{SlotNo}
 use Rattle.rw_model.specs.Kept.{numbers_of}
 use Rattle.rw_model_toml.specs.Model.{in_turn}
-use Rattle.rw_model_toml.specs.Fault.{IsWhy, Gives, refusal_of}
+use Rattle.rw_model_toml.specs.Fault.{IsWhy, Gives}
 use Rattle.std.specs.Result.{IsErrAnd}
-use Rattle.std.specs.Option.{ForSome}
-use Rattle.rw_model_toml.specs.Refusal.{Refusal, bad_build, ◌>>=◌}
+use Rattle.rw_model_toml.specs.Refusal.{Refusal, ◌>>=◌}
 use Rattle.rw_model_toml.specs.Path.{element_path}
 use Rattle.rw_model_toml.specs.ListOf.{list_of}
 use Rattle.rw_model_toml.specs.Kinds.{row_in}
@@ -37,7 +33,7 @@ list_of-next judge path number value rest done x e = after-cons done x (list_of 
 -- an item is refused
 pub list_of-fails : {A : Type 0} (judge : List ℕ → Data → Result A Refusal) (path : List ℕ) (number : ℕ) (value : Data) (rest : Items) (done : List A) (fault : ModelFault)
     → IsWhy (judge (element_path path number) value) fault → IsWhy (after done (list_of judge path number (item value rest))) fault
-list_of-fails judge path number value rest done fault why = λ refusal is. rw (why refusal is) refl
+list_of-fails judge path number value rest done fault why = (λ refusal is. rw (why.0 refusal is) refl, why.1)
 
 -- the code's loop reads one more item
 pub items-next : {A : Type 0} (judge : List ℕ → Data → Result A Refusal) (path : List ℕ) (vs : List Value) (place : ℕ) (v : Value) (at : List ℕ) (done : List A) (x : A) (new : List A) (all : Result (List A) Refusal)
@@ -68,7 +64,11 @@ gives-fault seen (Err e) reading fault same why = subst (IsWhy reading) (sym sam
 
 -- what is refused is refused, whatever would be read next
 pub stops : {A B : Type 0} (reading : Result A Refusal) (next : A → Result B Refusal) (fault : ModelFault) → IsWhy reading fault → IsWhy (reading >>= next) fault
-stops reading next fault why = λ refusal is. rw (why refusal is) refl
+stops reading next fault why = (λ refusal is. rw (why.0 refusal is) refl, why.1)
+
+-- what is read next is refused
+pub goes-on : {A B : Type 0} (reading : Result A Refusal) (next : A → Result B Refusal) (x : A) (fault : ModelFault) → reading ≡ Ok x → IsWhy (next x) fault → IsWhy (reading >>= next) fault
+goes-on reading next x fault read why = subst (λ r. IsWhy (r >>= next) fault) (sym read) why
 
 -- an array of two values
 pub items-two : (vs : List Value) (a b : Value) → length vs ≡ 2 → a ≡ get_or vs 0 a → b ≡ get_or vs 1 b → items_view vs ≡ item (view a) (item (view b) no_items)
@@ -83,20 +83,6 @@ items-not-two [] other = refl
 items-not-two (x ∷ []) other = refl
 items-not-two (x ∷ y ∷ []) other = absurd (other refl)
 items-not-two (x ∷ y ∷ z ∷ vs) other = refl
-
--- what a builder's fault tells is why the model is refused
-pub told-why : {A : Type 0} (reading : Result A Refusal) (path : List ℕ) (fault : BuildFault) (result : ModelFault)
-    → (fault ≡ BuildNoMemory → result ≡ NoMemory) → (fault ≢ BuildNoMemory → ForSome (refusal_of result) (λ refusal. refusal ≡ bad_build path fault))
-    → (fault ≢ BuildNoMemory → reading ≡ Err (bad_build path fault)) → IsWhy reading result
-told-why reading path BuildNoMemory result memory other why = subst (IsWhy reading) (sym (memory refl)) (λ refusal is. cc)
-told-why reading path DuplicateName result memory other why = λ refusal is. why (λ e. cc) ∙ ap Err (sym (other (λ e. cc) refusal is))
-told-why reading path UnknownSlot result memory other why = λ refusal is. why (λ e. cc) ∙ ap Err (sym (other (λ e. cc) refusal is))
-told-why reading path LinkedTwice result memory other why = λ refusal is. why (λ e. cc) ∙ ap Err (sym (other (λ e. cc) refusal is))
-told-why reading path LinkWithinObject result memory other why = λ refusal is. why (λ e. cc) ∙ ap Err (sym (other (λ e. cc) refusal is))
-told-why reading path LinkDimension result memory other why = λ refusal is. why (λ e. cc) ∙ ap Err (sym (other (λ e. cc) refusal is))
-told-why reading path LinkBounds result memory other why = λ refusal is. why (λ e. cc) ∙ ap Err (sym (other (λ e. cc) refusal is))
-told-why reading path BadParameter result memory other why = λ refusal is. why (λ e. cc) ∙ ap Err (sym (other (λ e. cc) refusal is))
-told-why reading path (TooMany most) result memory other why = λ refusal is. why (λ e. cc) ∙ ap Err (sym (other (λ e. cc) refusal is))
 
 -- the code's loop tells one more item to the builder
 pub turn-next : (told : List ℕ → Data → Draft → Result Draft Refusal) (path : List ℕ) (vs : List Value) (place : ℕ) (v : Value) (at : List ℕ) (draft new : Draft) (all : Result Draft Refusal)

@@ -1,27 +1,29 @@
 -- What a fault of the code tells of the model.
-use Rattle.std.specs.Prelude.{◌≡◌, Option, Some, None, Result, Ok, Err, string_bytes}
-use Rattle.std.specs.Option.{ForSome}
+use Rattle.std.specs.Prelude.{Option, Some, None, option_map, Result, string_bytes}
+use Rattle.rw_base.specs.Answers as answers
+use Rattle.rw_calendar.specs.Stamps as calendar
+use Rattle.rw_table.specs.Table as rows
+use Rattle.rw_model.specs.Refusal as build
 use Rattle.rw_model_toml.specs.declared.fault.ModelFault.{ModelFault}
 use Rattle.rw_model_toml.specs.declared.fault.ModelFault.TheVariants.{NotToml, Missing, WrongKind, UnknownKey, UnknownKind, Build, Table, Calendar, NoMemory}
 use Rattle.rw_model_toml.specs.Refusal.{Refusal, not_toml, missing, wrong_kind, unknown_key, unknown_kind, bad_build, bad_table, bad_calendar}
 
--- why the model is refused. Want of memory tells nothing of it
+-- why the model is refused. Want of memory tells nothing of it, nor does a fault that has it inside
 abbrev pub refusal_of : ModelFault → Option Refusal
 refusal_of NotToml = Some not_toml
 refusal_of (Missing path) = Some (missing (string_bytes path))
 refusal_of (WrongKind path) = Some (wrong_kind (string_bytes path))
 refusal_of (UnknownKey path) = Some (unknown_key (string_bytes path))
 refusal_of (UnknownKind path) = Some (unknown_kind (string_bytes path))
-refusal_of (Build path fault) = Some (bad_build (string_bytes path) fault)
-refusal_of (Table path fault) = Some (bad_table (string_bytes path) fault)
-refusal_of (Calendar fault) = Some (bad_calendar fault)
+refusal_of (Build path fault) = option_map (bad_build (string_bytes path)) (build.refusal_of fault)
+refusal_of (Table path fault) = option_map (bad_table (string_bytes path)) (rows.refusal_of fault)
+refusal_of (Calendar fault) = option_map bad_calendar (calendar.refusal_of fault)
 refusal_of NoMemory = None
 
--- what the fault tells is why nothing is read
+-- the fault tells why nothing is read, or is want of memory
 abbrev pub IsWhy : {A : Type 0} → Result A Refusal → ModelFault → Type 0
-IsWhy reading fault = ForSome (refusal_of fault) (λ refusal. reading ≡ Err refusal)
+IsWhy reading fault = answers.IsWhy NoMemory refusal_of reading fault
 
 -- the call answers what is read, or why nothing is, unless there was no memory
-abbrev pub Gives : {X Y : Type 0} → (X → Y) → Result X ModelFault → Result Y Refusal → Type 0
-Gives seen (Ok x) reading = reading ≡ Ok (seen x)
-Gives seen (Err fault) reading = IsWhy reading fault
+abbrev pub Gives : {X A : Type 0} → (X → A) → Result X ModelFault → Result A Refusal → Type 0
+Gives seen result reading = answers.Answers NoMemory refusal_of seen result reading

@@ -4,20 +4,18 @@ use Rattle.toml.specs.Data.{Data, Items, no_items, item, as_integer, array, Memb
 use Rattle.rw_base.specs.Dimension.{Dimension}
 use Rattle.rw_base.specs.Quantity.{quantity_max}
 use Rattle.rw_base.specs.Unit.{units, unit_in}
-use Rattle.rw_table.specs.declared.fault.TableFault.{TableFault}
-use Rattle.rw_table.specs.Table.{Row}
+use Rattle.rw_table.specs.Table.{Row, table_of}
 use Rattle.rw_model.specs.declared.data_slots.DataSlot.{DataSlot}
 use Rattle.rw_model.specs.declared.kind.Kind.{Kind}
 use Rattle.rw_model.specs.declared.kind.Kind.TheVariants.{DataObject, Gage, Confluence, Bifurcation, Reach, Reservoir, WaterUser, Canal}
 use Rattle.rw_model.specs.declared.kind.Supply.{Supply}
 use Rattle.rw_model_toml.specs.declared.options.Options.{Options}
-use Rattle.rw_model_toml.specs.Refusal.{Refusal, ◌>>=◌, wrong_kind, unknown_kind, bad_table, out_of_range}
+use Rattle.rw_model_toml.specs.Refusal.{Refusal, ◌>>=◌, refused_as, wrong_kind, unknown_kind, bad_table, out_of_range}
 use Rattle.rw_model_toml.specs.Path.{key_path}
 use Rattle.rw_model_toml.specs.Value.{text_of, truth_of, items_of, members_of, number_of, count_of, given_number}
 use Rattle.rw_model_toml.specs.Key.{required, optional, known_or, only_listed}
 use Rattle.rw_model_toml.specs.ListOf.{list_of}
 use Rattle.rw_model_toml.specs.Names.{name_of}
-use Rattle.rw_model_toml.specs.Rows.{table_fault}
 use Rattle.rw_model_toml.specs.Word.{supply_in}
 
 -- the keys of a kind's table: those that every object has, and its own
@@ -108,21 +106,20 @@ abbrev pub row_of : List ℕ → Data → Result Row Refusal
 row_of path (array pair) = row_or path (row_in pair)
 row_of path _ = Err (wrong_kind path)
 
--- rows with which nothing is wrong are a table
-abbrev pub rated : List ℕ → List Row → Option TableFault → Result (Option (List Row)) Refusal
-rated path rows None = Ok (Some rows)
-rated path rows (Some fault) = Err (bad_table path fault)
+-- the table that rows make
+abbrev pub rated : List ℕ → List Row → Result (Option (List Row)) Refusal
+rated path rows = refused_as (bad_table path) (table_of rows) >>= λ table. Ok (Some table)
 
 -- the table of elevations and volumes
-abbrev pub table_of : List ℕ → Data → Result (Option (List Row)) Refusal
-table_of path value = do
+abbrev pub rating_in : List ℕ → Data → Result (Option (List Row)) Refusal
+rating_in path value = do
   items ← items_of path value
   rows ← list_of row_of path 1 items
-  rated path rows (table_fault rows)
+  rated path rows
 
 -- the same, if there is one
 abbrev pub rating_of : List ℕ → Members → Result (Option (List Row)) Refusal
-rating_of at table = optional None table_of at (codes "table") table
+rating_of at table = optional None rating_in at (codes "table") table
 
 unfoldable pub reservoir_of : List ℕ → Members → Result Kind Refusal
 reservoir_of at table = do

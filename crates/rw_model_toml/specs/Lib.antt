@@ -8,9 +8,7 @@ pub mod StartText
 pub mod Word
 pub mod Run
 pub mod Names
-pub mod Rows
 pub mod Kinds
 pub mod Control
-pub mod Added
 pub mod Told
 pub mod Model

@@ -5,14 +5,14 @@ use Rattle.toml.specs.Data.{Data, Items, no_items, item, Members}
 use Rattle.toml.specs.Parse.{parse_document}
 use Rattle.rw_model.specs.declared.control.RunControl.{RunControl}
 use Rattle.rw_model.specs.Draft.{Draft}
-use Rattle.rw_model.specs.Basin.{finish_fault}
-use Rattle.rw_model_toml.specs.Refusal.{Refusal, ◌>>=◌, not_toml}
+use Rattle.rw_model.specs.Build.{finished}
+use Rattle.rw_model_toml.specs.Refusal.{Refusal, ◌>>=◌, refused_as, not_toml, bad_build}
 use Rattle.rw_model_toml.specs.Path.{element_path}
 use Rattle.rw_model_toml.specs.Value.{items_of, members_of, count_of}
 use Rattle.rw_model_toml.specs.Key.{required, optional, only_listed}
 use Rattle.rw_model_toml.specs.Run.{run_of}
 use Rattle.rw_model_toml.specs.Control.{control_of}
-use Rattle.rw_model_toml.specs.Told.{built, object_of, link_of, bound_of}
+use Rattle.rw_model_toml.specs.Told.{object_of, link_of, bound_of}
 
 -- the items of the array at a path one after another, each told to what was built by those before it, where they are
 -- numbered from the one that is given
@@ -79,7 +79,7 @@ table_or (Some table) = Ok table
 
 -- a basin, if what the file says makes one
 unfoldable pub basin_of : Members → Result Draft Refusal
-basin_of table = draft_of table >>= λ draft. built (codes "basin") (finish_fault draft) draft
+basin_of table = draft_of table >>= λ draft. refused_as (bad_build (codes "basin")) (finished draft)
 
 -- the basin that the bytes of a file are read as, or the first thing that is wrong
 abbrev pub model_of : List ℕ → Result Draft Refusal

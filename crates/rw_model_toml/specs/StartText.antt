@@ -1,9 +1,7 @@
 -- The text of a start, as `2020-01-31T06:00`.
-use Rattle.std.specs.Prelude.{ℕ, ◌+◌, ◌-◌, ◌*◌, pos, List, [], ◌∷◌, Bool, true, false, ◌==◌, nat_le, ◌&&◌, ◌||◌, if◌then◌else◌, Option, Some, None, slice_index, codes}
+use Rattle.std.specs.Prelude.{ℕ, ◌+◌, ◌-◌, ◌*◌, pos, List, [], ◌∷◌, Bool, true, false, ◌==◌, ◌&&◌, ◌||◌, if◌then◌else◌, Option, Some, None, slice_index, codes}
 use Rattle.rw_calendar.specs.declared.start.Start.{Start}
-
-abbrev pub is_digit : ℕ → Bool
-is_digit b = nat_le 48 b && nat_le b 57
+use Rattle.rw_model.specs.Name.{is_digit}
 
 -- one of the letters Y, M, D and H, for which digits stand
 abbrev pub is_open : ℕ → Bool

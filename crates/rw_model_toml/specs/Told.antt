@@ -1,32 +1,24 @@
 -- What the tables of objects, links and bounds tell a builder.
-use Rattle.std.specs.Prelude.{Bool, ℕ, ◌==◌, nat_le, nat_lt, ◌&&◌, List, [], ◌∷◌, ◌++◌, length, if◌then◌else◌, Option, Some, None, unwrap_or, Result, Ok, Err, codes}
+use Rattle.std.specs.Prelude.{Bool, ℕ, ◌==◌, nat_le, nat_lt, ◌&&◌, List, [], ◌∷◌, length, if◌then◌else◌, unwrap_or, Result, Ok, Err, codes}
 use Rattle.std.specs.List.{position_or_len, before_first, after_first}
 use Rattle.toml.specs.Data.{Data}
-use Rattle.rw_model.specs.declared.fault.BuildFault.{BuildFault}
 use Rattle.rw_model.specs.Slot.{Bounds}
 use Rattle.rw_model.specs.Objects.{Object, slot_named}
-use Rattle.rw_model.specs.Links.{link_fault}
 use Rattle.rw_model.specs.Draft.{Draft}
-use Rattle.rw_model_toml.specs.Refusal.{Refusal, ◌>>=◌, bad_build, out_of_range}
+use Rattle.rw_model.specs.Build.{with_object, with_link, with_bound}
+use Rattle.rw_model_toml.specs.Refusal.{Refusal, ◌>>=◌, refused_as, bad_build, out_of_range}
 use Rattle.rw_model_toml.specs.Path.{key_path}
 use Rattle.rw_model_toml.specs.Value.{integer_of, text_of, items_of, members_of}
 use Rattle.rw_model_toml.specs.Key.{required, only_listed}
 use Rattle.rw_model_toml.specs.ListOf.{list_of}
 use Rattle.rw_model_toml.specs.Names.{name_of}
 use Rattle.rw_model_toml.specs.Kinds.{kind_of}
-use Rattle.rw_model_toml.specs.Added.{object_fault, bound_fault}
-
--- what is built where nothing is wrong
-abbrev pub built : {A : Type 0} → List ℕ → Option BuildFault → A → Result A Refusal
-built path None x = Ok x
-built path (Some fault) x = Err (bad_build path fault)
 
 -- ---- objects
 
--- the object is added, unless something is wrong with it
-abbrev pub with_object : List ℕ → Draft → Object → Result Draft Refusal
-with_object at draft object =
-    built at (object_fault draft.objects object) (record draft { objects = draft.objects ++ object ∷ [] })
+-- the object is told to the builder, at a path
+unfoldable pub object_told : List ℕ → Draft → Object → Result Draft Refusal
+object_told at draft object = refused_as (bad_build at) (with_object draft object)
 
 -- the object whose table stands at the path
 unfoldable pub object_of : List ℕ → Data → Draft → Result Draft Refusal
@@ -35,7 +27,7 @@ object_of at value draft = do
   name ← name_of at table
   word ← required text_of at (codes "kind") table
   kind ← kind_of at word table
-  with_object at draft (record { name = name; kind = kind })
+  object_told at draft (record { name = name; kind = kind })
 
 -- ---- names of slots
 
@@ -60,8 +52,9 @@ slot_in objects path value = text_of path value >>= λ text. Ok (slot_number obj
 abbrev pub few_linked : List ℕ → List ℕ → Result (List ℕ) Refusal
 few_linked path slots = if nat_le 2 (length slots) && nat_le (length slots) 8 then Ok slots else Err (out_of_range path)
 
-abbrev pub with_link : List ℕ → Draft → List ℕ → Result Draft Refusal
-with_link at draft slots = built at (link_fault draft.objects draft.links slots) (record draft { links = draft.links ++ slots ∷ [] })
+-- the link is told to the builder
+unfoldable pub link_told : List ℕ → Draft → List ℕ → Result Draft Refusal
+link_told at draft slots = refused_as (bad_build at) (with_link draft slots)
 
 -- the link whose table stands at the path
 unfoldable pub link_of : List ℕ → Data → Draft → Result Draft Refusal
@@ -71,13 +64,13 @@ link_of at value draft = do
   slots ← list_of (slot_in draft.objects) (key_path at (codes "slots")) 1 items
   few ← few_linked (key_path at (codes "slots")) slots
   listed ← only_listed (codes "slots" ∷ []) at table
-  with_link at draft slots
+  link_told at draft slots
 
 -- ---- bounds
 
-abbrev pub with_bound : List ℕ → Draft → ℕ → Bounds → Result Draft Refusal
-with_bound at draft slot bounds =
-    built at (bound_fault draft.objects draft.bounds slot bounds) (record draft { bounds = draft.bounds ++ record { slot = slot; bounds = bounds } ∷ [] })
+-- the bounds of a slot are told to the builder
+unfoldable pub bound_told : List ℕ → Draft → ℕ → Bounds → Result Draft Refusal
+bound_told at draft slot bounds = refused_as (bad_build at) (with_bound draft slot bounds)
 
 -- the bound whose table stands at the path
 unfoldable pub bound_of : List ℕ → Data → Draft → Result Draft Refusal
@@ -87,4 +80,4 @@ bound_of at value draft = do
   min ← required integer_of at (codes "min") table
   max ← required integer_of at (codes "max") table
   listed ← only_listed (codes "slot" ∷ codes "min" ∷ codes "max" ∷ []) at table
-  with_bound at draft (slot_number draft.objects text) (min, max)
+  bound_told at draft (slot_number draft.objects text) (min, max)

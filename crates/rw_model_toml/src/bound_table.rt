@@ -1,7 +1,7 @@
 ghost use Rattle.std.specs.Prelude.{codes};
 ghost use Rattle.toml.specs.View.{view, items_view, table_view};
 ghost use Rattle.rw_model_toml.specs.Fault.{Gives};
-ghost use Rattle.rw_model_toml.specs.Told.{with_bound, bound_of};
+ghost use Rattle.rw_model_toml.specs.Told.{bound_told, bound_of};
 ghost use Rattle.rw_model_toml.specs.Model.{in_turn, bounds_from};
 
 use crate::ModelFault;
@@ -16,6 +16,7 @@ use rw_model::BasinBuilder;
 use std::alloc::Global;
 use toml::{Table, Value};
 
+#[tactic(auto, unfolding(crate::specs::Told::bound_told))]
 fn add_bound(
     alloc: Global,
     builder: &mut BasinBuilder,
@@ -24,7 +25,7 @@ fn add_bound(
     min: i64,
     max: i64,
 ) -> Result<(), ModelFault>
-    ensures { Gives (λ _. builder.new) result (with_bound at.now builder.old slot.0 (min, max)) }
+    ensures { Gives (λ _. builder.new) result (bound_told at.now builder.old slot.0 (min, max)) }
 {
     match builder.bound(slot, min, max) {
         Ok(()) => Ok(()),

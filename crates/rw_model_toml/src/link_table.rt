@@ -3,7 +3,7 @@ ghost use Rattle.toml.specs.View.{view, items_view, table_view};
 ghost use Rattle.rw_model.specs.Kept.{numbers_of};
 ghost use Rattle.rw_model_toml.specs.Fault.{Gives};
 ghost use Rattle.rw_model_toml.specs.ListOf.{list_of};
-ghost use Rattle.rw_model_toml.specs.Told.{slot_in, with_link, link_of};
+ghost use Rattle.rw_model_toml.specs.Told.{slot_in, link_told, link_of};
 ghost use Rattle.rw_model_toml.specs.Model.{in_turn, links_from};
 
 use crate::ModelFault;
@@ -47,13 +47,15 @@ fn read_slots(
     Ok(slots)
 }
 
+#[tactic(auto, unfolding(crate::specs::Told::link_told))]
 fn add_link(
     alloc: Global,
     builder: &mut BasinBuilder,
     at: &str,
     slots: &[SlotNo],
 ) -> Result<(), ModelFault>
-    ensures { Gives (λ _. builder.new) result (with_link at.now builder.old (numbers_of slots.now)) }
+    ensures { Gives (λ _. builder.new) result
+        (link_told at.now builder.old (numbers_of slots.now)) }
 {
     match builder.link(slots) {
         Ok(()) => Ok(()),

@@ -1,11 +1,12 @@
-ghost use Rattle.std.specs.Prelude.{◌≡◌, codes, Ok, IfOk, IfErr};
-ghost use Rattle.std.specs.Option.{ForSome};
-ghost use Rattle.rw_model.specs.Basin.{finish_fault, IsBasin};
-ghost use Rattle.rw_model_toml.specs.Refusal.{IsPlain};
+ghost use Rattle.std.specs.Prelude.{◌≡◌, codes, IfOk};
+ghost use Rattle.rw_base.specs.Answers.{Answers};
+ghost use Rattle.rw_model_toml.specs.declared.fault.ModelFault.TheVariants as ModelFault;
+ghost use Rattle.rw_model.specs.Basin.{IsBasin};
+ghost use Rattle.rw_model.specs.Build.{finished};
+ghost use Rattle.rw_model_toml.specs.Refusal.{refused_as, bad_build};
 ghost use Rattle.toml.specs.View.{table_view};
 ghost use Rattle.rw_model.specs.Draft.{IsControl};
-ghost use Rattle.rw_model_toml.specs.Fault.{Gives, IsWhy, refusal_of};
-ghost use Rattle.rw_model_toml.specs.Told.{built};
+ghost use Rattle.rw_model_toml.specs.Fault.{Gives, refusal_of};
 ghost use Rattle.rw_model_toml.specs.Model.{control_in, empty_draft, filled, draft_of, toml_of, table_or, basin_of, model_of};
 
 use crate::ModelFault;
@@ -67,7 +68,8 @@ fn read_draft(alloc: Global, table: &Table) -> Result<BasinBuilder, ModelFault>
 
 // The basin that the builder makes.
 fn finish(alloc: Global, builder: BasinBuilder) -> Result<Basin, ModelFault>
-    ensures read { Gives (λ basin. basin) result (built (codes "basin") (finish_fault builder) builder) }
+    ensures read { Gives (λ basin. basin) result
+        (refused_as (bad_build (codes "basin")) (finished builder)) }
     ensures valid { IfOk result IsBasin }
 {
     match builder.finish() {
@@ -105,10 +107,9 @@ fn read_basin(alloc: Global, table: &Table) -> Result<Basin, ModelFault>
 /// A refusal is the first thing that is wrong, in the order in which the format judges, with the path of its key. Its
 /// inner fault is never a want of memory. `NoMemory` says nothing of the file.
 pub fn read_model(alloc: Global, text: &[u8]) -> Result<Basin, ModelFault>
-    ensures read { IfOk result (λ basin. model_of text.now ≡ Ok basin) }
+    ensures answers { Answers ModelFault.NoMemory refusal_of (λ basin. basin) result
+        (model_of text.now) }
     ensures valid { IfOk result IsBasin }
-    ensures due { IfErr result (IsWhy (model_of text.now)) }
-    ensures plain { IfErr result (λ fault. ForSome (refusal_of fault) IsPlain) }
 {
     let table = read_table(alloc, text)?;
     read_basin(alloc, &table)

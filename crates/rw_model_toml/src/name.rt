@@ -1,20 +1,13 @@
-ghost use Rattle.std.specs.Prelude.{◌≡◌};
 ghost use Rattle.toml.specs.View.{table_view};
 ghost use Rattle.rw_model_toml.specs.Fault.{Gives};
-ghost use Rattle.rw_model_toml.specs.Names.{is_name, name_of};
+ghost use Rattle.rw_model_toml.specs.Names.{name_of};
 
 use crate::ModelFault;
 use crate::key::required_text;
 use crate::path::key_path;
-use rw_model::BuildFault;
+use rw_model::{BuildFault, is_name};
 use std::alloc::Global;
 use toml::Table;
-
-fn is_name(text: &str) -> bool
-    ensures { result ≡ is_name text.now }
-{
-    rw_model::is_name(text)
-}
 
 /// The name of an object or a slot, in the table at a path.
 pub fn read_name<'a>(alloc: Global, at: &str, table: &'a Table) -> Result<&'a str, ModelFault>

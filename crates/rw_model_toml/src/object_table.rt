@@ -1,7 +1,7 @@
 ghost use Rattle.std.specs.Prelude.{codes};
 ghost use Rattle.toml.specs.View.{view, items_view, table_view};
 ghost use Rattle.rw_model_toml.specs.Fault.{Gives};
-ghost use Rattle.rw_model_toml.specs.Told.{with_object, object_of};
+ghost use Rattle.rw_model_toml.specs.Told.{object_told, object_of};
 ghost use Rattle.rw_model_toml.specs.Model.{in_turn, objects_from};
 
 use crate::ModelFault;
@@ -15,6 +15,7 @@ use rw_model::{BasinBuilder, Kind};
 use std::alloc::Global;
 use toml::{Table, Value};
 
+#[tactic(auto, unfolding(crate::specs::Told::object_told))]
 fn add_object(
     alloc: Global,
     builder: &mut BasinBuilder,
@@ -22,7 +23,8 @@ fn add_object(
     name: &str,
     kind: Kind,
 ) -> Result<(), ModelFault>
-    ensures { Gives (λ _. builder.new) result (with_object at.now builder.old (record { name = name.now; kind = kind })) }
+    ensures { Gives (λ _. builder.new) result
+        (object_told at.now builder.old (record { name = name.now; kind = kind })) }
 {
     match builder.object(name, kind) {
         Ok(_) => Ok(()),

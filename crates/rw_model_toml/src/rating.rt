@@ -3,14 +3,12 @@ ghost use Rattle.toml.specs.View.{view, items_view, table_view};
 ghost use Rattle.rw_model_toml.specs.Fault.{Gives};
 ghost use Rattle.rw_model_toml.specs.Key.{optional};
 ghost use Rattle.rw_model_toml.specs.ListOf.{list_of};
-ghost use Rattle.rw_model_toml.specs.Rows.{table_fault};
 ghost use Rattle.rw_model_toml.specs.Kinds.{row_in, row_of, rated, rating_of};
 
 use crate::ModelFault;
 use crate::key::member;
 use crate::path::{element_path, key_path};
 use crate::value::items;
-use rw_table::law::{one_fault, table_has_no_fault};
 use rw_table::{Rating, TableFault};
 use std::alloc::Global;
 use toml::{Table, Value};
@@ -54,10 +52,8 @@ fn read_rows(alloc: Global, path: &str, items: &[Value]) -> Result<Vec<(i64, i64
 
 // The table of these rows.
 fn rate(alloc: Global, path: String, rows: &[(i64, i64)]) -> Result<Rating, ModelFault>
-    ensures { Gives (λ rating. Some rating) result (rated (string_bytes path) rows.now (table_fault rows.now)) }
+    ensures { Gives (λ rating. Some rating) result (rated (string_bytes path) rows.now) }
 {
-    table_has_no_fault();
-    one_fault();
     let fault = match Rating::of(alloc, rows) {
         Ok(rating) => return Ok(rating),
         Err(fault) => fault,

@@ -1,9 +1,10 @@
-ghost use Rattle.std.specs.Prelude.{◌≡◌, ◌≢◌};
-ghost use Rattle.std.specs.Option.{ForSome};
+ghost use Rattle.std.specs.Prelude.{Result};
+ghost use Rattle.rw_base.specs.Answers.{IsWhy as IsWhyOf};
 ghost use Rattle.rw_model.specs.declared.fault.BuildFault.TheVariants as BuildFault;
-ghost use Rattle.rw_model_toml.specs.declared.fault.ModelFault.TheVariants as ModelFault;
-ghost use Rattle.rw_model_toml.specs.Refusal.{bad_build};
-ghost use Rattle.rw_model_toml.specs.Fault.{refusal_of};
+ghost use Rattle.rw_model.specs.Draft.{Draft};
+ghost use Rattle.rw_model.specs.Refusal.{BuildRefusal, refusal_of};
+ghost use Rattle.rw_model_toml.specs.Refusal.{refused_as, bad_build};
+ghost use Rattle.rw_model_toml.specs.Fault.{IsWhy};
 
 use crate::ModelFault;
 use rw_model::BuildFault;
@@ -11,9 +12,9 @@ use std::alloc::Global;
 
 /// What a builder's fault at the path tells of the model.
 pub fn told(alloc: Global, path: &str, fault: BuildFault) -> ModelFault
-    ensures memory { fault ≡ BuildFault.NoMemory → result ≡ ModelFault.NoMemory }
-    ensures other { fault ≢ BuildFault.NoMemory
-        → ForSome (refusal_of result) (λ refusal. refusal ≡ bad_build path.now fault) }
+    ensures { (given : Result Draft BuildRefusal)
+        → IsWhyOf BuildFault.NoMemory refusal_of given fault
+        → IsWhy (refused_as (bad_build path.now) given) result }
 {
     if let BuildFault::NoMemory = fault {
         return ModelFault::NoMemory;

@@ -1,73 +1,95 @@
--- Rows are a table or have a fault, and not both, and they have one fault at most.
-use Rattle.std.proofs.Common.{◌≡◌, ℕ, List, ap, arith, inl, inr}
-use Rattle.std.proofs.lemmas.Bool.{cases_order}
+-- Nothing is wrong with rows exactly where they are a table.
+use Rattle.std.proofs.Common.{◌≡◌, ◌↔◌, ℕ, zero, suc, ◌<◌, ◌≤◌, nat_lt, List, length, Option, None, Some, refl, sym, subst, ◌∙◌, ap, ◌+◌, arith, below_more, inl, inr}
+use Rattle.std.specs.Option.{option_or}
+use Rattle.std.specs.Bool.{Decides}
+use Rattle.std.proofs.lemmas.Bool.{cases_eq}
+use Rattle.std.proofs.lemmas.Bool.Decides.{nat_tests, Decides-and, Decides-like}
+use Rattle.rw_base.specs.Answers.{Finds}
+use Rattle.rw_base.proofs.Answering.{found}
+use Rattle.rw_base.proofs.Tests.{Decides-from_to, Decides-int_lt, passed, spared, unless, where-true}
 use Rattle.rw_table.specs.declared.fault.TableFault.{TableFault}
-use Rattle.rw_table.specs.declared.fault.TableFault.TheVariants.{TooFewRows, TooManyRows, OutOfBounds, NotRising, NoMemory}
-use Rattle.rw_table.specs.Table.{Row, row_at, IsWithinBounds, IsRisingAt, IsGoodRow, IsTable, IsFirstBad, IsFault}
+use Rattle.rw_table.specs.Table.{Row, refusal_of, row_at, IsWithinBounds, IsAbove, IsRisingAt, IsGoodRow, IsTable, TableRefusal, not_rising, is_within_bounds, is_above, is_rising_at, row_refusal, rows_refusal, table_refusal}
 
--- what is wrong with a row in this place is that it isn't good
-abbrev IsBad : List Row → (ℕ → Type 0) → Type 0
-IsBad rows IsWrong = (k : ℕ) → IsWrong k → ¬ IsGoodRow rows k
+Decides-bounds : (row : Row) → Decides (is_within_bounds row) (IsWithinBounds row)
+Decides-bounds row = Decides-like (is_within_bounds row)
+    (λ p. record { lowest = p.0.0; highest = p.0.1; empty = p.1.0; fullest = p.1.1 }) (λ p. ((p.lowest, p.highest), (p.empty, p.fullest)))
+    (Decides-and _ _ (Decides-from_to _ _ row.0) (Decides-from_to _ _ row.1))
 
--- a row out of bounds is bad, and so is one that does not rise
-bounds_bad : (rows : List Row) → IsBad rows (λ k. ¬ IsWithinBounds (row_at rows k))
-bounds_bad rows k wrong good = wrong good.bounds
+Decides-above : (row before : Row) → Decides (is_above row before) (IsAbove row before)
+Decides-above row before = Decides-like (is_above row before)
+    (λ p. record { elevation = p.0; volume = p.1 }) (λ p. (p.elevation, p.volume))
+    (Decides-and _ _ (Decides-int_lt before.0 row.0) (Decides-int_lt before.1 row.1))
 
-rising_bad : (rows : List Row) → IsBad rows (λ k. IsWithinBounds (row_at rows k) × ¬ IsRisingAt rows k)
-rising_bad rows k wrong good = wrong.1 good.rising
+Decides-rising : (rows : List Row) (k : ℕ) → Decides (is_rising_at rows k) (IsRisingAt rows k)
+Decides-rising rows zero = (λ _. λ j before. absurd (omega arith), λ _. refl)
+Decides-rising rows (suc k) = Decides-like (is_rising_at rows (suc k))
+    (λ p. λ j before. let same : j ≡ k = omega arith in rw same p) (λ p. p k (omega arith))
+    (Decides-above (row_at rows (suc k)) (row_at rows k))
 
--- rows with a bad row are no table
-bad_table : (rows : List Row) (number : ℕ) (IsWrong : ℕ → Type 0) → IsBad rows IsWrong → IsFirstBad rows number IsWrong → ¬ IsTable rows
-bad_table rows number IsWrong bad first table = bad first.place first.wrong (table.good first.place first.within)
+row-iff : (rows : List Row) (k : ℕ) → (row_refusal rows k ≡ None) ↔ IsGoodRow rows k
+row-iff rows k = (
+  λ e.
+      let first = passed (is_within_bounds (row_at rows k)) _ _ e in
+      let second = passed (is_rising_at rows k) None (not_rising (k + 1)) first.1 in
+      record { bounds = (Decides-bounds (row_at rows k)).0 first.0; rising = (Decides-rising rows k).0 second.0 },
+  λ good.
+      where-true (is_within_bounds (row_at rows k)) _ _ ((Decides-bounds (row_at rows k)).1 good.bounds)
+      ∙ where-true (is_rising_at rows k) _ _ ((Decides-rising rows k).1 good.rising),
+)
 
--- two first bad rows are one
-same_place : (rows : List Row) (m n : ℕ) (P Q : ℕ → Type 0) → IsBad rows P → IsBad rows Q → (f : IsFirstBad rows m P) (g : IsFirstBad rows n Q) → f.place ≡ g.place
-same_place rows m n P Q bad_p bad_q f g = elim (cases_order f.place g.place) [
-  | inl same ↦ same
-  | inr apart ↦ elim apart [
-    | inl before ↦ absurd (bad_p f.place f.wrong (g.before f.place before))
-    | inr after ↦ absurd (bad_q g.place g.wrong (f.before g.place after))
-  ]
+-- neither is there
+both-none : {A : Type 0} (a b : Option A) → option_or a b ≡ None → (a ≡ None) × (b ≡ None)
+both-none None b e = (refl, e)
+both-none (Some x) b e = cc
+
+rows-good : (rows : List Row) (n : ℕ) → rows_refusal rows n ≡ None → (k : ℕ) → k < n → IsGoodRow rows k
+rows-good rows zero e = λ k below. absurd (omega arith)
+rows-good rows (suc n) e =
+    let parts = both-none (rows_refusal rows n) (row_refusal rows n) e in
+    λ k below. below_more (IsGoodRow rows) n (rows-good rows n parts.0) ((row-iff rows n).0 parts.1) k (omega arith)
+
+rows-free : (rows : List Row) (n : ℕ) → ((k : ℕ) → k < n → IsGoodRow rows k) → rows_refusal rows n ≡ None
+rows-free rows zero good = refl
+rows-free rows (suc n) good = ap (λ found. option_or found (row_refusal rows n)) (rows-free rows n (λ k below. good k (omega arith))) ∙ (row-iff rows n).1 (good n (omega arith))
+
+pub table-iff : (rows : List Row) → (table_refusal rows ≡ None) ↔ IsTable rows
+table-iff rows = (
+  λ e.
+      let first = spared (nat_lt (length rows) 2) _ _ e in
+      let second = spared (nat_lt 200 (length rows)) (rows_refusal rows (length rows)) _ first.1 in
+      record { some = grind (arith, nat_tests); few = grind (arith, nat_tests); good = rows-good rows (length rows) second.1 },
+  λ table.
+      let some = table.some in
+      let few = table.few in
+      unless (nat_lt (length rows) 2) _ _ (grind (arith, nat_tests))
+      ∙ unless (nat_lt 200 (length rows)) _ _ (grind (arith, nat_tests))
+      ∙ rows-free rows (length rows) table.good,
+)
+
+-- what is wrong with the first rows is wrong with all
+found-first : (rows : List Row) (m n : ℕ) (refusal : TableRefusal) → m ≤ n → rows_refusal rows m ≡ Some refusal → rows_refusal rows n ≡ Some refusal
+found-first rows m zero refusal le e = let none : m ≡ zero = omega arith in subst (λ k. rows_refusal rows k ≡ Some refusal) none e
+found-first rows m (suc n) refusal le e = elim (cases_eq m (suc n)) [
+  | inl same ↦ subst (λ k. rows_refusal rows k ≡ Some refusal) same e
+  | inr other ↦ ap (λ found. option_or found (row_refusal rows n)) (found-first rows m n refusal (omega arith) e)
 ]
 
--- so they have one number
-same_number : (rows : List Row) (m n : ℕ) (P Q : ℕ → Type 0) → IsBad rows P → IsBad rows Q → IsFirstBad rows m P → IsFirstBad rows n Q → m ≡ n
-same_number rows m n P Q bad_p bad_q f g =
-    let same = same_place rows m n P Q bad_p bad_q f g in
-    omega arith
+-- nothing is wrong with the rows before one, nor with that
+pub next-none : (rows : List Row) (k : ℕ) → rows_refusal rows k ≡ None → row_refusal rows k ≡ None → rows_refusal rows (k + 1) ≡ None
+next-none rows k before here =
+    let next : k + 1 ≡ suc k = omega arith in
+    rw next (ap (λ found. option_or found (row_refusal rows k)) before ∙ here)
 
--- a table has no fault
-pub no_fault : (rows : List Row) (fault : TableFault) → IsTable rows → ¬ IsFault rows fault
-no_fault rows TooFewRows table h = absurd (omega arith)
-no_fault rows TooManyRows table h = absurd (omega arith)
-no_fault rows (OutOfBounds number) table h = bad_table rows number _ (bounds_bad rows) h table
-no_fault rows (NotRising number) table h = bad_table rows number _ (rising_bad rows) h table
-no_fault rows NoMemory table h = absurd h
+-- or something is
+pub first-here : (rows : List Row) (k : ℕ) (fault : TableFault) → k < length rows → rows_refusal rows k ≡ None
+    → Finds refusal_of (Some fault) (row_refusal rows k) → Finds refusal_of (Some fault) (rows_refusal rows (length rows))
+first-here rows k fault within before finds =
+    let is = found refusal_of fault (row_refusal rows k) finds in
+    let same = found-first rows (suc k) (length rows) is.0 (omega arith) (ap (λ first. option_or first (row_refusal rows k)) before ∙ is.2) in
+    (same ∙ sym is.1, rw same refl)
 
--- a row out of bounds is not one whose bounds are right
-apart : (rows : List Row) (m n : ℕ) → IsFirstBad rows m (λ k. ¬ IsWithinBounds (row_at rows k)) → IsFirstBad rows n (λ k. IsWithinBounds (row_at rows k) × ¬ IsRisingAt rows k) → ⊥
-apart rows m n f g =
-    let same = same_place rows m n _ _ (bounds_bad rows) (rising_bad rows) f g in
-    let wrong : ¬ IsWithinBounds (row_at rows g.place) = rw (← same) f.wrong in
-    wrong g.wrong.0
-
--- two faults of the same rows are one
-pub one_fault : (rows : List Row) (f g : TableFault) → IsFault rows f → IsFault rows g → f ≡ g
-one_fault rows TooFewRows TooFewRows f g = cc
-one_fault rows TooFewRows TooManyRows f g = absurd (omega arith)
-one_fault rows TooFewRows (OutOfBounds n) f g = absurd (omega arith)
-one_fault rows TooFewRows (NotRising n) f g = absurd (omega arith)
-one_fault rows TooManyRows TooFewRows f g = absurd (omega arith)
-one_fault rows TooManyRows TooManyRows f g = cc
-one_fault rows TooManyRows (OutOfBounds n) f g = absurd (omega arith)
-one_fault rows TooManyRows (NotRising n) f g = absurd (omega arith)
-one_fault rows (OutOfBounds m) TooFewRows f g = absurd (omega arith)
-one_fault rows (OutOfBounds m) TooManyRows f g = absurd (omega arith)
-one_fault rows (OutOfBounds m) (OutOfBounds n) f g = ap OutOfBounds (same_number rows m n _ _ (bounds_bad rows) (bounds_bad rows) f g)
-one_fault rows (OutOfBounds m) (NotRising n) f g = absurd (apart rows m n f g)
-one_fault rows (NotRising m) TooFewRows f g = absurd (omega arith)
-one_fault rows (NotRising m) TooManyRows f g = absurd (omega arith)
-one_fault rows (NotRising m) (OutOfBounds n) f g = absurd (apart rows n m g f)
-one_fault rows (NotRising m) (NotRising n) f g = ap NotRising (same_number rows m n _ _ (rising_bad rows) (rising_bad rows) f g)
-one_fault rows NoMemory g f h = absurd f
-one_fault rows f NoMemory g h = absurd h
+-- 2 to 200 rows of which none is found to be bad are a table
+pub found-table : (rows : List Row) (result : Option TableFault) → 2 ≤ length rows → length rows ≤ 200
+    → Finds refusal_of result (rows_refusal rows (length rows)) → result ≡ None → IsTable rows
+found-table rows None some few finds none = record { some = some; few = few; good = rows-good rows (length rows) finds }
+found-table rows (Some fault) some few finds none = absurd cc

@@ -2,21 +2,13 @@
 use Rattle.std.proofs.Common.{◌≡◌, ℕ, suc, ◌+◌, ◌<◌, ℤ, ◌≤ℤ◌, ◌<ℤ◌, ◌↔◌, ◌⊎◌, inl, inr, subst, List, length, ◌-◌, Option, Some, None, MatchOption, refl, sym, arith}
 use Rattle.std.specs.Prelude.{IsSome, IsSomeAnd}
 use Rattle.std.proofs.lemmas.Int.{ints}
-use Rattle.rw_table.specs.declared.fault.TableFault.{TableFault}
-use Rattle.rw_table.specs.Table.{Row, row_at, IsTable, IsFault}
+use Rattle.rw_table.specs.Table.{Row, row_at, IsTable}
 use Rattle.rw_table.specs.Line.{between}
 use Rattle.rw_table.specs.Curve.{vol_of, elev_of, first_row, last_row, IsElevationInside, IsVolumeInside, IsGreatest}
-use Rattle.rw_table.proofs.Judgement as judgement
 use Rattle.rw_table.proofs.Comparison.{below_or_not}
 use Rattle.rw_table.proofs.Volume.{inside, has_volume_inside, volume_of_row, volume_on_line, never_falls}
 use Rattle.rw_table.proofs.Count.{volume_at_most, at_most_from}
 use Rattle.rw_table.proofs.Elevation.{elev_held, elev_outside}
-
-pub table_has_no_fault : (rows : List Row) (fault : TableFault) → IsTable rows → ¬ IsFault rows fault
-table_has_no_fault = judgement.no_fault
-
-pub one_fault : (rows : List Row) (fault other : TableFault) → IsFault rows fault → IsFault rows other → fault ≡ other
-one_fault = judgement.one_fault
 
 -- to have a value, in two forms
 some_from : (o : Option ℤ) (v : ℤ) → o ≡ Some v → IsSome o

@@ -1,5 +1,8 @@
--- The rows that make a table, and the first fault of those that don't.
-use Rattle.std.specs.Prelude.{◌≡◌, ℕ, ◌+◌, ◌<◌, ◌≤◌, ℤ, pos, ◌≤ℤ◌, ◌<ℤ◌, List, length, slice_index_or}
+-- The rows that make a table, and why others make none.
+use Rattle.std.specs.Prelude.{◌≡◌, ℕ, zero, suc, ◌+◌, ◌<◌, ◌≤◌, nat_lt, ℤ, pos, ◌≤ℤ◌, ◌<ℤ◌, int_lt, Bool, true, ◌&&◌, if◌then◌else◌, List, length, slice_index_or, Option, Some, None, Result}
+use Rattle.std.specs.Option.{option_or}
+use Rattle.rw_base.specs.Answers.{unless_refused}
+use Rattle.rw_base.specs.Range.{is_from_to}
 use Rattle.rw_table.specs.declared.fault.TableFault.{TableFault}
 use Rattle.rw_table.specs.declared.fault.TableFault.TheVariants.{TooFewRows, TooManyRows, OutOfBounds, NotRising, NoMemory}
 
@@ -37,20 +40,51 @@ pub record IsTable (rows : List Row) : Type 0 where
   pub few : length rows ≤ 200
   pub good : (k : ℕ) → k < length rows → IsGoodRow rows k
 
--- of 2 to 200 rows the one of this number, counted from 1, is the first that isn't good, and this is what is wrong
-pub record IsFirstBad (rows : List Row) (number : ℕ) (IsWrong : ℕ → Type 0) : Type 0 where
-  pub some : 2 ≤ length rows
-  pub few : length rows ≤ 200
-  pub place : ℕ
-  pub counted : number ≡ place + 1
-  pub within : place < length rows
-  pub before : (k : ℕ) → k < place → IsGoodRow rows k
-  pub wrong : IsWrong place
+-- ---- why rows are no table
 
--- what is wrong with rows that are no table. Bounds are judged before the rising
-abbrev pub IsFault : List Row → TableFault → Type 0
-IsFault rows TooFewRows = length rows < 2
-IsFault rows TooManyRows = 200 < length rows
-IsFault rows (OutOfBounds number) = IsFirstBad rows number (λ k. ¬ IsWithinBounds (row_at rows k))
-IsFault rows (NotRising number) = IsFirstBad rows number (λ k. IsWithinBounds (row_at rows k) × ¬ IsRisingAt rows k)
-IsFault rows NoMemory = ⊥
+-- rows are counted from 1
+pub data TableRefusal : Type 0 where
+  too_few_rows : TableRefusal
+  too_many_rows : TableRefusal
+  out_of_bounds : ℕ → TableRefusal
+  not_rising : ℕ → TableRefusal
+
+-- what a fault tells of the rows. Want of memory tells nothing of them
+abbrev pub refusal_of : TableFault → Option TableRefusal
+refusal_of TooFewRows = Some too_few_rows
+refusal_of TooManyRows = Some too_many_rows
+refusal_of (OutOfBounds number) = Some (out_of_bounds number)
+refusal_of (NotRising number) = Some (not_rising number)
+refusal_of NoMemory = None
+
+abbrev pub is_within_bounds : Row → Bool
+is_within_bounds row = is_from_to (pos 0) (pos 10000000) row.0 && is_from_to (pos 0) (pos 10000000000000) row.1
+
+abbrev pub is_above : Row → Row → Bool
+is_above row before = int_lt before.0 row.0 && int_lt before.1 row.1
+
+abbrev pub is_rising_at : List Row → ℕ → Bool
+is_rising_at rows zero = true
+is_rising_at rows (suc k) = is_above (row_at rows (suc k)) (row_at rows k)
+
+-- what is wrong with the row in place k, if something is. Its bounds are judged before the rising
+abbrev pub row_refusal : List Row → ℕ → Option TableRefusal
+row_refusal rows k =
+    if is_within_bounds (row_at rows k)
+    then (if is_rising_at rows k then None else Some (not_rising (k + 1)))
+    else Some (out_of_bounds (k + 1))
+
+-- the first of the first n rows with which something is wrong, if there is one
+abbrev pub rows_refusal : List Row → ℕ → Option TableRefusal
+rows_refusal rows zero = None
+rows_refusal rows (suc n) = option_or (rows_refusal rows n) (row_refusal rows n)
+
+-- why rows are no table, if they aren't. Their number is judged first
+abbrev pub table_refusal : List Row → Option TableRefusal
+table_refusal rows =
+    if nat_lt (length rows) 2 then Some too_few_rows
+    else (if nat_lt 200 (length rows) then Some too_many_rows else rows_refusal rows (length rows))
+
+-- the table that rows make
+abbrev pub table_of : List Row → Result (List Row) TableRefusal
+table_of rows = unless_refused (table_refusal rows) rows

@@ -1,5 +1,6 @@
-ghost use Rattle.std.specs.Prelude.{ℕ, ◌<◌, ◌≤◌, length, MatchBool, MatchResult};
-ghost use Rattle.rw_table.specs.Table.{IsWithinBounds, IsAbove, IsGoodRow, IsTable, IsFault};
+ghost use Rattle.std.specs.Prelude.{◌≡◌, ◌<◌, ◌≤◌, length, None};
+ghost use Rattle.rw_base.specs.Answers.{Finds};
+ghost use Rattle.rw_table.specs.Table.{IsTable, refusal_of, is_within_bounds, is_above, row_refusal, rows_refusal, table_refusal};
 
 use thiserror::Error;
 
@@ -33,49 +34,58 @@ pub enum TableFault {
 }
 
 fn is_within_bounds(row: (i64, i64)) -> bool
-    ensures { MatchBool result (IsWithinBounds row) (¬ IsWithinBounds row) }
+    ensures { result ≡ is_within_bounds row }
 {
     let (elevation, volume) = row;
-    0 <= elevation && elevation <= ELEVATION_MAX && 0 <= volume && volume <= VOLUME_MAX
+    (0 <= elevation && elevation <= ELEVATION_MAX) && (0 <= volume && volume <= VOLUME_MAX)
 }
 
 fn is_above(row: (i64, i64), before: (i64, i64)) -> bool
-    ensures { MatchBool result (IsAbove row before) (¬ IsAbove row before) }
+    ensures { result ≡ is_above row before }
 {
     before.0 < row.0 && before.1 < row.1
 }
 
-// What is wrong with the row in this place, where those before it are good.
-fn judge_row(rows: &[(i64, i64)], place: usize) -> Result<(), TableFault>
-    requires some { 2 ≤ length rows.now }
+// What is wrong with the row in this place, if something is.
+fn judge_row(rows: &[(i64, i64)], place: usize) -> Option<TableFault>
     requires few { length rows.now ≤ 200 }
     requires within { place < length rows.now }
-    requires before { (k : ℕ) → k < place → IsGoodRow rows.now k }
-    ensures { MatchResult result (λ _. IsGoodRow rows.now place) (IsFault rows.now) }
+    ensures { Finds refusal_of result (row_refusal rows.now place) }
 {
     let row = rows[place];
     let number = place as u32 + 1;
     if !is_within_bounds(row) {
-        return Err(TableFault::OutOfBounds(number));
+        return Some(TableFault::OutOfBounds(number));
     }
     if place > 0 && !is_above(row, rows[place - 1]) {
-        return Err(TableFault::NotRising(number));
+        return Some(TableFault::NotRising(number));
     }
-    Ok(())
+    None
+}
+
+// The first fault of a row.
+fn judge_rows(rows: &[(i64, i64)]) -> Option<TableFault>
+    requires few { length rows.now ≤ 200 }
+    ensures { Finds refusal_of result (rows_refusal rows.now (length rows.now)) }
+{
+    for place in 0..rows.len() {
+        if let Some(fault) = judge_row(rows, place) {
+            return Some(fault);
+        }
+    }
+    None
 }
 
 /// The first fault of the rows, if they have one.
-pub fn judge(rows: &[(i64, i64)]) -> Result<(), TableFault>
-    ensures { MatchResult result (λ _. IsTable rows.now) (IsFault rows.now) }
+pub fn judge(rows: &[(i64, i64)]) -> Option<TableFault>
+    ensures fault { Finds refusal_of result (table_refusal rows.now) }
+    ensures table { result ≡ None → IsTable rows.now }
 {
     if rows.len() < 2 {
-        return Err(TableFault::TooFewRows);
+        return Some(TableFault::TooFewRows);
     }
     if rows.len() > ROWS_MAX {
-        return Err(TableFault::TooManyRows);
+        return Some(TableFault::TooManyRows);
     }
-    for place in 0..rows.len() {
-        judge_row(rows, place)?;
-    }
-    Ok(())
+    judge_rows(rows)
 }

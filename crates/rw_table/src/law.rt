@@ -1,20 +1,13 @@
 //! What holds of every table. Each law is the `ensures` of a function that does nothing; its proof has the same name in
 //! `proofs/Laws.antt`.
-ghost use Rattle.std.specs.Prelude.{◌≡◌, ℕ, ◌+◌, ◌<◌, ℤ, ◌≤ℤ◌, ◌<ℤ◌, ◌↔◌, List, length, Some, IsSome, IsSomeAnd, MatchOption};
-ghost use Rattle.rw_table.specs.declared.fault.TableFault.{TableFault};
-ghost use Rattle.rw_table.specs.Table.{Row, row_at, IsTable, IsFault};
+ghost use Rattle.std.specs.Prelude.{◌≡◌, ℕ, ◌+◌, ◌<◌, ℤ, ◌≤ℤ◌, ◌<ℤ◌, ◌↔◌, List, length, None, Some, IsSome, IsSomeAnd, MatchOption};
+ghost use Rattle.rw_table.specs.Table.{Row, row_at, IsTable, table_refusal};
 ghost use Rattle.rw_table.specs.Line.{between};
 ghost use Rattle.rw_table.specs.Curve.{vol_of, elev_of, IsElevationInside, IsVolumeInside, IsGreatest};
 
-/// Rows that are a table have no fault.
-pub fn table_has_no_fault()
-    ensures { (rows : List Row) (fault : TableFault) → IsTable rows → ¬ IsFault rows fault }
-{}
-
-/// Rows have at most one fault.
-pub fn one_fault()
-    ensures { (rows : List Row) (fault other : TableFault)
-        → IsFault rows fault → IsFault rows other → fault ≡ other }
+/// Nothing is wrong with rows exactly where they are a table.
+pub fn faultless_rows()
+    ensures { (rows : List Row) → (table_refusal rows ≡ None) ↔ IsTable rows }
 {}
 
 /// There is a volume exactly from the first elevation to the last.

@@ -1,6 +1,7 @@
-ghost use Rattle.std.specs.Prelude.{◌≡◌, ◌⊎◌, Err, OnOk, IfOk, IfErr};
+ghost use Rattle.std.specs.Prelude.{◌≡◌, OnOk, IsOk, IfOk, IsErrOf};
 ghost use Rattle.std.specs.Option.{ForSome};
-ghost use Rattle.rw_table.specs.Table.{IsTable, IsFault};
+ghost use Rattle.rw_base.specs.Answers.{Answers};
+ghost use Rattle.rw_table.specs.Table.{IsTable, refusal_of, table_of};
 ghost use Rattle.rw_table.specs.Curve.{vol_of, elev_of, first_row, IsElevationInside};
 
 use crate::fault::{TableFault, judge};
@@ -33,11 +34,13 @@ impl Rating {
     pub fn of(alloc: Global, rows: &[(i64, i64)]) -> Result<Rating, TableFault>
         ensures rows { IfOk result (λ rating. rating ≡ rows.now) }
         ensures table { OnOk result (IsTable rows.now) }
-        ensures judged { (fault : TableFault) → IsFault rows.now fault → result ≡ Err fault }
-        ensures cause { IfErr result (λ fault. (fault ≡ TableFault.NoMemory) ⊎ IsFault rows.now fault) }
-        ensures memory { result ≡ Err TableFault.NoMemory → IsTable rows.now }
+        ensures answers { Answers TableFault.NoMemory refusal_of (λ rating. rating) result
+            (table_of rows.now) }
+        ensures memory { IsErrOf result TableFault.NoMemory → IsOk (table_of rows.now) }
     {
-        judge(rows)?;
+        if let Some(fault) = judge(rows) {
+            return Err(fault);
+        }
         match rows.to_vec(alloc) {
             Ok(rows) => Ok(Rating { rows }),
             Err(_) => Err(TableFault::NoMemory),

@@ -12,8 +12,6 @@ use Rattle.rw_model.specs.Draft.{Draft}
 use Rattle.rw_model_toml.specs.Fault.{refusal_of}
 use Rattle.rw_model_toml.specs.Model.{model_of}
 use Rattle.rw_model_toml.specs.Refusal.{Refusal as Why}
-use Rattle.rw_model_toml.specs.declared.fault.ModelFault.{ModelFault}
-use Rattle.rw_model_toml.specs.declared.fault.ModelFault.TheVariants.{NotToml, Missing, WrongKind, UnknownKey, UnknownKind, Build, Table, Calendar, NoMemory as NoMemoryForModel}
 use Rattle.rw_top.specs.Command.{Command, path_of}
 use Rattle.rw_top.specs.Reason.{Reason, BadModel, BadInputs, LongFile, status_by}
 use Rattle.rw_top.specs.Reading.{IsTooLong, Reaches, ReadsBoth, ReadsModel, WasRead}
@@ -23,17 +21,10 @@ use Rattle.rw_top.specs.declared.refusal.File.TheVariants.{Model as ModelFile, I
 use Rattle.rw_top.specs.declared.refusal.Refusal.{Refusal}
 use Rattle.rw_top.specs.declared.refusal.Refusal.TheVariants.{CannotRead, CannotWrite, NoMemory, Model, Inputs, TooLong}
 
--- every fault of a model but want of memory tells why
-pub tells_why : (fault : ModelFault) → fault ≢ NoMemoryForModel → (why : Why) × (refusal_of fault ≡ Some why)
-tells_why NotToml other = (_, refl)
-tells_why (Missing path) other = (_, refl)
-tells_why (WrongKind path) other = (_, refl)
-tells_why (UnknownKey path) other = (_, refl)
-tells_why (UnknownKind path) other = (_, refl)
-tells_why (Build path fault) other = (_, refl)
-tells_why (Table path fault) other = (_, refl)
-tells_why (Calendar fault) other = (_, refl)
-tells_why NoMemoryForModel other = absurd (other refl)
+-- a fault that doesn't tell nothing tells why
+pub tells_why : (told : Option Why) → ¬ (told ≡ None) → (why : Why) × (told ≡ Some why)
+tells_why None tells = absurd (tells refl)
+tells_why (Some why) tells = (why, refl)
 
 -- a refusal that tells a reason has the status of the reason
 told_model : (why : Option Why) (reason : Reason) → option_map (λ bad. BadModel bad) why ≡ Some reason → 6 ≡ status_by reason

@@ -1,4 +1,3 @@
-use Rattle.std.proofs.Common.{ap, ◌∙◌, ◌+◌, arith}
 use Rattle.rw_model.proofs.PlaceNumbers.{numbers-more}
 use Rattle.rw_model.proofs.numbers.push_numbers.Goals as goal
 

@@ -1,6 +1,5 @@
 use Rattle.rw_model_toml.proofs.Basins.{model-valid}
-use Rattle.rw_model_toml.proofs.Drafts.{grows}
 use Rattle.rw_model_toml.proofs.law.files_are_basins.Goals as goal
 
 pub returns : goal.returns
-returns c = model-valid grows.begun grows.object grows.link grows.bound grows.finished
+returns c = model-valid

@@ -1,4 +1,4 @@
-use Rattle.std.proofs.Common.{◌∙◌, ◌*◌, ◌+◌, ap, ap₂, sym, subst, arith, slice_index_or, None}
+use Rattle.std.proofs.Common.{◌∙◌, ◌*◌, ◌+◌, ap₂, subst, arith, slice_index_or, None}
 use Rattle.rw_model.specs.Kept.{numbers_of, links_of, KeepsBasin}
 use Rattle.rw_model.proofs.Bounding.{kept_number}
 use Rattle.rw_model.proofs.basin.Basin.number_at.Goals as goal

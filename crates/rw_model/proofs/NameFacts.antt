@@ -1,0 +1,53 @@
+-- The test of a name decides what a name is.
+use Rattle.std.proofs.Common.{◌≡◌, ◌⊎◌, ◌<◌, ℕ, zero, suc, List, [], ◌∷◌, length, slice_index, slice_index_or, Bool, true, false, ◌||◌, refl, sym, arith, inl, inr}
+use Rattle.std.specs.Prelude.{Contains, bytes_eq}
+use Rattle.std.specs.Bool.{Decides}
+use Rattle.std.specs.List.{list_all}
+use Rattle.std.proofs.lemmas.Bool.{cases_Bool, false≢true}
+use Rattle.std.proofs.lemmas.Bool.Decides.{Decides-and, Decides-or, Decides-not, Decides-eqb, Decides-like, Decides-by_and}
+use Rattle.std.proofs.lemmas.Slice.Eq.{bytes_eq-Decides}
+use Rattle.rw_base.proofs.Tests.{Decides-le}
+use Rattle.rw_model.specs.Name.{IsLetter, IsDigit, IsName, reserved_words, is_letter, is_digit, is_word, is_name}
+
+Decides-letter : (b : ℕ) → Decides (is_letter b) (IsLetter b)
+Decides-letter b = Decides-or _ _ (Decides-and _ _ (Decides-le 97 b) (Decides-le b 122)) (Decides-or _ _ (Decides-and _ _ (Decides-le 65 b) (Decides-le b 90)) (Decides-eqb b 95))
+
+Decides-digit : (b : ℕ) → Decides (is_digit b) (IsDigit b)
+Decides-digit b = Decides-and _ _ (Decides-le 48 b) (Decides-le b 57)
+
+or-left : (x y : Bool) → x ≡ true → (x || y) ≡ true
+or-left x y e = rw e refl
+
+or-right : (x y : Bool) → y ≡ true → (x || y) ≡ true
+or-right true y e = refl
+or-right false y e = e
+
+word-found : (key : List ℕ) (keys : List (List ℕ)) (k : ℕ) → k < length keys → slice_index_or keys k key ≡ key → is_word keys key ≡ true
+word-found key [] k within same = absurd (omega arith)
+word-found key (listed ∷ keys) zero within same = or-left (bytes_eq key listed) (is_word keys key) ((bytes_eq-Decides key listed).1 (sym same))
+word-found key (listed ∷ keys) (suc k) within same = or-right (bytes_eq key listed) (is_word keys key) (word-found key keys k (omega arith) same)
+
+one-later : (key listed : List ℕ) (keys : List (List ℕ)) → Contains keys key → Contains (listed ∷ keys) key
+one-later key listed keys (k, within, same) = (suc k, omega arith, same)
+
+word-stands : (key : List ℕ) (keys : List (List ℕ)) → is_word keys key ≡ true → Contains keys key
+word-stands key [] e = absurd (false≢true e)
+word-stands key (listed ∷ keys) e = elim (cases_Bool (bytes_eq key listed)) [
+  | inl here ↦ (0, omega arith, sym ((bytes_eq-Decides key listed).0 here))
+  | inr other ↦ one-later key listed keys (word-stands key keys (rw other at e))
+]
+
+word-has : (key : List ℕ) (keys : List (List ℕ)) → Contains keys key → is_word keys key ≡ true
+word-has key keys (k, within, same) = word-found key keys k within same
+
+Decides-word : (keys : List (List ℕ)) (key : List ℕ) → Decides (is_word keys key) (Contains keys key)
+Decides-word keys key = (word-stands key keys, word-has key keys)
+
+pub Decides-name : (text : List ℕ) → Decides (is_name text) (IsName text)
+Decides-name text = Decides-like (is_name text)
+    (λ parts. record { some = parts.0; short = parts.1.0; starts = parts.1.1.0; goes_on = parts.1.1.1.0; free = parts.1.1.1.1 })
+    (λ name. (name.some, (name.short, (name.starts, (name.goes_on, name.free)))))
+    (Decides-and _ _ (Decides-le 1 (length text)) (Decides-and _ _ (Decides-le (length text) 32)
+    (Decides-and _ _ (Decides-letter (slice_index text 0)) (Decides-and _ _
+    (Decides-by_and (λ b. is_letter b || is_digit b) (λ b. IsLetter b ⊎ IsDigit b) (list_all (λ b. is_letter b || is_digit b)) (λ b. Decides-or _ _ (Decides-letter b) (Decides-digit b)) refl (λ _ _. refl) text)
+    (Decides-not _ (Decides-word reserved_words text))))))

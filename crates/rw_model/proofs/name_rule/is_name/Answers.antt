@@ -1,0 +1,11 @@
+use Rattle.std.proofs.Common.{rules}
+use Rattle.std.proofs.lemmas.Bool.Decides.{same_from_decides}
+use Rattle.rw_model.specs.Name.{is_name}
+use Rattle.rw_model.proofs.NameFacts.{Decides-name}
+use Rattle.rw_model.proofs.name_rule.is_name.Goals as goal
+
+pub returns-then-all-clause-test : goal.returns-then-all-clause-test
+returns-then-all-clause-test c = same_from_decides _ (is_name c.args.text.now) (search rules) (Decides-name c.args.text.now)
+
+pub returns-else-all-clause-test : goal.returns-else-all-clause-test
+returns-else-all-clause-test c = same_from_decides _ (is_name c.args.text.now) (search rules) (Decides-name c.args.text.now)
