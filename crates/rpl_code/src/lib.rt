@@ -10,6 +10,7 @@ mod kind;
 mod kinds;
 pub mod law;
 mod lines;
+mod said;
 mod spelling;
 mod writing;
 
