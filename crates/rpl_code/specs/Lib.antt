@@ -5,4 +5,5 @@ pub mod Spelling
 pub mod Parting
 pub mod Words
 pub mod Reading
+pub mod Answers
 pub mod Worked
