@@ -3,7 +3,6 @@ use Rattle.std.proofs.Common.{◌≡◌, ℕ, List, [], ◌∷◌, ◌++◌, tru
 use Rattle.std.specs.Prelude.{Some, map, flat_map, codes}
 use Rattle.std.specs.List.{AllByRecursion}
 use Rattle.rpl_code.specs.declared.instruction.Instruction.{Instruction}
-use Rattle.rpl_code.specs.declared.block.BlockHead.{BlockHead}
 use Rattle.rpl_code.specs.declared.block.Block.{Block}
 use Rattle.rpl_code.specs.declared.said.Said.{Said}
 use Rattle.rpl_code.specs.declared.said.Said.TheVariants as S

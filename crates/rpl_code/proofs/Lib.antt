@@ -7,4 +7,6 @@ pub mod WordsBack
 pub mod NumbersTried
 pub mod WordsTried
 pub mod LinesBack
+pub mod LinesTried
 pub mod CodeBack
+pub mod ReadingLeft

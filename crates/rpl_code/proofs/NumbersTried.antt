@@ -1,6 +1,6 @@
 -- What a word is read as, where it is known whether digits stand there and which.
 use Rattle.std.proofs.Common.{◌≡◌, ◌≢◌, ℕ, List, refl, sym, ap, subst, ◌∙◌, ◌<◌, ◌≤◌, ◌^◌, arith}
-use Rattle.std.specs.Prelude.{Option, Some, None, Result, Err, Ok, is_ok, Bool, true, false}
+use Rattle.std.specs.Prelude.{Option, Some, None, Result, Err, Ok, is_ok, false}
 use Rattle.std.specs.Str.{bytes_eq, IsUtf8, IsAscii}
 use Rattle.std.proofs.lemmas.Slice.Eq.{bytes_eq-Decides}
 use Rattle.std.specs.Str.Parse.{ParsesUnsigned}

@@ -1,5 +1,5 @@
 -- What words come to, where it is known how they were cut.
-use Rattle.std.proofs.Common.{◌≡◌, ◌⊎◌, inl, inr, ℕ, List, [], ◌∷◌, ◌++◌, refl, sym, ap, ap₂, subst, ◌∙◌, append-nil, append_assoc, ◌<◌, ◌≤◌, arith, length}
+use Rattle.std.proofs.Common.{◌≡◌, ◌⊎◌, inl, inr, ℕ, List, [], ◌∷◌, ◌++◌, refl, sym, ap, ap₂, subst, ◌∙◌, append-nil, append_assoc, ◌<◌, arith, length}
 use Rattle.std.specs.Prelude.{Bool, true, false, ◌&&◌, ◌||◌, nat_le, Option, Some, None, is_some, Result, Ok, Err, option_map, option_and_then}
 use Rattle.std.specs.List.{list_all}
 use Rattle.std.specs.Result.{IsErrAnd}
@@ -60,7 +60,7 @@ not_listed letter digits first second rest e = none_but (listed_kind letter digi
 pub kind_cut : (word letter digits : List ℕ) → parted 42 word ≡ letter ∷ parted 42 digits → kind_in word ≡ listed_kind letter digits
 kind_cut word letter digits e =
     elim (one_or_more 42 digits) [
-      inl one ↦ ap kind_of (e ∙ ap (λ parts. letter ∷ parts) one)
+      | inl one ↦ ap kind_of (e ∙ ap (λ parts. letter ∷ parts) one)
       | inr more ↦ ap kind_of (e ∙ ap (λ parts. letter ∷ parts) more.3) ∙ sym (not_listed letter digits more.0 more.1 more.2 more.3)
     ]
 
@@ -78,7 +78,7 @@ not_both object slot first second rest e = none_but (both_names object slot)
 pub slot_cut : (word object slot : List ℕ) → parted 46 word ≡ object ∷ parted 46 slot → slot_in word ≡ both_names object slot
 slot_cut word object slot e =
     elim (one_or_more 46 slot) [
-      inl one ↦ ap slot_of (e ∙ ap (λ parts. object ∷ parts) one)
+      | inl one ↦ ap slot_of (e ∙ ap (λ parts. object ∷ parts) one)
       | inr more ↦ ap slot_of (e ∙ ap (λ parts. object ∷ parts) more.3) ∙ sym (not_both object slot more.0 more.1 more.2 more.3)
     ]
 

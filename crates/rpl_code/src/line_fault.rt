@@ -31,3 +31,14 @@ impl<T: Drop> From<AllocFailed<T>> for LineFault {
         LineFault::NoMemory
     }
 }
+
+impl From<NoMemory> for LineFault {
+    ghost use Rattle.std.specs.Prelude.{◌≡◌};
+    ghost use Rattle.rpl_code.specs.declared.line_fault.LineFault.TheVariants.{NoMemory as Exhausted};
+
+    ghost from_gives = { λ _ fault. fault ≡ Exhausted };
+
+    fn from(_: NoMemory) -> Self {
+        LineFault::NoMemory
+    }
+}

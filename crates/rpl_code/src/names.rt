@@ -36,7 +36,8 @@ fn is_name(word: &[u8]) -> bool
 {
     match word {
         [] => false,
-        [first, further @ ..] => word.len() <= NAME_MAX && (is_letter(*first) && all_go_on(further)),
+        [first, further @ ..] => word.len() <= NAME_MAX
+            && (is_letter(*first) && all_go_on(further)),
     }
 }
 
