@@ -41,8 +41,8 @@ ok_or n (Ok m) = m
 ok_or n (Err fault) = n
 
 -- what was read is written otherwise
-pub never_written : (n number : ℕ) (digits written : List ℕ) → n < 2 ^ 64 → digits ≡ decimal n → ParsesUnsigned {E = ℕ} 64 10 digits (Ok number)
-    → written ≡ decimal number → bytes_eq written digits ≡ false → ⊥
-never_written n number digits written small is parsed text other =
+pub never_written : (n number : ℕ) (digits : List ℕ) → n < 2 ^ 64 → digits ≡ decimal n → ParsesUnsigned {E = ℕ} 64 10 digits (Ok number)
+    → bytes_eq (decimal number) digits ≡ false → ⊥
+never_written n number digits small is parsed other =
     let same : number ≡ n = ap (ok_or n) (parse-decimal 64 n digits (Ok number) small small is parsed) in
-    false≢true (sym other ∙ (bytes_eq-Decides written digits).1 (text ∙ ap decimal same ∙ sym is))
+    false≢true (sym other ∙ (bytes_eq-Decides (decimal number) digits).1 (ap decimal same ∙ sym is))

@@ -1,12 +1,14 @@
 -- What is left of a text is read as the whole of it would be.
-use Rattle.std.proofs.Common.{◌≡◌, ℕ, List, [], ◌∷◌, sym, ap, ◌∙◌, ◌+◌, ◌<◌, length, append-nil, arith}
-use Rattle.std.specs.Prelude.{None, Result, Ok, Err}
+use Rattle.std.proofs.Common.{◌≡◌, ℕ, List, [], ◌∷◌, ◌++◌, sym, ap, ◌∙◌, ◌+◌, append-nil}
+use Rattle.std.specs.Prelude.{◌&&◌, if◌then◌else◌, true, false, None, Result, Ok, Err}
+use Rattle.std.specs.Str.{bytes_eq}
+use Rattle.std.proofs.lemmas.Bool.{false≢true}
 use Rattle.rpl_code.specs.declared.block.Block.{Block}
 use Rattle.rpl_code.specs.declared.progress.Progress.{Progress}
 use Rattle.rpl_code.specs.declared.progress.Progress.TheVariants as P
 use Rattle.rpl_code.specs.Parting.{parted}
-use Rattle.rpl_code.specs.Reading.{Refusal, bad_line, behind, said_at, unless_bad, all_said}
-use Rattle.rpl_code.specs.Progress.{stage_of, code_with, reading_with, TakesLine}
+use Rattle.rpl_code.specs.Reading.{may_end, truncated, Refusal, bad_line, behind, said_at, unless_bad, all_said}
+use Rattle.rpl_code.specs.Progress.{stage_of, blocks_begun, code_with, reading_with, TakesLine}
 use Rattle.rpl_code.proofs.WordsBack.{IsMore, parted_more}
 
 -- the loop's turn: with the parts of a text behind the line
@@ -34,8 +36,13 @@ reads_bad blocks progress n left line rest whole e none is =
 
 -- the loop's end behind the last line
 pub reads_all : (blocks : List Block) (progress : Progress) (n : ℕ) (left : List ℕ) (whole : Result (List Block) Refusal)
-    → parted 10 left ≡ left ∷ [] → progress ≡ P.Between → length left < 1
+    → parted 10 left ≡ left ∷ [] → (may_end (stage_of progress) && bytes_eq left []) ≡ true
     → reading_with blocks progress n (parted 10 left) ≡ whole → whole ≡ Ok blocks
-reads_all blocks progress n [] whole e between empty is =
-    sym is ∙ ap (λ p. reading_with blocks p n ([] ∷ [])) between ∙ ap Ok (append-nil blocks)
-reads_all blocks progress n (b ∷ left) whole e between empty is = absurd (omega (arith, empty))
+reads_all blocks progress n left whole e ends is =
+    sym is ∙ ap (reading_with blocks progress n) e ∙ ap (λ t. code_with blocks progress (if t then Ok [] else Err truncated)) ends ∙ ap Ok (nothing_more progress ends)
+  where
+    nothing_more : (progress : Progress) → (may_end (stage_of progress) && bytes_eq left []) ≡ true → blocks ++ blocks_begun progress [] ≡ blocks
+    nothing_more P.Top h = append-nil blocks
+    nothing_more P.Between h = append-nil blocks
+    nothing_more (P.Headed head) h = absurd (false≢true h)
+    nothing_more (P.Inside block) h = absurd (false≢true h)

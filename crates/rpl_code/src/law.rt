@@ -1,11 +1,12 @@
 // That spelling and reading are one, and what both come to on worked texts.
-ghost use Rattle.std.specs.Prelude.{◌≡◌, ◌≤◌, length, Ok, Err, [], ◌∷◌, codes, List, ℕ};
+ghost use Rattle.std.specs.Prelude.{◌≡◌, ◌≤◌, length, Ok, Err, [], ◌∷◌, ◌++◌, codes, List, ℕ};
 ghost use Rattle.rpl_code.specs.declared.instruction.Instruction.TheVariants as Instruction;
 ghost use Rattle.rpl_code.specs.declared.block.Block.{Block};
 ghost use Rattle.rpl_code.specs.Bounds.{IsCode};
 ghost use Rattle.rpl_code.specs.Spelling.{spelt};
 ghost use Rattle.rpl_code.specs.Reading.{read, bad_line, truncated};
-ghost use Rattle.rpl_code.specs.Worked.{plain_rule, capped, capped_text, mixed, mixed_text, rule_of};
+ghost use Rattle.rpl_code.specs.Worked.{plain_rule, capped, capped_text, mixed, mixed_text, rule_of,
+    idle_store, idle_store_text, two_puts, two_puts_text};
 
 /// The text of a code is these lines, and they are read as the code.
 pub fn worked_codes()
@@ -13,6 +14,10 @@ pub fn worked_codes()
     ensures capped_is_read { read capped_text ≡ Ok capped }
     ensures mixed { spelt mixed ≡ mixed_text }
     ensures mixed_is_read { read mixed_text ≡ Ok mixed }
+    ensures idle_store { spelt idle_store ≡ idle_store_text }
+    ensures idle_store_is_read { read idle_store_text ≡ Ok idle_store }
+    ensures two_puts { spelt two_puts ≡ two_puts_text }
+    ensures two_puts_is_read { read two_puts_text ≡ Ok two_puts }
     ensures none { spelt [] ≡ codes "CODE 1\n" }
     ensures none_is_read { read (codes "CODE 1\n") ≡ Ok [] }
     ensures one { read (rule_of (codes "add")) ≡ Ok (plain_rule (Instruction.Add ∷ [])) }
@@ -34,6 +39,9 @@ pub fn worked_refusals()
     ensures blank { read (rule_of (codes "add ")) ≡ Err (bad_line 4) }
     ensures empty { read (rule_of []) ≡ Err (bad_line 4) }
     ensures word { read (rule_of (codes "plus")) ≡ Err (bad_line 4) }
+    ensures carriage_return { read (rule_of (codes "add" ++ 13 ∷ [])) ≡ Err (bad_line 4) }
+    ensures two_blanks { read (rule_of (codes "num  7")) ≡ Err (bad_line 4) }
+    ensures plus { read (rule_of (codes "num +7")) ≡ Err (bad_line 4) }
 {}
 
 /// Lines that are not allowed in their place, and texts that end too early.
@@ -46,6 +54,9 @@ pub fn worked_places()
     ensures early { read (codes "CODE 1\nRULE\nLOCALS -\nadd\n") ≡ Err truncated }
     ensures feed { read (codes "CODE 1\nRULE\nLOCALS -\nEND") ≡ Err truncated }
     ensures bad_before { read (codes "CODE 1\nRULE\nLOCALS\nadd") ≡ Err (bad_line 3) }
+    ensures first_of_two { read (codes "CODE 1\nRULE\nLOCALS -\nnum 01\nplus\n") ≡ Err (bad_line 4) }
+    ensures heading_return { read (codes "CODE 1" ++ 13 ∷ 10 ∷ []) ≡ Err (bad_line 1) }
+    ensures second_heading { read (codes "CODE 1\nCODE 1\n") ≡ Err (bad_line 2) }
     ensures heading_alone { read (codes "CODE 1") ≡ Err truncated }
     ensures nothing { read [] ≡ Err truncated }
 {}

@@ -1,5 +1,6 @@
 // Numbers in words.
 ghost use Rattle.std.specs.Prelude.{◌≡◌, ◌≢◌, ℕ, ◌<◌, ◌≤◌, ◌^◌, IfOk, MatchOption, IfSome, option_map, pos, neg_ℤ};
+ghost use Rattle.std.specs.Str.{bytes_eq};
 ghost use Rattle.std.specs.Fmt.{decimal};
 ghost use Rattle.rpl_code.specs.Words.{number_in, count_in, length_in, quantity_in};
 ghost use Rattle.rpl_code.specs.Answers.{Says};
@@ -13,7 +14,15 @@ const QUANTITY_MAX: u64 = 100_000_000_000_000_000;
 // The greatest length of a list.
 const LENGTH_MAX: u64 = 4096;
 
-// The number whose digits these are. What is written of a number is the one word that spells it.
+// Whether the word is what is written of the number, which nothing else spells.
+fn spells(word: &str, number: u64) -> bool
+    ensures { result ≡ bytes_eq (decimal number) word.now }
+{
+    let mut buffer = Buffer::new();
+    buffer.format(number) == word
+}
+
+// The number whose digits these are, with no leading zeros.
 fn digits_in(word: &[u8]) -> Option<u64>
     ensures digits { MatchOption result ((number : ℕ) → number < 2 ^ 64 → word.now ≢ decimal number)
         (λ number. word.now ≡ decimal number) }
@@ -25,8 +34,7 @@ fn digits_in(word: &[u8]) -> Option<u64>
     let Ok(number) = digits.parse::<u64>() else {
         return None;
     };
-    let mut buffer = Buffer::new();
-    if buffer.format(number) == digits {
+    if spells(digits, number) {
         Some(number)
     } else {
         None

@@ -1,8 +1,10 @@
 // Texts are read as code.
-ghost use Rattle.std.specs.Prelude.{◌≡◌, ◌≤◌, ◌+◌, ℕ, ◌∷◌, List, None, true, false, Err, length, IfOk, IfErr};
+ghost use Rattle.std.specs.Prelude.{◌≡◌, ◌≤◌, ◌&&◌, [], List, None, false, Result, Err, length, IfOk, IfErr};
+ghost use Rattle.std.specs.Str.{bytes_eq};
+ghost use Rattle.rpl_code.specs.declared.block.Block.{Block};
 ghost use Rattle.rpl_code.specs.declared.line_fault.LineFault.TheVariants as LineFault;
 ghost use Rattle.rpl_code.specs.declared.progress.Progress.TheVariants as Progress;
-ghost use Rattle.rpl_code.specs.Reading.{inside, may_say, said_at, read};
+ghost use Rattle.rpl_code.specs.Reading.{Refusal, bad_line, inside, may_say, may_end, said_at, read};
 ghost use Rattle.rpl_code.specs.Progress.{stage_of, Takes, TakesLine};
 ghost use Rattle.rpl_code.specs.Answers.{Answers};
 
@@ -79,7 +81,31 @@ fn take_line(
     take(alloc, code, progress, said)
 }
 
-/// Reads a code from its text.
+// What a fault of the line of this number says of the text.
+fn fault_at(number: u32, fault: LineFault) -> CodeFault
+    ensures { (reading : Result (List Block) Refusal)
+        → (fault ≡ LineFault.Bad → reading ≡ Err (bad_line number)) → Answers reading (Err result) }
+{
+    match fault {
+        LineFault::Bad => CodeFault::BadLine(number),
+        LineFault::NoMemory => CodeFault::NoMemory,
+    }
+}
+
+// Whether the text may end behind its last line feed, and ends there.
+fn is_whole(progress: &Progress, left: &[u8]) -> bool
+    ensures { result ≡ (may_end (stage_of progress.now) && bytes_eq left.now []) }
+{
+    matches!(progress, Progress::Between) && left.is_empty()
+}
+
+/// Reads a code from its text, of 16,777,216 bytes at most, in time that grows as the text does.
+///
+/// The text is lines that each end with a line feed: `CODE 1`, and then blocks. A block is `RULE`, or `FUNCTION` with the
+/// kinds of its result and of its parameters; then `LOCALS` with the kinds of its locals; a line for each instruction; and
+/// `END`. `docs/FORMATS.md` has the words. `BadLine` names the first line, counted from 1, that has a line feed and isn't
+/// allowed where it stands. `Truncated` comes where there is no such line, but the text ends before an `END` that is due,
+/// or its last line has no line feed. `NoMemory` says nothing of the text.
 pub fn read_code(alloc: Global, text: &[u8]) -> Result<Code, CodeFault>
     requires { length text.now ≤ 16_777_216 }
     ensures { Answers (read text.now) result }
@@ -91,14 +117,75 @@ pub fn read_code(alloc: Global, text: &[u8]) -> Result<Code, CodeFault>
     while let Some((line, rest)) = cut(left, b'\n') {
         progress = match take_line(alloc, &mut code, progress, line) {
             Ok(next) => next,
-            Err(LineFault::Bad) => return Err(CodeFault::BadLine(number)),
-            Err(LineFault::NoMemory) => return Err(CodeFault::NoMemory),
+            Err(fault) => return Err(fault_at(number, fault)),
         };
         number += 1;
         left = rest;
     }
-    match (progress, left) {
-        (Progress::Between, []) => Ok(Code::of(code)),
-        _ => Err(CodeFault::Truncated),
+    if is_whole(&progress, left) {
+        Ok(Code::of(code))
+    } else {
+        Err(CodeFault::Truncated)
+    }
+}
+
+#[cfg(test)]
+mod tests {
+    use super::read_code;
+    use crate::{CodeFault, write_code};
+    use std::alloc::Global;
+    use std::test::Fail;
+
+    // A function and a rule, with each form of line.
+    const CODE: &str = r#"CODE 1
+FUNCTION N N,S*12
+LOCALS B,D
+load 0
+neg
+END
+RULE
+LOCALS N,S,N*4096
+num -7
+bool true
+slot Dam.Storage
+store 4294967295
+toelevation Dam
+call Min
+widen 4096
+target -
+target N*2,D
+map 1
+yield
+put Dam.Outflow 0
+END
+"#;
+
+    #[test]
+    fn a_text_is_read_and_written_again(rt: HostRuntime) -> Result<(), Fail> {
+        assert!(rt; CODE.len() <= 16_777_216);
+        let code = read_code(rt.alloc(), CODE.as_bytes())?;
+        assert_eq!(rt; code.blocks().len(), 2);
+        let text = write_code(rt.alloc(), &code)?;
+        assert_eq!(rt; text.as_slice(), CODE.as_bytes());
+        Ok(())
+    }
+
+    // Why the text isn't read, if it isn't.
+    fn fault_of(alloc: Global, text: &str) -> Option<CodeFault>
+        requires { length text.now ≤ 16_777_216 }
+    {
+        read_code(alloc, text.as_bytes()).err()
+    }
+
+    #[test]
+    fn the_first_bad_line_is_named(rt: HostRuntime) {
+        let alloc = rt.alloc();
+        let early = fault_of(alloc, "CODE 1\nRULE\nLOCALS -\nadd\n");
+        let zero = fault_of(alloc, "CODE 1\nRULE\nLOCALS -\nnum 01\nplus\nEND\n");
+        let place = fault_of(alloc, "CODE 1\nRULE\nadd\nEND\n");
+        assert_eq!(rt; early, Some(CodeFault::Truncated));
+        assert_eq!(rt; zero, Some(CodeFault::BadLine(4)));
+        assert_eq!(rt; place, Some(CodeFault::BadLine(3)));
+        assert_eq!(rt; fault_of(alloc, ""), Some(CodeFault::Truncated));
     }
 }

@@ -29,3 +29,19 @@ returns-clause-none_is_read c = refl
 pub returns-clause-one : goal.returns-clause-one
 unfolding digits
 returns-clause-one c = refl
+
+pub returns-clause-idle_store : goal.returns-clause-idle_store
+unfolding digits
+returns-clause-idle_store c = refl
+
+pub returns-clause-idle_store_is_read : goal.returns-clause-idle_store_is_read
+unfolding digits
+returns-clause-idle_store_is_read c = refl
+
+pub returns-clause-two_puts : goal.returns-clause-two_puts
+unfolding digits
+returns-clause-two_puts c = refl
+
+pub returns-clause-two_puts_is_read : goal.returns-clause-two_puts_is_read
+unfolding digits
+returns-clause-two_puts_is_read c = refl

@@ -9,7 +9,6 @@ pub returns-in_default-parse-clause-digits : goal.returns-in_default-parse-claus
 returns-in_default-parse-clause-digits c = λ n small e.
     never_parsed n c.in-Ok.digits.now c.in_default-parse.field-0 small (c.in-Ok.ensures.cases.0 ∙ e) c.in_default-parse.ensures.value.0
 
-pub returns-else-eq-clause-digits : goal.returns-else-eq-clause-digits
-returns-else-eq-clause-digits c = λ n small e.
-    never_written n c.in-Ok-parse.number c.in-Ok.digits.now c.format.result.now small (c.in-Ok.ensures.cases.0 ∙ e) c.in-Ok-parse.ensures.value.0
-    c.format.ensures.text (sym c.if-eq.ensures)
+pub returns-else-spells-clause-digits : goal.returns-else-spells-clause-digits
+returns-else-spells-clause-digits c = λ n small e.
+    never_written n c.in-Ok-parse.number c.in-Ok.digits.now small (c.in-Ok.ensures.cases.0 ∙ e) c.in-Ok-parse.ensures.value.0 (sym c.if-spells.ensures)

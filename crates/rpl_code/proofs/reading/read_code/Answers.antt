@@ -1,12 +1,12 @@
-use Rattle.std.proofs.Common.{arith}
+use Rattle.std.proofs.Common.{arith, sym}
 use Rattle.rpl_code.proofs.CodeBack.{read_back}
 use Rattle.rpl_code.proofs.ReadingLeft.{reads_on, reads_bad, reads_all}
 use Rattle.rpl_code.proofs.reading.read_code.Goals as goal
 
-pub returns-in-Err-Bad : goal.returns-in-Err-Bad
-returns-in-Err-Bad c =
-    reads_bad c.loop-line.code.items c.loop-line.progress c.loop-line.number c.loop-line.left.now c.in-Some.line.now c.in-Some.rest.now _
-    c.in-Some.ensures.parts (c.in-Err-Bad.ensures.bad c.in-Err-Bad.field-0-is) c.loop-line.invariant.left
+pub returns-in-Err : goal.returns-in-Err
+returns-in-Err c = c.fault_at.ensures _
+    (λ bad. reads_bad c.loop-line.code.items c.loop-line.progress c.loop-line.number c.loop-line.left.now c.in-Some.line.now c.in-Some.rest.now _
+    c.in-Some.ensures.parts (c.in-Err.ensures.bad bad) c.loop-line.invariant.left)
 
 pub loop-line-preserved : goal.loop-line-preserved
 loop-line-preserved c = record {
@@ -18,5 +18,5 @@ loop-line-preserved c = record {
 pub of-requires : goal.of-requires
 of-requires c =
     let read = reads_all c.loop-line.code.items c.loop-line.progress c.loop-line.number c.loop-line.left.now _ c.in_default.ensures.parts
-    c.in-Between-empty.is-0 c.in-Between-empty.len_below c.loop-line.invariant.left in
+    (sym c.if-is_whole.ensures) c.loop-line.invariant.left in
     (read_back c.args.text.now c.loop-line.code.items c.requires read).code
