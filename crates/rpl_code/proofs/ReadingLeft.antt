@@ -1,13 +1,19 @@
 -- What is left of a text is read as the whole of it would be.
-use Rattle.std.proofs.Common.{◌≡◌, ℕ, List, [], ◌∷◌, ◌++◌, sym, ap, ◌∙◌, ◌+◌, append-nil}
-use Rattle.std.specs.Prelude.{◌&&◌, if◌then◌else◌, true, false, None, Result, Ok, Err}
+use Rattle.std.proofs.Common.{◌≡◌, ℕ, List, [], ◌∷◌, ◌++◌, refl, sym, ap, subst, ◌∙◌, ◌+◌, append-nil}
+use Rattle.std.specs.Prelude.{◌&&◌, if◌then◌else◌, true, None, Result, Ok, Err, is_ok, MatchResult}
 use Rattle.std.specs.Str.{bytes_eq}
 use Rattle.std.proofs.lemmas.Bool.{false≢true}
 use Rattle.rpl_code.specs.declared.block.Block.{Block}
 use Rattle.rpl_code.specs.declared.progress.Progress.{Progress}
 use Rattle.rpl_code.specs.declared.progress.Progress.TheVariants as P
+use Rattle.rpl_code.specs.declared.fault.CodeFault.{CodeFault}
+use Rattle.rpl_code.specs.declared.fault.CodeFault.TheVariants.{BadLine, Truncated, NoMemory}
+use Rattle.rpl_code.specs.Bounds.{IsCode}
+use Rattle.rpl_code.specs.Spelling.{spelt}
+use Rattle.rpl_code.specs.Answers.{Answers}
+use Rattle.rpl_code.proofs.CodeRead.{read_spelt}
 use Rattle.rpl_code.specs.Parting.{parted}
-use Rattle.rpl_code.specs.Reading.{may_end, truncated, Refusal, bad_line, behind, said_at, unless_bad, all_said}
+use Rattle.rpl_code.specs.Reading.{may_end, truncated, Refusal, bad_line, behind, said_at, unless_bad, all_said, read}
 use Rattle.rpl_code.specs.Progress.{stage_of, blocks_begun, code_with, reading_with, TakesLine}
 use Rattle.rpl_code.proofs.WordsBack.{IsMore, parted_more}
 
@@ -46,3 +52,19 @@ reads_all blocks progress n left whole e ends is =
     nothing_more P.Between h = append-nil blocks
     nothing_more (P.Headed head) h = absurd (false≢true h)
     nothing_more (P.Inside block) h = absurd (false≢true h)
+
+-- what was written is read again
+abbrev pub blocks_or : List Block → Result (List Block) Refusal → List Block
+blocks_or other (Ok blocks) = blocks
+blocks_or other (Err refusal) = other
+
+answered : (blocks : List Block) (result : Result (List Block) CodeFault) → Answers (Ok blocks) result
+    → MatchResult result (λ code. code ≡ blocks) (λ fault. fault ≡ NoMemory)
+answered blocks (Ok code) e = sym (ap (blocks_or code) e)
+answered blocks (Err (BadLine line)) e = absurd (false≢true (sym (ap is_ok e)))
+answered blocks (Err Truncated) e = absurd (false≢true (sym (ap is_ok e)))
+answered blocks (Err NoMemory) e = refl
+
+pub read_again : (blocks : List Block) (result : Result (List Block) CodeFault) → IsCode blocks → Answers (read (spelt blocks)) result
+    → MatchResult result (λ code. code ≡ blocks) (λ fault. fault ≡ NoMemory)
+read_again blocks result is answers = answered blocks result (subst (λ reading. Answers reading result) (read_spelt blocks is) answers)

@@ -1,12 +1,25 @@
 // That spelling and reading are one, and what both come to on worked texts.
-ghost use Rattle.std.specs.Prelude.{◌≡◌, ◌≤◌, length, Ok, Err, [], ◌∷◌, ◌++◌, codes, List, ℕ};
+ghost use Rattle.std.specs.Prelude.{◌≡◌, ◌≤◌, length, Ok, Err, [], ◌∷◌, ◌++◌, codes, List, ℕ, Result, MatchResult};
 ghost use Rattle.rpl_code.specs.declared.instruction.Instruction.TheVariants as Instruction;
 ghost use Rattle.rpl_code.specs.declared.block.Block.{Block};
+ghost use Rattle.rpl_code.specs.declared.fault.CodeFault.{CodeFault};
+ghost use Rattle.rpl_code.specs.declared.fault.CodeFault.TheVariants.{NoMemory};
 ghost use Rattle.rpl_code.specs.Bounds.{IsCode};
 ghost use Rattle.rpl_code.specs.Spelling.{spelt};
 ghost use Rattle.rpl_code.specs.Reading.{read, bad_line, truncated};
-ghost use Rattle.rpl_code.specs.Worked.{plain_rule, capped, capped_text, mixed, mixed_text, rule_of,
-    idle_store, idle_store_text, two_puts, two_puts_text};
+ghost use Rattle.rpl_code.specs.Answers.{Answers};
+ghost use Rattle.rpl_code.specs.Worked.{
+  plain_rule,
+  capped,
+  capped_text,
+  mixed,
+  mixed_text,
+  rule_of,
+  idle_store,
+  idle_store_text,
+  two_puts,
+  two_puts_text,
+};
 
 /// The text of a code is these lines, and they are read as the code.
 pub fn worked_codes()
@@ -73,4 +86,11 @@ pub fn read_is_written()
         → length text ≤ 16_777_216 → read text ≡ Ok blocks → text ≡ spelt blocks }
     ensures bounds { (text : List ℕ) (blocks : List Block)
         → length text ≤ 16_777_216 → read text ≡ Ok blocks → IsCode blocks }
+{}
+
+/// A code that was written is read again as that code, or there is no memory.
+pub fn written_code_is_read_again()
+    ensures { (blocks : List Block) (result : Result (List Block) CodeFault) → IsCode blocks
+        → Answers (read (spelt blocks)) result
+        → MatchResult result (λ code. code ≡ blocks) (λ fault. fault ≡ NoMemory) }
 {}
