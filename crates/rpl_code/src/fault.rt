@@ -1,6 +1,6 @@
 use thiserror::Error;
 
-/// Why a text isn't read as code.
+/// Why a text isn't read as code. `docs/FORMATS.md` says under "Code" what is allowed.
 #[derive(Clone, Copy, Debug, PartialEq, Eq, Error)]
 pub enum CodeFault {
     /// The line of this number, counted from 1, is the first that isn't allowed where it stands.

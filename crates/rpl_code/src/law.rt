@@ -67,7 +67,7 @@ pub fn worked_places()
     ensures early { read (codes "CODE 1\nRULE\nLOCALS -\nadd\n") ≡ Err truncated }
     ensures feed { read (codes "CODE 1\nRULE\nLOCALS -\nEND") ≡ Err truncated }
     ensures bad_before { read (codes "CODE 1\nRULE\nLOCALS\nadd") ≡ Err (bad_line 3) }
-    ensures first_of_two { read (codes "CODE 1\nRULE\nLOCALS -\nnum 01\nplus\n") ≡ Err (bad_line 4) }
+    ensures earlier { read (codes "CODE 1\nRULE\nLOCALS -\nnum 01\nplus\n") ≡ Err (bad_line 4) }
     ensures heading_return { read (codes "CODE 1" ++ 13 ∷ 10 ∷ []) ≡ Err (bad_line 1) }
     ensures second_heading { read (codes "CODE 1\nCODE 1\n") ≡ Err (bad_line 2) }
     ensures heading_alone { read (codes "CODE 1") ≡ Err truncated }

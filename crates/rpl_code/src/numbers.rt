@@ -90,8 +90,8 @@ fn natural_in(word: &[u8]) -> Result<i64, LineFault>
 
 // A quantity below 0, of the digits behind its `-`.
 fn negative_in(digits: &[u8]) -> Result<i64, LineFault>
-    ensures { Says (option_map (λ n. neg_ℤ (pos n)) (number_in 1 100_000_000_000_000_000 digits.now))
-        result }
+    ensures { Says (option_map (λ n. neg_ℤ (pos n))
+        (number_in 1 100_000_000_000_000_000 digits.now)) result }
 {
     let number = number_in(1, QUANTITY_MAX, digits)?;
     Ok(-(number as i64))

@@ -99,13 +99,12 @@ fn is_whole(progress: &Progress, left: &[u8]) -> bool
     matches!(progress, Progress::Between) && left.is_empty()
 }
 
-/// Reads a code from its text, of 16,777,216 bytes at most, in time that grows as the text does.
+/// Reads a code from its text, of 16,777,216 bytes at most, as `docs/FORMATS.md` says under "Code". The time that it takes
+/// grows as the text's length does.
 ///
-/// The text is lines that each end with a line feed: `CODE 1`, and then blocks. A block is `RULE`, or `FUNCTION` with the
-/// kinds of its result and of its parameters; then `LOCALS` with the kinds of its locals; a line for each instruction; and
-/// `END`. `docs/FORMATS.md` has the words. `BadLine` names the first line, counted from 1, that has a line feed and isn't
-/// allowed where it stands. `Truncated` comes where there is no such line, but the text ends before an `END` that is due,
-/// or its last line has no line feed. `NoMemory` says nothing of the text.
+/// `BadLine` names the first line, counted from 1, that ends with a line feed and isn't allowed where it stands.
+/// `Truncated` comes where there is no such line, but the text ends before an `END` that is due, or its last line has no
+/// line feed. `NoMemory` says nothing of the text.
 pub fn read_code(alloc: Global, text: &[u8]) -> Result<Code, CodeFault>
     requires { length text.now ≤ 16_777_216 }
     ensures { Answers (read text.now) result }

@@ -42,9 +42,9 @@ pub returns-clause-nothing : goal.returns-clause-nothing
 unfolding digits
 returns-clause-nothing c = refl
 
-pub returns-clause-first_of_two : goal.returns-clause-first_of_two
+pub returns-clause-earlier : goal.returns-clause-earlier
 unfolding digits
-returns-clause-first_of_two c = refl
+returns-clause-earlier c = refl
 
 pub returns-clause-heading_return : goal.returns-clause-heading_return
 unfolding digits
