@@ -48,12 +48,12 @@ rule_of line = ended (codes "CODE 1" ∷ codes "RULE" ∷ codes "LOCALS -" ∷ l
 abbrev pub rule_with : List Instruction → List Block
 rule_with lines = record { head = Rule; locals = K.N ∷ []; lines = lines } ∷ []
 
--- code that no compiler writes: a number is kept and never used
-abbrev pub idle_store : List Block
-idle_store = rule_with (I.Num (pos 7) ∷ I.Store 0 ∷ I.Num (pos 50) ∷ I.Put (codes "Dam") (codes "Outflow") 0 ∷ [])
+-- 50 is put, and 7 only kept, as no compiler does
+abbrev pub seven_kept : List Block
+seven_kept = rule_with (I.Num (pos 7) ∷ I.Store 0 ∷ I.Num (pos 50) ∷ I.Put (codes "Dam") (codes "Outflow") 0 ∷ [])
 
-abbrev pub idle_store_text : List ℕ
-idle_store_text = ended (codes "CODE 1" ∷ codes "RULE" ∷ codes "LOCALS N" ∷ codes "num 7" ∷ codes "store 0" ∷ codes "num 50"
+abbrev pub seven_kept_text : List ℕ
+seven_kept_text = ended (codes "CODE 1" ∷ codes "RULE" ∷ codes "LOCALS N" ∷ codes "num 7" ∷ codes "store 0" ∷ codes "num 50"
     ∷ codes "put Dam.Outflow 0" ∷ codes "END" ∷ [])
 
 -- two numbers are put, one after the other

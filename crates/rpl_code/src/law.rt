@@ -15,8 +15,8 @@ ghost use Rattle.rpl_code.specs.Worked.{
   mixed,
   mixed_text,
   rule_of,
-  idle_store,
-  idle_store_text,
+  seven_kept,
+  seven_kept_text,
   two_puts,
   two_puts_text,
 };
@@ -27,8 +27,8 @@ pub fn worked_codes()
     ensures capped_is_read { read capped_text ≡ Ok capped }
     ensures mixed { spelt mixed ≡ mixed_text }
     ensures mixed_is_read { read mixed_text ≡ Ok mixed }
-    ensures idle_store { spelt idle_store ≡ idle_store_text }
-    ensures idle_store_is_read { read idle_store_text ≡ Ok idle_store }
+    ensures seven_kept { spelt seven_kept ≡ seven_kept_text }
+    ensures seven_kept_is_read { read seven_kept_text ≡ Ok seven_kept }
     ensures two_puts { spelt two_puts ≡ two_puts_text }
     ensures two_puts_is_read { read two_puts_text ≡ Ok two_puts }
     ensures none { spelt [] ≡ codes "CODE 1\n" }

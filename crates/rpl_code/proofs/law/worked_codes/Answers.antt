@@ -30,13 +30,13 @@ pub returns-clause-one : goal.returns-clause-one
 unfolding digits
 returns-clause-one c = refl
 
-pub returns-clause-idle_store : goal.returns-clause-idle_store
+pub returns-clause-seven_kept : goal.returns-clause-seven_kept
 unfolding digits
-returns-clause-idle_store c = refl
+returns-clause-seven_kept c = refl
 
-pub returns-clause-idle_store_is_read : goal.returns-clause-idle_store_is_read
+pub returns-clause-seven_kept_is_read : goal.returns-clause-seven_kept_is_read
 unfolding digits
-returns-clause-idle_store_is_read c = refl
+returns-clause-seven_kept_is_read c = refl
 
 pub returns-clause-two_puts : goal.returns-clause-two_puts
 unfolding digits
