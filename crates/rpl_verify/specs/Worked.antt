@@ -82,14 +82,9 @@ misfit_at misfit place = Some (refusal misfit 1 place)
 
 -- ---- codes
 
--- 4 and then 5 are put
-abbrev pub two_puts : List Block
-two_puts = rule_with (K.N ∷ [])
-    (number 4 ∷ number 5 ∷ I.List 2 ∷ I.Foreach 0 ∷ I.Load 0 ∷ put_outflow 0 ∷ I.Next ∷ []) ∷ []
-
--- 50 is put, and 7 only kept
-abbrev pub seven_kept : List Block
-seven_kept = rule_with (K.N ∷ []) (number 7 ∷ I.Store 0 ∷ number 50 ∷ put_outflow 0 ∷ []) ∷ []
+-- it jumps back for ever
+abbrev pub endless : List Block
+endless = plain_rule (I.Target [] ∷ I.Jump 0 ∷ [])
 
 -- the inflow so many steps ahead, and the sum of those at this step and the next, which is put
 abbrev pub sum_ahead_code : List Block
