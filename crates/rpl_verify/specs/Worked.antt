@@ -13,7 +13,7 @@ use Rattle.rpl_code.specs.declared.block.Block.{Block}
 use Rattle.rpl_code.specs.Worked.{plain_rule}
 use Rattle.rpl_tree.specs.Budget.{Budget}
 use Rattle.rpl_tree.specs.Worked.{basin_of, dam, flow_object, numbers_object, pool, unknown_cells}
-use Rattle.rpl_verify.specs.declared.misfit.Misfit.{Misfit}
+use Rattle.rpl_verify.specs.declared.verify_kind.VerifyKind.{VerifyKind}
 use Rattle.rpl_verify.specs.Fits.{Refusal, first_misfit, refusal}
 use Rattle.rpl_verify.specs.Budget.{ruling}
 use Rattle.rpl_verify.specs.Machine.{fire_of_code}
@@ -77,7 +77,7 @@ abbrev pub over_a_list : ValueKind → List Instruction → Option Refusal
 over_a_list local lines = misfit_of (local ∷ []) (pair_then lines)
 
 -- a misfit of the first block
-abbrev pub misfit_at : Misfit → ℕ → Option Refusal
+abbrev pub misfit_at : VerifyKind → ℕ → Option Refusal
 misfit_at misfit place = Some (refusal misfit 1 place)
 
 -- ---- codes

@@ -10,7 +10,7 @@ ghost use Rattle.rw_series.specs.declared.fire.FireEnd.TheVariants.{Done, OutOfR
 ghost use Rattle.rpl_tree.specs.Budget.{Budget, budget};
 ghost use Rattle.rpl_tree.specs.World.{cell_of, put_to};
 ghost use Rattle.rpl_tree.specs.Worked.{all_cells, done_by, ended_by, fire, only_slot, unknown_cells, x_ends, x_is};
-ghost use Rattle.rpl_verify.specs.declared.misfit.Misfit.TheVariants.{BackwardJump, JumpOutside, LaterCall, MissingOperand, NoSuchName, NotSettable, PutInFunction, TargetStep, TooCostly, TooDeep, TooMany, TooManyPuts, TooManyReads, WrongOperand, WrongShape};
+ghost use Rattle.rpl_verify.specs.declared.verify_kind.VerifyKind.TheVariants.{BackwardJump, JumpOutside, LaterCall, MissingOperand, NoSuchName, NotSettable, PutInFunction, TargetStep, TooCostly, TooDeep, TooMany, TooManyPuts, TooManyReads, WrongOperand, WrongShape};
 ghost use Rattle.rpl_verify.specs.Budget.{AreAccepted, IsWithinLimits};
 ghost use Rattle.rpl_verify.specs.Machine.{fire_of_code};
 ghost use Rattle.rpl_verify.specs.Fits.{AreFit, first_misfit, refusal};
