@@ -4,5 +4,9 @@ pub mod WordsRead
 pub mod LinesRead
 pub mod CodeRead
 pub mod WordsBack
+pub mod NumbersTried
+pub mod WordsTried
 pub mod LinesBack
+pub mod LinesTried
 pub mod CodeBack
+pub mod ReadingLeft

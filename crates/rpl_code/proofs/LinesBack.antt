@@ -8,29 +8,31 @@ use Rattle.std.proofs.lemmas.Slice.Eq.{bytes_eq-Decides}
 use Rattle.rpl_code.specs.declared.instruction.Instruction.{Instruction}
 use Rattle.rpl_code.specs.declared.instruction.Instruction.TheVariants as I
 use Rattle.rpl_code.specs.declared.block.BlockHead.TheVariants.{Rule, Function}
+use Rattle.rpl_code.specs.declared.said.Said.{Said}
+use Rattle.rpl_code.specs.declared.said.Said.TheVariants as S
 use Rattle.rpl_code.specs.Bounds.{IsNumber, IsLength, IsName, AreKinds, IsInstruction, IsHead}
 use Rattle.rpl_code.specs.Parting.{parted}
 use Rattle.rpl_code.specs.Words.{if_so, entry_at, number_in, count_in, length_in, quantity_in, truth_in, name_in, slot_in, kind_in, kinds_in}
 use Rattle.rpl_code.specs.Spelling.{joined, kind_text, kinds_text, slot_text, truth_text, word_of, operands_of}
-use Rattle.rpl_code.specs.Reading.{Said, heading, opening, locals, instruction, ending, alone, with_one, with_two, made_of, function_of, put_of, said_by}
+use Rattle.rpl_code.specs.Reading.{alone, with_one, with_two, made_of, function_of, put_of, said_by}
 use Rattle.rpl_code.proofs.WordsBack.{none_some, if_so_back, mapped_back, then_back, entry_back, joined_parted, number_back, count_back, length_back, quantity_back, truth_back, name_back, AreNames, slot_back, kind_back, kinds_back}
 
 -- the words of a line that says this
 abbrev pub words_said : Said → List (List ℕ)
-words_said heading = codes "CODE" ∷ codes "1" ∷ []
-words_said (opening Rule) = codes "RULE" ∷ []
-words_said (opening (Function result parameters)) = codes "FUNCTION" ∷ kind_text result ∷ kinds_text parameters ∷ []
-words_said (locals kinds) = codes "LOCALS" ∷ kinds_text kinds ∷ []
-words_said (instruction i) = word_of i ∷ operands_of i
-words_said ending = codes "END" ∷ []
+words_said S.Heading = codes "CODE" ∷ codes "1" ∷ []
+words_said (S.Opening Rule) = codes "RULE" ∷ []
+words_said (S.Opening (Function result parameters)) = codes "FUNCTION" ∷ kind_text result ∷ kinds_text parameters ∷ []
+words_said (S.Locals kinds) = codes "LOCALS" ∷ kinds_text kinds ∷ []
+words_said (S.Instruction i) = word_of i ∷ operands_of i
+words_said S.Ending = codes "END" ∷ []
 
 -- what it says can be spelt
 abbrev pub IsSaid : Said → Type 0
-IsSaid heading = Unit {0}
-IsSaid (opening head) = IsHead head
-IsSaid (locals kinds) = AreKinds kinds
-IsSaid (instruction i) = IsInstruction i
-IsSaid ending = Unit {0}
+IsSaid S.Heading = Unit {0}
+IsSaid (S.Opening head) = IsHead head
+IsSaid (S.Locals kinds) = AreKinds kinds
+IsSaid (S.Instruction i) = IsInstruction i
+IsSaid S.Ending = Unit {0}
 
 abbrev pub Spoken : List (List ℕ) → Said → Type 0
 Spoken words says = (words ≡ words_said says) × IsSaid says
@@ -48,34 +50,34 @@ Speaks word reads = (one : List ℕ) (says : Said) → reads one ≡ Some says �
 -- a word that is followed by one that stands for x
 made_back : {A : Type 0} (word : List ℕ) (make : A → Instruction) (text : A → List ℕ) (Is : A → Type 0) (reads : List ℕ → Option A)
     → ((x : A) (one : List ℕ) → reads one ≡ Some x → (one ≡ text x) × Is x)
-    → ((x : A) → Is x → Spoken (word ∷ text x ∷ []) (instruction (make x)))
+    → ((x : A) → Is x → Spoken (word ∷ text x ∷ []) (S.Instruction (make x)))
     → Speaks word (λ one. made_of make (reads one))
 made_back word make text Is reads back spoken one says e =
-    let found = mapped_back (λ x. instruction (make x)) (reads one) says e in
+    let found = mapped_back (λ x. S.Instruction (make x)) (reads one) says e in
     let is = back found.0 one found.1 in
     let of_x = spoken found.0 is.1 in
     (ap (λ t. word ∷ t ∷ []) is.0 ∙ of_x.0 ∙ ap words_said found.2, subst IsSaid found.2 of_x.1)
 
-count_speaks : (word : List ℕ) (make : ℕ → Instruction) → ((n : ℕ) → IsNumber n → Spoken (word ∷ decimal n ∷ []) (instruction (make n)))
+count_speaks : (word : List ℕ) (make : ℕ → Instruction) → ((n : ℕ) → IsNumber n → Spoken (word ∷ decimal n ∷ []) (S.Instruction (make n)))
     → Speaks word (λ one. made_of make (count_in one))
 count_speaks word make spoken = made_back word make decimal IsNumber count_in count_back spoken
 
-length_speaks : (word : List ℕ) (make : ℕ → Instruction) → ((n : ℕ) → IsLength n → Spoken (word ∷ decimal n ∷ []) (instruction (make n)))
+length_speaks : (word : List ℕ) (make : ℕ → Instruction) → ((n : ℕ) → IsLength n → Spoken (word ∷ decimal n ∷ []) (S.Instruction (make n)))
     → Speaks word (λ one. made_of make (length_in one))
 length_speaks word make spoken = made_back word make decimal IsLength length_in length_back spoken
 
-name_speaks : (word : List ℕ) (make : List ℕ → Instruction) → ((n : List ℕ) → IsName n → Spoken (word ∷ n ∷ []) (instruction (make n)))
+name_speaks : (word : List ℕ) (make : List ℕ → Instruction) → ((n : List ℕ) → IsName n → Spoken (word ∷ n ∷ []) (S.Instruction (make n)))
     → Speaks word (λ one. made_of make (name_in one))
 name_speaks word make spoken = made_back word make (λ n. n) IsName name_in name_back spoken
 
-heading_speaks : Speaks (codes "CODE") (λ word. if_so (bytes_eq word (codes "1")) heading)
+heading_speaks : Speaks (codes "CODE") (λ word. if_so (bytes_eq word (codes "1")) S.Heading)
 heading_speaks one says e =
-    let found = if_so_back (bytes_eq one (codes "1")) heading says e in
+    let found = if_so_back (bytes_eq one (codes "1")) S.Heading says e in
     (ap (λ t. codes "CODE" ∷ t ∷ []) ((bytes_eq-Decides one (codes "1")).0 found.0) ∙ ap words_said found.1, subst IsSaid found.1 tt)
 
-locals_speak : Speaks (codes "LOCALS") (λ word. option_map locals (kinds_in word))
+locals_speak : Speaks (codes "LOCALS") (λ word. option_map S.Locals (kinds_in word))
 locals_speak one says e =
-    let found = mapped_back locals (kinds_in one) says e in
+    let found = mapped_back S.Locals (kinds_in one) says e in
     let back = kinds_back found.0 one found.1 in
     (ap (λ t. codes "LOCALS" ∷ t ∷ []) back.0 ∙ ap words_said found.2, subst IsSaid found.2 back.1)
 
@@ -140,16 +142,16 @@ SpeaksTwo word reads = (one two : List ℕ) (says : Said) → reads one two ≡ 
 
 function_speaks : SpeaksTwo (codes "FUNCTION") function_of
 function_speaks one two says e =
-    let first = then_back (λ kind. option_map (λ kinds. opening (Function kind kinds)) (kinds_in two)) (kind_in one) says e in
-    let second = mapped_back (λ kinds. opening (Function first.0 kinds)) (kinds_in two) says first.2 in
+    let first = then_back (λ kind. option_map (λ kinds. S.Opening (Function kind kinds)) (kinds_in two)) (kind_in one) says e in
+    let second = mapped_back (λ kinds. S.Opening (Function first.0 kinds)) (kinds_in two) says first.2 in
     let result = kind_back first.0 one first.1 in
     let parameters = kinds_back second.0 two second.1 in
     (ap₂ (λ x y. codes "FUNCTION" ∷ x ∷ y ∷ []) result.0 parameters.0 ∙ ap words_said second.2, subst IsSaid second.2 (result.1, parameters.1))
 
 put_speaks : SpeaksTwo (codes "put") put_of
 put_speaks one two says e =
-    let first = then_back (λ (names : (List ℕ) × (List ℕ)). option_map (λ n. instruction (I.Put names.0 names.1 n)) (number_in 0 255 two)) (slot_in one) says e in
-    let second = mapped_back (λ n. instruction (I.Put first.0.0 first.0.1 n)) (number_in 0 255 two) says first.2 in
+    let first = then_back (λ (names : (List ℕ) × (List ℕ)). option_map (λ n. S.Instruction (I.Put names.0 names.1 n)) (number_in 0 255 two)) (slot_in one) says e in
+    let second = mapped_back (λ n. S.Instruction (I.Put first.0.0 first.0.1 n)) (number_in 0 255 two) says first.2 in
     let names = slot_back first.0 one first.1 in
     let ahead = number_back 0 255 second.0 two second.1 in (
       ap₂ (λ x y. codes "put" ∷ x ∷ y ∷ []) names.0 ahead.0 ∙ ap words_said second.2,

@@ -12,10 +12,12 @@ use Rattle.rpl_code.specs.declared.instruction.Instruction.{Instruction}
 use Rattle.rpl_code.specs.declared.instruction.Instruction.TheVariants as I
 use Rattle.rpl_code.specs.declared.block.BlockHead.{BlockHead}
 use Rattle.rpl_code.specs.declared.block.BlockHead.TheVariants.{Rule, Function}
+use Rattle.rpl_code.specs.declared.said.Said.{Said}
+use Rattle.rpl_code.specs.declared.said.Said.TheVariants as S
 use Rattle.rpl_code.specs.Bounds.{IsName, IsKind, AreKinds, IsInstruction, IsHead}
 use Rattle.rpl_code.specs.Parting.{parted}
 use Rattle.rpl_code.specs.Spelling.{each_after, joined, kind_text, kinds_text, slot_text, truth_text, word_of, operands_of, instruction_line, head_line, locals_line}
-use Rattle.rpl_code.specs.Reading.{Said, opening, locals, instruction, ending, said_by}
+use Rattle.rpl_code.specs.Reading.{said_by}
 use Rattle.rpl_code.proofs.Parted.{Lacks, Above, all_append, lacks_above, above_less, parted_joined}
 use Rattle.rpl_code.proofs.WordsRead.{decimal_above, number_is, count_is, length_is, quantity_is, truth_is, name_above, name_is, slot_is, kind_is, kinds_are}
 
@@ -178,7 +180,7 @@ line_parted text texts ink = parted_joined 32 text texts (lacks_each (text ∷ t
 
 -- ---- what the words of a line say
 
-instruction_said : (i : Instruction) → IsInstruction i → said_by (word_of i ∷ operands_of i) ≡ Some (instruction i)
+instruction_said : (i : Instruction) → IsInstruction i → said_by (word_of i ∷ operands_of i) ≡ Some (S.Instruction i)
 instruction_said (I.Num v) h = rw (quantity_is v h) refl
 instruction_said (I.Bool b) h = rw (truth_is b) refl
 instruction_said (I.Slot object slot) h = rw (slot_is object slot h.0 h.1) refl
@@ -232,18 +234,18 @@ pub record Shows (line : List ℕ) (says : Said) : Type 0 where
 shows : (word : List ℕ) (words : List (List ℕ)) (says : Said) → AreInk (word ∷ words) → said_by (word ∷ words) ≡ Some says → Shows (joined 32 (word ∷ words)) says
 shows word words says ink is = record { said = ap said_by (line_parted word words ink) ∙ is; whole = line_lacks word words ink }
 
-pub instruction_shows : (i : Instruction) → IsInstruction i → Shows (instruction_line i) (instruction i)
-instruction_shows i h = shows (word_of i) (operands_of i) (instruction i) (word_ink i, operands_ink i h) (instruction_said i h)
+pub instruction_shows : (i : Instruction) → IsInstruction i → Shows (instruction_line i) (S.Instruction i)
+instruction_shows i h = shows (word_of i) (operands_of i) (S.Instruction i) (word_ink i, operands_ink i h) (instruction_said i h)
 
-pub locals_show : (kinds : List ValueKind) → AreKinds kinds → Shows (locals_line kinds) (locals kinds)
-locals_show kinds h = shows (codes "LOCALS") (kinds_text kinds ∷ []) (locals kinds) (ink_of (codes "LOCALS") refl, (kinds_ink kinds h, tt)) (rw (kinds_are kinds h) refl)
+pub locals_show : (kinds : List ValueKind) → AreKinds kinds → Shows (locals_line kinds) (S.Locals kinds)
+locals_show kinds h = shows (codes "LOCALS") (kinds_text kinds ∷ []) (S.Locals kinds) (ink_of (codes "LOCALS") refl, (kinds_ink kinds h, tt)) (rw (kinds_are kinds h) refl)
 
-pub head_shows : (head : BlockHead) → IsHead head → Shows (head_line head) (opening head)
+pub head_shows : (head : BlockHead) → IsHead head → Shows (head_line head) (S.Opening head)
 head_shows Rule h = record { said = refl; whole = (refl, (refl, (refl, (refl, tt)))) }
 head_shows (Function result parameters) h =
-    shows (codes "FUNCTION") (kind_text result ∷ kinds_text parameters ∷ []) (opening (Function result parameters))
+    shows (codes "FUNCTION") (kind_text result ∷ kinds_text parameters ∷ []) (S.Opening (Function result parameters))
     (ink_of (codes "FUNCTION") refl, (kind_ink result h.0, (kinds_ink parameters h.1, tt)))
     (rw (kind_is result h.0, kinds_are parameters h.1) refl)
 
-pub end_shows : Shows (codes "END") ending
+pub end_shows : Shows (codes "END") S.Ending
 end_shows = record { said = refl; whole = (refl, (refl, (refl, tt))) }

@@ -1,5 +1,6 @@
 -- A text that was joined is parted again, and a text that was parted is joined again.
-use Rattle.std.proofs.Common.{◌≡◌, ℕ, List, [], ◌∷◌, ◌++◌, true, false, refl, ap, ◌∙◌, append-nil, ◌<◌, ◌≤◌, arith}
+use Rattle.std.proofs.Common.{◌≡◌, ℕ, List, [], ◌∷◌, ◌++◌, true, false, refl, sym, ap, subst, ◌∙◌, append-nil, ◌+◌, ◌-◌, ◌<◌, ◌≤◌, arith, length, get_or, take, drop, drop-cons, length-drop, add-one}
+use Rattle.std.proofs.lemmas.List.{take-append-drop, take_all}
 use Rattle.std.specs.Prelude.{◌==◌}
 use Rattle.std.specs.List.{AllByRecursion}
 use Rattle.std.proofs.lemmas.Bool.{eq-eqb, ne_eqb}
@@ -48,3 +49,23 @@ pub parted_ended : (lines : List (List ℕ)) → AllByRecursion (Lacks 10) lines
 parted_ended [] lacks = refl
 parted_ended (line ∷ lines) lacks =
     parted_at 10 line (ended lines) lacks.0 ∙ ap (λ rest. line ∷ rest) (parted_ended lines lacks.1)
+
+-- ---- cutting at the first such byte
+
+stands_at : (c : ℕ) (text : List ℕ) (k : ℕ) → k < length text → get_or text k 0 ≡ c → text ≡ take k text ++ c ∷ drop (k + 1) text
+stands_at c text k near same =
+    sym (take-append-drop k text) ∙ ap (λ rest. take k text ++ rest) (at_place text k near ∙ ap (λ b. b ∷ drop (k + 1) text) same)
+  where
+    at_place : (text : List ℕ) (k : ℕ) → k < length text → drop k text ≡ get_or text k 0 ∷ drop (k + 1) text
+    at_place text k near = rw (add-one k) (drop-cons text k 0 near)
+
+-- it stands at a place, and nowhere before that
+pub parted_found : (c : ℕ) (text : List ℕ) (k : ℕ) → k < length text → get_or text k 0 ≡ c → Lacks c (take k text)
+    → parted c text ≡ take k text ∷ parted c (take (length text - (k + 1)) (drop (k + 1) text))
+parted_found c text k near same lacks =
+    ap (parted c) (stands_at c text k near same) ∙ parted_at c (take k text) (drop (k + 1) text) lacks
+    ∙ ap (λ rest. take k text ∷ parted c rest) (sym (take_all (length text - (k + 1)) (drop (k + 1) text) (omega (arith, length-drop (k + 1) text))))
+
+-- it stands at no place
+pub parted_lacking : (c : ℕ) (text : List ℕ) (k : ℕ) → length text ≤ k → Lacks c (take k text) → parted c text ≡ text ∷ []
+parted_lacking c text k whole lacks = parted_whole c text (subst (Lacks c) (take_all k text whole) lacks)

@@ -5,4 +5,6 @@ pub mod Spelling
 pub mod Parting
 pub mod Words
 pub mod Reading
+pub mod Progress
+pub mod Answers
 pub mod Worked

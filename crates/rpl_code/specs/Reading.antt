@@ -4,43 +4,36 @@ use Rattle.std.specs.Str.{bytes_eq}
 use Rattle.rpl_code.specs.declared.kind.ValueKind.{ValueKind}
 use Rattle.rpl_code.specs.declared.instruction.Instruction.{Instruction}
 use Rattle.rpl_code.specs.declared.instruction.Instruction.TheVariants as I
-use Rattle.rpl_code.specs.declared.block.BlockHead.{BlockHead}
 use Rattle.rpl_code.specs.declared.block.BlockHead.TheVariants.{Rule, Function}
 use Rattle.rpl_code.specs.declared.block.Block.{Block}
+use Rattle.rpl_code.specs.declared.said.Said.{Said}
+use Rattle.rpl_code.specs.declared.said.Said.TheVariants as S
 use Rattle.rpl_code.specs.Parting.{parted}
 use Rattle.rpl_code.specs.Words.{if_so, entry_at, number_in, count_in, length_in, quantity_in, truth_in, name_in, slot_in, kind_in, kinds_in}
-
--- what a line says
-pub data Said : Type 0 where
-  heading : Said
-  opening : BlockHead → Said
-  locals : List ValueKind → Said
-  instruction : Instruction → Said
-  ending : Said
 
 -- lines of one word
 abbrev pub alone : List ((List ℕ) × Said)
 alone =
-    (codes "RULE", opening Rule) ∷ (codes "END", ending) ∷ (codes "now", instruction I.Now)
-    ∷ (codes "add", instruction I.Add) ∷ (codes "sub", instruction I.Sub) ∷ (codes "mul", instruction I.Mul)
-    ∷ (codes "div", instruction I.Div) ∷ (codes "neg", instruction I.Neg) ∷ (codes "shift", instruction I.Shift)
-    ∷ (codes "back", instruction I.Back) ∷ (codes "between", instruction I.Between) ∷ (codes "eq", instruction I.Eq)
-    ∷ (codes "lt", instruction I.Lt) ∷ (codes "le", instruction I.Le) ∷ (codes "deq", instruction I.Deq)
-    ∷ (codes "dlt", instruction I.Dlt) ∷ (codes "dle", instruction I.Dle) ∷ (codes "not", instruction I.Not)
-    ∷ (codes "read", instruction I.Read) ∷ (codes "known", instruction I.Known) ∷ (codes "month", instruction I.Month)
-    ∷ (codes "day", instruction I.Day) ∷ (codes "year", instruction I.Year) ∷ (codes "append", instruction I.Append)
-    ∷ (codes "item", instruction I.Item) ∷ (codes "length", instruction I.Length) ∷ (codes "next", instruction I.Next)
-    ∷ (codes "yield", instruction I.Yield) ∷ []
+    (codes "RULE", S.Opening Rule) ∷ (codes "END", S.Ending) ∷ (codes "now", S.Instruction I.Now)
+    ∷ (codes "add", S.Instruction I.Add) ∷ (codes "sub", S.Instruction I.Sub) ∷ (codes "mul", S.Instruction I.Mul)
+    ∷ (codes "div", S.Instruction I.Div) ∷ (codes "neg", S.Instruction I.Neg) ∷ (codes "shift", S.Instruction I.Shift)
+    ∷ (codes "back", S.Instruction I.Back) ∷ (codes "between", S.Instruction I.Between) ∷ (codes "eq", S.Instruction I.Eq)
+    ∷ (codes "lt", S.Instruction I.Lt) ∷ (codes "le", S.Instruction I.Le) ∷ (codes "deq", S.Instruction I.Deq)
+    ∷ (codes "dlt", S.Instruction I.Dlt) ∷ (codes "dle", S.Instruction I.Dle) ∷ (codes "not", S.Instruction I.Not)
+    ∷ (codes "read", S.Instruction I.Read) ∷ (codes "known", S.Instruction I.Known) ∷ (codes "month", S.Instruction I.Month)
+    ∷ (codes "day", S.Instruction I.Day) ∷ (codes "year", S.Instruction I.Year) ∷ (codes "append", S.Instruction I.Append)
+    ∷ (codes "item", S.Instruction I.Item) ∷ (codes "length", S.Instruction I.Length) ∷ (codes "next", S.Instruction I.Next)
+    ∷ (codes "yield", S.Instruction I.Yield) ∷ []
 
 -- an instruction of what a word stands for
 abbrev pub made_of : {A : Type 0} → (A → Instruction) → Option A → Option Said
-made_of make read = option_map (λ x. instruction (make x)) read
+made_of make read = option_map (λ x. S.Instruction (make x)) read
 
 -- lines of a word and another behind it
 abbrev pub with_one : List ((List ℕ) × (List ℕ → Option Said))
 with_one =
-    (codes "CODE", λ word. if_so (bytes_eq word (codes "1")) heading)
-    ∷ (codes "LOCALS", λ word. option_map locals (kinds_in word))
+    (codes "CODE", λ word. if_so (bytes_eq word (codes "1")) S.Heading)
+    ∷ (codes "LOCALS", λ word. option_map S.Locals (kinds_in word))
     ∷ (codes "num", λ word. made_of I.Num (quantity_in word))
     ∷ (codes "bool", λ word. made_of I.Bool (truth_in word))
     ∷ (codes "slot", λ word. made_of (λ names. I.Slot names.0 names.1) (slot_in word))
@@ -61,11 +54,11 @@ with_one =
 -- the line of a function, and that of a put
 abbrev pub function_of : List ℕ → List ℕ → Option Said
 function_of result parameters =
-    option_and_then (λ kind. option_map (λ kinds. opening (Function kind kinds)) (kinds_in parameters)) (kind_in result)
+    option_and_then (λ kind. option_map (λ kinds. S.Opening (Function kind kinds)) (kinds_in parameters)) (kind_in result)
 
 abbrev pub put_of : List ℕ → List ℕ → Option Said
 put_of slot ahead =
-    option_and_then (λ names. option_map (λ n. instruction (I.Put names.0 names.1 n)) (number_in 0 255 ahead)) (slot_in slot)
+    option_and_then (λ names. option_map (λ n. S.Instruction (I.Put names.0 names.1 n)) (number_in 0 255 ahead)) (slot_in slot)
 
 -- lines of a word and two others behind it
 abbrev pub with_two : List ((List ℕ) × (List ℕ → List ℕ → Option Said))
@@ -78,27 +71,38 @@ said_by (word ∷ one ∷ []) = option_and_then (λ says. says one) (entry_at wi
 said_by (word ∷ one ∷ two ∷ []) = option_and_then (λ says. says one two) (entry_at with_two word)
 said_by _ = None
 
--- what may be said behind the last line, and behind no line at the text's beginning
-abbrev pub may_follow : Option Said → Said → Bool
-may_follow None heading = true
-may_follow (Some heading) (opening head) = true
-may_follow (Some ending) (opening head) = true
-may_follow (Some (opening head)) (locals kinds) = true
-may_follow (Some (locals kinds)) (instruction i) = true
-may_follow (Some (locals kinds)) ending = true
-may_follow (Some (instruction j)) (instruction i) = true
-may_follow (Some (instruction j)) ending = true
-may_follow _ _ = false
+-- where a line stands: at the text's beginning, between blocks, behind a block's first line, or further inside the block
+pub data Stage : Type 0 where
+  top : Stage
+  between : Stage
+  headed : Stage
+  inside : Stage
 
--- whether no `END` is due
-abbrev pub is_whole : Option Said → Bool
-is_whole (Some heading) = true
-is_whole (Some ending) = true
-is_whole _ = false
+-- what may be said there
+abbrev pub may_say : Stage → Said → Bool
+may_say top S.Heading = true
+may_say between (S.Opening head) = true
+may_say headed (S.Locals kinds) = true
+may_say inside (S.Instruction i) = true
+may_say inside S.Ending = true
+may_say _ _ = false
 
--- what a line says in its place, if it is allowed there
-abbrev pub said_behind : Option Said → List ℕ → Option Said
-said_behind last line = option_and_then (λ says. if_so (may_follow last says) says) (said_by (parted 32 line))
+-- where the line behind this one stands
+abbrev pub behind : Said → Stage
+behind S.Heading = between
+behind (S.Opening head) = headed
+behind (S.Locals kinds) = inside
+behind (S.Instruction i) = inside
+behind S.Ending = between
+
+-- whether the text may end there: no `END` is due
+abbrev pub may_end : Stage → Bool
+may_end between = true
+may_end _ = false
+
+-- what a line says where it stands, if it is allowed there
+abbrev pub said_at : Stage → List ℕ → Option Said
+said_at stage line = option_and_then (λ says. if_so (may_say stage says) says) (said_by (parted 32 line))
 
 -- why a text is no code: a line, counted from 1, or that it ends too early
 pub data Refusal : Type 0 where
@@ -114,27 +118,27 @@ abbrev pub unless_bad : ℕ → Option Said → (Said → Result (List Said) Ref
 unless_bad n None rest = Err (bad_line n)
 unless_bad n (Some says) rest = and_then_all says (rest says)
 
--- what the lines from line n on say, behind the last one; of a text parted at its line feeds the last part has none
-abbrev pub all_said : ℕ → Option Said → List (List ℕ) → Result (List Said) Refusal
-all_said n last [] = Err truncated
-all_said n last (part ∷ []) = if is_whole last && bytes_eq part [] then Ok [] else Err truncated
-all_said n last (line ∷ next ∷ parts) =
-    unless_bad n (said_behind last line) (λ says. all_said (n + 1) (Some says) (next ∷ parts))
+-- what the lines from line n on say; of a text parted at its line feeds the last part has none
+abbrev pub all_said : ℕ → Stage → List (List ℕ) → Result (List Said) Refusal
+all_said n stage [] = Err truncated
+all_said n stage (part ∷ []) = if may_end stage && bytes_eq part [] then Ok [] else Err truncated
+all_said n stage (line ∷ next ∷ parts) =
+    unless_bad n (said_at stage line) (λ says. all_said (n + 1) (behind says) (next ∷ parts))
 
 -- the locals and the instructions of the block whose first line stands before these
 abbrev pub locals_said : List Said → List ValueKind
-locals_said (locals kinds ∷ rest) = kinds
+locals_said (S.Locals kinds ∷ rest) = kinds
 locals_said _ = []
 
 abbrev pub lines_said : List Said → List Instruction
-lines_said (locals kinds ∷ rest) = lines_said rest
-lines_said (instruction i ∷ rest) = i ∷ lines_said rest
+lines_said (S.Locals kinds ∷ rest) = lines_said rest
+lines_said (S.Instruction i ∷ rest) = i ∷ lines_said rest
 lines_said _ = []
 
 -- a block for each first line
 abbrev pub blocks_said : List Said → List Block
 blocks_said [] = []
-blocks_said (opening first ∷ rest) = record { head = first; locals = locals_said rest; lines = lines_said rest } ∷ blocks_said rest
+blocks_said (S.Opening first ∷ rest) = record { head = first; locals = locals_said rest; lines = lines_said rest } ∷ blocks_said rest
 blocks_said (_ ∷ rest) = blocks_said rest
 
 abbrev pub result_of : Result (List Said) Refusal → Result (List Block) Refusal
@@ -143,4 +147,4 @@ result_of (Err refusal) = Err refusal
 
 -- what a text is read as
 abbrev pub read : List ℕ → Result (List Block) Refusal
-read text = result_of (all_said 1 None (parted 10 text))
+read text = result_of (all_said 1 top (parted 10 text))

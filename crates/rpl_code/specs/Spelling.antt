@@ -1,5 +1,5 @@
 -- The text of a code: lines of words.
-use Rattle.std.specs.Prelude.{ℕ, Bool, true, false, List, [], ◌∷◌, ◌++◌, map, codes, flat_map}
+use Rattle.std.specs.Prelude.{ℕ, Bool, true, false, Option, Some, None, unwrap_or, List, [], ◌∷◌, ◌++◌, map, codes, flat_map}
 use Rattle.std.specs.Fmt.{decimal, signed_decimal}
 use Rattle.rpl_code.specs.declared.kind.ValueKind.{ValueKind}
 use Rattle.rpl_code.specs.declared.kind.ValueKind.TheVariants as K
@@ -44,51 +44,60 @@ abbrev pub truth_text : Bool → List ℕ
 truth_text true = codes "true"
 truth_text false = codes "false"
 
+-- the word of an instruction that stands alone
+abbrev pub word_alone : Instruction → Option (List ℕ)
+word_alone I.Now = Some (codes "now")
+word_alone I.Add = Some (codes "add")
+word_alone I.Sub = Some (codes "sub")
+word_alone I.Mul = Some (codes "mul")
+word_alone I.Div = Some (codes "div")
+word_alone I.Neg = Some (codes "neg")
+word_alone I.Shift = Some (codes "shift")
+word_alone I.Back = Some (codes "back")
+word_alone I.Between = Some (codes "between")
+word_alone I.Eq = Some (codes "eq")
+word_alone I.Lt = Some (codes "lt")
+word_alone I.Le = Some (codes "le")
+word_alone I.Deq = Some (codes "deq")
+word_alone I.Dlt = Some (codes "dlt")
+word_alone I.Dle = Some (codes "dle")
+word_alone I.Not = Some (codes "not")
+word_alone I.Read = Some (codes "read")
+word_alone I.Known = Some (codes "known")
+word_alone I.Month = Some (codes "month")
+word_alone I.Day = Some (codes "day")
+word_alone I.Year = Some (codes "year")
+word_alone I.Append = Some (codes "append")
+word_alone I.Item = Some (codes "item")
+word_alone I.Length = Some (codes "length")
+word_alone I.Next = Some (codes "next")
+word_alone I.Yield = Some (codes "yield")
+word_alone _ = None
+
+-- the first word of an instruction that has others behind it
+abbrev pub word_before : Instruction → List ℕ
+word_before (I.Num v) = codes "num"
+word_before (I.Bool b) = codes "bool"
+word_before (I.Slot object slot) = codes "slot"
+word_before (I.Load i) = codes "load"
+word_before (I.Store i) = codes "store"
+word_before (I.ToElevation object) = codes "toelevation"
+word_before (I.ToStorage object) = codes "tostorage"
+word_before (I.Call name) = codes "call"
+word_before (I.Invoke b) = codes "invoke"
+word_before (I.List n) = codes "list"
+word_before (I.Widen m) = codes "widen"
+word_before (I.Jump p) = codes "jump"
+word_before (I.Branch p) = codes "branch"
+word_before (I.Target kinds) = codes "target"
+word_before (I.Foreach i) = codes "foreach"
+word_before (I.Map i) = codes "map"
+word_before (I.Put object slot ahead) = codes "put"
+word_before _ = []
+
 -- the word with which an instruction begins
 abbrev pub word_of : Instruction → List ℕ
-word_of (I.Num v) = codes "num"
-word_of (I.Bool b) = codes "bool"
-word_of I.Now = codes "now"
-word_of (I.Slot object slot) = codes "slot"
-word_of (I.Load i) = codes "load"
-word_of (I.Store i) = codes "store"
-word_of I.Add = codes "add"
-word_of I.Sub = codes "sub"
-word_of I.Mul = codes "mul"
-word_of I.Div = codes "div"
-word_of I.Neg = codes "neg"
-word_of I.Shift = codes "shift"
-word_of I.Back = codes "back"
-word_of I.Between = codes "between"
-word_of I.Eq = codes "eq"
-word_of I.Lt = codes "lt"
-word_of I.Le = codes "le"
-word_of I.Deq = codes "deq"
-word_of I.Dlt = codes "dlt"
-word_of I.Dle = codes "dle"
-word_of I.Not = codes "not"
-word_of I.Read = codes "read"
-word_of I.Known = codes "known"
-word_of I.Month = codes "month"
-word_of I.Day = codes "day"
-word_of I.Year = codes "year"
-word_of (I.ToElevation object) = codes "toelevation"
-word_of (I.ToStorage object) = codes "tostorage"
-word_of (I.Call name) = codes "call"
-word_of (I.Invoke b) = codes "invoke"
-word_of (I.List n) = codes "list"
-word_of I.Append = codes "append"
-word_of (I.Widen m) = codes "widen"
-word_of I.Item = codes "item"
-word_of I.Length = codes "length"
-word_of (I.Jump p) = codes "jump"
-word_of (I.Branch p) = codes "branch"
-word_of (I.Target kinds) = codes "target"
-word_of (I.Foreach i) = codes "foreach"
-word_of I.Next = codes "next"
-word_of (I.Map i) = codes "map"
-word_of I.Yield = codes "yield"
-word_of (I.Put object slot ahead) = codes "put"
+word_of i = unwrap_or (word_alone i) (word_before i)
 
 -- the words behind it
 abbrev pub operands_of : Instruction → List (List ℕ)

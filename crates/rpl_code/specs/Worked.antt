@@ -43,3 +43,24 @@ mixed_text = ended (codes "CODE 1" ∷ codes "FUNCTION N N,S*12" ∷ codes "LOCA
 -- a rule of one line, which is a whole text
 abbrev pub rule_of : List ℕ → List ℕ
 rule_of line = ended (codes "CODE 1" ∷ codes "RULE" ∷ codes "LOCALS -" ∷ line ∷ codes "END" ∷ [])
+
+-- a rule with one local
+abbrev pub rule_with : List Instruction → List Block
+rule_with lines = record { head = Rule; locals = K.N ∷ []; lines = lines } ∷ []
+
+-- 50 is put, and 7 only kept, as no compiler does
+abbrev pub seven_kept : List Block
+seven_kept = rule_with (I.Num (pos 7) ∷ I.Store 0 ∷ I.Num (pos 50) ∷ I.Put (codes "Dam") (codes "Outflow") 0 ∷ [])
+
+abbrev pub seven_kept_text : List ℕ
+seven_kept_text = ended (codes "CODE 1" ∷ codes "RULE" ∷ codes "LOCALS N" ∷ codes "num 7" ∷ codes "store 0" ∷ codes "num 50"
+    ∷ codes "put Dam.Outflow 0" ∷ codes "END" ∷ [])
+
+-- two numbers are put, one after the other
+abbrev pub two_puts : List Block
+two_puts = rule_with (I.Num (pos 4) ∷ I.Num (pos 5) ∷ I.List 2 ∷ I.Foreach 0 ∷ I.Load 0 ∷ I.Put (codes "Dam") (codes "Outflow") 0
+    ∷ I.Next ∷ [])
+
+abbrev pub two_puts_text : List ℕ
+two_puts_text = ended (codes "CODE 1" ∷ codes "RULE" ∷ codes "LOCALS N" ∷ codes "num 4" ∷ codes "num 5" ∷ codes "list 2"
+    ∷ codes "foreach 0" ∷ codes "load 0" ∷ codes "put Dam.Outflow 0" ∷ codes "next" ∷ codes "END" ∷ [])

@@ -1,5 +1,9 @@
 use crate::Kinds;
 use rw_model::Name;
+use std::mem::size_of;
+
+// A code has up to a third as many instructions as its text has bytes.
+const _: () = prove!(size_of::<Instruction>() == 64);
 
 /// An instruction of a block. A local is named by its number, and so is a block; a place is a line of the block. Each
 /// counts from 0, but blocks from 1.

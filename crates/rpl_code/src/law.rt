@@ -1,11 +1,25 @@
 // That spelling and reading are one, and what both come to on worked texts.
-ghost use Rattle.std.specs.Prelude.{◌≡◌, ◌≤◌, length, Ok, Err, [], ◌∷◌, codes, List, ℕ};
+ghost use Rattle.std.specs.Prelude.{◌≡◌, ◌≤◌, length, Ok, Err, [], ◌∷◌, ◌++◌, codes, List, ℕ, Result, MatchResult};
 ghost use Rattle.rpl_code.specs.declared.instruction.Instruction.TheVariants as Instruction;
 ghost use Rattle.rpl_code.specs.declared.block.Block.{Block};
+ghost use Rattle.rpl_code.specs.declared.fault.CodeFault.{CodeFault};
+ghost use Rattle.rpl_code.specs.declared.fault.CodeFault.TheVariants.{NoMemory};
 ghost use Rattle.rpl_code.specs.Bounds.{IsCode};
 ghost use Rattle.rpl_code.specs.Spelling.{spelt};
 ghost use Rattle.rpl_code.specs.Reading.{read, bad_line, truncated};
-ghost use Rattle.rpl_code.specs.Worked.{plain_rule, capped, capped_text, mixed, mixed_text, rule_of};
+ghost use Rattle.rpl_code.specs.Answers.{Answers};
+ghost use Rattle.rpl_code.specs.Worked.{
+  plain_rule,
+  capped,
+  capped_text,
+  mixed,
+  mixed_text,
+  rule_of,
+  seven_kept,
+  seven_kept_text,
+  two_puts,
+  two_puts_text,
+};
 
 /// The text of a code is these lines, and they are read as the code.
 pub fn worked_codes()
@@ -13,6 +27,10 @@ pub fn worked_codes()
     ensures capped_is_read { read capped_text ≡ Ok capped }
     ensures mixed { spelt mixed ≡ mixed_text }
     ensures mixed_is_read { read mixed_text ≡ Ok mixed }
+    ensures seven_kept { spelt seven_kept ≡ seven_kept_text }
+    ensures seven_kept_is_read { read seven_kept_text ≡ Ok seven_kept }
+    ensures two_puts { spelt two_puts ≡ two_puts_text }
+    ensures two_puts_is_read { read two_puts_text ≡ Ok two_puts }
     ensures none { spelt [] ≡ codes "CODE 1\n" }
     ensures none_is_read { read (codes "CODE 1\n") ≡ Ok [] }
     ensures one { read (rule_of (codes "add")) ≡ Ok (plain_rule (Instruction.Add ∷ [])) }
@@ -34,6 +52,9 @@ pub fn worked_refusals()
     ensures blank { read (rule_of (codes "add ")) ≡ Err (bad_line 4) }
     ensures empty { read (rule_of []) ≡ Err (bad_line 4) }
     ensures word { read (rule_of (codes "plus")) ≡ Err (bad_line 4) }
+    ensures carriage_return { read (rule_of (codes "add" ++ 13 ∷ [])) ≡ Err (bad_line 4) }
+    ensures two_blanks { read (rule_of (codes "num  7")) ≡ Err (bad_line 4) }
+    ensures plus { read (rule_of (codes "num +7")) ≡ Err (bad_line 4) }
 {}
 
 /// Lines that are not allowed in their place, and texts that end too early.
@@ -46,6 +67,9 @@ pub fn worked_places()
     ensures early { read (codes "CODE 1\nRULE\nLOCALS -\nadd\n") ≡ Err truncated }
     ensures feed { read (codes "CODE 1\nRULE\nLOCALS -\nEND") ≡ Err truncated }
     ensures bad_before { read (codes "CODE 1\nRULE\nLOCALS\nadd") ≡ Err (bad_line 3) }
+    ensures earlier { read (codes "CODE 1\nRULE\nLOCALS -\nnum 01\nplus\n") ≡ Err (bad_line 4) }
+    ensures heading_return { read (codes "CODE 1" ++ 13 ∷ 10 ∷ []) ≡ Err (bad_line 1) }
+    ensures second_heading { read (codes "CODE 1\nCODE 1\n") ≡ Err (bad_line 2) }
     ensures heading_alone { read (codes "CODE 1") ≡ Err truncated }
     ensures nothing { read [] ≡ Err truncated }
 {}
@@ -62,4 +86,11 @@ pub fn read_is_written()
         → length text ≤ 16_777_216 → read text ≡ Ok blocks → text ≡ spelt blocks }
     ensures bounds { (text : List ℕ) (blocks : List Block)
         → length text ≤ 16_777_216 → read text ≡ Ok blocks → IsCode blocks }
+{}
+
+/// A code that was written is read again as that code, or there is no memory.
+pub fn written_code_is_read_again()
+    ensures { (blocks : List Block) (result : Result (List Block) CodeFault) → IsCode blocks
+        → Answers (read (spelt blocks)) result
+        → MatchResult result (λ code. code ≡ blocks) (λ fault. fault ≡ NoMemory) }
 {}

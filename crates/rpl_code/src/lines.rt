@@ -1,6 +1,7 @@
-ghost use Rattle.std.specs.Prelude.{◌≡◌};
+ghost use Rattle.std.specs.Prelude.{◌≡◌, ◌++◌, [], ◌∷◌, OnOk};
 
 use crate::Instruction;
+use rw_base::NoMemory;
 use std::marker::Model;
 
 /// The instructions of a block, which contracts see as a list. Places count from 0.
@@ -31,5 +32,13 @@ impl Lines {
         ensures { result.now ≡ self.now }
     {
         self.items.as_slice()
+    }
+
+    /// One instruction more, behind the others. The one other answer is want of memory.
+    pub(crate) fn push(&mut self, instruction: Instruction) -> Result<(), NoMemory>
+        ensures { OnOk result (self.new ≡ self.old ++ instruction ∷ []) }
+    {
+        self.items.push(instruction)?;
+        Ok(())
     }
 }

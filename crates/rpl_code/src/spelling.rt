@@ -1,7 +1,7 @@
 // The words of a line.
-ghost use Rattle.std.specs.Prelude.{◌≡◌, ◌++◌, ◌∷◌, [], OnOk, string_bytes, map};
+ghost use Rattle.std.specs.Prelude.{◌≡◌, ◌++◌, ◌∷◌, [], OnOk, string_bytes, map, option_map};
 ghost use Rattle.std.specs.Fmt.{decimal, signed_decimal};
-ghost use Rattle.rpl_code.specs.Spelling.{each_after, kind_text, kinds_text, slot_text, truth_text, word_of, operands_of};
+ghost use Rattle.rpl_code.specs.Spelling.{each_after, kind_text, kinds_text, slot_text, truth_text, word_alone, word_before, word_of, operands_of};
 
 use crate::{Instruction, Kinds, ValueKind};
 use itoa::Buffer;
@@ -129,17 +129,12 @@ pub(crate) fn push_kinds_word(text: &mut String, kinds: &Kinds) -> Result<(), No
     push_kinds(text, kinds.as_slice())
 }
 
-/// The word with which an instruction begins.
-pub(crate) fn word_of(instruction: &Instruction) -> &'static str
-    ensures { result.now ≡ word_of instruction.now }
+// The word of an instruction that stands alone.
+fn word_alone(instruction: &Instruction) -> Option<&'static str>
+    ensures { option_map (λ word. word.now) result ≡ word_alone instruction.now }
 {
-    match instruction {
-        Instruction::Num(_) => "num",
-        Instruction::Bool(_) => "bool",
+    let word = match instruction {
         Instruction::Now => "now",
-        Instruction::Slot { .. } => "slot",
-        Instruction::Load(_) => "load",
-        Instruction::Store(_) => "store",
         Instruction::Add => "add",
         Instruction::Sub => "sub",
         Instruction::Mul => "mul",
@@ -160,23 +155,49 @@ pub(crate) fn word_of(instruction: &Instruction) -> &'static str
         Instruction::Month => "month",
         Instruction::Day => "day",
         Instruction::Year => "year",
+        Instruction::Append => "append",
+        Instruction::Item => "item",
+        Instruction::Length => "length",
+        Instruction::Next => "next",
+        Instruction::Yield => "yield",
+        _ => return None,
+    };
+    Some(word)
+}
+
+// The first word of an instruction that has others behind it.
+fn word_before(instruction: &Instruction) -> &'static str
+    ensures { result.now ≡ word_before instruction.now }
+{
+    match instruction {
+        Instruction::Num(_) => "num",
+        Instruction::Bool(_) => "bool",
+        Instruction::Slot { .. } => "slot",
+        Instruction::Load(_) => "load",
+        Instruction::Store(_) => "store",
         Instruction::ToElevation(_) => "toelevation",
         Instruction::ToStorage(_) => "tostorage",
         Instruction::Call(_) => "call",
         Instruction::Invoke(_) => "invoke",
         Instruction::List(_) => "list",
-        Instruction::Append => "append",
         Instruction::Widen(_) => "widen",
-        Instruction::Item => "item",
-        Instruction::Length => "length",
         Instruction::Jump(_) => "jump",
         Instruction::Branch(_) => "branch",
         Instruction::Target(_) => "target",
         Instruction::Foreach(_) => "foreach",
-        Instruction::Next => "next",
         Instruction::Map(_) => "map",
-        Instruction::Yield => "yield",
         Instruction::Put { .. } => "put",
+        _ => "",
+    }
+}
+
+/// The word with which an instruction begins.
+pub(crate) fn word_of(instruction: &Instruction) -> &'static str
+    ensures { result.now ≡ word_of instruction.now }
+{
+    match word_alone(instruction) {
+        Some(word) => word,
+        None => word_before(instruction),
     }
 }
 

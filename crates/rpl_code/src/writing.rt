@@ -75,8 +75,8 @@ fn push_blocks(text: &mut String, blocks: &[Block]) -> Result<(), NoMemory>
     Ok(())
 }
 
-/// The text of a code: a line for each head, for the locals, for each instruction and for each end, and `CODE 1` before
-/// all. Want of memory is the one other answer.
+/// The text of a code, as `docs/FORMATS.md` says under "Code": a line for each head, for the locals, for each instruction
+/// and for each end, and `CODE 1` before all. Want of memory is the one other answer.
 pub fn write_code(alloc: Global, code: &Code) -> Result<Vec<u8>, NoMemory>
     ensures { IfOk result (λ text. text.items ≡ spelt code.now) }
 {

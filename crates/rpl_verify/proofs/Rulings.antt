@@ -6,8 +6,8 @@ use Rattle.std.proofs.lemmas.List.Elements.{All-push}
 use Rattle.rw_model.specs.Draft.{Draft}
 use Rattle.rpl_code.specs.declared.block.Block.{Block}
 use Rattle.rpl_tree.specs.Budget.{Budget, limits}
-use Rattle.rpl_verify.specs.declared.misfit.Misfit.{Misfit}
-use Rattle.rpl_verify.specs.declared.misfit.Misfit.TheVariants.{TooCostly, TooManyReads, TooManyPuts, TooDeep}
+use Rattle.rpl_verify.specs.declared.verify_kind.VerifyKind.{VerifyKind}
+use Rattle.rpl_verify.specs.declared.verify_kind.VerifyKind.TheVariants.{TooCostly, TooManyReads, TooManyPuts, TooDeep}
 use Rattle.rpl_verify.specs.Fits.{AreFit, Before, Misplaced, Refusal, at_place, block_befores, each_block, in_block, refusal_in, scope_of, then_do}
 use Rattle.rpl_verify.specs.Budget.{AreAccepted, IsWithinLimits, block_ruling, budget_by, within_limits}
 
@@ -49,7 +49,7 @@ all_pass P judge each earlier ds (x ∷ xs) all so_far h =
     let q = in_block_ok (suc (length earlier)) (judge earlier ds x) (λ a. each_block judge (earlier ++ x ∷ []) (ds ++ a ∷ []) xs) all h in
     all_pass P judge each (earlier ++ x ∷ []) (ds ++ q.0 ∷ []) xs all (All-push P ds q.0 so_far (each earlier ds x q.0 q.1)) q.2
 
-not_over : (test : Bool) (misfit : Misfit) (r : Result Budget Misfit) (c : Budget) → (if test then Err misfit else r) ≡ Ok c → (test ≡ false) × (r ≡ Ok c)
+not_over : (test : Bool) (misfit : VerifyKind) (r : Result Budget VerifyKind) (c : Budget) → (if test then Err misfit else r) ≡ Ok c → (test ≡ false) × (r ≡ Ok c)
 not_over true misfit r c h = absurd (cc h)
 not_over false misfit r c h = (refl, h)
 
@@ -69,7 +69,7 @@ within b c h =
       words = at_most limits.words b.words four.0;
     })
 
-at_place_ok : (place : ℕ) (r : Result Budget Misfit) (c : Budget) → at_place place r (λ b. Ok b) ≡ Ok c → r ≡ Ok c
+at_place_ok : (place : ℕ) (r : Result Budget VerifyKind) (c : Budget) → at_place place r (λ b. Ok b) ≡ Ok c → r ≡ Ok c
 at_place_ok place (Ok b) c h = cc h
 at_place_ok place (Err misfit) c h = absurd (cc h)
 

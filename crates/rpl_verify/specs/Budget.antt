@@ -9,8 +9,8 @@ use Rattle.rpl_code.specs.declared.block.BlockHead.{BlockHead}
 use Rattle.rpl_code.specs.declared.block.Block.{Block}
 use Rattle.rpl_code.specs.Weight.{words_of}
 use Rattle.rpl_tree.specs.Budget.{Budget, budget, limits, capped}
-use Rattle.rpl_verify.specs.declared.misfit.Misfit.{Misfit}
-use Rattle.rpl_verify.specs.declared.misfit.Misfit.TheVariants.{TooCostly, TooManyReads, TooManyPuts, TooDeep}
+use Rattle.rpl_verify.specs.declared.verify_kind.VerifyKind.{VerifyKind}
+use Rattle.rpl_verify.specs.declared.verify_kind.VerifyKind.TheVariants.{TooCostly, TooManyReads, TooManyPuts, TooDeep}
 use Rattle.rpl_verify.specs.Kinds.{words_of_all}
 use Rattle.rpl_verify.specs.Places.{Loop, visiting, mapping, loop_end, rest_of}
 use Rattle.rpl_verify.specs.Names.{Scope}
@@ -144,7 +144,7 @@ module _ (scope : Scope) (budgets : List Budget) where
       (capped limits.words (most at_a_time bs lines))
 
 -- the budget, if it keeps within the limits
-abbrev pub within_limits : Budget → Result Budget Misfit
+abbrev pub within_limits : Budget → Result Budget VerifyKind
 within_limits b =
     if nat_lt limits.count b.count then Err TooCostly else
     if nat_lt limits.looks b.looks then Err TooManyReads else

@@ -8,8 +8,8 @@ use Rattle.rpl_code.specs.declared.instruction.Instruction.TheVariants as I
 use Rattle.rpl_code.specs.declared.block.BlockHead.{BlockHead}
 use Rattle.rpl_code.specs.declared.block.BlockHead.TheVariants.{Rule, Function}
 use Rattle.rpl_code.specs.declared.block.Block.{Block}
-use Rattle.rpl_verify.specs.declared.misfit.Misfit.{Misfit}
-use Rattle.rpl_verify.specs.declared.misfit.Misfit.TheVariants.{TooMany, BackwardJump, JumpOutside, WrongShape}
+use Rattle.rpl_verify.specs.declared.verify_kind.VerifyKind.{VerifyKind}
+use Rattle.rpl_verify.specs.declared.verify_kind.VerifyKind.TheVariants.{TooMany, BackwardJump, JumpOutside, WrongShape}
 use Rattle.rpl_verify.specs.Kinds.{are_same_kinds, is_kind, room_of, element_of}
 use Rattle.rpl_verify.specs.Table.{row, operands_behind}
 use Rattle.rpl_verify.specs.Places.{Loop, visiting, mapping, is_same_loop, Spot, spots}
@@ -35,22 +35,22 @@ abbrev pub then_do : {A B E : Type 0} → Result A E → (A → Result B E) → 
 then_do (Ok x) go = go x
 then_do (Err refusal) go = Err refusal
 
-abbrev pub if_fits : {A : Type 0} → Bool → A → Result A Misfit
+abbrev pub if_fits : {A : Type 0} → Bool → A → Result A VerifyKind
 if_fits true x = Ok x
 if_fits false x = Err WrongShape
 
-abbrev pub unless_misfit : {A : Type 0} → Option Misfit → Result A Misfit → Result A Misfit
+abbrev pub unless_misfit : {A : Type 0} → Option VerifyKind → Result A VerifyKind → Result A VerifyKind
 unless_misfit None r = r
 unless_misfit (Some misfit) r = Err misfit
 
 -- ---- operands
 
 -- the instruction takes its operands, and leaves others in their place
-abbrev pub taken : Scope → Instruction → Before → Result Before Misfit
+abbrev pub taken : Scope → Instruction → Before → Result Before VerifyKind
 taken scope i b = then_do (operands_behind (row scope.heads scope.locals i) b.kinds) (λ kinds. Ok (before kinds b.loops))
 
 -- the operands are those that are declared where they are carried to
-abbrev pub carried : List ValueKind → Before → Result Before Misfit
+abbrev pub carried : List ValueKind → Before → Result Before VerifyKind
 carried declared b = if_fits (are_same_kinds declared b.kinds) b
 
 -- ---- jumps
@@ -65,21 +65,21 @@ innermost [] = None
 innermost (o ∷ os) = Some o.start
 
 -- what is declared at a spot, from a place in the loop that begins there
-abbrev pub lands_on : Option ℕ → Spot → Option (List ValueKind) → Result (List ValueKind) Misfit
+abbrev pub lands_on : Option ℕ → Spot → Option (List ValueKind) → Result (List ValueKind) VerifyKind
 lands_on here spot None = Err JumpOutside
 lands_on here spot (Some kinds) = if is_same_place here spot.innermost then Ok kinds else Err JumpOutside
 
-abbrev pub landing : Option ℕ → Option Spot → Result (List ValueKind) Misfit
+abbrev pub landing : Option ℕ → Option Spot → Result (List ValueKind) VerifyKind
 landing here None = Err JumpOutside
 landing here (Some spot) = lands_on here spot spot.declares
 
 -- what is declared where a jump from a place to another lands
-abbrev pub found : Scope → ℕ → ℕ → Before → Result (List ValueKind) Misfit
+abbrev pub found : Scope → ℕ → ℕ → Before → Result (List ValueKind) VerifyKind
 found scope place to b =
     if nat_lt place to then landing (innermost b.loops) (slice_get scope.spots to) else Err BackwardJump
 
 -- a branch takes its truth value, and carries the others
-abbrev pub branched : Scope → ℕ → ℕ → Before → Result Before Misfit
+abbrev pub branched : Scope → ℕ → ℕ → Before → Result Before VerifyKind
 branched scope place to b =
     then_do (found scope place to b) (λ declared. then_do (taken scope (I.Branch to) b) (carried declared))
 
@@ -88,11 +88,11 @@ declared_at None = None
 declared_at (Some spot) = spot.declares
 
 -- behind a jump stands a target, and before that the operands that it declares
-abbrev pub restarted : Option (List ValueKind) → Before → Result Before Misfit
+abbrev pub restarted : Option (List ValueKind) → Before → Result Before VerifyKind
 restarted None b = Err WrongShape
 restarted (Some kinds) b = Ok (before kinds b.loops)
 
-abbrev pub jumped : Scope → ℕ → ℕ → Before → Result Before Misfit
+abbrev pub jumped : Scope → ℕ → ℕ → Before → Result Before VerifyKind
 jumped scope place to b =
     then_do (found scope place to b) (λ declared. then_do (carried declared b)
     (restarted (declared_at (slice_get scope.spots (suc place)))))
@@ -108,7 +108,7 @@ room_on_top [] = 0
 room_on_top (k ∷ ks) = room_of k
 
 -- a loop over the list on top, whose element becomes that of a local of its kind
-abbrev pub opened : Scope → ℕ → Loop → ℕ → Instruction → Before → Result Before Misfit
+abbrev pub opened : Scope → ℕ → Loop → ℕ → Instruction → Before → Result Before VerifyKind
 opened scope place loop local i b =
     then_do (taken scope i b) (λ c.
     let o : Open = record { start = place; loop = loop; room = room_on_top b.kinds; under = c.kinds } in
@@ -120,18 +120,18 @@ behind_loop visiting room under = under
 behind_loop mapping room under = K.NList room ∷ under
 
 -- the end of the innermost loop, with the operands under its list
-abbrev pub shut : Loop → List ValueKind → List Open → Result Before Misfit
+abbrev pub shut : Loop → List ValueKind → List Open → Result Before VerifyKind
 shut loop kinds [] = Err WrongShape
 shut loop kinds (o ∷ os) =
     if_fits (is_same_loop loop o.loop && are_same_kinds o.under kinds) (before (behind_loop o.loop o.room o.under) os)
 
-abbrev pub closed : Scope → Loop → Instruction → Before → Result Before Misfit
+abbrev pub closed : Scope → Loop → Instruction → Before → Result Before VerifyKind
 closed scope loop i b = then_do (taken scope i b) (λ c. shut loop c.kinds c.loops)
 
 -- ---- a place
 
 -- an instruction whose names are there, at a place
-abbrev pub behind : Scope → ℕ → Before → Instruction → Result Before Misfit
+abbrev pub behind : Scope → ℕ → Before → Instruction → Result Before VerifyKind
 behind scope place b (I.Jump to) = jumped scope place to b
 behind scope place b (I.Branch to) = branched scope place to b
 behind scope place b (I.Target kinds) = carried (reverse kinds) b
@@ -142,7 +142,7 @@ behind scope place b I.Yield = closed scope mapping I.Yield b
 behind scope place b i = taken scope i b
 
 -- what is before the next place, or the first misfit of this one
-abbrev pub judged : Scope → ℕ → Before → Instruction → Result Before Misfit
+abbrev pub judged : Scope → ℕ → Before → Instruction → Result Before VerifyKind
 judged scope place b i = unless_misfit (name_misfit scope i) (behind scope place b i)
 
 -- no operands, or a function's result
@@ -151,17 +151,17 @@ end_kinds Rule = []
 end_kinds (Function result parameters) = result ∷ []
 
 -- no loop is open at the end
-abbrev pub ended : BlockHead → Before → List Open → Result Before Misfit
+abbrev pub ended : BlockHead → Before → List Open → Result Before VerifyKind
 ended head b [] = carried (end_kinds head) b
 ended head b (o ∷ os) = Err WrongShape
 
 -- ---- a block
 
 pub record Misplaced : Type 0 where
-  pub misfit : Misfit
+  pub misfit : VerifyKind
   pub place : ℕ
 
-abbrev pub at_place : {A B : Type 0} → ℕ → Result A Misfit → (A → Result B Misplaced) → Result B Misplaced
+abbrev pub at_place : {A B : Type 0} → ℕ → Result A VerifyKind → (A → Result B Misplaced) → Result B Misplaced
 at_place place (Ok x) go = go x
 at_place place (Err misfit) go = Err (record { misfit = misfit; place = place })
 
@@ -214,11 +214,11 @@ block_befores basin blocks earlier block =
 
 -- blocks count from 1, places from 0
 pub record Refusal : Type 0 where
-  pub misfit : Misfit
+  pub misfit : VerifyKind
   pub block : ℕ
   pub place : ℕ
 
-abbrev pub refusal : Misfit → ℕ → ℕ → Refusal
+abbrev pub refusal : VerifyKind → ℕ → ℕ → Refusal
 refusal misfit block place = record { misfit = misfit; block = block; place = place }
 
 abbrev pub in_block : {A B : Type 0} → ℕ → Result A Misplaced → (A → Result B Refusal) → Result B Refusal

@@ -9,8 +9,8 @@ use Rattle.rpl_code.specs.declared.block.BlockHead.{BlockHead}
 use Rattle.rpl_code.specs.declared.block.BlockHead.TheVariants.{Rule, Function}
 use Rattle.rpl_tree.specs.Mean.{predefined_functions}
 use Rattle.rpl_tree.specs.World.{can_set, table_named}
-use Rattle.rpl_verify.specs.declared.misfit.Misfit.{Misfit}
-use Rattle.rpl_verify.specs.declared.misfit.Misfit.TheVariants.{NoSuchName, NotSettable, PutInFunction, TargetStep, LaterCall}
+use Rattle.rpl_verify.specs.declared.verify_kind.VerifyKind.{VerifyKind}
+use Rattle.rpl_verify.specs.declared.verify_kind.VerifyKind.TheVariants.{NoSuchName, NotSettable, PutInFunction, TargetStep, LaterCall}
 use Rattle.rpl_verify.specs.Places.{Spot}
 use Rattle.rpl_verify.specs.Table.{function_named}
 
@@ -24,27 +24,27 @@ pub record Scope : Type 0 where
   pub locals : List ValueKind
   pub spots : List Spot
 
-abbrev pub unless_there : {A : Type 0} → Option A → Option Misfit
+abbrev pub unless_there : {A : Type 0} → Option A → Option VerifyKind
 unless_there None = Some NoSuchName
 unless_there (Some thing) = None
 
 -- a rule puts at the timestep in which it fires, and a function never
-abbrev pub put_step_misfit : BlockHead → ℕ → Option Misfit
+abbrev pub put_step_misfit : BlockHead → ℕ → Option VerifyKind
 put_step_misfit (Function result parameters) ahead = Some PutInFunction
 put_step_misfit Rule ahead = if ahead == 0 then None else Some TargetStep
 
-abbrev pub put_misfit : Scope → Option ℕ → ℕ → Option Misfit
+abbrev pub put_misfit : Scope → Option ℕ → ℕ → Option VerifyKind
 put_misfit scope None ahead = Some NoSuchName
 put_misfit scope (Some slot) ahead =
     if can_set scope.basin slot then put_step_misfit scope.head ahead else Some NotSettable
 
 -- a call of a block, from the block of a number
-abbrev pub call_misfit : ℕ → ℕ → Option BlockHead → Option Misfit
+abbrev pub call_misfit : ℕ → ℕ → Option BlockHead → Option VerifyKind
 call_misfit here called None = Some NoSuchName
 call_misfit here called (Some Rule) = Some NoSuchName
 call_misfit here called (Some (Function result parameters)) = if nat_lt called here then None else Some LaterCall
 
-abbrev pub name_misfit : Scope → Instruction → Option Misfit
+abbrev pub name_misfit : Scope → Instruction → Option VerifyKind
 name_misfit scope (I.Slot object slot) = unless_there (slot_named scope.basin.objects object slot)
 name_misfit scope (I.ToElevation object) = unless_there (table_named scope.basin object)
 name_misfit scope (I.ToStorage object) = unless_there (table_named scope.basin object)

@@ -9,8 +9,8 @@ use Rattle.rpl_code.specs.declared.instruction.Instruction.TheVariants as I
 use Rattle.rpl_code.specs.declared.block.BlockHead.{BlockHead}
 use Rattle.rpl_code.specs.declared.block.BlockHead.TheVariants.{Rule, Function}
 use Rattle.rpl_tree.specs.Mean.{Function as Predefined, predefined_functions}
-use Rattle.rpl_verify.specs.declared.misfit.Misfit.{Misfit}
-use Rattle.rpl_verify.specs.declared.misfit.Misfit.TheVariants.{MissingOperand, WrongOperand, WrongShape}
+use Rattle.rpl_verify.specs.declared.verify_kind.VerifyKind.{VerifyKind}
+use Rattle.rpl_verify.specs.declared.verify_kind.VerifyKind.TheVariants.{MissingOperand, WrongOperand, WrongShape}
 use Rattle.rpl_verify.specs.Kinds.{is_same_kind, are_same_kinds, list_kind}
 
 -- operands of these kinds, and what is left in their place; so many operands, and what is left in place of such kinds, if they go
@@ -129,22 +129,22 @@ operand_count (takes kinds left) = length kinds
 operand_count (goes_by n left_of) = n
 operand_count (lacks n) = n
 
-abbrev pub or_wrong : Option (List ValueKind) → Result (List ValueKind) Misfit
+abbrev pub or_wrong : Option (List ValueKind) → Result (List ValueKind) VerifyKind
 or_wrong None = Err WrongOperand
 or_wrong (Some left) = Ok left
 
 -- what is left in place of operands of these kinds, which are as many as the row takes
-abbrev pub left_of : Row → List ValueKind → Result (List ValueKind) Misfit
+abbrev pub left_of : Row → List ValueKind → Result (List ValueKind) VerifyKind
 left_of (takes kinds left) ks = if are_same_kinds kinds ks then Ok left else Err WrongOperand
 left_of (goes_by n left_for) ks = or_wrong (left_for ks)
 left_of (lacks n) ks = Err WrongShape
 
-abbrev pub on_top_of : List ValueKind → Result (List ValueKind) Misfit → Result (List ValueKind) Misfit
+abbrev pub on_top_of : List ValueKind → Result (List ValueKind) VerifyKind → Result (List ValueKind) VerifyKind
 on_top_of below (Ok left) = Ok (left ++ below)
 on_top_of below (Err misfit) = Err misfit
 
 -- the operands behind the instruction, of all those before it
-abbrev pub operands_behind : Row → List ValueKind → Result (List ValueKind) Misfit
+abbrev pub operands_behind : Row → List ValueKind → Result (List ValueKind) VerifyKind
 operands_behind r ks =
     let n = operand_count r in
     if nat_lt (length ks) n then Err MissingOperand else on_top_of (drop n ks) (left_of r (take n ks))

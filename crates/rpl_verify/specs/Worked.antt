@@ -13,7 +13,7 @@ use Rattle.rpl_code.specs.declared.block.Block.{Block}
 use Rattle.rpl_code.specs.Worked.{plain_rule}
 use Rattle.rpl_tree.specs.Budget.{Budget}
 use Rattle.rpl_tree.specs.Worked.{basin_of, dam, flow_object, numbers_object, pool, unknown_cells}
-use Rattle.rpl_verify.specs.declared.misfit.Misfit.{Misfit}
+use Rattle.rpl_verify.specs.declared.verify_kind.VerifyKind.{VerifyKind}
 use Rattle.rpl_verify.specs.Fits.{Refusal, first_misfit, refusal}
 use Rattle.rpl_verify.specs.Budget.{ruling}
 use Rattle.rpl_verify.specs.Machine.{fire_of_code}
@@ -77,19 +77,14 @@ abbrev pub over_a_list : ValueKind → List Instruction → Option Refusal
 over_a_list local lines = misfit_of (local ∷ []) (pair_then lines)
 
 -- a misfit of the first block
-abbrev pub misfit_at : Misfit → ℕ → Option Refusal
+abbrev pub misfit_at : VerifyKind → ℕ → Option Refusal
 misfit_at misfit place = Some (refusal misfit 1 place)
 
 -- ---- codes
 
--- 4 and then 5 are put
-abbrev pub two_puts : List Block
-two_puts = rule_with (K.N ∷ [])
-    (number 4 ∷ number 5 ∷ I.List 2 ∷ I.Foreach 0 ∷ I.Load 0 ∷ put_outflow 0 ∷ I.Next ∷ []) ∷ []
-
--- 50 is put, and 7 only kept
-abbrev pub seven_kept : List Block
-seven_kept = rule_with (K.N ∷ []) (number 7 ∷ I.Store 0 ∷ number 50 ∷ put_outflow 0 ∷ []) ∷ []
+-- it jumps back for ever
+abbrev pub endless : List Block
+endless = plain_rule (I.Target [] ∷ I.Jump 0 ∷ [])
 
 -- the inflow so many steps ahead, and the sum of those at this step and the next, which is put
 abbrev pub sum_ahead_code : List Block

@@ -4,17 +4,17 @@ ghost use Rattle.rw_base.specs.Quantity.{quantity_max};
 ghost use Rattle.rpl_code.specs.declared.kind.ValueKind.TheVariants as K;
 ghost use Rattle.rpl_code.specs.declared.instruction.Instruction.TheVariants as I;
 ghost use Rattle.rpl_code.specs.declared.block.Block.{Block};
-ghost use Rattle.rpl_code.specs.Worked.{plain_rule};
+ghost use Rattle.rpl_code.specs.Worked.{plain_rule, seven_kept, two_puts};
 ghost use Rattle.rw_model.specs.Draft.{Draft};
 ghost use Rattle.rw_series.specs.declared.fire.FireEnd.TheVariants.{Done, OutOfRange, Unknown, ZeroDivisor};
 ghost use Rattle.rpl_tree.specs.Budget.{Budget, budget};
 ghost use Rattle.rpl_tree.specs.World.{cell_of, put_to};
 ghost use Rattle.rpl_tree.specs.Worked.{all_cells, done_by, ended_by, fire, only_slot, unknown_cells, x_ends, x_is};
-ghost use Rattle.rpl_verify.specs.declared.misfit.Misfit.TheVariants.{BackwardJump, JumpOutside, LaterCall, MissingOperand, NoSuchName, NotSettable, PutInFunction, TargetStep, TooCostly, TooDeep, TooMany, TooManyPuts, TooManyReads, WrongOperand, WrongShape};
+ghost use Rattle.rpl_verify.specs.declared.verify_kind.VerifyKind.TheVariants.{BackwardJump, JumpOutside, LaterCall, MissingOperand, NoSuchName, NotSettable, PutInFunction, TargetStep, TooCostly, TooDeep, TooMany, TooManyPuts, TooManyReads, WrongOperand, WrongShape};
 ghost use Rattle.rpl_verify.specs.Budget.{AreAccepted, IsWithinLimits};
 ghost use Rattle.rpl_verify.specs.Machine.{fire_of_code};
 ghost use Rattle.rpl_verify.specs.Fits.{AreFit, first_misfit, refusal};
-ghost use Rattle.rpl_verify.specs.Worked.{cap_and_base_code, code_does, dam_and_flow, doubled_items, earlier_code, hundredth_code, long_locals, many_puts, misfit_at, misfit_in, function_with, misfit_of, nested, number, number_function, numbers_basin, one_dam, one_or_sum, one_or_two, over_a_list, pair_then, put_outflow, put_spill, raise_and_reset_code, rule_with, ruled, second_slot, seven_kept, skipped, sum_of_slots, spilling_dam, sum_ahead_code, sum_or_two, three_counted, tower, two_puts, x_by_truth, x_of, x_of_pool, x_slot, y_slot};
+ghost use Rattle.rpl_verify.specs.Worked.{cap_and_base_code, code_does, dam_and_flow, doubled_items, earlier_code, endless, hundredth_code, long_locals, many_puts, misfit_at, misfit_in, function_with, misfit_of, nested, number, number_function, numbers_basin, one_dam, one_or_sum, one_or_two, over_a_list, pair_then, put_outflow, put_spill, raise_and_reset_code, rule_with, ruled, second_slot, skipped, sum_of_slots, spilling_dam, sum_ahead_code, sum_or_two, three_counted, tower, x_by_truth, x_of, x_of_pool, x_slot, y_slot};
 
 /// Codes that fit. What a jump leaves out is judged as well, with the operands that the target behind the jump declares.
 pub fn codes_that_fit()
@@ -194,6 +194,12 @@ pub fn firings_of_codes()
         ≡ done_by [] 2 (pos 10) 21 }
     ensures three_counted { fire_of_code three_counted one_dam 1 1 unknown_cells
         ≡ done_by [] 2 (pos 3) 12 }
+{}
+
+/// A code that is refused, and whose firing would never end: as many steps as a firing may have come to nothing.
+pub fn endless_code()
+    ensures refused { first_misfit one_dam endless ≡ Some (refusal BackwardJump 1 1) }
+    ensures nothing { fire_of_code endless one_dam 1 1 unknown_cells ≡ None }
 {}
 
 /// Operations on numbers, timesteps and truth values.

@@ -3,6 +3,6 @@
 #![tactic(auto)]
 
 pub mod law;
-mod misfit;
+mod verify_kind;
 
-pub use misfit::Misfit;
+pub use verify_kind::VerifyKind;

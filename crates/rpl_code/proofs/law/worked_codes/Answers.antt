@@ -29,3 +29,19 @@ returns-clause-none_is_read c = refl
 pub returns-clause-one : goal.returns-clause-one
 unfolding digits
 returns-clause-one c = refl
+
+pub returns-clause-seven_kept : goal.returns-clause-seven_kept
+unfolding digits
+returns-clause-seven_kept c = refl
+
+pub returns-clause-seven_kept_is_read : goal.returns-clause-seven_kept_is_read
+unfolding digits
+returns-clause-seven_kept_is_read c = refl
+
+pub returns-clause-two_puts : goal.returns-clause-two_puts
+unfolding digits
+returns-clause-two_puts c = refl
+
+pub returns-clause-two_puts_is_read : goal.returns-clause-two_puts_is_read
+unfolding digits
+returns-clause-two_puts_is_read c = refl

@@ -41,3 +41,15 @@ returns-clause-heading_alone c = refl
 pub returns-clause-nothing : goal.returns-clause-nothing
 unfolding digits
 returns-clause-nothing c = refl
+
+pub returns-clause-earlier : goal.returns-clause-earlier
+unfolding digits
+returns-clause-earlier c = refl
+
+pub returns-clause-heading_return : goal.returns-clause-heading_return
+unfolding digits
+returns-clause-heading_return c = refl
+
+pub returns-clause-second_heading : goal.returns-clause-second_heading
+unfolding digits
+returns-clause-second_heading c = refl

@@ -53,3 +53,15 @@ returns-clause-empty c = refl
 pub returns-clause-word : goal.returns-clause-word
 unfolding digits
 returns-clause-word c = refl
+
+pub returns-clause-carriage_return : goal.returns-clause-carriage_return
+unfolding digits
+returns-clause-carriage_return c = refl
+
+pub returns-clause-two_blanks : goal.returns-clause-two_blanks
+unfolding digits
+returns-clause-two_blanks c = refl
+
+pub returns-clause-plus : goal.returns-clause-plus
+unfolding digits
+returns-clause-plus c = refl

@@ -1,7 +1,7 @@
 /// Why code is refused. At one place the first of these is the one that counts, and those from `TooCostly` on come last,
 /// at the end of a block.
 #[derive(Clone, Copy, Debug, PartialEq, Eq)]
-pub enum Misfit {
+pub enum VerifyKind {
     /// The block is the 201st rule or the 201st function.
     TooMany,
     /// An object, a slot, a reservoir with a table, a predefined function or a function block isn't there.

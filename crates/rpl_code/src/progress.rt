@@ -1,0 +1,14 @@
+use crate::{Block, BlockHead};
+
+/// How far the lines of a text have come that were read.
+#[derive(Debug, Drop)]
+pub(crate) enum Progress {
+    /// None was read.
+    Top,
+    /// To the end of a block, or of the heading.
+    Between,
+    /// To the first line of a block.
+    Headed(BlockHead),
+    /// Into a block, which has what was read of it.
+    Inside(Block),
+}
