@@ -1,0 +1,10 @@
+//! The parser of rulesets.
+#![tactic(auto)]
+
+mod class;
+mod front;
+mod reserved;
+mod scan;
+mod token;
+
+pub use token::{Mark, Span, Token, TokenAt};
