@@ -1,2 +1,4 @@
 pub mod Marks
 pub mod ScanFacts
+pub mod Turns
+pub mod Sound

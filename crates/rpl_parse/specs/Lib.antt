@@ -3,5 +3,7 @@ pub mod Scan
 pub mod Pieces
 pub mod Depth
 pub mod Grammar
+pub mod Reading
+pub mod Gives
 pub mod Statements
 pub mod Declarations

@@ -5,6 +5,7 @@ mod class;
 mod front;
 mod reserved;
 mod scan;
+mod stop;
 mod token;
 
 pub use token::{Mark, Span, Token, TokenAt};
