@@ -2,3 +2,4 @@ pub mod Marks
 pub mod ScanFacts
 pub mod Turns
 pub mod Sound
+pub mod Complete
