@@ -119,6 +119,11 @@ guarded false r = None
 abbrev pub turns_of : ℕ → ℕ → ℕ
 turns_of k d = if k == 4 then 1 else d
 
+-- behind a number: its unit, if there is one
+abbrev pub numbers : ℤ → List Tok → Read
+numbers z (text u ∷ ts) = Some (got (literal z (Some u)) 1 ts)
+numbers z ts = Some (got (literal z None) 1 ts)
+
 -- inner reads what lies one deeper, where trees are at most d deep, at a level
 module _ (inner : ℕ → List Tok → Read) (d : ℕ) where
   unfoldable pub items : ℕ → Many → Option Many
@@ -193,8 +198,7 @@ module _ (inner : ℕ → List Tok → Read) (d : ℕ) where
   opened _ ts = None
 
   abbrev pub prim : List Tok → Read
-  prim (digits z ∷ text u ∷ ts) = Some (got (literal z (Some u)) 1 ts)
-  prim (digits z ∷ ts) = Some (got (literal z None) 1 ts)
+  prim (digits z ∷ ts) = numbers z ts
   prim (word n ∷ ts) = named n ts
   prim (mark m ∷ ts) = opened m ts
   prim _ = None

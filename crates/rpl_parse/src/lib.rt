@@ -1,8 +1,11 @@
 //! The parser of rulesets.
 #![tactic(auto)]
 
+mod build;
 mod class;
+mod expression;
 mod front;
+mod look;
 mod reserved;
 mod scan;
 mod stop;
