@@ -5,3 +5,8 @@ pub mod Faults
 pub mod Sound
 pub mod Complete
 pub mod Viewed
+pub mod TurnsActs
+pub mod SoundActs
+pub mod CompleteActs
+pub mod Both
+pub mod CutFacts

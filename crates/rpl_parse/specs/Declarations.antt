@@ -40,24 +40,13 @@ abbrev pub begins_function : List Tok → Bool
 begins_function (mark M.Function ∷ ts) = true
 begins_function _ = false
 
--- how many declarations began as rules, and how many as functions
-pub record Counts : Type 0 where
-  pub rules : ℕ
-  pub functions : ℕ
-
-abbrev pub none_yet : Counts
-none_yet = record { rules = 0; functions = 0 }
-
 abbrev pub one_more_if : Bool → ℕ → ℕ
 one_more_if true n = n + 1
 one_more_if false n = n
 
-abbrev pub counted : List Tok → Counts → Counts
-counted ts c = record { rules = one_more_if (begins_rule ts) c.rules; functions = one_more_if (begins_function ts) c.functions }
-
--- a rule behind 200, or a function behind 200
-abbrev pub is_full : List Tok → Counts → Bool
-is_full ts c = if begins_rule ts then c.rules == 200 else (if begins_function ts then c.functions == 200 else false)
+-- a rule behind 200 that began as rules, or a function behind 200
+abbrev pub is_full : List Tok → ℕ → ℕ → Bool
+is_full ts rules functions = if begins_rule ts then rules == 200 else (if begins_function ts then functions == 200 else false)
 
 -- what is answered for a text
 pub data Due : Type 0 where
@@ -66,17 +55,19 @@ pub data Due : Type 0 where
   bad_declaration : ℕ → ℕ → Due
   too_many : ℕ → Due
 
--- What is due for the declarations from number k on, behind those that were read. It goes by the first that is refused.
-abbrev pub IsDue : ℕ → Counts → List Declared → List Piece → Due → Type 0
-IsDue k c before [] due = due ≡ spelt before
-IsDue k c before (p ∷ ps) due =
-    ((is_full p.toks c ≡ true) × (due ≡ too_many k))
-    ⊎ ((is_full p.toks c ≡ false) × ((d : Declared) → IsDeclaration p.toks d → ⊥) × (due ≡ bad_declaration k p.line))
-    ⊎ ((is_full p.toks c ≡ false) × ((d : Declared) × IsDeclaration p.toks d × IsDue (k + 1) (counted p.toks c) (before ++ d ∷ []) ps due))
+-- What is due for the declarations from number k on, behind so many rules and functions, and those that were read. It goes by the
+-- first that is refused.
+abbrev pub IsDue : ℕ → ℕ → ℕ → List Declared → List Piece → Due → Type 0
+IsDue k rules functions before [] due = due ≡ spelt before
+IsDue k rules functions before (p ∷ ps) due =
+    ((is_full p.toks rules functions ≡ true) × (due ≡ too_many k))
+    ⊎ ((is_full p.toks rules functions ≡ false) × ((d : Declared) → IsDeclaration p.toks d → ⊥) × (due ≡ bad_declaration k p.line))
+    ⊎ ((is_full p.toks rules functions ≡ false) × ((d : Declared) × IsDeclaration p.toks d
+    × IsDue (k + 1) (one_more_if (begins_rule p.toks) rules) (one_more_if (begins_function p.toks) functions) (before ++ d ∷ []) ps due))
 
 -- all tokens are judged before any declaration
 abbrev pub IsDueOf : Scanned → Due → Type 0
-IsDueOf (all ts) due = IsDue 1 none_yet [] (pieces ts) due
+IsDueOf (all ts) due = IsDue 1 0 0 [] (pieces ts) due
 IsDueOf (bad_at line) due = due ≡ bad_token line
 
 -- what a text is read as

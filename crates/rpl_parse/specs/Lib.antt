@@ -5,5 +5,11 @@ pub mod Depth
 pub mod Grammar
 pub mod Reading
 pub mod Gives
+pub mod ReadingActs
+pub mod GivesActs
+pub mod ReadingDeclared
+pub mod GivesDeclared
 pub mod Statements
 pub mod Declarations
+pub mod Cut
+pub mod Parsing

@@ -1,4 +1,4 @@
-ghost use Rattle.std.specs.Prelude.{◌≡◌, ◌≤◌, ◌<◌, ◌+◌, ◌-◌, ◌^◌, ◌++◌, ◌∷◌, [], IfErr, OnOk, length, drop, MatchOption};
+ghost use Rattle.std.specs.Prelude.{◌≡◌, ◌≤◌, ◌<◌, ◌+◌, ◌-◌, ◌^◌, ◌++◌, ◌∷◌, [], IfOk, IfErr, OnOk, length, drop, MatchOption};
 ghost use Rattle.rpl_parse.specs.Scan.{front, gap, token, bad, tokens, line_behind};
 ghost use Rattle.rpl_parse.specs.Pieces.{piece_seen, Scans, IsFound};
 ghost use Rattle.rpl_parse.specs.Tokens.{seen};
@@ -66,7 +66,8 @@ fn found_at(text: &[u8], at: usize) -> Found
 /// The tokens of a text, each the longest, or the line of the first place that has none.
 pub fn tokens_of(alloc: Global, text: &[u8]) -> Result<Vec<TokenAt>, ScanStop>
     requires { length text.now ≤ 16_777_216 }
-    ensures { Scans text.now result (tokens text.now) }
+    ensures tokens { Scans text.now result (tokens text.now) }
+    ensures few { IfOk result (λ ts. length ts.items ≤ length text.now) }
 {
     let mut tokens = Vec::new(alloc);
     let mut line: u32 = 1;

@@ -1,16 +1,16 @@
 use Rattle.std.proofs.Common.{rules, arith, ◌≡◌, ◌+◌, ◌-◌, ◌∙◌, sym, length, map, drop, ◌∷◌, []}
-use Rattle.std.proofs.lemmas.List.{map-append}
+use Rattle.std.proofs.lemmas.List.{map-append, length-append}
 use Rattle.rpl_parse.specs.Tokens.{seen, lined_of}
 use Rattle.rpl_parse.proofs.ScanFacts.{all_read, bad_read, gap_read, token_read}
 use Rattle.rpl_parse.proofs.scan.tokens_of.Goals as goal
 use Rattle.rpl_parse.proofs.scan.tokens_of.Goals.{in-Gap, in-Token+in_ok-pushed-in-Token}
 
-pub returns-then-at-text : goal.returns-then-at-text
-returns-then-at-text c =
+pub returns-then-at-text-clause-tokens : goal.returns-then-at-text-clause-tokens
+returns-then-at-text-clause-tokens c =
     all_read c.args.text.now (map (lined_of c.args.text.now) c.loop-turn.tokens.items) c.loop-turn.line c.loop-turn.at c.loop-turn.invariant.same (search (rules, arith))
 
-pub returns-in-Bad : goal.returns-in-Bad
-returns-in-Bad c =
+pub returns-in-Bad-clause-tokens : goal.returns-in-Bad-clause-tokens
+returns-in-Bad-clause-tokens c =
     bad_read c.args.text.now (map (lined_of c.args.text.now) c.loop-turn.tokens.items) c.loop-turn.line c.loop-turn.at c.loop-turn.invariant.same c.in-Bad.ensures (search (rules, arith))
 
 pub loop-turn-preserved : goal.loop-turn-preserved
@@ -24,6 +24,7 @@ loop-turn-preserved c =
             same = rw (w.tokens-is, w.line-is, w.at-is, w.line_behind-line.ensures.value) go;
             inside = rw w.at-is w.in-Gap.ensures.2;
             on = omega (arith, w.at-is, pos, c.loop-turn.invariant.on);
+            few = rw (w.tokens-is, w.at-is) (omega (arith, c.loop-turn.invariant.few));
             line = omega (arith, w.at-is, pos, w.line-is, w.line_behind-line.ensures.within, c.loop-turn.invariant.line);
           }
       | in-Token+in_ok-pushed-in-Token w ↦
@@ -33,10 +34,11 @@ loop-turn-preserved c =
             same = rw (w.tokens-is, w.line-is, w.at-is, w.in_ok-pushed-in-Token.ensures.ok, map-append (lined_of c.args.text.now) c.loop-turn.tokens.items _) go;
             inside = rw w.at-is w.in-Token.ensures.2;
             on = omega (arith, w.at-is, pos, c.loop-turn.invariant.on);
+            few = rw (w.tokens-is, w.at-is, w.in_ok-pushed-in-Token.ensures.ok) (let l = length-append c.loop-turn.tokens.items _ in omega (arith, l, pos, c.loop-turn.invariant.few));
             line = omega (arith, w.at-is, pos, w.line-is, c.loop-turn.invariant.line);
           }
     ]
 
-pub returns : goal.returns
-returns c =
+pub returns-clause-tokens : goal.returns-clause-tokens
+returns-clause-tokens c =
     all_read c.args.text.now (map (lined_of c.args.text.now) c.loop-turn.tokens.items) c.loop-turn.line c.loop-turn.at c.loop-turn.invariant.same (search (rules, arith))

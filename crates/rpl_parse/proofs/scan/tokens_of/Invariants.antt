@@ -8,5 +8,6 @@ invariant-loop-turn l = record {
   same : led_by (map (lined_of l.text) l.tokens.items) (scan 0 l.line (drop l.at l.text)) ≡ tokens l.text;
   inside : l.at ≤ length l.text;
   on : l._turn ≤ l.at;
+  few : length l.tokens.items ≤ l.at;
   line : l.line ≤ l.at + 1;
 }
