@@ -4,7 +4,8 @@ use Rattle.std.proofs.lemmas.List.{append-nil, append_assoc}
 use Rattle.rpl_tree.specs.Tree.{TypeName, numeric, boolean, datetime, slot_type, numeric_list, slot_list, Tree, Acts, Parameter, Declared, rule, function}
 use Rattle.rpl_parse.specs.declared.token.Mark.{Mark}
 use Rattle.rpl_parse.specs.declared.token.Mark.TheVariants as M
-use Rattle.rpl_parse.specs.Tokens.{Tok, mark, word, digits, text, same}
+use Rattle.rpl_parse.specs.declared.token.TokenAt.{TokenAt}
+use Rattle.rpl_parse.specs.Tokens.{Tok, mark, word, digits, text, same, toks}
 use Rattle.rpl_parse.specs.Depth.{depth, acts_depth, declared_depth}
 use Rattle.rpl_parse.specs.Grammar.{Part, ◌⨾◌, sign, token, nothing, Spells}
 use Rattle.rpl_parse.specs.Statements.{SpellsActs, SpellsType, SpellsParameter, SpellsParameters, SpellsMoreParameters, SpellsDeclared, IsDeclaration}
@@ -14,6 +15,7 @@ use Rattle.rpl_parse.specs.ReadingDeclared.{behind_text, Typed, typed, in_unit, 
 use Rattle.rpl_parse.proofs.Sound.{some_one, and_then, found, behind_sound, name_sound, sound}
 use Rattle.rpl_parse.proofs.SoundActs.{number_sound, acts_sound}
 use Rattle.rpl_parse.proofs.Complete.{Shrinks, one_shrinks, shrinks_then, mark_then, Closes, behind_here, name_here, not_here}
+use Rattle.rpl_parse.proofs.TurnsParameters.{more_stops, more_turn}
 use Rattle.rpl_parse.proofs.CompleteActs.{acts_complete, ActsRead, mark_ends, list_acts, acts_back, value_reads, number_here}
 
 text_sound : (ts : List Tok) (t : Named) → behind_text ts ≡ Some t → ts ≡ text t.called ∷ t.next
@@ -130,11 +132,6 @@ more_sound (suc n) a b e = found (behind M.Comma a.left) (Some a) _ b e
       spells = (us, behind_sound M.Comma a.left us is, (p.0.next, h, r.spells));
     })
 
-more_stops : (n : ℕ) (a : Takes) → behind M.Comma a.left ≡ None → more_parameters n a ≡ Some a
-unfolding more_parameters
-more_stops zero a e = refl
-more_stops (suc n) a e = rw e refl
-
 count_within : (ps : List Parameter) (ts rest : List Tok) → SpellsMoreParameters ps ts rest → length ps ≤ length ts
 count_within [] ts rest h = omega arith
 count_within (p ∷ ps) ts rest h =
@@ -142,10 +139,6 @@ count_within (p ∷ ps) ts rest h =
     let a = parameter_shrinks p h.0 h.2.0 h.2.1 in
     let b = count_within ps h.2.0 rest h.2.2 in
     omega arith
-
-more_turn : (n : ℕ) (a : Takes) (us : List Tok) (p : Given) → behind M.Comma a.left ≡ Some us → read_parameter us ≡ Some p → more_parameters (suc n) a ≡ more_parameters n (takes (a.params ++ p.it ∷ []) p.next)
-unfolding more_parameters
-more_turn n a us p e f = rw (e, f) refl
 
 more_reads : (ps : List Parameter) (n : ℕ) (a : Takes) (mid rest : List Tok) → SpellsMoreParameters ps a.left mid → mid ≡ mark M.RightParen ∷ rest → length ps ≤ n → more_parameters n a ≡ Some (takes (a.params ++ ps) mid)
 more_reads [] n a mid rest h e le = more_stops n a (not_here M.Comma M.RightParen a.left rest refl (h ∙ e)) ∙ rw (append-nil a.params, ← h) refl
@@ -241,8 +234,8 @@ function_sound ts us d front e =
     let l = and_then (behind M.LeftParen x.0.next) parameters a.0 a.1 in
     let h = parameters_sound l.0 a.0 l.2 in
     let b = body_sound x.0.called a.0.params a.0.left d a.2 in
-    subst (IsDeclaration ts) (sym b.2.2.0)
-    ((us, front, (x.0.next, name_sound us x.0 x.1, (l.0, behind_sound M.LeftParen x.0.next l.0 l.1, (h.0, h.1, (a.0.left, h.2, b.2.2.2.1))))), b.2.2.2.0)
+    subst (IsDeclaration ts) (sym b.2)
+    ((us, front, (x.0.next, name_sound us x.0 x.1, (l.0, behind_sound M.LeftParen x.0.next l.0 l.1, (h.0, h.1, (a.0.left, h.2, b.4))))), b.3)
 
 ends_function : Closes M.EndFunction
 ends_function = record { paren = refl; bracket = refl; dot = refl; no_operator = refl }
@@ -284,3 +277,10 @@ one_declaration ts d q a b = some_one d q (sym (declared_complete ts d a) ∙ de
 
 pub no_declaration : (ts : List Tok) → read_declared ts ≡ None → (d : Declared) → IsDeclaration ts d → ⊥
 no_declaration ts e d h = cc (sym e ∙ declared_complete ts d h)
+
+-- tokens that are left behind a function
+pub function_over : (source x : List ℕ) (ps : List Parameter) (ts us vs : List Tok) (k : Typed) (t : Tree) (deep : ℕ) (left : List TokenAt)
+    → Some us ≡ behind M.Colon ts → read_type us ≡ Some k → Some vs ≡ behind M.Is k.next → (read 100 7 vs >>= closed M.EndFunction) ≡ Some (got t deep (toks source left)) → 0 < length left
+    → body_behind x ps ts ≡ None
+function_over source x ps ts us vs k t deep [] a b c d lt = absurd (omega arith)
+function_over source x ps ts us vs k t deep (y ∷ ys) a b c d lt = rw (← a, b, ← c, d) refl

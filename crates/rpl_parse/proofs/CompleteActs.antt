@@ -43,19 +43,19 @@ assigned_shrinks s ahead e = mark_then (mark M.Dot) _ (mark_then (word s) _ (mar
     (shrinks_then (Ahead ahead) _ (ahead_shrinks ahead) (mark_then (mark M.RightBracket) _ (mark_then (mark M.Assign) _
     (shrinks_then (Spells e) _ (shrinks e) (one_shrinks (mark M.Semicolon)))))))))
 
+branch_shrinks : (c : Tree) (y n : Acts) → Shrinks (SpellsActs y) → Shrinks (SpellsActs n) → Shrinks (Spells c ⨾ sign M.Then ⨾ SpellsActs y ⨾ (if_none n or (sign M.Else ⨾ SpellsActs n)) ⨾ sign M.EndIf)
+branch_shrinks c y n hy hn = shrinks_then (Spells c) _ (shrinks c) (mark_then (mark M.Then) _ (shrinks_then (SpellsActs y) _ hy
+    (shrinks_then (if_none n or (sign M.Else ⨾ SpellsActs n)) _ (or_shrinks (if_none n) _ (none_shrinks n) (mark_then (mark M.Else) _ hn)) (one_shrinks (mark M.EndIf)))))
+
+with_shrinks : (x : List ℕ) (e : Tree) (body : Acts) → Shrinks (SpellsActs body) → Shrinks (token (word x) ⨾ sign M.Assign ⨾ Spells e ⨾ sign M.Do ⨾ SpellsActs body ⨾ sign M.EndWith)
+with_shrinks x e body h = mark_then (word x) _ (mark_then (mark M.Assign) _ (shrinks_then (Spells e) _ (shrinks e) (mark_then (mark M.Do) _
+    (shrinks_then (SpellsActs body) _ h (one_shrinks (mark M.EndWith))))))
+
 mutual
-  branch_shrinks : (c : Tree) (y n : Acts) → Shrinks (Spells c ⨾ sign M.Then ⨾ SpellsActs y ⨾ (if_none n or (sign M.Else ⨾ SpellsActs n)) ⨾ sign M.EndIf)
-  branch_shrinks c y n = shrinks_then (Spells c) _ (shrinks c) (mark_then (mark M.Then) _ (shrinks_then (SpellsActs y) _ (acts_shrink y)
-      (shrinks_then (if_none n or (sign M.Else ⨾ SpellsActs n)) _ (or_shrinks (if_none n) _ (none_shrinks n) (mark_then (mark M.Else) _ (acts_shrink n))) (one_shrinks (mark M.EndIf)))))
-
-  with_shrinks : (x : List ℕ) (e : Tree) (body : Acts) → Shrinks (token (word x) ⨾ sign M.Assign ⨾ Spells e ⨾ sign M.Do ⨾ SpellsActs body ⨾ sign M.EndWith)
-  with_shrinks x e body = mark_then (word x) _ (mark_then (mark M.Assign) _ (shrinks_then (Spells e) _ (shrinks e) (mark_then (mark M.Do) _
-      (shrinks_then (SpellsActs body) _ (acts_shrink body) (one_shrinks (mark M.EndWith))))))
-
   act_shrinks : (a : Act) → Shrinks (SpellsAct a)
   act_shrinks (assign o s ahead e) = mark_then (word o) _ (assigned_shrinks s ahead e)
-  act_shrinks (branch c y n) = mark_then (mark M.If) _ (branch_shrinks c y n)
-  act_shrinks (with_name x e body) = mark_then (mark M.With) _ (with_shrinks x e body)
+  act_shrinks (branch c y n) = mark_then (mark M.If) _ (branch_shrinks c y n (acts_shrink y) (acts_shrink n))
+  act_shrinks (with_name x e body) = mark_then (mark M.With) _ (with_shrinks x e body (acts_shrink body))
 
   acts_shrink : (xs : Acts) → Shrinks (SpellsActs xs)
   acts_shrink no_acts = λ ts rest e. let f : length ts ≡ length rest = ap length e in omega arith
@@ -80,10 +80,10 @@ takes_one (assign o s ahead e) ts rest h =
     let g = assigned_shrinks s ahead e h.0 rest h.2 in omega arith
 takes_one (branch c y n) ts rest h =
     let f : length ts ≡ suc (length h.0) = ap length h.1 in
-    let g = branch_shrinks c y n h.0 rest h.2 in omega arith
+    let g = branch_shrinks c y n (acts_shrink y) (acts_shrink n) h.0 rest h.2 in omega arith
 takes_one (with_name x e body) ts rest h =
     let f : length ts ≡ suc (length h.0) = ap length h.1 in
-    let g = with_shrinks x e body h.0 rest h.2 in omega arith
+    let g = with_shrinks x e body (acts_shrink body) h.0 rest h.2 in omega arith
 
 count_fits : (xs : Acts) (ts rest : List Tok) → SpellsActs xs ts rest → count_acts xs ≤ length ts
 unfolding count_acts
@@ -156,7 +156,7 @@ module _ (d : ℕ) (ih : ActsRead d) where
       → assigns (read d 7) (read_acts d) o ts ≡ Some (step (assign o s z e) (depth e + 1) rest)
   assign_reads o s z e ts rest le h =
       let k = h.2.2 in
-      let l = k.2.2.2 in
+      let l = k.2.2 in
       let a = l.2.2 in
       let date = dated_reads s z h.2.0 a.0 (k.0, k.1, (k.2.0, k.2.1, (l.0, l.1, (l.2.0, l.2.1, a.1)))) in
       rw (

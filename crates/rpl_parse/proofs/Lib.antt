@@ -8,5 +8,6 @@ pub mod Viewed
 pub mod TurnsActs
 pub mod SoundActs
 pub mod CompleteActs
+pub mod TurnsParameters
 pub mod Both
 pub mod CutFacts

@@ -82,9 +82,9 @@ fn function_body(
         return Err(Stop::Bad);
     };
     let (body, _deep, rest) = value_to(alloc, text, Mark::EndFunction, rest, 100)?;
-    if !rest.is_empty() {
+    let [] = rest else {
         return Err(Stop::Bad);
-    }
+    };
     let name = copied(alloc, text, named)?;
     Ok(Declaration::Function {
         name,

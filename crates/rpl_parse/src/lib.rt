@@ -9,8 +9,9 @@ mod expression;
 mod fault;
 mod front;
 mod look;
-mod parse;
+
 mod reserved;
+mod ruleset;
 mod scan;
 mod statement;
 mod stop;
@@ -18,5 +19,5 @@ mod token;
 mod types;
 
 pub use fault::ParseFault;
-pub use parse::parse;
+pub use ruleset::parse;
 pub use token::{Mark, Span, Token, TokenAt};

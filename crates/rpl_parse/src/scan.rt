@@ -106,6 +106,7 @@ fn line_behind(line: u32, at: usize, text: &[u8]) -> u32
 
 fn pushed(tokens: &mut Vec<TokenAt>, token: TokenAt) -> Result<(), ScanStop>
     ensures ok { OnOk result (tokens.new.items ≡ tokens.old.items ++ token ∷ []) }
+    ensures grown { OnOk result (length tokens.new.items ≡ length tokens.old.items + 1) }
     ensures err { IfErr result (λ f. f ≡ ScanStop.NoMemory) }
 {
     match tokens.push(token) {

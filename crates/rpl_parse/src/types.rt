@@ -1,7 +1,7 @@
 // Types and parameters, from the front of some tokens.
 ghost use Rattle.std.specs.Prelude.{◌≡◌, ◌++◌, ◌∷◌, [], IfErr, OnOk, map, length};
 ghost use Rattle.rpl_tree.specs.Seen.{parameter_of};
-ghost use Rattle.rpl_parse.specs.ReadingDeclared.{behind_text, read_type, type_by, list_type, element, read_parameter, parameters, some_parameters, more_parameters, takes};
+ghost use Rattle.rpl_parse.specs.ReadingDeclared.{behind_text, read_type, type_by, list_type, read_parameter, parameters, some_parameters, more_parameters, takes};
 ghost use Rattle.rpl_parse.specs.GivesDeclared.{GivesUnit, GivesType, GivesParameter, GivesParameters};
 ghost use Rattle.rpl_parse.specs.Tokens.{toks};
 
@@ -78,28 +78,17 @@ fn list_type<'a>(
 ) -> Result<(TypeText, &'a [TokenAt]), Stop>
     ensures { GivesType text.now result (list_type (toks text.now tokens.entry.now)) }
 {
-    let Some((length, rest)) = behind_number(text, tokens) else {
+    let Some((most, rest)) = behind_number(text, tokens) else {
         return Err(Stop::Bad);
     };
     let Some(rest) = behind(text, Mark::Of, rest) else {
         return Err(Stop::Bad);
     };
-    element(alloc, text, length, rest)
-}
-
-fn element<'a>(
-    alloc: Global,
-    text: &[u8],
-    most: i64,
-    tokens: &'a [TokenAt],
-) -> Result<(TypeText, &'a [TokenAt]), Stop>
-    ensures { GivesType text.now result (element most (toks text.now tokens.entry.now)) }
-{
-    if let Some(rest) = behind(text, Mark::Numeric, tokens) {
+    if let Some(rest) = behind(text, Mark::Numeric, rest) {
         let (unit, rest) = behind_text(alloc, text, rest)?;
         return Ok((TypeText::NumericList(most, unit), rest));
     }
-    let Some(rest) = behind(text, Mark::Slot, tokens) else {
+    let Some(rest) = behind(text, Mark::Slot, rest) else {
         return Err(Stop::Bad);
     };
     let (unit, rest) = behind_text(alloc, text, rest)?;

@@ -1,5 +1,5 @@
 use Rattle.std.proofs.Common.{rules, arith, ◌≡◌, ◌+◌, ◌-◌, ◌∙◌, sym, length, map, drop, ◌∷◌, []}
-use Rattle.std.proofs.lemmas.List.{map-append, length-append}
+use Rattle.std.proofs.lemmas.List.{map-append}
 use Rattle.rpl_parse.specs.Tokens.{seen, lined_of}
 use Rattle.rpl_parse.proofs.ScanFacts.{all_read, bad_read, gap_read, token_read}
 use Rattle.rpl_parse.proofs.scan.tokens_of.Goals as goal
@@ -34,7 +34,7 @@ loop-turn-preserved c =
             same = rw (w.tokens-is, w.line-is, w.at-is, w.in_ok-pushed-in-Token.ensures.ok, map-append (lined_of c.args.text.now) c.loop-turn.tokens.items _) go;
             inside = rw w.at-is w.in-Token.ensures.2;
             on = omega (arith, w.at-is, pos, c.loop-turn.invariant.on);
-            few = rw (w.tokens-is, w.at-is, w.in_ok-pushed-in-Token.ensures.ok) (let l = length-append c.loop-turn.tokens.items _ in omega (arith, l, pos, c.loop-turn.invariant.few));
+            few = rw (w.tokens-is, w.at-is) (omega (arith, w.in_ok-pushed-in-Token.ensures.grown, pos, c.loop-turn.invariant.few));
             line = omega (arith, w.at-is, pos, w.line-is, c.loop-turn.invariant.line);
           }
     ]
