@@ -1,0 +1,24 @@
+-- A fault that is handed on.
+use Rattle.std.proofs.Common.{◌≡◌, ℕ, List, Option, None, Result, Ok, Err, sym, subst}
+use Rattle.std.specs.Result.{IsErrAnd}
+use Rattle.std.specs.Borrow.{Bor}
+use Rattle.std.specs.declared.vec.Vec.{Vec}
+use Rattle.std.specs.declared.alloc.Global.{Global}
+use Rattle.rpl_tree.specs.declared.expression.Expr.{Expr}
+use Rattle.rpl_parse.specs.declared.token.TokenAt.{TokenAt}
+use Rattle.rpl_parse.specs.declared.stop.Stop.{Stop}
+use Rattle.rpl_parse.specs.declared.stop.Stop.TheVariants as S
+use Rattle.rpl_parse.specs.Gives.{Fails, GivesMany}
+use Rattle.rpl_parse.specs.Reading.{Many}
+
+pub fails_on : {A B : Type 0} (f : Stop) (r : Option A) (s : Option B) → (r ≡ None → s ≡ None) → Fails f r → Fails f s
+fails_on S.Bad r s go e = go e
+fails_on S.NoMemory r s go e = e
+
+pub many_fault : (source : List ℕ) (d : ℕ) (result : Result (Vec Expr Global × ℕ × Bor (List TokenAt)) Stop) (read : Option Many) (f : Stop) → IsErrAnd result (λ e. e ≡ f) → Fails f read → GivesMany source d result read
+many_fault source d (Ok x) read f same why = absurd same
+many_fault source d (Err e) read f same why = subst (λ g. Fails g read) (sym same) why
+
+pub fails_bad : {A : Type 0} (f : Stop) (r : Option A) → f ≡ S.Bad → Fails f r → r ≡ None
+fails_bad S.Bad r same e = e
+fails_bad S.NoMemory r same e = absurd (cc same)

@@ -1,0 +1,13 @@
+pub mod Marks
+pub mod ScanFacts
+pub mod Turns
+pub mod Faults
+pub mod Sound
+pub mod Complete
+pub mod Viewed
+pub mod TurnsActs
+pub mod SoundActs
+pub mod CompleteActs
+pub mod TurnsParameters
+pub mod Both
+pub mod CutFacts

@@ -1,0 +1,15 @@
+pub mod Tokens
+pub mod Scan
+pub mod Pieces
+pub mod Depth
+pub mod Grammar
+pub mod Reading
+pub mod Gives
+pub mod ReadingActs
+pub mod GivesActs
+pub mod ReadingDeclared
+pub mod GivesDeclared
+pub mod Statements
+pub mod Declarations
+pub mod Cut
+pub mod Parsing

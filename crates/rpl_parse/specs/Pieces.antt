@@ -1,0 +1,42 @@
+-- What the scanner's code answers, seen as what the definitions speak of.
+use Rattle.std.specs.Prelude.{◌≡◌, ◌≤◌, ◌<◌, ◌+◌, ℕ, pos, List, map, take, drop, length, Result, Ok, Err}
+use Rattle.std.specs.declared.vec.Vec.{Vec}
+use Rattle.std.specs.declared.alloc.Global.{Global}
+use Rattle.rpl_parse.specs.declared.token.TokenAt.{TokenAt}
+use Rattle.rpl_parse.specs.declared.front.Piece.{Piece}
+use Rattle.rpl_parse.specs.declared.front.Piece.TheVariants as P
+use Rattle.rpl_parse.specs.declared.scan.ScanStop.{ScanStop}
+use Rattle.rpl_parse.specs.declared.scan.ScanStop.TheVariants as S
+use Rattle.rpl_parse.specs.declared.scan.Found.{Found}
+use Rattle.rpl_parse.specs.declared.scan.Found.TheVariants as F
+use Rattle.rpl_parse.specs.Tokens.{Tok, mark, word, digits, text, seen, lined_of}
+use Rattle.rpl_parse.specs.Scan.{greatest, Front, gap, token, bad, Scanned, all, bad_at}
+
+-- what stands at the front of some bytes
+abbrev pub piece_seen : List ℕ → Piece → Front
+piece_seen bs (P.Gap n) = gap n
+piece_seen bs (P.Mark m n) = token (mark m) n
+piece_seen bs (P.Name n) = token (word (take n bs)) n
+piece_seen bs (P.Number v n) = token (digits (pos v)) n
+piece_seen bs (P.Text n) = token (text (take n (drop 1 bs))) (n + 2)
+piece_seen bs P.Bad = bad
+
+-- it is at least one byte, and no more than there are
+abbrev pub fits : ℕ → Piece → Type 0
+fits most (P.Gap n) = (0 < n) × (n ≤ most)
+fits most (P.Mark m n) = (0 < n) × (n ≤ most)
+fits most (P.Name n) = (0 < n) × (n ≤ most)
+fits most (P.Number v n) = (v ≤ greatest) × (0 < n) × (n ≤ most)
+fits most (P.Text n) = n + 2 ≤ most
+fits most P.Bad = Unit {0}
+
+abbrev pub Scans : List ℕ → Result (Vec TokenAt Global) ScanStop → Scanned → Type 0
+Scans source (Ok ts) s = s ≡ all (map (lined_of source) ts.items)
+Scans source (Err (S.BadToken line)) s = s ≡ bad_at line
+Scans source (Err S.NoMemory) s = Unit {0}
+
+-- what is found at a place of a text: as the bytes from there on say, and within the text
+abbrev pub IsFound : List ℕ → ℕ → Found → Front → Type 0
+IsFound source at (F.Gap n) f = (f ≡ gap n) × (0 < n) × (at + n ≤ length source)
+IsFound source at (F.Token t n) f = (f ≡ token (seen source t) n) × (0 < n) × (at + n ≤ length source)
+IsFound source at F.Bad f = f ≡ bad

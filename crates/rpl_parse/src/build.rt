@@ -1,0 +1,214 @@
+// Expressions of their parts.
+ghost use Rattle.std.specs.Prelude.{◌≡◌, ◌++◌, ◌∷◌, [], Some, None, IfOk, IfErr, OnOk, map, max};
+ghost use Rattle.rpl_tree.specs.Tree.{name, literal, call, slot, list, two, at, one, brackets, choice, bind, each, mapped, convert};
+ghost use Rattle.rpl_tree.specs.Seen.{tree_of};
+ghost use Rattle.rpl_parse.specs.Reading.{trees_of};
+ghost use Rattle.rpl_parse.specs.Tokens.{bytes_in};
+
+use crate::look::copied;
+use crate::stop::Stop;
+use crate::token::Span;
+use rpl_tree::{ConvertWord, Expr, OneWord, SlotText, TwoWord};
+use std::alloc::Global;
+
+fn boxed(alloc: Global, e: Expr) -> Result<Box<Expr>, Stop>
+    ensures ok { IfOk result (λ b. b.value ≡ e) }
+    ensures err { IfErr result (λ f. f ≡ Stop.NoMemory) }
+{
+    match Box::new(alloc, e) {
+        Ok(b) => Ok(b),
+        Err(_) => Err(Stop::NoMemory),
+    }
+}
+
+/// The greater of two depths.
+pub fn max_of(a: u8, b: u8) -> u8
+    ensures { result ≡ max a b }
+{
+    if a < b { b } else { a }
+}
+
+/// One expression more.
+pub fn pushed(items: &mut Vec<Expr>, e: Expr) -> Result<(), Stop>
+    ensures ok { OnOk result (items.new.items ≡ items.old.items ++ e ∷ []) }
+    ensures err { IfErr result (λ f. f ≡ Stop.NoMemory) }
+{
+    match items.push(e) {
+        Ok(()) => Ok(()),
+        Err(_) => Err(Stop::NoMemory),
+    }
+}
+
+/// `value "unit"`.
+pub fn in_unit(alloc: Global, text: &[u8], value: i64, unit: Span) -> Result<Expr, Stop>
+    ensures ok { IfOk result (λ e. tree_of e ≡ literal value (Some (bytes_in text.now unit))) }
+    ensures err { IfErr result (λ f. f ≡ Stop.NoMemory) }
+{
+    let unit = copied(alloc, text, unit)?;
+    Ok(Expr::Number {
+        value,
+        unit: Some(unit),
+    })
+}
+
+/// A variable.
+pub fn variable(alloc: Global, text: &[u8], named: Span) -> Result<Expr, Stop>
+    ensures ok { IfOk result (λ e. tree_of e ≡ name (bytes_in text.now named)) }
+    ensures err { IfErr result (λ f. f ≡ Stop.NoMemory) }
+{
+    let bytes = copied(alloc, text, named)?;
+    Ok(Expr::Name(bytes))
+}
+
+/// `Object.Slot`.
+pub fn slot_text(alloc: Global, text: &[u8], object: Span, slot: Span) -> Result<SlotText, Stop>
+    ensures object { IfOk result (λ s. s.object.items ≡ bytes_in text.now object) }
+    ensures slot { IfOk result (λ s. s.slot.items ≡ bytes_in text.now slot) }
+    ensures err { IfErr result (λ f. f ≡ Stop.NoMemory) }
+{
+    let object = copied(alloc, text, object)?;
+    let slot = copied(alloc, text, slot)?;
+    Ok(SlotText { object, slot })
+}
+
+/// `Object.Slot`, as an expression.
+pub fn slot_of(alloc: Global, text: &[u8], object: Span, slot_name: Span) -> Result<Expr, Stop>
+    ensures ok { IfOk result (λ e. tree_of e ≡ slot (bytes_in text.now object) (bytes_in text.now slot_name)) }
+    ensures err { IfErr result (λ f. f ≡ Stop.NoMemory) }
+{
+    let found = slot_text(alloc, text, object, slot_name)?;
+    Ok(Expr::Slot(found))
+}
+
+/// `name(args)`.
+pub fn call_of(alloc: Global, text: &[u8], named: Span, args: Vec<Expr>) -> Result<Expr, Stop>
+    ensures ok { IfOk result (λ e. tree_of e ≡ call (bytes_in text.now named) (trees_of (map tree_of args.items))) }
+    ensures err { IfErr result (λ f. f ≡ Stop.NoMemory) }
+{
+    let name = copied(alloc, text, named)?;
+    Ok(Expr::Call { name, args })
+}
+
+/// `{items}`.
+#[tactic(auto, using(crate::proofs::Viewed::tree_of_list))]
+pub fn list_of(items: Vec<Expr>) -> Expr
+    ensures { tree_of result ≡ list (trees_of (map tree_of items.items)) }
+{
+    Expr::List(items)
+}
+
+/// A word between two expressions, or before both.
+pub fn two(alloc: Global, word: TwoWord, left: Expr, right: Expr) -> Result<Expr, Stop>
+    ensures ok { IfOk result (λ e. tree_of e ≡ two word (tree_of left) (tree_of right)) }
+    ensures err { IfErr result (λ f. f ≡ Stop.NoMemory) }
+{
+    let left = boxed(alloc, left)?;
+    let right = boxed(alloc, right)?;
+    Ok(Expr::Two { word, left, right })
+}
+
+/// A word before an expression.
+pub fn one(alloc: Global, word: OneWord, arg: Expr) -> Result<Expr, Stop>
+    ensures ok { IfOk result (λ e. tree_of e ≡ one word (tree_of arg)) }
+    ensures err { IfErr result (λ f. f ≡ Stop.NoMemory) }
+{
+    let arg = boxed(alloc, arg)?;
+    Ok(Expr::One { word, arg })
+}
+
+/// `(e)`.
+pub fn brackets(alloc: Global, e: Expr) -> Result<Expr, Stop>
+    ensures ok { IfOk result (λ r. tree_of r ≡ brackets (tree_of e)) }
+    ensures err { IfErr result (λ f. f ≡ Stop.NoMemory) }
+{
+    let inside = boxed(alloc, e)?;
+    Ok(Expr::Brackets(inside))
+}
+
+/// `slot[step]`.
+pub fn at_step(alloc: Global, slot: Expr, step: Expr) -> Result<Expr, Stop>
+    ensures ok { IfOk result (λ e. tree_of e ≡ at (tree_of slot) (tree_of step)) }
+    ensures err { IfErr result (λ f. f ≡ Stop.NoMemory) }
+{
+    let slot = boxed(alloc, slot)?;
+    let step = boxed(alloc, step)?;
+    Ok(Expr::At { slot, step })
+}
+
+/// `IF condition THEN yes ELSE no ENDIF`.
+pub fn choice(alloc: Global, condition: Expr, yes: Expr, no: Expr) -> Result<Expr, Stop>
+    ensures ok { IfOk result (λ e. tree_of e ≡ choice (tree_of condition) (tree_of yes) (tree_of «no»)) }
+    ensures err { IfErr result (λ f. f ≡ Stop.NoMemory) }
+{
+    let condition = boxed(alloc, condition)?;
+    let yes = boxed(alloc, yes)?;
+    let no = boxed(alloc, no)?;
+    Ok(Expr::If { condition, yes, no })
+}
+
+/// `LET name := value IN body ENDLET`.
+pub fn binding(alloc: Global, text: &[u8], named: Span, value: Expr, body: Expr) -> Result<Expr, Stop>
+    ensures ok { IfOk result (λ e. tree_of e ≡ bind (bytes_in text.now named) (tree_of value) (tree_of body)) }
+    ensures err { IfErr result (λ f. f ≡ Stop.NoMemory) }
+{
+    let name = copied(alloc, text, named)?;
+    let value = boxed(alloc, value)?;
+    let body = boxed(alloc, body)?;
+    Ok(Expr::Let { name, value, body })
+}
+
+/// The names of a FOR: of each element, and of the accumulator.
+#[derive(Clone, Copy, PartialEq, Eq, Debug)]
+pub struct LoopNames {
+    /// The variable that stands for each element in turn.
+    pub name: Span,
+    /// The accumulator.
+    pub total: Span,
+}
+
+/// `FOR name IN list WITH total := first DO body ENDFOR`.
+pub fn for_each(
+    alloc: Global,
+    text: &[u8],
+    names: LoopNames,
+    list: Expr,
+    first: Expr,
+    body: Expr,
+) -> Result<Expr, Stop>
+    ensures ok { IfOk result (λ e. tree_of e ≡ each (bytes_in text.now names.name) (tree_of list) (bytes_in text.now names.total) (tree_of first) (tree_of body)) }
+    ensures err { IfErr result (λ f. f ≡ Stop.NoMemory) }
+{
+    let name = copied(alloc, text, names.name)?;
+    let total = copied(alloc, text, names.total)?;
+    let list = boxed(alloc, list)?;
+    let first = boxed(alloc, first)?;
+    let body = boxed(alloc, body)?;
+    Ok(Expr::For {
+        name,
+        list,
+        total,
+        first,
+        body,
+    })
+}
+
+/// `MAP name IN list DO body ENDMAP`.
+pub fn mapping(alloc: Global, text: &[u8], named: Span, list: Expr, body: Expr) -> Result<Expr, Stop>
+    ensures ok { IfOk result (λ e. tree_of e ≡ mapped (bytes_in text.now named) (tree_of list) (tree_of body)) }
+    ensures err { IfErr result (λ f. f ≡ Stop.NoMemory) }
+{
+    let name = copied(alloc, text, named)?;
+    let list = boxed(alloc, list)?;
+    let body = boxed(alloc, body)?;
+    Ok(Expr::Map { name, list, body })
+}
+
+/// A conversion by an object's table.
+pub fn conversion(alloc: Global, text: &[u8], word: ConvertWord, object: Span, arg: Expr) -> Result<Expr, Stop>
+    ensures ok { IfOk result (λ e. tree_of e ≡ convert word (bytes_in text.now object) (tree_of arg)) }
+    ensures err { IfErr result (λ f. f ≡ Stop.NoMemory) }
+{
+    let object = copied(alloc, text, object)?;
+    let arg = boxed(alloc, arg)?;
+    Ok(Expr::Convert { word, object, arg })
+}

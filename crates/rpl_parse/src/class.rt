@@ -1,0 +1,67 @@
+ghost use Rattle.std.specs.Prelude.{◌≡◌, ◌≤◌, ◌+◌, length};
+ghost use Rattle.rpl_parse.specs.Scan.{is_of, is_digit, is_letter, is_blank, run, head_is};
+
+/// What a byte may be part of.
+#[derive(Clone, Copy, PartialEq, Eq, Debug)]
+pub enum Class {
+    /// A number.
+    Digit,
+    /// A word, behind its first letter.
+    WordByte,
+    /// A comment.
+    OfLine,
+    /// A string.
+    Quoted,
+}
+
+pub fn is_digit(b: u8) -> bool
+    ensures { result ≡ is_digit b }
+{
+    48 <= b && b <= 57
+}
+
+pub fn is_letter(b: u8) -> bool
+    ensures { result ≡ is_letter b }
+{
+    (65 <= b && b <= 90) || (97 <= b && b <= 122) || b == 95
+}
+
+pub fn is_blank(b: u8) -> bool
+    ensures { result ≡ is_blank b }
+{
+    b == 32 || b == 9 || b == 13 || b == 10
+}
+
+fn is_of(class: Class, b: u8) -> bool
+    ensures { result ≡ is_of class b }
+{
+    match class {
+        Class::Digit => is_digit(b),
+        Class::WordByte => is_letter(b) || is_digit(b),
+        Class::OfLine => b != 10,
+        Class::Quoted => b != 34 && b != 10,
+    }
+}
+
+/// How many bytes at the front are of a class.
+pub fn run(class: Class, bytes: &[u8]) -> usize
+    ensures value { result ≡ run class bytes.now }
+    ensures within { result ≤ length bytes.now }
+{
+    for at in 0..bytes.len() {
+        if !is_of(class, bytes[at]) {
+            return at;
+        }
+    }
+    bytes.len()
+}
+
+/// Whether that byte is at the front.
+pub fn head_is(byte: u8, bytes: &[u8]) -> bool
+    ensures { result ≡ head_is byte bytes.now }
+{
+    match bytes {
+        [first, ..] => *first == byte,
+        [] => false,
+    }
+}

@@ -1,0 +1,17 @@
+/// Why a text is no ruleset.
+#[derive(Clone, Copy, PartialEq, Eq, Debug, Drop)]
+pub enum ParseFault {
+    /// The line of the first bad token. Lines are counted from 1.
+    BadToken(u32),
+    /// The first declaration that isn't in the grammar, or is nested more than 100 deep.
+    BadDeclaration {
+        /// Its number, counted from 1, rules and functions together.
+        declaration: u32,
+        /// The line in which it begins.
+        line: u32,
+    },
+    /// The number of the declaration that is the 201st rule or the 201st function.
+    TooMany(u32),
+    /// Memory ran out.
+    NoMemory,
+}

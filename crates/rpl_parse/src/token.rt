@@ -1,0 +1,159 @@
+// The tokens of a ruleset's text.
+
+/// A reserved word or a mark.
+#[derive(Clone, Copy, PartialEq, Eq, Debug)]
+pub enum Mark {
+    /// `RULE`
+    Rule,
+    /// `ENDRULE`
+    EndRule,
+    /// `FUNCTION`
+    Function,
+    /// `ENDFUNCTION`
+    EndFunction,
+    /// `IS`
+    Is,
+    /// `IF`
+    If,
+    /// `THEN`
+    Then,
+    /// `ELSE`
+    Else,
+    /// `ENDIF`
+    EndIf,
+    /// `WITH`
+    With,
+    /// `DO`
+    Do,
+    /// `ENDWITH`
+    EndWith,
+    /// `LET`
+    Let,
+    /// `IN`
+    In,
+    /// `ENDLET`
+    EndLet,
+    /// `FOR`
+    For,
+    /// `ENDFOR`
+    EndFor,
+    /// `MAP`
+    Map,
+    /// `ENDMAP`
+    EndMap,
+    /// `AND`
+    And,
+    /// `OR`
+    Or,
+    /// `NOT`
+    Not,
+    /// `TRUE`
+    True,
+    /// `FALSE`
+    False,
+    /// `KNOWN`
+    Known,
+    /// `APPEND`
+    Append,
+    /// `ITEM`
+    Item,
+    /// `LENGTH`
+    Length,
+    /// `MONTH`
+    Month,
+    /// `DAY`
+    Day,
+    /// `YEAR`
+    Year,
+    /// `StorageToElevation`
+    StorageToElevation,
+    /// `ElevationToStorage`
+    ElevationToStorage,
+    /// `NUMERIC`
+    Numeric,
+    /// `BOOLEAN`
+    Boolean,
+    /// `DATETIME`
+    Datetime,
+    /// `SLOT`
+    Slot,
+    /// `LIST`
+    List,
+    /// `OF`
+    Of,
+    /// `t`
+    Now,
+    /// `:=`
+    Assign,
+    /// `:`
+    Colon,
+    /// `;`
+    Semicolon,
+    /// `,`
+    Comma,
+    /// `.`
+    Dot,
+    /// `(`
+    LeftParen,
+    /// `)`
+    RightParen,
+    /// `{`
+    LeftBrace,
+    /// `}`
+    RightBrace,
+    /// `[`
+    LeftBracket,
+    /// `]`
+    RightBracket,
+    /// `+`
+    Plus,
+    /// `-`
+    Minus,
+    /// `*`
+    Times,
+    /// `/`
+    Divide,
+    /// `=`
+    Equal,
+    /// `<>`
+    Unequal,
+    /// `<`
+    Less,
+    /// `<=`
+    LessEqual,
+    /// `>`
+    Greater,
+    /// `>=`
+    GreaterEqual,
+}
+
+/// Bytes of the text, from a place up to another.
+#[derive(Clone, Copy, PartialEq, Eq, Debug)]
+pub struct Span {
+    /// The place of the first byte.
+    pub start: u32,
+    /// The place behind the last byte.
+    pub end: u32,
+}
+
+/// A token, which keeps the places of its bytes.
+#[derive(Clone, Copy, PartialEq, Eq, Debug)]
+pub enum Token {
+    /// A reserved word or a mark.
+    Mark(Mark),
+    /// Any other word.
+    Name(Span),
+    /// A number, at most Q.
+    Number(i64),
+    /// What stands between quotes.
+    Text(Span),
+}
+
+/// A token, and the line in which it begins.
+#[derive(Clone, Copy, PartialEq, Eq, Debug)]
+pub struct TokenAt {
+    /// The token.
+    pub token: Token,
+    /// The line, counted from 1.
+    pub line: u32,
+}
