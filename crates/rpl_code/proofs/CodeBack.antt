@@ -16,7 +16,7 @@ use Rattle.rpl_code.specs.Bounds.{AreKinds, IsInstruction, IsHead, IsBlock, IsCo
 use Rattle.rpl_code.specs.Parting.{parted, in_front}
 use Rattle.rpl_code.specs.Words.{if_so}
 use Rattle.rpl_code.specs.Spelling.{joined, instruction_line, head_line, locals_line, block_lines, ended, spelt}
-use Rattle.rpl_code.specs.Reading.{Stage, top, between, headed, inside, behind, said_by, may_say, may_end, said_at, Refusal, bad_line, truncated, all_said, and_then_all, unless_bad, locals_said, lines_said, blocks_said, result_of, read}
+use Rattle.rpl_code.specs.Reading.{Stage, top, between, headed, inside, behind, said_by, may_say, may_end, said_at, CodeRefusal, bad_line, truncated, all_said, and_then_all, unless_bad, locals_said, lines_said, blocks_said, result_of, read}
 use Rattle.rpl_code.proofs.WordsBack.{if_so_back, then_back, joined_parted}
 use Rattle.rpl_code.proofs.LinesBack.{IsSaid, line_said, line_back}
 
@@ -32,15 +32,15 @@ pub record Told (stage : Stage) (parts : List (List ℕ)) (says : List Said) : T
   pub follows : Follows stage says
 
 abbrev pub Answer : Type 0
-Answer = Result (List Said) Refusal
+Answer = Result (List Said) CodeRefusal
 
 abbrev pub ok : List Said → Answer
 ok says = Ok says
 
-abbrev pub err : Refusal → Answer
+abbrev pub err : CodeRefusal → Answer
 err refusal = Err refusal
 
-err_ok : {B : Type 0} (refusal : Refusal) (says : List Said) → err refusal ≡ ok says → B
+err_ok : {B : Type 0} (refusal : CodeRefusal) (says : List Said) → err refusal ≡ ok says → B
 err_ok refusal says e = absurd (false≢true (ap is_ok e))
 
 abbrev pub said_or : List Said → Answer → List Said
@@ -58,7 +58,7 @@ last_part true stage part says same e =
     (record { lines = ap (λ p. p ∷ []) ((bytes_eq-Decides part []).0 parts.1); each = tt; follows = parts.0 })
 last_part false stage part says same e = err_ok truncated says e
 
-one_more : (first : Said) (rest : Result (List Said) Refusal) (says : List Said) → and_then_all first rest ≡ Ok says
+one_more : (first : Said) (rest : Result (List Said) CodeRefusal) (says : List Said) → and_then_all first rest ≡ Ok says
     → (others : List Said) × (rest ≡ Ok others) × ((first ∷ others) ≡ says)
 one_more first (Ok others) says e = (others, refl, same_ok (first ∷ others) says e)
 one_more first (Err refusal) says e = err_ok refusal says e
@@ -196,11 +196,11 @@ parts_few : (c : ℕ) (text : List ℕ) → length (parted c text) ≤ length te
 parts_few c [] = omega arith
 parts_few c (b ∷ bs) = omega (arith, count_by (b == c) b (length bs) (parted c bs) (parts_few c bs))
 
-abbrev pub blocks_or : List Block → Result (List Block) Refusal → List Block
+abbrev pub blocks_or : List Block → Result (List Block) CodeRefusal → List Block
 blocks_or other (Ok blocks) = blocks
 blocks_or other (Err refusal) = other
 
-abbrev pub none_but : List Block → Result (List Block) Refusal
+abbrev pub none_but : List Block → Result (List Block) CodeRefusal
 none_but blocks = Ok blocks
 
 -- what was read has lines that say it

@@ -13,12 +13,12 @@ use Rattle.rpl_code.specs.Spelling.{spelt}
 use Rattle.rpl_code.specs.Answers.{Answers}
 use Rattle.rpl_code.proofs.CodeRead.{read_spelt}
 use Rattle.rpl_code.specs.Parting.{parted}
-use Rattle.rpl_code.specs.Reading.{may_end, truncated, Refusal, bad_line, behind, said_at, unless_bad, all_said, read}
+use Rattle.rpl_code.specs.Reading.{may_end, truncated, CodeRefusal, bad_line, behind, said_at, unless_bad, all_said, read}
 use Rattle.rpl_code.specs.Progress.{stage_of, blocks_begun, code_with, reading_with, TakesLine}
 use Rattle.rpl_code.proofs.WordsBack.{IsMore, parted_more}
 
 -- the loop's turn: with the parts of a text behind the line
-pub reads_on : (blocks : List Block) (progress : Progress) (n : ℕ) (left line rest : List ℕ) (blocks_after : List Block) (after : Progress) (whole : Result (List Block) Refusal)
+pub reads_on : (blocks : List Block) (progress : Progress) (n : ℕ) (left line rest : List ℕ) (blocks_after : List Block) (after : Progress) (whole : Result (List Block) CodeRefusal)
     → parted 10 left ≡ line ∷ parted 10 rest → TakesLine blocks progress line blocks_after after
     → reading_with blocks progress n (parted 10 left) ≡ whole → reading_with blocks_after after (n + 1) (parted 10 rest) ≡ whole
 reads_on blocks progress n left line rest blocks_after after whole e takes is =
@@ -29,7 +29,7 @@ reads_on blocks progress n left line rest blocks_after after whole e takes is =
     by_parts (part ∷ parts) more h = takes n part parts ∙ h
 
 -- the loop's end by a line that is refused
-pub reads_bad : (blocks : List Block) (progress : Progress) (n : ℕ) (left line rest : List ℕ) (whole : Result (List Block) Refusal)
+pub reads_bad : (blocks : List Block) (progress : Progress) (n : ℕ) (left line rest : List ℕ) (whole : Result (List Block) CodeRefusal)
     → parted 10 left ≡ line ∷ parted 10 rest → said_at (stage_of progress) line ≡ None
     → reading_with blocks progress n (parted 10 left) ≡ whole → whole ≡ Err (bad_line n)
 reads_bad blocks progress n left line rest whole e none is =
@@ -41,7 +41,7 @@ reads_bad blocks progress n left line rest whole e none is =
         sym h ∙ ap (λ found. code_with blocks progress (unless_bad n found (λ s. all_said (n + 1) (behind s) (part ∷ parts)))) none
 
 -- the loop's end behind the last line
-pub reads_all : (blocks : List Block) (progress : Progress) (n : ℕ) (left : List ℕ) (whole : Result (List Block) Refusal)
+pub reads_all : (blocks : List Block) (progress : Progress) (n : ℕ) (left : List ℕ) (whole : Result (List Block) CodeRefusal)
     → parted 10 left ≡ left ∷ [] → (may_end (stage_of progress) && bytes_eq left []) ≡ true
     → reading_with blocks progress n (parted 10 left) ≡ whole → whole ≡ Ok blocks
 reads_all blocks progress n left whole e ends is =
@@ -54,7 +54,7 @@ reads_all blocks progress n left whole e ends is =
     nothing_more (P.Inside block) h = absurd (false≢true h)
 
 -- what was written is read again
-abbrev pub blocks_or : List Block → Result (List Block) Refusal → List Block
+abbrev pub blocks_or : List Block → Result (List Block) CodeRefusal → List Block
 blocks_or other (Ok blocks) = blocks
 blocks_or other (Err refusal) = other
 

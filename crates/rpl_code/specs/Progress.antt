@@ -4,7 +4,7 @@ use Rattle.rpl_code.specs.declared.block.Block.{Block}
 use Rattle.rpl_code.specs.declared.said.Said.{Said}
 use Rattle.rpl_code.specs.declared.progress.Progress.{Progress}
 use Rattle.rpl_code.specs.declared.progress.Progress.TheVariants as P
-use Rattle.rpl_code.specs.Reading.{Stage, top, between, headed, inside, behind, may_say, Refusal, locals_said, lines_said, blocks_said, all_said}
+use Rattle.rpl_code.specs.Reading.{Stage, top, between, headed, inside, behind, may_say, CodeRefusal, locals_said, lines_said, blocks_said, all_said}
 
 -- where the next line stands
 abbrev pub stage_of : Progress → Stage
@@ -21,12 +21,12 @@ blocks_begun (P.Headed head) says = record { head = head; locals = locals_said s
 blocks_begun (P.Inside block) says = record { head = block.head; locals = block.locals; lines = block.lines ++ lines_said says } ∷ blocks_said says
 
 -- the code of the blocks that were read and of the lines that are left
-abbrev pub code_with : List Block → Progress → Result (List Said) Refusal → Result (List Block) Refusal
+abbrev pub code_with : List Block → Progress → Result (List Said) CodeRefusal → Result (List Block) CodeRefusal
 code_with blocks progress (Ok says) = Ok (blocks ++ blocks_begun progress says)
 code_with blocks progress (Err refusal) = Err refusal
 
 -- the same, of lines from line n on
-abbrev pub reading_with : List Block → Progress → ℕ → List (List ℕ) → Result (List Block) Refusal
+abbrev pub reading_with : List Block → Progress → ℕ → List (List ℕ) → Result (List Block) CodeRefusal
 reading_with blocks progress n parts = code_with blocks progress (all_said n (stage_of progress) parts)
 
 -- what is said may be said there, and is gone over: the code is the same

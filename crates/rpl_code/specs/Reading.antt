@@ -105,21 +105,21 @@ abbrev pub said_at : Stage → List ℕ → Option Said
 said_at stage line = option_and_then (λ says. if_so (may_say stage says) says) (said_by (parted 32 line))
 
 -- why a text is no code: a line, counted from 1, or that it ends too early
-pub data Refusal : Type 0 where
-  bad_line : ℕ → Refusal
-  truncated : Refusal
+pub data CodeRefusal : Type 0 where
+  bad_line : ℕ → CodeRefusal
+  truncated : CodeRefusal
 
 -- one line more, unless something is refused
-abbrev pub and_then_all : Said → Result (List Said) Refusal → Result (List Said) Refusal
+abbrev pub and_then_all : Said → Result (List Said) CodeRefusal → Result (List Said) CodeRefusal
 and_then_all says (Ok rest) = Ok (says ∷ rest)
 and_then_all says (Err refusal) = Err refusal
 
-abbrev pub unless_bad : ℕ → Option Said → (Said → Result (List Said) Refusal) → Result (List Said) Refusal
+abbrev pub unless_bad : ℕ → Option Said → (Said → Result (List Said) CodeRefusal) → Result (List Said) CodeRefusal
 unless_bad n None rest = Err (bad_line n)
 unless_bad n (Some says) rest = and_then_all says (rest says)
 
 -- what the lines from line n on say; of a text parted at its line feeds the last part has none
-abbrev pub all_said : ℕ → Stage → List (List ℕ) → Result (List Said) Refusal
+abbrev pub all_said : ℕ → Stage → List (List ℕ) → Result (List Said) CodeRefusal
 all_said n stage [] = Err truncated
 all_said n stage (part ∷ []) = if may_end stage && bytes_eq part [] then Ok [] else Err truncated
 all_said n stage (line ∷ next ∷ parts) =
@@ -141,10 +141,10 @@ blocks_said [] = []
 blocks_said (S.Opening first ∷ rest) = record { head = first; locals = locals_said rest; lines = lines_said rest } ∷ blocks_said rest
 blocks_said (_ ∷ rest) = blocks_said rest
 
-abbrev pub result_of : Result (List Said) Refusal → Result (List Block) Refusal
+abbrev pub result_of : Result (List Said) CodeRefusal → Result (List Block) CodeRefusal
 result_of (Ok lines) = Ok (blocks_said lines)
 result_of (Err refusal) = Err refusal
 
 -- what a text is read as
-abbrev pub read : List ℕ → Result (List Block) Refusal
+abbrev pub read : List ℕ → Result (List Block) CodeRefusal
 read text = result_of (all_said 1 top (parted 10 text))

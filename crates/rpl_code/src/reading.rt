@@ -4,7 +4,7 @@ ghost use Rattle.std.specs.Str.{bytes_eq};
 ghost use Rattle.rpl_code.specs.declared.block.Block.{Block};
 ghost use Rattle.rpl_code.specs.declared.line_fault.LineFault.TheVariants as LineFault;
 ghost use Rattle.rpl_code.specs.declared.progress.Progress.TheVariants as Progress;
-ghost use Rattle.rpl_code.specs.Reading.{Refusal, bad_line, inside, may_say, may_end, said_at, read};
+ghost use Rattle.rpl_code.specs.Reading.{CodeRefusal, bad_line, inside, may_say, may_end, said_at, read};
 ghost use Rattle.rpl_code.specs.Progress.{stage_of, Takes, TakesLine};
 ghost use Rattle.rpl_code.specs.Answers.{Answers};
 
@@ -83,7 +83,7 @@ fn take_line(
 
 // What a fault of the line of this number says of the text.
 fn fault_at(number: u32, fault: LineFault) -> CodeFault
-    ensures { (reading : Result (List Block) Refusal)
+    ensures { (reading : Result (List Block) CodeRefusal)
         → (fault ≡ LineFault.Bad → reading ≡ Err (bad_line number)) → Answers reading (Err result) }
 {
     match fault {

@@ -147,7 +147,13 @@ pub fn choice(alloc: Global, condition: Expr, yes: Expr, no: Expr) -> Result<Exp
 }
 
 /// `LET name := value IN body ENDLET`.
-pub fn binding(alloc: Global, text: &[u8], named: Span, value: Expr, body: Expr) -> Result<Expr, Stop>
+pub fn binding(
+    alloc: Global,
+    text: &[u8],
+    named: Span,
+    value: Expr,
+    body: Expr,
+) -> Result<Expr, Stop>
     ensures ok { IfOk result (λ e. tree_of e ≡ bind (bytes_in text.now named) (tree_of value) (tree_of body)) }
     ensures err { IfErr result (λ f. f ≡ Stop.NoMemory) }
 {
@@ -193,7 +199,13 @@ pub fn for_each(
 }
 
 /// `MAP name IN list DO body ENDMAP`.
-pub fn mapping(alloc: Global, text: &[u8], named: Span, list: Expr, body: Expr) -> Result<Expr, Stop>
+pub fn mapping(
+    alloc: Global,
+    text: &[u8],
+    named: Span,
+    list: Expr,
+    body: Expr,
+) -> Result<Expr, Stop>
     ensures ok { IfOk result (λ e. tree_of e ≡ mapped (bytes_in text.now named) (tree_of list) (tree_of body)) }
     ensures err { IfErr result (λ f. f ≡ Stop.NoMemory) }
 {
@@ -204,7 +216,13 @@ pub fn mapping(alloc: Global, text: &[u8], named: Span, list: Expr, body: Expr) 
 }
 
 /// A conversion by an object's table.
-pub fn conversion(alloc: Global, text: &[u8], word: ConvertWord, object: Span, arg: Expr) -> Result<Expr, Stop>
+pub fn conversion(
+    alloc: Global,
+    text: &[u8],
+    word: ConvertWord,
+    object: Span,
+    arg: Expr,
+) -> Result<Expr, Stop>
     ensures ok { IfOk result (λ e. tree_of e ≡ convert word (bytes_in text.now object) (tree_of arg)) }
     ensures err { IfErr result (λ f. f ≡ Stop.NoMemory) }
 {

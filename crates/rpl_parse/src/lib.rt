@@ -9,7 +9,6 @@ mod expression;
 mod fault;
 mod front;
 mod look;
-
 mod reserved;
 mod ruleset;
 mod scan;

@@ -73,7 +73,11 @@ fn statement<'a>(
     ensures { GivesOne text.now limit result (act_at limit (toks text.now tokens.entry.now)) }
 {
     if limit == 0 {
-        return if begins(text, tokens) { Err(Stop::Bad) } else { Ok(None) };
+        return if begins(text, tokens) {
+            Err(Stop::Bad)
+        } else {
+            Ok(None)
+        };
     }
     if let Some((object, rest)) = behind_name(text, tokens) {
         let found = assigns(alloc, text, object, rest, limit - 1)?;

@@ -12,7 +12,7 @@ use Rattle.jiff.specs.Types.{DateTime}
 use Rattle.jiff.specs.Words.{civil_nanos, IsCivilNanos, time_nanos, add_months, shifted_year, shifted_month}
 use Rattle.rw_calendar.specs.declared.moment.Moment.{Moment}
 use Rattle.rw_calendar.specs.Moment.{IsMoment, months_later}
-use Rattle.rw_calendar.specs.Clock.{moment_at, IsOnTheHour, Shows}
+use Rattle.rw_calendar.specs.Clock.{moment_at, IsOnTheHour, ShowsMoment}
 use Rattle.rw_calendar.proofs.MomentFacts.{hour_number, months_later_is}
 
 -- nanoseconds from 1970-01-01 at hour 0 to a moment
@@ -65,7 +65,7 @@ unfolding datetime_of
 civil_nanos-datetime_of m h within = omega (arith, signed_arith, civil_nanos-parts (datetime_of m h within))
 
 -- a date and time with a moment's nanoseconds shows it
-pub shows : (dt : DateTime) (m : Moment) → IsMoment m → m.year ≤ 9999 → civil_nanos dt ≡ nanos_of m → Shows dt m
+pub shows : (dt : DateTime) (m : Moment) → IsMoment m → m.year ≤ 9999 → civil_nanos dt ≡ nanos_of m → ShowsMoment dt m
 unfolding datetime_of
 shows dt m h within e =
     let same = civil_nanos_injective dt (datetime_of m h within) (e ∙ sym (civil_nanos-datetime_of m h within)) in
@@ -89,7 +89,7 @@ IsCivilNanos-nanos_of m h within =
     rw (← civil_nanos-datetime_of m h within) (civil_nanos_range (datetime_of m h within))
 
 -- what the library's arithmetic reaches is the moment with those nanoseconds, and it fails exactly past year 9999
-pub reached : {E : Type 0} (r : Result DateTime E) (n : ℤ) (m : Moment) → IsMoment m → n ≡ nanos_of m → (IsOk r → IsCivilNanos n) → (m.year ≤ 9999 → IsCivilNanos n → IsOk r) → IfOk r (λ dt. civil_nanos dt ≡ n) → MatchOption (result_ok r) (9999 < m.year) (λ dt. Shows dt m)
+pub reached : {E : Type 0} (r : Result DateTime E) (n : ℤ) (m : Moment) → IsMoment m → n ≡ nanos_of m → (IsOk r → IsCivilNanos n) → (m.year ≤ 9999 → IsCivilNanos n → IsOk r) → IfOk r (λ dt. civil_nanos dt ≡ n) → MatchOption (result_ok r) (9999 < m.year) (λ dt. ShowsMoment dt m)
 reached (Ok dt) n m h e fits found value =
     elim (cases_lt 9999 m.year) [
       | inl past ↦ absurd (beyond m h past (rw e at (fits refl)))

@@ -15,6 +15,6 @@ pub record IsOnTheHour (dt : DateTime) : Type 0 where
   pub sharp : time_nanos dt.time ≡ dt.time.hour * 3_600_000_000_000
 
 -- it shows the moment, and no minutes
-pub record Shows (dt : DateTime) (m : Moment) : Type 0 where
+pub record ShowsMoment (dt : DateTime) (m : Moment) : Type 0 where
   pub moment : moment_at dt ≡ m
   pub sharp : IsOnTheHour dt

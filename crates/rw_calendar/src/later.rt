@@ -1,5 +1,5 @@
 ghost use Rattle.std.specs.Prelude.{◌≡◌, ◌↔◌, ◌<◌, ◌≤◌, IsTrue, MatchOption};
-ghost use Rattle.rw_calendar.specs.Clock.{moment_at, IsOnTheHour, Shows};
+ghost use Rattle.rw_calendar.specs.Clock.{moment_at, IsOnTheHour, ShowsMoment};
 ghost use Rattle.rw_calendar.specs.Moment.{IsDated, hours_later, months_later};
 ghost use Rattle.rw_calendar.specs.Start.{IsStart, moment_of};
 ghost use Rattle.rw_calendar.specs.StepLength.{moment_after, IsStepLength, CanBegin};
@@ -12,7 +12,7 @@ use jiff::{SignedDuration, ToSpan};
 /// The date and time that a start names. `None` exactly where there is none.
 pub(crate) fn first_moment(start: Start) -> Option<DateTime>
     ensures { MatchOption result (¬ IsStart start)
-        (λ dt. IsStart start × Shows dt (moment_of start)) }
+        (λ dt. IsStart start × ShowsMoment dt (moment_of start)) }
 {
     if start.year < 1 {
         return None;
@@ -24,7 +24,7 @@ pub(crate) fn first_moment(start: Start) -> Option<DateTime>
 fn after_hours(start: DateTime, hours: u32) -> Option<DateTime>
     requires { IsOnTheHour start }
     ensures { MatchOption result (9999 < (hours_later (moment_at start) hours).year)
-        (λ dt. Shows dt (hours_later (moment_at start) hours)) }
+        (λ dt. ShowsMoment dt (hours_later (moment_at start) hours)) }
 {
     start
         .checked_add(SignedDuration::from_hours(i64::from(hours)))
@@ -38,7 +38,7 @@ fn after_months(start: DateTime, months: u16) -> Option<DateTime>
     requires midnight { start.time.hour ≡ 0 }
     requires few { months ≤ 4096 }
     ensures { MatchOption result (9999 < (months_later (moment_at start) months).year)
-        (λ dt. Shows dt (months_later (moment_at start) months)) }
+        (λ dt. ShowsMoment dt (months_later (moment_at start) months)) }
 {
     start.checked_add(i64::from(months).months()).ok()
 }
@@ -50,7 +50,7 @@ fn after_steps(start: DateTime, length: StepLength, steps: u16) -> Option<DateTi
     requires begin { CanBegin length (moment_at start) }
     requires few { steps ≤ 4096 }
     ensures { MatchOption result (9999 < (moment_after (moment_at start) length steps).year)
-        (λ dt. Shows dt (moment_after (moment_at start) length steps)) }
+        (λ dt. ShowsMoment dt (moment_after (moment_at start) length steps)) }
 {
     match length {
         StepLength::Hours(hours) => after_hours(start, u32::from(steps) * u32::from(hours)),

@@ -3,7 +3,7 @@ ghost use Rattle.std.specs.Prelude.{◌≡◌, ◌≤◌, ◌↔◌, ℕ, ◌+�
 ghost use Rattle.jiff.specs.Types.{DateTime};
 ghost use Rattle.jiff.specs.Words.{civil_nanos, epoch_day, add_months};
 ghost use Rattle.rw_calendar.specs.declared.step_length.StepLength.TheVariants.{Hours, Month};
-ghost use Rattle.rw_calendar.specs.Clock.{moment_at, IsOnTheHour, Shows};
+ghost use Rattle.rw_calendar.specs.Clock.{moment_at, IsOnTheHour, ShowsMoment};
 ghost use Rattle.rw_calendar.specs.declared.moment.Moment.{Moment};
 ghost use Rattle.rw_calendar.specs.Moment.{IsMoment, on, next_month, next_day, next_hour, hours_later, months_later};
 ghost use Rattle.rw_calendar.specs.Start.{IsStart, moment_of};
@@ -15,7 +15,7 @@ ghost use Rattle.rw_calendar.specs.declared.step_length.StepLength.{StepLength};
 /// The moment so many hours later is the one that the clock shows then: as many times 3,600 seconds later.
 pub fn hours_go_by_the_clock()
     ensures { (from to : DateTime) (k : ℕ)
-        → IsOnTheHour from → Shows to (hours_later (moment_at from) k)
+        → IsOnTheHour from → ShowsMoment to (hours_later (moment_at from) k)
         → civil_nanos to ≡ civil_nanos from +ℤ pos (k * 3_600_000_000_000) }
 {}
 
@@ -23,7 +23,7 @@ pub fn hours_go_by_the_clock()
 pub fn months_go_by_the_calendar()
     ensures { (from to : DateTime) (k : ℕ)
         → IsOnTheHour from → from.date.day ≡ 1 → from.time.hour ≡ 0
-        → Shows to (months_later (moment_at from) k)
+        → ShowsMoment to (months_later (moment_at from) k)
         → epoch_day to.date ≡ add_months from.date (pos k) }
 {}
 

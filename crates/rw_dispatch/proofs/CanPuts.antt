@@ -16,9 +16,9 @@ use Rattle.rw_method.specs.declared.view.View.{View}
 use Rattle.rw_method.specs.View.{bounds_at, is_between}
 use Rattle.rw_method.specs.Puts.{is_bounded}
 use Rattle.rw_method.specs.Solve.{solve_of}
-use Rattle.rw_log.specs.Log.{Cells}
+use Rattle.rw_run.specs.Log.{Cells}
 use Rattle.rw_method.proofs.SolvedPuts.{solve-puts}
-use Rattle.rw_log.specs.Dispatch.{bounds_in_place, view_of, solved_by}
+use Rattle.rw_run.specs.Dispatch.{bounds_in_place, view_of, solved_by}
 use Rattle.rw_dispatch.specs.Putting.{ArePuts, CanPut}
 use Rattle.rw_dispatch.proofs.Viewed.{has_slot, bounds_at-view}
 

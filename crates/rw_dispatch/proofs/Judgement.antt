@@ -4,8 +4,8 @@ use Rattle.std.proofs.lemmas.List.{map-append, length-append, append-nil}
 use Rattle.std.proofs.lemmas.List.Elements.{All-push, filter-append}
 use Rattle.rw_model.specs.Draft.{Draft}
 use Rattle.rw_method.specs.declared.put.Put.{Put}
-use Rattle.rw_log.specs.Log.{Asked, Cells, Event}
-use Rattle.rw_log.specs.Dispatch.{asked_by, asked_for, end_in, is_written, judged, or_fault, puts_written}
+use Rattle.rw_run.specs.Log.{Asked, Cells, Event}
+use Rattle.rw_run.specs.Dispatch.{asked_by, asked_for, end_in, is_written, judged, or_fault, puts_written}
 use Rattle.rw_dispatch.specs.Putting.{CanPut, IsPassed}
 
 -- what is left gives, with what is noted, what all give

@@ -10,8 +10,8 @@ use Rattle.rw_model.specs.Links.{IsBetween, bounds_in}
 use Rattle.rw_method.specs.declared.put.Put.{Put}
 use Rattle.rw_series.specs.Series.{Series, held, is_shared, Sets}
 use Rattle.rw_series.proofs.Bounds.{bounds-shared}
-use Rattle.rw_log.specs.Log.{Asked, Cells, last_put}
-use Rattle.rw_log.specs.Dispatch.{asked_by, bounds_in_place, slot_or_none}
+use Rattle.rw_run.specs.Log.{Asked, Cells, last_put}
+use Rattle.rw_run.specs.Dispatch.{asked_by, bounds_in_place, slot_or_none}
 use Rattle.rw_dispatch.specs.Stage.{AreBounded}
 use Rattle.rw_dispatch.specs.Putting.{CanPut}
 use Rattle.rw_dispatch.proofs.CanPuts.{there}

@@ -12,7 +12,7 @@ use Rattle.rw_model.specs.Draft.{Draft}
 use Rattle.rw_model.specs.Links.{group_of, owner_of}
 use Rattle.rw_model.proofs.Numbered.{numbered-found}
 use Rattle.rw_model.proofs.Numbering.{StandsAt-stored}
-use Rattle.rw_log.specs.Waiting.{is_at, is_owner}
+use Rattle.rw_run.specs.Waiting.{is_at, is_owner}
 use Rattle.rw_dispatch.specs.Owners.{IsLeastAbove}
 
 -- ---- one slot more

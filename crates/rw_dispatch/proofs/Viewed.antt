@@ -18,8 +18,8 @@ use Rattle.rw_model.proofs.Numbering.{StandsAt-stored, first_from-all_slots, IsO
 use Rattle.rw_model.proofs.Bounding.{known_in_place, bounds_in-within}
 use Rattle.rw_method.specs.declared.view.View.{View}
 use Rattle.rw_method.specs.View.{known, known_value, bounds_at, IsBounded, IsViewOf}
-use Rattle.rw_log.specs.Log.{Cells}
-use Rattle.rw_log.specs.Dispatch.{cell_at, content_in, bounds_in_place, past_value, places, view_of}
+use Rattle.rw_run.specs.Log.{Cells}
+use Rattle.rw_run.specs.Dispatch.{cell_at, content_in, bounds_in_place, past_value, places, view_of}
 use Rattle.rw_dispatch.specs.Stage.{AreBounded}
 
 -- ---- an object's slot in a place is its kind's

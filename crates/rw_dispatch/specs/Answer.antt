@@ -3,9 +3,9 @@ use Rattle.std.specs.Prelude.{◌≡◌, ℕ, List, []}
 use Rattle.rw_model.specs.Draft.{Draft}
 use Rattle.rw_method.specs.declared.put.Put.{Put}
 use Rattle.rw_series.specs.declared.look.Look.{Look}
-use Rattle.rw_log.specs.declared.fault.RunFault.TheVariants.{Conflict as FaultConflict, ObjectOutOfRange}
-use Rattle.rw_log.specs.Log.{Event, idle, solved, fault}
-use Rattle.rw_log.specs.Dispatch.{asked_for}
+use Rattle.rw_run.specs.declared.fault.RunFault.TheVariants.{Conflict as FaultConflict, ObjectOutOfRange}
+use Rattle.rw_run.specs.Log.{Event, idle, solved, fault}
+use Rattle.rw_run.specs.Dispatch.{asked_for}
 use Rattle.rw_dispatch.specs.declared.dispatched.Dispatched.{Dispatched}
 use Rattle.rw_dispatch.specs.declared.dispatched.Dispatched.TheVariants.{Idle, Solved, Conflict, OutOfRange}
 use Rattle.rw_dispatch.specs.Putting.{ArePuts}

@@ -1,7 +1,7 @@
 -- An earlier value of a slot.
 use Rattle.std.specs.Prelude.{ℕ}
 use Rattle.rw_base.specs.declared.number.SlotNo.{SlotNo}
-use Rattle.rw_log.specs.Dispatch.{Past}
+use Rattle.rw_run.specs.Dispatch.{Past}
 
 -- a slot, and how many timesteps ago
 abbrev pub past_seen : SlotNo × ℕ → Past

@@ -5,9 +5,9 @@ use Rattle.rw_model.specs.Draft.{Draft}
 use Rattle.rw_model.specs.Objects.{slot_in_place}
 use Rattle.rw_model.specs.Links.{IsBetween}
 use Rattle.rw_method.specs.declared.put.Put.{Put}
-use Rattle.rw_log.specs.declared.fault.RunFault.TheVariants.{Conflict}
-use Rattle.rw_log.specs.Log.{Asked, Cells, Event, fault}
-use Rattle.rw_log.specs.Dispatch.{asked_for, bounds_in_place, denied_by, end_in, judged, puts_written}
+use Rattle.rw_run.specs.declared.fault.RunFault.TheVariants.{Conflict}
+use Rattle.rw_run.specs.Log.{Asked, Cells, Event, fault}
+use Rattle.rw_run.specs.Dispatch.{asked_for, bounds_in_place, denied_by, end_in, judged, puts_written}
 
 -- a put to a slot of the object, of a value that the slot can have
 pub record CanPut (basin : Draft) (object : ℕ) (put : Put) : Type 0 where

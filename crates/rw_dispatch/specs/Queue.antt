@@ -1,7 +1,7 @@
 -- The objects that wait, as a queue.
 use Rattle.std.specs.Prelude.{◌≡◌, ◌≤◌, ◌-◌, ◌+◌, ℕ, Bool, false, ◌&&◌, cond, nat_lt, List, [], ◌∷◌, length, slice_index_or}
 use Rattle.rw_model.specs.Draft.{Draft}
-use Rattle.rw_log.specs.Times.{times}
+use Rattle.rw_run.specs.Times.{times}
 
 -- of how many objects it is, and those that wait, the next one first
 pub record Queue : Type 0 where

@@ -5,8 +5,8 @@ use Rattle.rw_model.specs.declared.content.Content.{Content}
 use Rattle.rw_model.specs.Draft.{Draft}
 use Rattle.rw_model.specs.Links.{IsBetween, bounds_in}
 use Rattle.rw_series.specs.Series.{Series, held, IsCell, IsSeriesOf}
-use Rattle.rw_log.specs.Log.{Cells, Event, held_after}
-use Rattle.rw_log.specs.Waiting.{queued_after}
+use Rattle.rw_run.specs.Log.{Cells, Event, held_after}
+use Rattle.rw_run.specs.Waiting.{queued_after}
 use Rattle.rw_dispatch.specs.Queue.{Queue, IsQueueOf}
 
 pub record Stage : Type 0 where

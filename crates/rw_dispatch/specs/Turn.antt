@@ -1,7 +1,7 @@
 -- The turn of an object.
 use Rattle.std.specs.Prelude.{◌≡◌, ◌≤◌, ℕ, false}
 use Rattle.rw_model.specs.Draft.{Draft, IsObject}
-use Rattle.rw_log.specs.Waiting.{is_data}
+use Rattle.rw_run.specs.Waiting.{is_data}
 
 -- one of the timesteps
 pub record IsStep (basin : Draft) (step : ℕ) : Type 0 where

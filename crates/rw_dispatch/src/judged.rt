@@ -1,8 +1,8 @@
 ghost use Rattle.std.specs.Prelude.{◌≡◌, ℕ, IfOk, IfErr};
 ghost use Rattle.rw_model.specs.Draft.{Draft};
 ghost use Rattle.rw_series.specs.Series.{held, IsCell};
-ghost use Rattle.rw_log.specs.Log.{Event};
-ghost use Rattle.rw_log.specs.Dispatch.{asked_by, asked_for, denied_by, end_in, judged, or_fault};
+ghost use Rattle.rw_run.specs.Log.{Event};
+ghost use Rattle.rw_run.specs.Dispatch.{asked_by, asked_for, denied_by, end_in, judged, or_fault};
 ghost use Rattle.rw_dispatch.specs.Putting.{ArePassed, ArePuts, CanPut, IsPassed, conflict};
 ghost use Rattle.rw_dispatch.specs.Turn.{IsTurn};
 

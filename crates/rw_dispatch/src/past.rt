@@ -2,8 +2,8 @@ ghost use Rattle.std.specs.Prelude.{◌≡◌, ◌≤◌, ℕ, option_map, IfSom
 ghost use Rattle.rw_base.specs.declared.number.SlotNo.{SlotNo};
 ghost use Rattle.rw_model.specs.Draft.{IsObject, IsSlot};
 ghost use Rattle.rw_series.specs.Series.{held, IsCell};
-ghost use Rattle.rw_log.specs.Dispatch.{past_in, past_of, past_cell_of, cell_of_past, value_of_past, past_value};
-ghost use Rattle.rw_log.specs.Log.{value_in};
+ghost use Rattle.rw_run.specs.Dispatch.{past_in, past_of, past_cell_of, cell_of_past, value_of_past, past_value};
+ghost use Rattle.rw_run.specs.Log.{value_in};
 ghost use Rattle.rw_dispatch.specs.Past.{past_seen};
 
 use rw_base::{Cell, ObjectNo, Qty, SlotNo, StepNo};

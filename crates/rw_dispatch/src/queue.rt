@@ -2,8 +2,8 @@ ghost use Rattle.std.specs.Prelude.{ℕ, List, true, cond, ◌==◌, ◌≡◌, 
 ghost use Rattle.std.specs.List.{list_any};
 ghost use Rattle.rw_model.specs.Draft.{IsObject, IsSlot};
 ghost use Rattle.rw_model.specs.Kept.{numbers_of};
-ghost use Rattle.rw_log.specs.Times.{times};
-ghost use Rattle.rw_log.specs.Waiting.{all_waiting, is_but, is_owner, is_woken, woken};
+ghost use Rattle.rw_run.specs.Times.{times};
+ghost use Rattle.rw_run.specs.Waiting.{all_waiting, is_but, is_owner, is_woken, woken};
 ghost use Rattle.rw_dispatch.specs.Queue.{IsQueueOf};
 
 use crate::owners::{is_data, next_owner};
@@ -73,7 +73,7 @@ impl Queue {
 
     /// Wakes the objects that own a slot which carries one value with one of these, as one event: those that don't wait
     /// yet, but the one that is left out and those that only keep data, wait behind all others, in order of number. The law
-    /// `waiting_after` of `rw_log` says that those are the objects that wait after the event.
+    /// `waiting_after` of `rw_run` says that those are the objects that wait after the event.
     pub fn wake(&mut self, basin: &Basin, slots: &[SlotNo], but: Option<ObjectNo>)
         requires made { IsQueueOf basin.now self.old }
         requires slots { All (λ (slot : SlotNo). IsSlot basin.now.objects slot.0) slots.now }

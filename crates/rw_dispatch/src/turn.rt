@@ -4,7 +4,7 @@ ghost use Rattle.rw_method.specs.declared.put.Put.{Put};
 ghost use Rattle.rw_method.specs.declared.solved.Solved.TheVariants as Solved;
 ghost use Rattle.rw_series.specs.declared.look.Look.{Look};
 ghost use Rattle.rw_series.specs.Series.{held};
-ghost use Rattle.rw_log.specs.Dispatch.{answered, dispatched, looks_of, put_by, solved_by};
+ghost use Rattle.rw_run.specs.Dispatch.{answered, dispatched, looks_of, put_by, solved_by};
 ghost use Rattle.rw_dispatch.specs.Answer.{Tells};
 ghost use Rattle.rw_dispatch.specs.Putting.{ArePuts};
 ghost use Rattle.rw_dispatch.specs.Stage.{AreBounded, IsStageOf, Leaves, stage};
@@ -123,7 +123,7 @@ fn answer(
 /// Dispatches an object at a timestep: its method solves what it can from what its slots hold. What it asks for is judged by
 /// the put rules, all by what the cells hold before. If one put is denied, that is a conflict; otherwise those that aren't
 /// there already are written, and wake the objects that they reach, but not this one. Where nothing is written, cells and
-/// queue stay as they were. The law `waiting_after` of `rw_log` says that the queue then has the objects that wait after the
+/// queue stay as they were. The law `waiting_after` of `rw_run` says that the queue then has the objects that wait after the
 /// event. It takes no memory. The rules of each kind stand in `docs/DEFINITIONS.md`.
 pub fn dispatch(
     basin: &Basin,

@@ -11,17 +11,17 @@ use Rattle.rw_model.specs.Draft.{Draft}
 use Rattle.rw_method.specs.declared.put.Put.{Put}
 use Rattle.rw_series.specs.Series.{held}
 use Rattle.rw_series.specs.declared.look.Look.{Look}
-use Rattle.rw_log.specs.declared.fault.RunFault.{RunFault}
-use Rattle.rw_log.specs.declared.fault.RunFault.TheVariants.{ObjectLimit}
-use Rattle.rw_log.specs.declared.run.RunEnd.TheVariants.{Settled, Fault}
-use Rattle.rw_log.specs.declared.trace.TraceEvent.TheVariants.{Solve}
-use Rattle.rw_log.specs.Log.{Cells, Event, closed, fault, Log, cells_of, held_after, last_put, written_by}
-use Rattle.rw_log.specs.Waiting.{waiting, first_of, queued_after}
-use Rattle.rw_log.specs.Dispatch.{asked_for, dispatched}
-use Rattle.rw_log.specs.Next.{count_if, dispatches, agenda_of, no_rules, is_due, next, next_of, after_objects}
-use Rattle.rw_log.specs.Runs.{inside, standing}
-use Rattle.rw_log.specs.RunOf.{line_of, lines, end_of, last_closed}
-use Rattle.rw_log.proofs.Waits.{idles, solves}
+use Rattle.rw_run.specs.declared.fault.RunFault.{RunFault}
+use Rattle.rw_run.specs.declared.fault.RunFault.TheVariants.{ObjectLimit}
+use Rattle.rw_run.specs.declared.run.RunEnd.TheVariants.{Settled, Fault}
+use Rattle.rw_run.specs.declared.trace.TraceEvent.TheVariants.{Solve}
+use Rattle.rw_run.specs.Log.{Cells, Event, closed, fault, Log, cells_of, held_after, last_put, written_by}
+use Rattle.rw_run.specs.Waiting.{waiting, first_of, queued_after}
+use Rattle.rw_run.specs.Dispatch.{asked_for, dispatched}
+use Rattle.rw_run.specs.Next.{count_if, dispatches, agenda_of, no_rules, is_due, next, next_of, after_objects}
+use Rattle.rw_run.specs.Runs.{inside, standing}
+use Rattle.rw_run.specs.RunOf.{line_of, lines, end_of, last_closed}
+use Rattle.rw_run.proofs.Waits.{idles, solves}
 use Rattle.rw_dispatch.specs.declared.dispatched.Dispatched.{Dispatched}
 use Rattle.rw_dispatch.specs.declared.dispatched.Dispatched.TheVariants.{Idle as IsIdle, Solved as IsSolved, Conflict as IsConflict, OutOfRange as IsOutOfRange}
 use Rattle.rw_dispatch.specs.Answer.{event_of}
@@ -30,7 +30,7 @@ use Rattle.rw_engine.specs.Engine.{Engine}
 use Rattle.rw_engine.specs.declared.state.State.{State}
 use Rattle.rw_engine.specs.Lines.{line_by, lines_by, fault_by}
 use Rattle.rw_engine.specs.Shows.{Shows}
-use Rattle.rw_engine.specs.State.{seen, GoesTo, Holds, end_by, ended_by}
+use Rattle.rw_engine.specs.State.{seen, GoesTo, HoldsWithin, end_by, ended_by}
 use Rattle.rw_engine.proofs.Raises.{raised_at}
 
 -- ---- which event follows
@@ -153,7 +153,7 @@ pub record Went (basin : Draft) (old new : State) (looked : List Look) (step obj
 
 -- the timestep goes on, or the run ends by the fault
 pub goes_to : (basin : Draft) (old new : State) (looked : List Look) (step object : ℕ) (rest : List ℕ) (log : Log) (event : Event) (answer : Dispatched)
-    → Holds basin old step log (object ∷ rest) → Went basin old new looked step object rest event answer → new.end ≡ old.end
+    → HoldsWithin basin old step log (object ∷ rest) → Went basin old new looked step object rest event answer → new.end ≡ old.end
     → (why : Option RunFault) → fault_by object step answer ≡ why → GoesTo basin (end_by why) (ended_by why new) step log event
 goes_to basin old new looked step object rest log event answer holds went end None is =
     let tells = says basin looked step object rest log event answer went.told.is in

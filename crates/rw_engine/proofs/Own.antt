@@ -9,8 +9,8 @@ use Rattle.rw_model.proofs.Bounding.{known_in_place}
 use Rattle.rw_method.specs.declared.put.Put.{Put}
 use Rattle.rw_series.specs.Series.{IsCell}
 use Rattle.rw_series.specs.declared.look.Look.{Look}
-use Rattle.rw_log.specs.Log.{Event, written_by}
-use Rattle.rw_log.specs.Dispatch.{cell_at, cell_in, asked_by}
+use Rattle.rw_run.specs.Log.{Event, written_by}
+use Rattle.rw_run.specs.Dispatch.{cell_at, cell_in, asked_by}
 use Rattle.rw_dispatch.specs.declared.dispatched.Dispatched.{Dispatched}
 use Rattle.rw_dispatch.specs.declared.dispatched.Dispatched.TheVariants.{Idle, Solved, Conflict, OutOfRange}
 use Rattle.rw_dispatch.specs.Answer.{Tells, event_of, written_in}

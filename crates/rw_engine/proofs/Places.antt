@@ -6,8 +6,8 @@ use Rattle.rw_base.specs.declared.number.Cell.{Cell}
 use Rattle.rw_model.specs.Draft.{Draft}
 use Rattle.rw_series.specs.Series.{Series, held, Sets}
 use Rattle.rw_inputs.specs.Inputs.{Inputs, IsInputsOf, value_at}
-use Rattle.rw_log.specs.Log.{Log, input_content}
-use Rattle.rw_log.specs.Runs.{placed}
+use Rattle.rw_run.specs.Log.{Log, input_content}
+use Rattle.rw_run.specs.Runs.{placed}
 use Rattle.rw_dispatch.specs.Stage.{AreBounded}
 use Rattle.rw_dispatch.proofs.Makes.{AreBounded-put}
 use Rattle.rw_engine.specs.Givens.{if_given, givens_of, givens_to, HoldsAll}

@@ -2,7 +2,7 @@
 use Rattle.std.proofs.Common.{◌≡◌, ◌<◌, ◌≤◌, ◌+◌, ◌-◌, ◌==◌, ℕ, zero, suc, List, [], ◌∷◌, length, get_or, set, refl, arith}
 use Rattle.std.specs.Prelude.{if◌then◌else◌}
 use Rattle.std.proofs.lemmas.Bool.Decides.{nat_tests}
-use Rattle.rw_log.specs.Next.{count_if}
+use Rattle.rw_run.specs.Next.{count_if}
 use Rattle.rw_engine.specs.Counts.{IsCounted, count_of, raised, room}
 
 set_at : (xs : List ℕ) (k j v : ℕ) → k < length xs → get_or (set xs k v) j 0 ≡ (if k == j then v else get_or xs j 0)

@@ -2,12 +2,12 @@
 use Rattle.std.proofs.Common.{◌≡◌, ◌<◌, ◌+◌, ℕ, [], ◌∷◌, ◌++◌, refl, sym, ap, subst, ◌∙◌, arith}
 use Rattle.rw_model.specs.Draft.{Draft}
 use Rattle.rw_inputs.specs.Inputs.{Inputs}
-use Rattle.rw_log.specs.declared.fault.RunFault.{RunFault}
-use Rattle.rw_log.specs.declared.run.Run.{Run}
-use Rattle.rw_log.specs.Log.{Log}
-use Rattle.rw_log.specs.Next.{no_rules}
-use Rattle.rw_log.specs.Runs.{rests, standing, placed, IsOver}
-use Rattle.rw_log.specs.RunOf.{IsRunOf}
+use Rattle.rw_run.specs.declared.fault.RunFault.{RunFault}
+use Rattle.rw_run.specs.declared.run.Run.{Run}
+use Rattle.rw_run.specs.Log.{Log}
+use Rattle.rw_run.specs.Next.{no_rules}
+use Rattle.rw_run.specs.Runs.{rests, standing, placed, IsOver}
+use Rattle.rw_run.specs.RunOf.{IsRunOf}
 use Rattle.rw_engine.specs.Engine.{Engine}
 use Rattle.rw_engine.specs.declared.step_end.StepEnd.TheVariants.{Closed as IsClosed, Fault as IsFault}
 use Rattle.rw_engine.specs.Givens.{givens}

@@ -2,10 +2,10 @@
 use Rattle.std.proofs.Common.{◌≡◌, ℕ, List, [], ◌∷◌, refl, ◌∙◌, append-nil}
 use Rattle.std.specs.Prelude.{ℤ}
 use Rattle.rw_base.specs.declared.number.Cell.{Cell}
-use Rattle.rw_log.specs.declared.run.RunEnd.TheVariants.{Settled}
-use Rattle.rw_log.specs.Log.{given, fault, Log}
-use Rattle.rw_log.specs.Runs.{placed, standing, rests}
-use Rattle.rw_log.specs.RunOf.{trace_of, end_of, last_closed}
+use Rattle.rw_run.specs.declared.run.RunEnd.TheVariants.{Settled}
+use Rattle.rw_run.specs.Log.{given, fault, Log}
+use Rattle.rw_run.specs.Runs.{placed, standing, rests}
+use Rattle.rw_run.specs.RunOf.{trace_of, end_of, last_closed}
 
 pub trace-placed : (log : Log) (inputs : List (Cell × ℤ)) → trace_of (placed log inputs) ≡ trace_of log
 trace-placed log [] = refl

@@ -4,19 +4,19 @@ use Rattle.std.proofs.lemmas.Bool.Decides.{nat_tests}
 use Rattle.std.specs.Prelude.{if◌then◌else◌}
 use Rattle.rw_model.specs.Draft.{Draft}
 use Rattle.rw_series.specs.Series.{Series, held}
-use Rattle.rw_log.specs.Log.{Log, Event, opened}
-use Rattle.rw_log.specs.Waiting.{all_waiting}
-use Rattle.rw_log.specs.Next.{Policy, no_rules, next}
-use Rattle.rw_log.specs.Runs.{Leads, follows, follows_in}
-use Rattle.rw_log.specs.RunOf.{lines}
-use Rattle.rw_log.specs.declared.run.RunEnd.TheVariants.{Settled}
-use Rattle.rw_log.proofs.Waits.{opens}
+use Rattle.rw_run.specs.Log.{Log, Event, opened}
+use Rattle.rw_run.specs.Waiting.{all_waiting}
+use Rattle.rw_run.specs.Next.{Policy, no_rules, next}
+use Rattle.rw_run.specs.Runs.{Leads, follows, follows_in}
+use Rattle.rw_run.specs.RunOf.{lines}
+use Rattle.rw_run.specs.declared.run.RunEnd.TheVariants.{Settled}
+use Rattle.rw_run.proofs.Waits.{opens}
 use Rattle.rw_engine.specs.declared.state.State.{State}
 use Rattle.rw_engine.specs.declared.step_end.StepEnd.{StepEnd}
 use Rattle.rw_engine.specs.Counts.{count_of}
 use Rattle.rw_engine.specs.Lines.{Grows}
 use Rattle.rw_engine.specs.Shows.{Shows, IsBefore}
-use Rattle.rw_engine.specs.State.{IsStill, seen, Holds, Goes, Reached}
+use Rattle.rw_engine.specs.State.{IsStill, seen, HoldsWithin, Goes, Reached}
 use Rattle.rw_engine.specs.Passing.{Passes}
 
 pub leads_more : (basin : Draft) (policy : Policy) (old : Log) (events : List Event) (event : Event) (new : Log) → Leads basin policy old events new
@@ -30,13 +30,13 @@ pub leads_on : (basin : Draft) (policy : Policy) (old : Log) (first last : List 
 leads_on basin policy old [] last mid new one other = subst (λ log. Leads basin policy log last new) one other
 leads_on basin policy old (event ∷ first) last mid new one other = (one.0, leads_on basin policy (event ∷ old) first last mid new one.1 other)
 
-follows_inside : (basin : Draft) (state : State) (step : ℕ) (log : Log) (waits : List ℕ) → Holds basin state step log waits
+follows_inside : (basin : Draft) (state : State) (step : ℕ) (log : Log) (waits : List ℕ) → HoldsWithin basin state step log waits
     → follows basin no_rules log ≡ next basin no_rules step log
 follows_inside basin state step log waits holds = ap (follows_in basin no_rules log) holds.open_step
 
 pub opens_step : (basin : Draft) (old new : State) (step : ℕ) (log : Log) → Shows basin (seen old) log → new.series ≡ old.series
     → new.queue.waiting ≡ all_waiting basin → ((object : ℕ) → count_of new.counts object ≡ 0) → new.trace ≡ old.trace ++ lines (opened step)
-    → new.closed ≡ old.closed → new.end ≡ Settled → Holds basin new step (opened step ∷ log) new.queue.waiting
+    → new.closed ≡ old.closed → new.end ≡ Settled → HoldsWithin basin new step (opened step ∷ log) new.queue.waiting
 opens_step basin old new step log shows series queue counts trace last end = record {
   open_step = refl;
   shows = record {
@@ -50,7 +50,7 @@ opens_step basin old new step log shows series queue counts trace last end = rec
 }
 
 pub reached_more : (basin : Draft) (start : Log) (old new : State) (step : ℕ) → Reached basin start old step
-    → ((log : Log) → Holds basin old step log old.queue.waiting → Goes basin None new step log) → Reached basin start new step
+    → ((log : Log) → HoldsWithin basin old step log old.queue.waiting → Goes basin None new step log) → Reached basin start new step
 reached_more basin start old new step reached goes =
     let went = goes reached.log reached.holds in record {
       events = reached.events ++ went.event ∷ [];
@@ -66,7 +66,7 @@ opened_next basin step last true test is exists = ap (λ n. Some (opened n)) (sy
 opened_next basin step last false test is exists = absurd (grind (arith, nat_tests))
 
 pub ends_step : (basin : Draft) (log : Log) (old new : State) (step : ℕ) (end : StepEnd) → Reached basin (opened step ∷ log) old step
-    → ((l : Log) → Holds basin old step l old.queue.waiting → Goes basin (Some end) new step l) → IsBefore basin step log → Passes basin log end (seen new) step
+    → ((l : Log) → HoldsWithin basin old step l old.queue.waiting → Goes basin (Some end) new step l) → IsBefore basin step log → Passes basin log end (seen new) step
 ends_step basin log old new step end reached goes before =
     let went = goes reached.log reached.holds in
     let first : follows basin no_rules log ≡ Some (opened step) =

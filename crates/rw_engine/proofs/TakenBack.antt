@@ -10,8 +10,8 @@ use Rattle.rw_base.specs.declared.number.Cell.{Cell}
 use Rattle.rw_model.specs.declared.content.Content.{Content}
 use Rattle.rw_model.specs.Draft.{Draft}
 use Rattle.rw_series.specs.Series.{is_shared, IsCell}
-use Rattle.rw_log.specs.Log.{Asked, Cells, Event, held_after, last_put, written_by}
-use Rattle.rw_log.specs.Dispatch.{cell_in, places}
+use Rattle.rw_run.specs.Log.{Asked, Cells, Event, held_after, last_put, written_by}
+use Rattle.rw_run.specs.Dispatch.{cell_in, places}
 use Rattle.rw_engine.specs.declared.undo.Undone.{Undone}
 use Rattle.rw_engine.specs.Undone.{taken_back, undone_at, undone_in}
 

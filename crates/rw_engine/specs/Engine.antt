@@ -1,8 +1,8 @@
 -- What an engine is seen as.
 use Rattle.std.specs.Prelude.{ℕ, List}
 use Rattle.rw_series.specs.Series.{Series}
-use Rattle.rw_log.specs.declared.run.RunEnd.{RunEnd}
-use Rattle.rw_log.specs.declared.trace.TraceEvent.{TraceEvent}
+use Rattle.rw_run.specs.declared.run.RunEnd.{RunEnd}
+use Rattle.rw_run.specs.declared.trace.TraceEvent.{TraceEvent}
 
 -- of how many objects it is, what the cells hold, the lines of its trace, the last closed timestep, and how it stands
 pub record Engine : Type 0 where

@@ -5,8 +5,8 @@ use Rattle.rw_model.specs.Draft.{Draft}
 use Rattle.rw_model.specs.Objects.{all_slots}
 use Rattle.rw_inputs.specs.Inputs.{Inputs, value_at}
 use Rattle.rw_series.specs.Series.{Series, held}
-use Rattle.rw_log.specs.Log.{Log, cells_of}
-use Rattle.rw_log.specs.Dispatch.{cell_at}
+use Rattle.rw_run.specs.Log.{Log, cells_of}
+use Rattle.rw_run.specs.Dispatch.{cell_at}
 
 abbrev pub if_given : ℕ → ℕ → Option ℤ → List (Cell × ℤ)
 if_given slot step None = []

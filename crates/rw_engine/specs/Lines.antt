@@ -2,12 +2,12 @@
 use Rattle.std.specs.Prelude.{ℕ, List, [], ◌∷◌, ◌++◌, ◌≡◌, map, Option, Some, None}
 use Rattle.rw_model.specs.Draft.{Draft}
 use Rattle.rw_method.specs.declared.put.Put.{Put}
-use Rattle.rw_log.specs.declared.fault.RunFault.{RunFault}
-use Rattle.rw_log.specs.declared.fault.RunFault.TheVariants.{Conflict, ObjectOutOfRange}
-use Rattle.rw_log.specs.declared.trace.TraceEvent.{TraceEvent}
-use Rattle.rw_log.specs.declared.trace.TraceEvent.TheVariants.{Idle, Solve, Fault}
-use Rattle.rw_log.specs.Dispatch.{asked_by}
-use Rattle.rw_log.specs.RunOf.{line_of}
+use Rattle.rw_run.specs.declared.fault.RunFault.{RunFault}
+use Rattle.rw_run.specs.declared.fault.RunFault.TheVariants.{Conflict, ObjectOutOfRange}
+use Rattle.rw_run.specs.declared.trace.TraceEvent.{TraceEvent}
+use Rattle.rw_run.specs.declared.trace.TraceEvent.TheVariants.{Idle, Solve, Fault}
+use Rattle.rw_run.specs.Dispatch.{asked_by}
+use Rattle.rw_run.specs.RunOf.{line_of}
 use Rattle.rw_dispatch.specs.declared.dispatched.Dispatched.{Dispatched}
 use Rattle.rw_dispatch.specs.declared.dispatched.Dispatched.TheVariants.{Idle as IsIdle, Solved as IsSolved, Conflict as IsConflict, OutOfRange as IsOutOfRange}
 

@@ -1,11 +1,11 @@
 -- A timestep, from its opening to its end, and a run.
 use Rattle.std.specs.Prelude.{◌≡◌, ℕ, List, [], ◌∷◌}
 use Rattle.rw_model.specs.Draft.{Draft}
-use Rattle.rw_log.specs.Log.{Event, Log}
-use Rattle.rw_log.specs.Next.{no_rules}
-use Rattle.rw_log.specs.Runs.{Leads, IsRun, placed, standing, rests, inside}
-use Rattle.rw_log.specs.RunOf.{IsRunOf}
-use Rattle.rw_log.specs.declared.run.Run.{Run}
+use Rattle.rw_run.specs.Log.{Event, Log}
+use Rattle.rw_run.specs.Next.{no_rules}
+use Rattle.rw_run.specs.Runs.{Leads, IsRun, placed, standing, rests, inside}
+use Rattle.rw_run.specs.RunOf.{IsRunOf}
+use Rattle.rw_run.specs.declared.run.Run.{Run}
 use Rattle.rw_inputs.specs.Inputs.{Inputs}
 use Rattle.rw_engine.specs.Givens.{givens}
 use Rattle.rw_engine.specs.Engine.{Engine}

@@ -4,9 +4,9 @@ use Rattle.rw_base.specs.declared.number.Cell.{Cell}
 use Rattle.rw_model.specs.Draft.{Draft}
 use Rattle.rw_model.specs.Basin.{IsBasin}
 use Rattle.rw_series.specs.Series.{held}
-use Rattle.rw_log.specs.Log.{Event, closed, fault, Log, cells_of}
-use Rattle.rw_log.specs.Runs.{standing, rests}
-use Rattle.rw_log.specs.RunOf.{trace_of, end_of, last_closed}
+use Rattle.rw_run.specs.Log.{Event, closed, fault, Log, cells_of}
+use Rattle.rw_run.specs.Runs.{standing, rests}
+use Rattle.rw_run.specs.RunOf.{trace_of, end_of, last_closed}
 use Rattle.rw_dispatch.specs.Stage.{IsHeldIn}
 use Rattle.rw_engine.specs.Engine.{Engine}
 use Rattle.rw_engine.specs.declared.step_end.StepEnd.{StepEnd}

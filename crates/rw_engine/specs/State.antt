@@ -3,10 +3,10 @@ use Rattle.std.specs.Prelude.{◌≡◌, ℕ, ◌<◌, false, List, ◌∷◌, l
 use Rattle.rw_base.specs.declared.memory.NoMemory.{NoMemory}
 use Rattle.rw_model.specs.Draft.{Draft, IsObject}
 use Rattle.rw_series.specs.Series.{held}
-use Rattle.rw_log.specs.Log.{Cells, Event, Log}
-use Rattle.rw_log.specs.Waiting.{is_data, waiting}
-use Rattle.rw_log.specs.Next.{next, dispatches, no_rules}
-use Rattle.rw_log.specs.Runs.{Leads, standing, inside}
+use Rattle.rw_run.specs.Log.{Cells, Event, Log}
+use Rattle.rw_run.specs.Waiting.{is_data, waiting}
+use Rattle.rw_run.specs.Next.{next, dispatches, no_rules}
+use Rattle.rw_run.specs.Runs.{Leads, standing, inside}
 use Rattle.rw_engine.specs.Counts.{count_of, room}
 use Rattle.rw_engine.specs.Engine.{Engine}
 use Rattle.rw_engine.specs.Lines.{Grows}
@@ -15,8 +15,8 @@ use Rattle.rw_engine.specs.Undone.{AreCells, CanUndo}
 use Rattle.rw_engine.specs.declared.state.State.{State}
 use Rattle.rw_engine.specs.declared.step_end.StepEnd.{StepEnd}
 use Rattle.rw_engine.specs.declared.step_end.StepEnd.TheVariants.{Fault as StepFault}
-use Rattle.rw_log.specs.declared.fault.RunFault.{RunFault}
-use Rattle.rw_log.specs.declared.run.RunEnd.TheVariants.{Fault}
+use Rattle.rw_run.specs.declared.fault.RunFault.{RunFault}
+use Rattle.rw_run.specs.declared.run.RunEnd.TheVariants.{Fault}
 
 -- the engine that a state is seen as
 abbrev pub seen : State → Engine
@@ -40,7 +40,7 @@ pub record IsWithinStep (basin : Draft) (state : State) : Type 0 where
   pub undo : AreCells basin state.undo.items
 
 -- there it also has those that wait, and how often each object was dispatched
-pub record Holds (basin : Draft) (state : State) (step : ℕ) (log : Log) (waits : List ℕ) : Type 0 where
+pub record HoldsWithin (basin : Draft) (state : State) (step : ℕ) (log : Log) (waits : List ℕ) : Type 0 where
   pub open_step : standing log ≡ inside step
   pub shows : Shows basin (seen state) log
   pub queue : waits ≡ waiting basin log
@@ -48,7 +48,7 @@ pub record Holds (basin : Draft) (state : State) (step : ℕ) (log : Log) (waits
 
 -- after an event: the timestep goes on, or it ended by the event
 abbrev pub GoesTo : Draft → Option StepEnd → State → ℕ → Log → Event → Type 0
-GoesTo basin None state step log event = Holds basin state step (event ∷ log) state.queue.waiting
+GoesTo basin None state step log event = HoldsWithin basin state step (event ∷ log) state.queue.waiting
 GoesTo basin (Some end) state step log event = EndsBy end step event × Shows basin (seen state) (event ∷ log)
 
 -- after the event that follows
@@ -62,7 +62,7 @@ pub record Reached (basin : Draft) (start : Log) (state : State) (step : ℕ) : 
   pub events : List Event
   pub log : Log
   pub leads : Leads basin no_rules start events log
-  pub holds : Holds basin state step log state.queue.waiting
+  pub holds : HoldsWithin basin state step log state.queue.waiting
 
 -- ---- what work within a timestep keeps
 

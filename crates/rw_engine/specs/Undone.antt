@@ -4,8 +4,8 @@ use Rattle.std.specs.List.{filter_map}
 use Rattle.rw_base.specs.declared.number.Cell.{Cell}
 use Rattle.rw_model.specs.Draft.{Draft}
 use Rattle.rw_series.specs.Series.{Series, held, is_shared, IsCell}
-use Rattle.rw_log.specs.Log.{Cells}
-use Rattle.rw_log.specs.Dispatch.{cell_in}
+use Rattle.rw_run.specs.Log.{Cells}
+use Rattle.rw_run.specs.Dispatch.{cell_in}
 use Rattle.rw_engine.specs.declared.undo.Undone.{Undone}
 
 -- they are cells of the basin

@@ -3,8 +3,8 @@ ghost use Rattle.std.specs.Prelude.{◌≡◌, ◌≤◌, option_map};
 ghost use Rattle.rw_model.specs.Draft.{IsSlot};
 ghost use Rattle.rw_series.specs.Series.{IsCell};
 ghost use Rattle.rw_inputs.specs.Inputs.{IsInputsOf, value_at};
-ghost use Rattle.rw_log.specs.Log.{Log};
-ghost use Rattle.rw_log.specs.Runs.{placed};
+ghost use Rattle.rw_run.specs.Log.{Log};
+ghost use Rattle.rw_run.specs.Runs.{placed};
 ghost use Rattle.rw_dispatch.specs.Stage.{IsHeldIn};
 ghost use Rattle.rw_engine.specs.Givens.{if_given, givens_of, givens, HoldsAll};
 

@@ -7,9 +7,9 @@ use crate::engine::Engine;
 use crate::step_end::StepEnd;
 use rw_base::{NoMemory, StepNo};
 use rw_inputs::Inputs;
-use rw_log::Run;
 use rw_method::Catalogue;
 use rw_model::Basin;
+use rw_run::Run;
 use std::alloc::Global;
 
 /// Runs all timesteps of a basin from its inputs, up to the last one or to a fault, and answers what the run comes to.

@@ -2,15 +2,15 @@ ghost use Rattle.std.specs.Prelude.{◌≡◌, ◌<◌, ◌≤◌, ◌∷◌, []
 ghost use Rattle.rw_model.specs.Draft.{Draft};
 ghost use Rattle.rw_method.specs.Catalogue.{AreInOrder};
 ghost use Rattle.rw_inputs.specs.Inputs.{IsInputsOf};
-ghost use Rattle.rw_log.specs.Log.{Log, opened};
-ghost use Rattle.rw_log.specs.Next.{dispatches};
-ghost use Rattle.rw_log.specs.Runs.{placed};
-ghost use Rattle.rw_log.specs.RunOf.{IsRunOf};
+ghost use Rattle.rw_run.specs.Log.{Log, opened};
+ghost use Rattle.rw_run.specs.Next.{dispatches};
+ghost use Rattle.rw_run.specs.Runs.{placed};
+ghost use Rattle.rw_run.specs.RunOf.{IsRunOf};
 ghost use Rattle.rw_dispatch.specs.Turn.{IsStep, IsTurn};
 ghost use Rattle.rw_engine.specs.Counts.{count_of};
 ghost use Rattle.rw_engine.specs.Givens.{givens};
 ghost use Rattle.rw_engine.specs.Shows.{IsEngineOf, Shows, IsBefore};
-ghost use Rattle.rw_engine.specs.State.{seen, IsOnTheWay, IsRevocable, IsStateOf, IsStill, IsWithinStep, Holds, Goes, Keeps, OnlyTells, end_by, ended_by};
+ghost use Rattle.rw_engine.specs.State.{seen, IsOnTheWay, IsRevocable, IsStateOf, IsStill, IsWithinStep, HoldsWithin, Goes, Keeps, OnlyTells, end_by, ended_by};
 ghost use Rattle.rw_engine.specs.Passing.{Passes};
 
 use crate::counts::Counts;
@@ -21,9 +21,9 @@ use crate::undo::{Undone, remember, take_back};
 use rw_base::{NoMemory, ObjectNo, StepNo};
 use rw_dispatch::{Queue, dispatch};
 use rw_inputs::Inputs;
-use rw_log::{Run, RunEnd, RunFault, Trace, TraceEvent};
 use rw_method::Catalogue;
 use rw_model::Basin;
+use rw_run::{Run, RunEnd, RunFault, Trace, TraceEvent};
 use rw_series::Series;
 use std::alloc::Global;
 
@@ -71,7 +71,7 @@ impl State {
         ensures tells { OnlyTells self.old self.new }
         ensures opened { IfOk result (λ _. (log : Log)
             → Shows basin.now (seen self.old) log → IsBefore basin.now step.0 log
-            → Holds basin.now self.new step.0 (opened step.0 ∷ log) self.new.queue.waiting) }
+            → HoldsWithin basin.now self.new step.0 (opened step.0 ∷ log) self.new.queue.waiting) }
     {
         self.trace.push(TraceEvent::Opened(step))?;
         self.queue.begin_step(basin);
@@ -85,7 +85,7 @@ impl State {
         requires step { IsStep basin.now step.0 }
         ensures keeps { Keeps basin.now self.old self.new }
         ensures still { IfErr result (λ _. IsStill self.old self.new) }
-        ensures goes { (log : Log) → Holds basin.now self.old step.0 log []
+        ensures goes { (log : Log) → HoldsWithin basin.now self.old step.0 log []
             → IfOk result (λ end. Goes basin.now (Some end) self.new step.0 log) }
     {
         self.trace.push(TraceEvent::Closed(step))?;
@@ -106,7 +106,7 @@ impl State {
         ensures keeps { Keeps basin.now self.old self.new }
         ensures still { IfErr result (λ _. IsStill self.old self.new) }
         ensures goes { (log : Log) (rest : List ℕ)
-            → Holds basin.now self.old step.0 log (object.0 ∷ rest) → count ≡ dispatches log object.0
+            → HoldsWithin basin.now self.old step.0 log (object.0 ∷ rest) → count ≡ dispatches log object.0
             → IfOk result (λ end. Goes basin.now (Some end) self.new step.0 log) }
     {
         let fault = RunFault::ObjectLimit {
@@ -148,7 +148,7 @@ impl State {
         ensures keeps { Keeps basin.now self.old self.new }
         ensures on_the_way { IsOnTheWay basin.now result self.old self.new }
         ensures goes { (log : Log)
-            → Holds basin.now self.old step.0 log (object.0 ∷ self.old.queue.waiting)
+            → HoldsWithin basin.now self.old step.0 log (object.0 ∷ self.old.queue.waiting)
             → IfOk result (λ end. Goes basin.now end self.new step.0 log) }
     {
         self.counts.raise(object.0);
@@ -179,7 +179,7 @@ impl State {
         ensures keeps { Keeps basin.now self.old self.new }
         ensures on_the_way { IsOnTheWay basin.now result self.old self.new }
         ensures goes { (log : Log)
-            → Holds basin.now self.old step.0 log (object.0 ∷ self.old.queue.waiting)
+            → HoldsWithin basin.now self.old step.0 log (object.0 ∷ self.old.queue.waiting)
             → IfOk result (λ end. Goes basin.now end self.new step.0 log) }
     {
         let count = self.counts.get(object.0);
@@ -201,7 +201,7 @@ impl State {
         requires step { IsStep basin.now step.0 }
         ensures keeps { Keeps basin.now self.old self.new }
         ensures on_the_way { IsOnTheWay basin.now result self.old self.new }
-        ensures goes { (log : Log) → Holds basin.now self.old step.0 log self.old.queue.waiting
+        ensures goes { (log : Log) → HoldsWithin basin.now self.old step.0 log self.old.queue.waiting
             → IfOk result (λ end. Goes basin.now end self.new step.0 log) }
     {
         match self.queue.next() {

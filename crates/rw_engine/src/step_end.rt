@@ -1,4 +1,4 @@
-use rw_log::RunFault;
+use rw_run::RunFault;
 
 /// How a timestep ended.
 #[derive(Clone, Copy, Debug, PartialEq, Eq)]

@@ -1,14 +1,14 @@
 //! Writing the trace of a dispatch.
 ghost use Rattle.std.specs.Prelude.{◌≡◌, [], ◌∷◌, ◌++◌, ℕ, List, map, IfOk};
 ghost use Rattle.rw_model.specs.Draft.{IsObject};
-ghost use Rattle.rw_log.specs.declared.trace.TraceEvent.TheVariants as Line;
+ghost use Rattle.rw_run.specs.declared.trace.TraceEvent.TheVariants as Line;
 ghost use Rattle.rw_engine.specs.Lines.{line_by, lines_by, fault_by, Grows};
 
 use rw_base::{NoMemory, ObjectNo, StepNo};
 use rw_dispatch::{Dispatched, slot_or_none};
-use rw_log::{RunFault, Trace, TraceEvent};
 use rw_method::Put;
 use rw_model::{Basin, Content, Writer};
+use rw_run::{RunFault, Trace, TraceEvent};
 
 // The line of a written put.
 fn line_by(basin: &Basin, object: ObjectNo, step: StepNo, put: &Put) -> TraceEvent

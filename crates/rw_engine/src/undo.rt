@@ -3,7 +3,7 @@ ghost use Rattle.std.specs.Prelude.{◌≡◌, [], ◌∷◌, ◌++◌, ℕ, IfO
 ghost use Rattle.std.specs.List.{cons_option, range_with_len};
 ghost use Rattle.rw_base.specs.declared.number.Cell.{Cell};
 ghost use Rattle.rw_series.specs.Series.{held, IsSeriesOf};
-ghost use Rattle.rw_log.specs.Dispatch.{places};
+ghost use Rattle.rw_run.specs.Dispatch.{places};
 ghost use Rattle.rw_dispatch.specs.Turn.{IsTurn};
 ghost use Rattle.rw_engine.specs.Undone.{AreCells, taken_back, undone_at, undone_in};
 

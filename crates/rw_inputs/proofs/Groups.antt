@@ -6,22 +6,10 @@ use Rattle.std.proofs.lemmas.Bool.Decides.{nat_tests}
 use Rattle.std.proofs.lemmas.List.Elements.{filter_agree}
 use Rattle.rw_model.specs.Draft.{Draft}
 use Rattle.rw_model.specs.Links.{link_of, is_same_link, is_together, slot_numbers, group_of}
-use Rattle.rw_series.proofs.Sharing.{together_alike}
+use Rattle.rw_series.proofs.Sharing.{together_alike, together_turned}
 use Rattle.rw_inputs.specs.Inputs.{kept_slot}
 
 -- ---- together, from either side
-
-same_turned : (a b : ℕ) → (a == b) ≡ (b == a)
-same_turned a b = grind (arith, nat_tests)
-
-link_turned : (one other : Option ℕ) → is_same_link one other ≡ is_same_link other one
-link_turned None None = refl
-link_turned None (Some q) = refl
-link_turned (Some p) None = refl
-link_turned (Some p) (Some q) = same_turned p q
-
-together_turned : (links : List (List ℕ)) (one other : ℕ) → is_together links one other ≡ is_together links other one
-together_turned links one other = ap₂ (λ a b. a || b) (same_turned one other) (link_turned (link_of links one) (link_of links other))
 
 together_first : (links : List (List ℕ)) (one other slot : ℕ) → is_together links one other ≡ true → is_together links one slot ≡ is_together links other slot
 together_first links one other slot together =

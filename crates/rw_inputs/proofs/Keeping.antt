@@ -7,11 +7,12 @@ use Rattle.std.proofs.lemmas.List.{get_or_default, length-set, set-get_or}
 use Rattle.rw_model.specs.Draft.{Draft, IsSlot}
 use Rattle.rw_series.proofs.Bounds.{bounds-alike}
 use Rattle.rw_inputs.specs.declared.given.Given.{Given}
-use Rattle.rw_inputs.specs.Inputs.{Inputs, IsInputsOf, IsKeptValue, IsWithin, Keeps, column_of, given_at, gives, kept_slot, value_at}
+use Rattle.rw_model.specs.Links.{IsBetween}
+use Rattle.rw_inputs.specs.Inputs.{Inputs, IsInputsOf, IsKeptValue, Keeps, column_of, given_at, gives, kept_slot, value_at}
 use Rattle.rw_inputs.specs.Column.{Column, HasMore, IsColumn, IsFree, IsTaken, value_in}
 use Rattle.rw_inputs.specs.Reading.{shares_cell}
 use Rattle.rw_inputs.specs.Sound.{IsGiven}
-use Rattle.rw_inputs.specs.Taking.{IsTwice, Takes}
+use Rattle.rw_inputs.specs.Taking.{IsTwice, TakesRow}
 use Rattle.rw_inputs.proofs.Columns.{set-column, set-more}
 use Rattle.rw_inputs.proofs.Groups.{kept_slot-together, kept_slot-again}
 
@@ -110,7 +111,7 @@ kept_at-sound basin given old slot step value made sound true here is =
     let same : given.value ≡ value = cc in
     let kept : IsKeptValue basin (kept_slot basin given.slot) given.value = record {
       least = kept_slot-again basin given.slot;
-      within = subst (λ bounds. IsWithin bounds given.value) (bounds-alike basin given.slot (kept_slot basin given.slot) (kept_slot-together basin given.slot)) sound.within;
+      within = subst (λ bounds. IsBetween bounds given.value) (bounds-alike basin given.slot (kept_slot basin given.slot) (kept_slot-together basin given.slot)) sound.within;
     } in
     subst (IsKeptValue basin slot) same (subst (λ s. IsKeptValue basin s given.value) (sym parts.0) kept)
 kept_at-sound basin given old slot step value made sound false here is = made.sound slot step value is
@@ -167,7 +168,7 @@ taken-shares basin given rows old kept taken =
 pub record Taking (basin : Draft) (given : Given) (old new : Inputs) (before after : Column) : Type 0 where
   pub nothing : after ≡ before → new.columns ≡ old.columns
   pub made : HasMore given.value given.first given.last before after → IsInputsOf basin new
-  pub takes : IsFree before given.first given.last → HasMore given.value given.first given.last before after → Takes basin given old new
+  pub takes : IsFree before given.first given.last → HasMore given.value given.first given.last before after → TakesRow basin given old new
   pub twice : IsTaken before given.first given.last → IsTwice basin given old
 
 module _ (basin : Draft) (given : Given) (old new : Inputs) (slot steps : ℕ) (before after : Column) (made : IsInputsOf basin old) (sound : IsGiven basin given)

@@ -10,7 +10,7 @@ use Rattle.csv.specs.declared.parser.State.TheVariants as st
 use Rattle.csv.specs.declared.reader.Reader.{Reader}
 use Rattle.csv.specs.declared.reader.Trim.TheVariants as trim
 use Rattle.csv.proofs.ReadFacts.{rows-end, rows-more}
-use Rattle.rw_inputs.specs.Records.{Fields, IsPlain, IsPlainOrFailed, records_in, records_left}
+use Rattle.rw_inputs.specs.Records.{Fields, TakesEach, IsPlainOrFailed, records_in, records_left}
 
 -- ---- a record takes a byte at least
 
@@ -144,13 +144,13 @@ reached_one : (old new : Reader (Bor (List ℕ))) (fields : Fields) (text : List
 unfolding Reached
 reached_one old new fields text before (rest, after, one) = taken_one old new fields text rest one.0 before after one.1 one.2 one.3.0 one.3.1
 
-read_next : (old new : Reader (Bor (List ℕ))) (fields : Fields) → IsPlain old → ReadRecord rest_of old new true fields
+read_next : (old new : Reader (Bor (List ℕ))) (fields : Fields) → TakesEach old → ReadRecord rest_of old new true fields
     → (rest : List ℕ) × (source_of rest_of old ≡ Some rest) → records_left old ≡ fields ∷ records_left new
 unfolding Reached
 read_next old new fields plain read (text, before) =
     reached_one old new fields text before (rows-more rest_of old new fields default_config old.state text text [] plain.config before (refl, refl) read)
 
-read_end : (old new : Reader (Bor (List ℕ))) (fields : Fields) → IsPlain old → ReadRecord rest_of old new false fields
+read_end : (old new : Reader (Bor (List ℕ))) (fields : Fields) → TakesEach old → ReadRecord rest_of old new false fields
     → (rest : List ℕ) × (source_of rest_of old ≡ Some rest) → records_left old ≡ []
 read_end old new fields plain read (text, before) =
     ap (records_in old.state) before

@@ -3,7 +3,7 @@ use Rattle.std.specs.Prelude.{◌≡◌, ℕ, ◌+◌, ◌==◌, nat_le, ℤ, �
 use Rattle.rw_model.specs.Objects.{all_slots}
 use Rattle.rw_model.specs.Draft.{Draft}
 use Rattle.rw_model.specs.Slot.{Bounds}
-use Rattle.rw_model.specs.Links.{group_of, bounds_in}
+use Rattle.rw_model.specs.Links.{IsBetween, group_of, bounds_in}
 use Rattle.rw_inputs.specs.declared.given.Given.{Given}
 use Rattle.rw_inputs.specs.Column.{Column, IsColumn, value_in}
 
@@ -32,15 +32,10 @@ abbrev pub given_at : Draft → List Given → ℕ → ℕ → Option ℤ
 given_at basin [] slot step = None
 given_at basin (given ∷ rows) slot step = if gives basin given slot step then Some given.value else given_at basin rows slot step
 
--- a value within bounds
-pub record IsWithin (bounds : Bounds) (value : ℤ) : Type 0 where
-  pub low : bounds.0 ≤ℤ value
-  pub high : value ≤ℤ bounds.1
-
 -- a value that is kept of a slot: the slot is the least of those that carry one value with it, and can have the value
 pub record IsKeptValue (basin : Draft) (slot : ℕ) (value : ℤ) : Type 0 where
   pub least : kept_slot basin slot ≡ slot
-  pub within : IsWithin (bounds_in basin.objects basin.links basin.bounds slot) value
+  pub within : IsBetween (bounds_in basin.objects basin.links basin.bounds slot) value
 
 -- inputs made for the basin: they have its slots and timesteps, and keep values where and as the basin can have them
 pub record IsInputsOf (basin : Draft) (inputs : Inputs) : Type 0 where

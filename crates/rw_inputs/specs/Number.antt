@@ -31,5 +31,5 @@ place_from place byte [] = None
 place_from place byte (b ∷ text) = if b == byte then Some place else place_from (place + 1) byte text
 
 -- the first place of the byte in a text, counted from 0
-abbrev pub place_of : ℕ → List ℕ → Option ℕ
-place_of byte text = place_from 0 byte text
+abbrev pub position_of : ℕ → List ℕ → Option ℕ
+position_of byte text = place_from 0 byte text

@@ -25,11 +25,11 @@ abbrev pub records_left : Reader (Bor (List ℕ)) → List Fields
 records_left reader = records_in (reader_state reader) (source_of (λ text. Some text.now) reader)
 
 -- a reader that takes each record as it stands, the first one too
-pub record IsPlain (reader : Reader (Bor (List ℕ))) : Type 0 where
+pub record TakesEach (reader : Reader (Bor (List ℕ))) : Type 0 where
   pub trim : reader_trim reader ≡ trim.None
   pub ready : Ready reader
   pub config : reader_config reader ≡ default_config
 
 -- a reader is plain, unless it has failed
 abbrev pub IsPlainOrFailed : Reader (Bor (List ℕ)) → Type 0
-IsPlainOrFailed reader = has_failed reader ≡ false → IsPlain reader
+IsPlainOrFailed reader = has_failed reader ≡ false → TakesEach reader

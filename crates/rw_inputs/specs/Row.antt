@@ -11,7 +11,7 @@ use Rattle.rw_inputs.specs.declared.fault.InputKind.TheVariants.{UnknownSlot, No
 use Rattle.rw_inputs.specs.declared.wrong.Wrong.{Wrong}
 use Rattle.rw_inputs.specs.declared.given.Given.{Given}
 use Rattle.rw_inputs.specs.declared.span.Span.{Span}
-use Rattle.rw_inputs.specs.Number.{read_number, read_signed, place_of}
+use Rattle.rw_inputs.specs.Number.{read_number, read_signed, position_of}
 
 -- what is wrong, in a column
 abbrev pub wrong : {A : Type 0} → InputKind → ℕ → Result A Wrong
@@ -30,7 +30,7 @@ slot_of_names basin object slot = if is_utf8 object && is_utf8 slot then slot_na
 
 -- the slot that a text names: its object and its own name stand before and behind the first `.`
 abbrev pub slot_of_text : Draft → List ℕ → Option ℕ
-slot_of_text basin text = option_and_then (λ dot. slot_of_names basin (take dot text) (drop (dot + 1) text)) (place_of 46 text)
+slot_of_text basin text = option_and_then (λ dot. slot_of_names basin (take dot text) (drop (dot + 1) text)) (position_of 46 text)
 
 -- inputs can set the slot
 abbrev pub can_set : Draft → ℕ → Bool
@@ -65,7 +65,7 @@ within_run basin (Some span) =
 
 -- a timestep of the run, or a range of timesteps of the run
 abbrev pub read_span : Draft → List ℕ → Result Span Wrong
-read_span basin text = within_run basin (span_in text (place_of 45 text))
+read_span basin text = within_run basin (span_in text (position_of 45 text))
 
 -- ---- the value, in column 3
 

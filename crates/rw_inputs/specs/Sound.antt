@@ -1,9 +1,8 @@
 -- What holds of rows with which nothing is wrong.
 use Rattle.std.specs.Prelude.{◌≤◌}
 use Rattle.rw_model.specs.Draft.{Draft, IsSlot}
-use Rattle.rw_model.specs.Links.{bounds_in}
+use Rattle.rw_model.specs.Links.{IsBetween, bounds_in}
 use Rattle.rw_inputs.specs.declared.given.Given.{Given}
-use Rattle.rw_inputs.specs.Inputs.{IsWithin}
 
 -- a slot of the basin, timesteps of its run, and a value that the slot can have
 pub record IsGiven (basin : Draft) (given : Given) : Type 0 where
@@ -11,4 +10,4 @@ pub record IsGiven (basin : Draft) (given : Given) : Type 0 where
   pub first : 1 ≤ given.first
   pub order : given.first ≤ given.last
   pub last : given.last ≤ basin.control.stamps.count
-  pub within : IsWithin (bounds_in basin.objects basin.links basin.bounds given.slot) given.value
+  pub within : IsBetween (bounds_in basin.objects basin.links basin.bounds given.slot) given.value

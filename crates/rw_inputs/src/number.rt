@@ -1,7 +1,7 @@
 ghost use Rattle.std.specs.Prelude.{◌≡◌, ◌≤◌, ◌<◌, ◌^◌, IsTrue, length};
 ghost use Rattle.std.specs.Option.{ForSome};
 ghost use Rattle.std.specs.List.{list_all};
-ghost use Rattle.rw_inputs.specs.Number.{is_digit, number_after, is_number, read_number, read_signed, place_of};
+ghost use Rattle.rw_inputs.specs.Number.{is_digit, number_after, is_number, read_number, read_signed, position_of};
 
 // The greatest number of digits of a number.
 const DIGITS_MAX: usize = 18;
@@ -72,8 +72,8 @@ pub fn read_signed(text: &[u8]) -> Option<i64>
 }
 
 /// The first place of the byte, counted from 0.
-pub fn place_of(byte: u8, text: &[u8]) -> Option<usize>
-    ensures place { result ≡ place_of byte text.now }
+pub fn position_of(byte: u8, text: &[u8]) -> Option<usize>
+    ensures place { result ≡ position_of byte text.now }
     ensures within { ForSome result (λ place. place < length text.now) }
 {
     for (place, other) in text.iter().enumerate() {

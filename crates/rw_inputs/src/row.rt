@@ -4,15 +4,14 @@ ghost use Rattle.std.specs.Option.{ForSome};
 ghost use Rattle.csv.specs.Records.{fields_of};
 ghost use Rattle.rw_model.specs.Draft.{IsSlot};
 ghost use Rattle.rw_model.specs.Slot.{IsInside, all_quantities};
-ghost use Rattle.rw_inputs.specs.Number.{read_number, place_of};
+ghost use Rattle.rw_inputs.specs.Number.{read_number, position_of};
 ghost use Rattle.rw_inputs.specs.Row.{slot_of_names, slot_of_text, read_slot, span_of, span_in, read_span, read_value, three_fields, row_of, read_row};
-ghost use Rattle.rw_inputs.specs.Inputs.{IsWithin};
 ghost use Rattle.rw_inputs.specs.Sound.{IsGiven};
-ghost use Rattle.rw_model.specs.Links.{bounds_in};
+ghost use Rattle.rw_model.specs.Links.{IsBetween, bounds_in};
 
 use crate::InputKind;
 use crate::given::Given;
-use crate::number::{place_of, read_number, read_signed};
+use crate::number::{position_of, read_number, read_signed};
 use crate::span::Span;
 use crate::wrong::Wrong;
 use csv::ByteRecord;
@@ -52,7 +51,7 @@ fn slot_of_text(basin: &Basin, text: &[u8]) -> Option<SlotNo>
     ensures number { option_map (λ number. number.0) result ≡ slot_of_text basin.now text.now }
     ensures known { ForSome result (λ number. IsSlot basin.now.objects number.0) }
 {
-    let dot = place_of(b'.', text)?;
+    let dot = position_of(b'.', text)?;
     slot_of_names(basin, &text[..dot], &text[dot + 1..])
 }
 
@@ -82,9 +81,9 @@ fn span_of(first: &[u8], last: &[u8]) -> Option<(u64, u64)>
 
 // One number, or two numbers round the first `-`.
 fn span_in(text: &[u8]) -> Option<(u64, u64)>
-    ensures { result ≡ span_in text.now (place_of 45 text.now) }
+    ensures { result ≡ span_in text.now (position_of 45 text.now) }
 {
-    match place_of(b'-', text) {
+    match position_of(b'-', text) {
         Some(dash) => span_of(&text[..dash], &text[dash + 1..]),
         None => span_of(text, text),
     }
@@ -110,7 +109,7 @@ fn read_span(basin: &Basin, text: &[u8]) -> Result<Span, Wrong>
 // The value, where it is within the bounds.
 fn within_bounds(bounds: (i64, i64), value: i64) -> Option<Qty>
     requires { IsInside bounds all_quantities }
-    ensures within { ForSome result (IsWithin bounds) }
+    ensures within { ForSome result (IsBetween bounds) }
     ensures value { result
         ≡ (if int_le bounds.0 value && int_le value bounds.1 then Some value else None) }
 {
@@ -126,7 +125,7 @@ fn read_value(basin: &Basin, slot: u16, text: &[u8]) -> Result<Qty, Wrong>
     requires { IsSlot basin.now.objects slot }
     ensures read { result ≡ read_value basin.now slot text.now }
     ensures within { IfOk result
-        (IsWithin (bounds_in basin.now.objects basin.now.links basin.now.bounds slot)) }
+        (IsBetween (bounds_in basin.now.objects basin.now.links basin.now.bounds slot)) }
 {
     let Some(value) = read_signed(text) else {
         return Err(wrong(InputKind::NotANumber, 3));

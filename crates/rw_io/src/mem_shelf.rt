@@ -1,7 +1,7 @@
 ghost use Rattle.std.specs.Prelude.{◌≡◌, ◌≢◌, ◌↔◌, ◌⊎◌, ℕ, ◌+◌, ◌-◌, ◌^◌, ◌<◌, ◌≤◌, List, [], ◌++◌, Some, None, min, max, length, take, drop, slice_index, Contains, IsErr, IsSome, IfOk, OnOk, OnErr, string_bytes};
 ghost use Rattle.std.specs.Option.{option_map, ForSome};
 ghost use Rattle.rw_io.specs.Causes.{Rose};
-ghost use Rattle.rw_io.specs.Files.{bytes_at, count_at, left_at, place_of};
+ghost use Rattle.rw_io.specs.Files.{bytes_at, count_at, left_at, position_of};
 
 use crate::plan::Plan;
 use crate::{Shelf, ShelfFault};
@@ -21,13 +21,13 @@ pub struct MemShelf {
     at: usize,
     given: u64,
     ghost counted: { length counts.items ≡ length files.items + 1 },
-    ghost found: { ForSome started (λ path. place ≡ place_of files.items (string_bytes path)) },
+    ghost found: { ForSome started (λ path. place ≡ position_of files.items (string_bytes path)) },
     ghost inside: { ForSome started (λ path. place < length files.items) },
 }
 
 // The place of the first file of that path, or the number of files.
 fn place_in(files: &[(String, Vec<u8>)], path: &str) -> usize
-    ensures place { result ≡ place_of files.now path.now }
+    ensures place { result ≡ position_of files.now path.now }
     ensures bound { result ≤ length files.now }
 {
     for (i, file) in files.iter().enumerate() {

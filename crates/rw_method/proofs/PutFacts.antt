@@ -3,7 +3,7 @@ use Rattle.std.proofs.Common.{◌≡◌, refl, arith, Bool, true, false, List, [
 use Rattle.std.proofs.lemmas.Grind.{common_steps}
 use Rattle.rw_method.specs.declared.put.Put.{Put}
 use Rattle.rw_method.specs.declared.solved.Solved.TheVariants.{OutOfRange}
-use Rattle.rw_method.specs.Solve.{first_misfit, AllFit, judged}
+use Rattle.rw_method.specs.Solve.{first_misfit, AllFit, answer_of_puts}
 
 -- of puts of which the first fits, the others decide
 pub first_fits : (fit : Put → Bool) (p : Put) (ps : List Put) → AllFit fit (p ∷ ps) → (fit p ≡ true) × AllFit fit ps
@@ -16,10 +16,10 @@ fit_before fit (x ∷ xs) ys h = rw ((first_fits fit x xs h).0) (fit_before fit 
 
 -- one more that doesn't fit is the answer, whatever comes after it
 pub misfit_judged : (fit : Put → Bool) (xs : List Put) (p : Put) (more : List Put) → AllFit fit xs → fit p ≡ false
-    → OutOfRange p.place p.value ≡ judged fit (xs ++ p ∷ more)
+    → OutOfRange p.place p.value ≡ answer_of_puts fit (xs ++ p ∷ more)
 misfit_judged fit xs p more h no_fit = rw (fit_before fit xs (p ∷ more) h) rw no_fit refl
 
 -- after one more that fits, the next that doesn't is the answer
 pub second_misfit_judged : (fit : Put → Bool) (xs : List Put) (p q : Put) (more : List Put) → AllFit fit xs → fit p ≡ true → fit q ≡ false
-    → OutOfRange q.place q.value ≡ judged fit (xs ++ p ∷ q ∷ more)
+    → OutOfRange q.place q.value ≡ answer_of_puts fit (xs ++ p ∷ q ∷ more)
 second_misfit_judged fit xs p q more h fits no_fit = rw (fit_before fit xs (p ∷ q ∷ more) h) rw fits rw no_fit refl

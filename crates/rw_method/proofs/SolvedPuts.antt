@@ -23,7 +23,7 @@ use Rattle.rw_method.specs.declared.term.Term.{Term}
 use Rattle.rw_method.specs.declared.view.View.{View}
 use Rattle.rw_method.specs.Balance.{balance_of, evaporation_of}
 use Rattle.rw_method.specs.Contents.{basis_of, fault_of_basis, disagreement, can_hold, elevation_of, volume_of, are_both_zero, agree}
-use Rattle.rw_method.specs.Puts.{puts_of, put_found, solved_put, beside_basis, beside_given, level_puts, evaporation_put, release_puts, user_puts, seepage_put, held_after, is_bounded}
+use Rattle.rw_method.specs.Puts.{puts_of, put_found, solved_put, beside_basis, beside_given, level_puts, evaporation_put, release_puts, user_puts, seepage_put, known_after, is_bounded}
 use Rattle.rw_method.specs.Settling.{missing, net_of, gives_way_before, weakest, value_from_others, solves, settled_at, settled}
 use Rattle.rw_method.specs.Solve.{or_else, fault_of_past, fault_of_contents, fits, first_misfit, AllFit, all_or_misfit, answer, balanced_of, solve_of}
 use Rattle.rw_method.specs.View.{given}
@@ -191,8 +191,8 @@ reservoir_own initial_storage table local_inflow diversion return_flow evaporati
     let lost : AreOwn kind 1 (evaporation_put evaporation (evaporation_of evaporation table view)) =
     if_own kind 1 evaporation (_ ∷ []) []
     (λ e. one_own kind _ (chosen_at kind 8 (evaporation && is_some table) _ (omega arith) refl (ap₂ (λ a b. a && b) e (is.evaporates e)))) (none_own kind 1) in
-    let released : AreOwn kind 2 (release_puts max_release (held_after view (balanced_of kind view) 1)) =
-    release_own kind max_release (held_after view (balanced_of kind view) 1)
+    let released : AreOwn kind 2 (release_puts max_release (known_after view (balanced_of kind view) 1)) =
+    release_own kind max_release (known_after view (balanced_of kind view) 1)
     (λ e. (chosen_at kind 9 (is_some max_release) _ (omega arith) refl e, chosen_at kind 10 (is_some max_release) _ (omega arith) refl e)) in
     let solved : AreOwn kind 1 (solved_put (balanced_of kind view)) =
     solved_alone kind view (own_at kind 0 _ (omega arith) refl, (own_at kind 1 _ (omega arith) refl, (two, tt))) in
@@ -214,17 +214,17 @@ puts_own (Reservoir initial_storage table local_inflow diversion return_flow eva
     reservoir_own initial_storage table local_inflow diversion return_flow evaporation max_release view is
 puts_own (WaterUser depletion Request) view is =
     let kind : Kind = WaterUser depletion Request in
-    let used : AreOwn kind 2 (user_puts depletion (held_after view (balanced_of kind view) 1)) =
+    let used : AreOwn kind 2 (user_puts depletion (known_after view (balanced_of kind view) 1)) =
     both_own kind 1 1 (_ ∷ []) (_ ∷ []) (one_own kind _ (own_at _ 2 _ (omega arith) refl)) (one_own kind _ (own_at _ 3 _ (omega arith) refl)) in
     solved_beside kind view _ (own_at _ 1 _ (omega arith) refl, tt) (more_room kind 2 7 _ (omega arith) used)
 puts_own (WaterUser depletion Rule) view is =
     let kind : Kind = WaterUser depletion Rule in
-    let used : AreOwn kind 2 (user_puts depletion (held_after view (balanced_of kind view) 1)) =
+    let used : AreOwn kind 2 (user_puts depletion (known_after view (balanced_of kind view) 1)) =
     both_own kind 1 1 (_ ∷ []) (_ ∷ []) (one_own kind _ (own_at _ 2 _ (omega arith) refl)) (one_own kind _ (own_at _ 3 _ (omega arith) refl)) in
     solved_beside kind view _ tt (more_room kind 2 7 _ (omega arith) used)
 puts_own (Canal seepage) view is =
     let kind : Kind = Canal seepage in
-    let seeps : AreOwn kind 1 (seepage_put (held_after view (balanced_of kind view) 0) (held_after view (balanced_of kind view) 1)) =
+    let seeps : AreOwn kind 1 (seepage_put (known_after view (balanced_of kind view) 0) (known_after view (balanced_of kind view) 1)) =
     one_own kind _ (own_at _ 2 _ (omega arith) refl) in
     solved_beside kind view _ (own_at _ 0 _ (omega arith) refl, (own_at _ 1 _ (omega arith) refl, tt)) (more_room kind 1 7 _ (omega arith) seeps)
 

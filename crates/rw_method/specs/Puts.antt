@@ -32,10 +32,10 @@ held_by None = record { value = pos 0; number = 0 }
 held_by (Some content) = record { value = content.value; number = content.number }
 
 -- what a place holds once the balance is settled: what was just solved, or what is known
-abbrev pub held_after : View → Balanced → ℕ → Given
-held_after view (Solves solved value number) place =
+abbrev pub known_after : View → Balanced → ℕ → Given
+known_after view (Solves solved value number) place =
     if solved == place then record { value = value; number = number } else held_by (known view place)
-held_after view balanced place = held_by (known view place)
+known_after view balanced place = held_by (known view place)
 
 -- the term that was solved
 abbrev pub solved_put : Balanced → List Put
@@ -91,8 +91,8 @@ seepage_put inflow outflow = put SEEPAGE (inflow.value -ℤ outflow.value) inflo
 abbrev pub puts_of : Kind → View → Balanced → List Put
 puts_of (Reservoir initial_storage table local_inflow diversion return_flow evaporation max_release) view balanced =
     solved_put balanced ++ level_puts table (given view STORAGE) (given view POOL_ELEVATION) balanced
-    ++ evaporation_put evaporation (evaporation_of evaporation table view) ++ release_puts max_release (held_after view balanced OUTFLOW)
-puts_of (WaterUser depletion supply) view balanced = solved_put balanced ++ user_puts depletion (held_after view balanced DIVERSION)
+    ++ evaporation_put evaporation (evaporation_of evaporation table view) ++ release_puts max_release (known_after view balanced OUTFLOW)
+puts_of (WaterUser depletion supply) view balanced = solved_put balanced ++ user_puts depletion (known_after view balanced DIVERSION)
 puts_of (Canal seepage) view balanced =
-    solved_put balanced ++ seepage_put (held_after view balanced INFLOW) (held_after view balanced OUTFLOW)
+    solved_put balanced ++ seepage_put (known_after view balanced INFLOW) (known_after view balanced OUTFLOW)
 puts_of kind view balanced = solved_put balanced

@@ -57,15 +57,15 @@ abbrev pub all_or_misfit : List Put → Option Put → Solved
 all_or_misfit puts None = Puts puts
 all_or_misfit puts (Some put) = OutOfRange put.place put.value
 
-abbrev pub judged : (Put → Bool) → List Put → Solved
-judged fit puts = all_or_misfit puts (first_misfit fit puts)
+abbrev pub answer_of_puts : (Put → Bool) → List Put → Solved
+answer_of_puts fit puts = all_or_misfit puts (first_misfit fit puts)
 
 -- too little is known; or else something is wrong with the contents; or else the terms conflict; or else the puts are judged
 abbrev pub answer : (Put → Bool) → List Put → Balanced → Option Solved → Solved
 answer fit puts Balanced.Idle fault = Idle
 answer fit puts balanced (Some fault) = fault
 answer fit puts (Balanced.Conflicts place held solved) None = Conflict place held solved
-answer fit puts balanced None = judged fit puts
+answer fit puts balanced None = answer_of_puts fit puts
 
 -- what the balance comes to
 abbrev pub balanced_of : Kind → View → Balanced

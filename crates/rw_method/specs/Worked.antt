@@ -28,8 +28,8 @@ abbrev pub twelve : {X : Type 0} → X → List X → List X
 twelve blank first = first ++ replicate (12 - length first) blank
 
 -- the first slots of an object of this kind hold these, and the others nothing
-abbrev pub seen : Kind → ObjectNo → Option ℤ → List (Option Content) → View
-seen kind own past now = record {
+abbrev pub view_with : Kind → ObjectNo → Option ℤ → List (Option Content) → View
+view_with kind own past now = record {
   own = own;
   now = twelve None now;
   past = past;

@@ -12,7 +12,7 @@ ghost use Rattle.rw_method.specs.Term.{IsShare, brought, least_inflow};
 ghost use Rattle.rw_method.specs.Settling.{weakest, settled, GivesWay, IsSolved, IsGreatestBeside};
 ghost use Rattle.rw_method.specs.Puts.{put};
 ghost use Rattle.rw_method.specs.Solve.{solve_of};
-ghost use Rattle.rw_method.specs.Worked.{input, by_rule, seen, worked_rows};
+ghost use Rattle.rw_method.specs.Worked.{input, by_rule, view_with, worked_rows};
 
 /// The term that gives way is one that isn't given, or else one of the greatest number, and of several such the last.
 pub fn term_that_gives_way()
@@ -43,15 +43,15 @@ pub fn least_inflow_of_a_canal()
 /// Worked values of a confluence with inflows of 5 and 6 m3/step and an outflow of 10, set by rules and given.
 pub fn confluence_values()
     ensures last_in_a_tie { (own : ObjectNo) (two three : RuleNo)
-        → solve_of Kind.Confluence (seen Kind.Confluence own None
+        → solve_of Kind.Confluence (view_with Kind.Confluence own None
         (by_rule two (pos 5) 2 ∷ by_rule three (pos 6) 3 ∷ by_rule three (pos 10) 3 ∷ []))
         ≡ Solved.Puts (put 2 (pos 11) 3 ∷ []) }
     ensures greatest_number { (own : ObjectNo) (two three : RuleNo)
-        → solve_of Kind.Confluence (seen Kind.Confluence own None
+        → solve_of Kind.Confluence (view_with Kind.Confluence own None
         (by_rule two (pos 5) 2 ∷ by_rule three (pos 6) 4 ∷ by_rule three (pos 10) 3 ∷ []))
         ≡ Solved.Puts (put 1 (pos 5) 3 ∷ []) }
     ensures conflict { (own : ObjectNo)
-        → solve_of Kind.Confluence (seen Kind.Confluence own None (input (pos 5) ∷ input (pos 6) ∷ input (pos 10) ∷ []))
+        → solve_of Kind.Confluence (view_with Kind.Confluence own None (input (pos 5) ∷ input (pos 6) ∷ input (pos 10) ∷ []))
         ≡ Solved.Conflict 2 (pos 10) (pos 11) }
 {}
 
@@ -59,24 +59,24 @@ pub fn confluence_values()
 pub fn reach_values()
     ensures lagged { (own : ObjectNo)
         → solve_of (Kind.Reach 2 (pos 1 ∷ pos 2 ∷ []) false false false)
-        (seen (Kind.Reach 2 (pos 1 ∷ pos 2 ∷ []) false false false) own (Some (pos 1)) (input (pos 5) ∷ []))
+        (view_with (Kind.Reach 2 (pos 1 ∷ pos 2 ∷ []) false false false) own (Some (pos 1)) (input (pos 5) ∷ []))
         ≡ Solved.Puts (put 1 (pos 1) 0 ∷ []) }
 {}
 
 /// A canal of which 100 parts of a thousand seep away, and a user who uses up 333 of a thousand.
 pub fn canal_and_user_values()
     ensures upstream { (own : ObjectNo)
-        → solve_of (Kind.Canal 100) (seen (Kind.Canal 100) own None (None ∷ input (pos 90) ∷ []))
+        → solve_of (Kind.Canal 100) (view_with (Kind.Canal 100) own None (None ∷ input (pos 90) ∷ []))
         ≡ Solved.Puts (put 0 (pos 99) 0 ∷ put 2 (pos 9) 0 ∷ []) }
     ensures downstream { (own : ObjectNo)
-        → solve_of (Kind.Canal 100) (seen (Kind.Canal 100) own None (input (pos 99) ∷ []))
+        → solve_of (Kind.Canal 100) (view_with (Kind.Canal 100) own None (input (pos 99) ∷ []))
         ≡ Solved.Puts (put 1 (pos 90) 0 ∷ put 2 (pos 9) 0 ∷ []) }
     ensures dry { (own : ObjectNo)
-        → solve_of (Kind.Canal 100) (seen (Kind.Canal 100) own None (None ∷ input (pos 0) ∷ []))
+        → solve_of (Kind.Canal 100) (view_with (Kind.Canal 100) own None (None ∷ input (pos 0) ∷ []))
         ≡ Solved.Puts (put 0 (pos 0) 0 ∷ put 2 (pos 0) 0 ∷ []) }
     ensures request { (own : ObjectNo)
         → solve_of (Kind.WaterUser 333 Supply.Request)
-        (seen (Kind.WaterUser 333 Supply.Request) own None (input (pos 105) ∷ []))
+        (view_with (Kind.WaterUser 333 Supply.Request) own None (input (pos 105) ∷ []))
         ≡ Solved.Puts (put 1 (pos 105) 0 ∷ put 2 (pos 34) 0 ∷ put 3 (pos 71) 0 ∷ []) }
 {}
 
@@ -84,22 +84,22 @@ pub fn canal_and_user_values()
 pub fn storage_values()
     ensures outflow { (own : ObjectNo)
         → solve_of (Kind.Reservoir (pos 1000) None false false false false None)
-        (seen (Kind.Reservoir (pos 1000) None false false false false None) own (Some (pos 1000))
+        (view_with (Kind.Reservoir (pos 1000) None false false false false None) own (Some (pos 1000))
         (input (pos 100) ∷ None ∷ input (pos 1020) ∷ []))
         ≡ Solved.Puts (put 1 (pos 80) 0 ∷ []) }
     ensures conflict { (own : ObjectNo)
         → solve_of (Kind.Reservoir (pos 1000) None false false false false None)
-        (seen (Kind.Reservoir (pos 1000) None false false false false None) own (Some (pos 1000))
+        (view_with (Kind.Reservoir (pos 1000) None false false false false None) own (Some (pos 1000))
         (input (pos 100) ∷ input (pos 50) ∷ input (pos 1020) ∷ []))
         ≡ Solved.Conflict 2 (pos 1020) (pos 1050) }
     ensures empty { (own : ObjectNo)
         → solve_of (Kind.Reservoir (pos 1000) None false false false false None)
-        (seen (Kind.Reservoir (pos 1000) None false false false false None) own (Some (pos 1000))
+        (view_with (Kind.Reservoir (pos 1000) None false false false false None) own (Some (pos 1000))
         (input (pos 0) ∷ input (pos 1001) ∷ []))
         ≡ Solved.OutOfRange 2 (neg_ℤ (pos 1)) }
     ensures idle { (own : ObjectNo)
         → solve_of (Kind.Reservoir (pos 1000) None false false false false None)
-        (seen (Kind.Reservoir (pos 1000) None false false false false None) own (Some (pos 1000)) (input (pos 100) ∷ []))
+        (view_with (Kind.Reservoir (pos 1000) None false false false false None) own (Some (pos 1000)) (input (pos 100) ∷ []))
         ≡ Solved.Idle }
 {}
 
@@ -107,27 +107,27 @@ pub fn storage_values()
 pub fn elevation_values()
     ensures evaporation { (own : ObjectNo)
         → solve_of (Kind.Reservoir (pos 250) (Some worked_rows) false false false true None)
-        (seen (Kind.Reservoir (pos 250) (Some worked_rows) false false false true None) own (Some (pos 250))
+        (view_with (Kind.Reservoir (pos 250) (Some worked_rows) false false false true None) own (Some (pos 250))
         (input (pos 0) ∷ input (pos 0) ∷ None ∷ None ∷ None ∷ None ∷ None ∷ input (pos 100) ∷ []))
         ≡ Solved.Puts (put 2 (pos 200) 0 ∷ put 3 (pos 401) 0 ∷ put 8 (pos 50) 0 ∷ []) }
     ensures spill { (own : ObjectNo)
         → solve_of (Kind.Reservoir (pos 250) (Some worked_rows) false false false false (Some (pos 60)))
-        (seen (Kind.Reservoir (pos 250) (Some worked_rows) false false false false (Some (pos 60))) own (Some (pos 250))
+        (view_with (Kind.Reservoir (pos 250) (Some worked_rows) false false false false (Some (pos 60))) own (Some (pos 250))
         (input (pos 0) ∷ input (pos 80) ∷ []))
         ≡ Solved.Puts (put 2 (pos 170) 0 ∷ put 3 (pos 341) 0 ∷ put 9 (pos 60) 0 ∷ put 10 (pos 20) 0 ∷ []) }
     ensures agreement { (own : ObjectNo)
         → solve_of (Kind.Reservoir (pos 250) (Some worked_rows) false false false false None)
-        (seen (Kind.Reservoir (pos 250) (Some worked_rows) false false false false None) own (Some (pos 250))
+        (view_with (Kind.Reservoir (pos 250) (Some worked_rows) false false false false None) own (Some (pos 250))
         (input (pos 0) ∷ None ∷ input (pos 250) ∷ input (pos 500) ∷ []))
         ≡ Solved.Puts (put 1 (pos 0) 0 ∷ []) }
     ensures disagreement { (own : ObjectNo)
         → solve_of (Kind.Reservoir (pos 250) (Some worked_rows) false false false false None)
-        (seen (Kind.Reservoir (pos 250) (Some worked_rows) false false false false None) own (Some (pos 250))
+        (view_with (Kind.Reservoir (pos 250) (Some worked_rows) false false false false None) own (Some (pos 250))
         (input (pos 0) ∷ None ∷ input (pos 250) ∷ input (pos 499) ∷ []))
         ≡ Solved.Conflict 3 (pos 499) (pos 501) }
     ensures past_outside_the_table { (own : ObjectNo)
         → solve_of (Kind.Reservoir (pos 250) (Some worked_rows) false false false true None)
-        (seen (Kind.Reservoir (pos 250) (Some worked_rows) false false false true None) own (Some (pos 9999))
+        (view_with (Kind.Reservoir (pos 250) (Some worked_rows) false false false true None) own (Some (pos 9999))
         (input (pos 0) ∷ input (pos 0) ∷ None ∷ None ∷ None ∷ None ∷ None ∷ input (pos 100) ∷ []))
         ≡ Solved.OutOfRange 2 (pos 9999) }
 {}

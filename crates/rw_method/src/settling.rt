@@ -4,7 +4,7 @@ ghost use Rattle.std.specs.Option.{ForSome};
 ghost use Rattle.rw_method.specs.Term.{IsWithin};
 ghost use Rattle.rw_method.specs.Settling.{missing, net_of, greatest_beside, number_of, gives_way_before, weakest, value_from_others, solves, settled_at, settled};
 
-use crate::counting::{bringing, brought_by};
+use crate::brought::{bringing, brought_by};
 use crate::{Balanced, Given, Term};
 
 // How many of the terms aren't given.

@@ -12,9 +12,9 @@ ghost use Rattle.rw_model.specs.Kept.{numbers_of};
 
 use crate::before::before_in;
 use crate::links::Links;
+use crate::lookups::Tables;
 use crate::objects::Objects;
 use crate::own_bounds::OwnBounds;
-use crate::tables::Tables;
 use crate::{Kind, Role, RunControl};
 use rw_base::{Dim, ObjectNo, Qty, SlotNo};
 use std::marker::Model;

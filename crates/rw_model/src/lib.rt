@@ -21,6 +21,7 @@ mod kind;
 mod kind_rule;
 pub mod law;
 mod links;
+mod lookups;
 mod name;
 mod name_rule;
 mod numbers;
@@ -31,7 +32,6 @@ mod put;
 mod role;
 mod slot;
 mod slots;
-mod tables;
 mod writer;
 
 pub use basin::Basin;

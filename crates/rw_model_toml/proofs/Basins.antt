@@ -10,7 +10,7 @@ use Rattle.rw_model.proofs.BuildFacts.{object-iff, bound-iff}
 use Rattle.rw_model.proofs.Drafting.{IsDraft-begin, IsDraft-object, IsDraft-link, IsDraft-bound}
 use Rattle.rw_model.proofs.Linked.{basin-iff}
 use Rattle.rw_model_toml.specs.declared.run.Run.{Run}
-use Rattle.rw_model_toml.specs.Refusal.{Refusal, missing, ◌>>=◌, refused_as, bad_build, bad_calendar, out_of_range}
+use Rattle.rw_model_toml.specs.Refusal.{ModelRefusal, missing, ◌>>=◌, refused_as, bad_build, bad_calendar, out_of_range}
 use Rattle.rw_model_toml.specs.Path.{key_path, element_path}
 use Rattle.rw_model_toml.specs.Value.{integer_of, text_of, items_of, members_of, within, count_of}
 use Rattle.rw_model_toml.specs.Key.{judged_or, required, optional, only_listed}
@@ -31,17 +31,17 @@ use Rattle.rw_calendar.proofs.Refusals.{stamped-iff}
 use Rattle.rw_calendar.proofs.TimestepFacts.{are-stamped}
 
 -- what is read next, whatever was read before it
-next : {A B : Type 0} (P : B → Type 0) (reading : Result A Refusal) (then_ : A → Result B Refusal) → ((x : A) → IfOk (then_ x) P) → IfOk (reading >>= then_) P
+next : {A B : Type 0} (P : B → Type 0) (reading : Result A ModelRefusal) (then_ : A → Result B ModelRefusal) → ((x : A) → IfOk (then_ x) P) → IfOk (reading >>= then_) P
 next P (Ok x) then_ h = h x
 next P (Err refusal) then_ h = tt
 
 -- what is read next, by what was read before it
-next-by : {A B : Type 0} (Q : A → Type 0) (P : B → Type 0) (reading : Result A Refusal) (then_ : A → Result B Refusal) → IfOk reading Q → ((x : A) → Q x → IfOk (then_ x) P) → IfOk (reading >>= then_) P
+next-by : {A B : Type 0} (Q : A → Type 0) (P : B → Type 0) (reading : Result A ModelRefusal) (then_ : A → Result B ModelRefusal) → IfOk reading Q → ((x : A) → Q x → IfOk (then_ x) P) → IfOk (reading >>= then_) P
 next-by Q P (Ok x) then_ q h = h x q
 next-by Q P (Err refusal) then_ q h = tt
 
 -- what isn't refused below
-kept-by : {R A : Type 0} (P : A → Type 0) (tell : R → Refusal) (refusal : Option R) (x : A) → (refusal ≡ None → P x) → IfOk (refused_as tell (unless_refused refusal x)) P
+kept-by : {R A : Type 0} (P : A → Type 0) (tell : R → ModelRefusal) (refusal : Option R) (x : A) → (refusal ≡ None → P x) → IfOk (refused_as tell (unless_refused refusal x)) P
 kept-by P tell None x h = h refl
 kept-by P tell (Some r) x h = tt
 
@@ -54,7 +54,7 @@ neither : (x y : Bool) → (x || y) ≡ false → (x ≡ false) × (y ≡ false)
 neither true y e = absurd (both_ways true e refl)
 neither false y e = (refl, e)
 
-by-test : (low high : ℕ) (refusal : Refusal) (z : ℤ) (b : Bool) → (b ≡ false → IsFromTo low high (unsigned_abs z))
+by-test : (low high : ℕ) (refusal : ModelRefusal) (z : ℤ) (b : Bool) → (b ≡ false → IsFromTo low high (unsigned_abs z))
     → IfOk ((if b then Err refusal else Ok z) >>= λ y. Ok (unsigned_abs y)) (IsFromTo low high)
 by-test low high refusal z true h = tt
 by-test low high refusal z false h = h refl
@@ -76,7 +76,7 @@ count-inside low high path (datetime dt) = tt
 count-inside low high path (array ds) = tt
 count-inside low high path (table ms) = tt
 
-judged-inside : {A : Type 0} (Q : A → Type 0) (absent : Result A Refusal) (judge : Data → Result A Refusal) (found : Option Data)
+judged-inside : {A : Type 0} (Q : A → Type 0) (absent : Result A ModelRefusal) (judge : Data → Result A ModelRefusal) (found : Option Data)
     → IfOk absent Q → ((d : Data) → IfOk (judge d) Q) → IfOk (judged_or absent judge found) Q
 judged-inside Q absent judge None p q = p
 judged-inside Q absent judge (Some d) p q = q d
@@ -118,7 +118,7 @@ in-control ms = next IsControl (required (count_of 1 1) [] (codes "format") ms) 
 -- ---- what a builder is told
 
 -- each table keeps what was told in order
-abbrev Keeps : (List ℕ → Data → Draft → Result Draft Refusal) → Type 0
+abbrev Keeps : (List ℕ → Data → Draft → Result Draft ModelRefusal) → Type 0
 Keeps step = (at : List ℕ) (d : Data) (draft : Draft) → IsDraft draft → IfOk (step at d draft) IsDraft
 
 object-keeps : Keeps object_of
@@ -146,7 +146,7 @@ bound-keeps at d draft is = next IsDraft (members_of at d) _ (λ ms. next IsDraf
     (λ free. IsDraft-bound draft (slot_number draft.objects text) (min, max) is
     ((bound-iff draft.objects draft.bounds (slot_number draft.objects text) (min, max)).0 free)))))))
 
-turn-keeps : (step : List ℕ → Data → Draft → Result Draft Refusal) (path : List ℕ) (number : ℕ) (ds : Items) (draft : Draft) → Keeps step → IsDraft draft
+turn-keeps : (step : List ℕ → Data → Draft → Result Draft ModelRefusal) (path : List ℕ) (number : ℕ) (ds : Items) (draft : Draft) → Keeps step → IsDraft draft
     → IfOk (in_turn step path number ds draft) IsDraft
 turn-keeps step path number no_items draft keeps is = is
 turn-keeps step path number (item d ds) draft keeps is =

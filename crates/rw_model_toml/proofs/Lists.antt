@@ -11,32 +11,32 @@ use Rattle.rw_model.specs.Kept.{numbers_of}
 use Rattle.rw_model_toml.specs.Model.{in_turn}
 use Rattle.rw_model_toml.specs.Fault.{IsWhy, Gives}
 use Rattle.std.specs.Result.{IsErrAnd}
-use Rattle.rw_model_toml.specs.Refusal.{Refusal, ◌>>=◌}
+use Rattle.rw_model_toml.specs.Refusal.{ModelRefusal, ◌>>=◌}
 use Rattle.rw_model_toml.specs.Path.{element_path}
 use Rattle.rw_model_toml.specs.ListOf.{list_of}
 use Rattle.rw_model_toml.specs.Kinds.{row_in}
 
 -- what is read after what is there already
-abbrev pub after : {A : Type 0} → List A → Result (List A) Refusal → Result (List A) Refusal
+abbrev pub after : {A : Type 0} → List A → Result (List A) ModelRefusal → Result (List A) ModelRefusal
 after done rest = rest >>= λ xs. Ok (done ++ xs)
 
-after-cons : {A : Type 0} (done : List A) (x : A) (rest : Result (List A) Refusal) → after (done ++ x ∷ []) rest ≡ after done (rest >>= λ xs. Ok (x ∷ xs))
+after-cons : {A : Type 0} (done : List A) (x : A) (rest : Result (List A) ModelRefusal) → after (done ++ x ∷ []) rest ≡ after done (rest >>= λ xs. Ok (x ∷ xs))
 after-cons done x (Ok xs) = ap Ok (append_assoc done (x ∷ []) xs)
 after-cons done x (Err refusal) = refl
 
 -- one more item is read
-pub list_of-next : {A : Type 0} (judge : List ℕ → Data → Result A Refusal) (path : List ℕ) (number : ℕ) (value : Data) (rest : Items) (done : List A) (x : A)
+pub list_of-next : {A : Type 0} (judge : List ℕ → Data → Result A ModelRefusal) (path : List ℕ) (number : ℕ) (value : Data) (rest : Items) (done : List A) (x : A)
     → judge (element_path path number) value ≡ Ok x
     → after (done ++ x ∷ []) (list_of judge path (number + 1) rest) ≡ after done (list_of judge path number (item value rest))
 list_of-next judge path number value rest done x e = after-cons done x (list_of judge path (number + 1) rest) ∙ rw e refl
 
 -- an item is refused
-pub list_of-fails : {A : Type 0} (judge : List ℕ → Data → Result A Refusal) (path : List ℕ) (number : ℕ) (value : Data) (rest : Items) (done : List A) (fault : ModelFault)
+pub list_of-fails : {A : Type 0} (judge : List ℕ → Data → Result A ModelRefusal) (path : List ℕ) (number : ℕ) (value : Data) (rest : Items) (done : List A) (fault : ModelFault)
     → IsWhy (judge (element_path path number) value) fault → IsWhy (after done (list_of judge path number (item value rest))) fault
 list_of-fails judge path number value rest done fault why = (λ refusal is. rw (why.0 refusal is) refl, why.1)
 
 -- the code's loop reads one more item
-pub items-next : {A : Type 0} (judge : List ℕ → Data → Result A Refusal) (path : List ℕ) (vs : List Value) (place : ℕ) (v : Value) (at : List ℕ) (done : List A) (x : A) (new : List A) (all : Result (List A) Refusal)
+pub items-next : {A : Type 0} (judge : List ℕ → Data → Result A ModelRefusal) (path : List ℕ) (vs : List Value) (place : ℕ) (v : Value) (at : List ℕ) (done : List A) (x : A) (new : List A) (all : Result (List A) ModelRefusal)
     → place < length vs → v ≡ get_or vs place v → at ≡ element_path path (place + 1)
     → judge at (view v) ≡ Ok x → new ≡ done ++ x ∷ []
     → after done (list_of judge path (place + 1) (items_view (drop place vs))) ≡ all
@@ -47,7 +47,7 @@ items-next judge path vs place v at done x new all within is where_ read added b
     ∙ before)
 
 -- the code's loop comes to an item that is refused
-pub items-fails : {A : Type 0} (judge : List ℕ → Data → Result A Refusal) (path : List ℕ) (vs : List Value) (place : ℕ) (v : Value) (at : List ℕ) (done : List A) (all : Result (List A) Refusal) (fault : ModelFault)
+pub items-fails : {A : Type 0} (judge : List ℕ → Data → Result A ModelRefusal) (path : List ℕ) (vs : List Value) (place : ℕ) (v : Value) (at : List ℕ) (done : List A) (all : Result (List A) ModelRefusal) (fault : ModelFault)
     → place < length vs → v ≡ get_or vs place v → at ≡ element_path path (place + 1)
     → IsWhy (judge at (view v)) fault
     → after done (list_of judge path (place + 1) (items_view (drop place vs))) ≡ all
@@ -57,17 +57,17 @@ items-fails judge path vs place v at done all fault within is where_ why before 
     (list_of-fails judge path (place + 1) (view v) (items_view (drop (place + 1) vs)) done fault (subst (λ p. IsWhy (judge p (view v)) fault) where_ why))
 
 -- a fault that is handed on is why the reading is refused
-pub gives-fault : {X Y : Type 0} (seen : X → Y) (result : Result X ModelFault) (reading : Result Y Refusal) (fault : ModelFault)
+pub gives-fault : {X Y : Type 0} (seen : X → Y) (result : Result X ModelFault) (reading : Result Y ModelRefusal) (fault : ModelFault)
     → IsErrAnd result (λ e. e ≡ fault) → IsWhy reading fault → Gives seen result reading
 gives-fault seen (Ok x) reading fault same why = absurd same
 gives-fault seen (Err e) reading fault same why = subst (IsWhy reading) (sym same) why
 
 -- what is refused is refused, whatever would be read next
-pub stops : {A B : Type 0} (reading : Result A Refusal) (next : A → Result B Refusal) (fault : ModelFault) → IsWhy reading fault → IsWhy (reading >>= next) fault
+pub stops : {A B : Type 0} (reading : Result A ModelRefusal) (next : A → Result B ModelRefusal) (fault : ModelFault) → IsWhy reading fault → IsWhy (reading >>= next) fault
 stops reading next fault why = (λ refusal is. rw (why.0 refusal is) refl, why.1)
 
 -- what is read next is refused
-pub goes-on : {A B : Type 0} (reading : Result A Refusal) (next : A → Result B Refusal) (x : A) (fault : ModelFault) → reading ≡ Ok x → IsWhy (next x) fault → IsWhy (reading >>= next) fault
+pub goes-on : {A B : Type 0} (reading : Result A ModelRefusal) (next : A → Result B ModelRefusal) (x : A) (fault : ModelFault) → reading ≡ Ok x → IsWhy (next x) fault → IsWhy (reading >>= next) fault
 goes-on reading next x fault read why = subst (λ r. IsWhy (r >>= next) fault) (sym read) why
 
 -- an array of two values
@@ -85,7 +85,7 @@ items-not-two (x ∷ y ∷ []) other = absurd (other refl)
 items-not-two (x ∷ y ∷ z ∷ vs) other = refl
 
 -- the code's loop tells one more item to the builder
-pub turn-next : (told : List ℕ → Data → Draft → Result Draft Refusal) (path : List ℕ) (vs : List Value) (place : ℕ) (v : Value) (at : List ℕ) (draft new : Draft) (all : Result Draft Refusal)
+pub turn-next : (told : List ℕ → Data → Draft → Result Draft ModelRefusal) (path : List ℕ) (vs : List Value) (place : ℕ) (v : Value) (at : List ℕ) (draft new : Draft) (all : Result Draft ModelRefusal)
     → place < length vs → v ≡ get_or vs place v → at ≡ element_path path (place + 1)
     → told at (view v) draft ≡ Ok new
     → in_turn told path (place + 1) (items_view (drop place vs)) draft ≡ all
@@ -96,7 +96,7 @@ turn-next told path vs place v at draft new all within is where_ read before =
     ∙ before
 
 -- the code's loop comes to an item that the builder refuses
-pub turn-fails : (told : List ℕ → Data → Draft → Result Draft Refusal) (path : List ℕ) (vs : List Value) (place : ℕ) (v : Value) (at : List ℕ) (draft : Draft) (all : Result Draft Refusal) (fault : ModelFault)
+pub turn-fails : (told : List ℕ → Data → Draft → Result Draft ModelRefusal) (path : List ℕ) (vs : List Value) (place : ℕ) (v : Value) (at : List ℕ) (draft : Draft) (all : Result Draft ModelRefusal) (fault : ModelFault)
     → place < length vs → v ≡ get_or vs place v → at ≡ element_path path (place + 1)
     → IsWhy (told at (view v) draft) fault
     → in_turn told path (place + 1) (items_view (drop place vs)) draft ≡ all

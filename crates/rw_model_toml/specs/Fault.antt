@@ -6,10 +6,10 @@ use Rattle.rw_table.specs.Table as rows
 use Rattle.rw_model.specs.Refusal as build
 use Rattle.rw_model_toml.specs.declared.fault.ModelFault.{ModelFault}
 use Rattle.rw_model_toml.specs.declared.fault.ModelFault.TheVariants.{NotToml, Missing, WrongKind, UnknownKey, UnknownKind, Build, Table, Calendar, NoMemory}
-use Rattle.rw_model_toml.specs.Refusal.{Refusal, not_toml, missing, wrong_kind, unknown_key, unknown_kind, bad_build, bad_table, bad_calendar}
+use Rattle.rw_model_toml.specs.Refusal.{ModelRefusal, not_toml, missing, wrong_kind, unknown_key, unknown_kind, bad_build, bad_table, bad_calendar}
 
 -- why the model is refused. Want of memory tells nothing of it, nor does a fault that has it inside
-abbrev pub refusal_of : ModelFault → Option Refusal
+abbrev pub refusal_of : ModelFault → Option ModelRefusal
 refusal_of NotToml = Some not_toml
 refusal_of (Missing path) = Some (missing (string_bytes path))
 refusal_of (WrongKind path) = Some (wrong_kind (string_bytes path))
@@ -21,9 +21,9 @@ refusal_of (Calendar fault) = option_map bad_calendar (calendar.refusal_of fault
 refusal_of NoMemory = None
 
 -- the fault tells why nothing is read, or is want of memory
-abbrev pub IsWhy : {A : Type 0} → Result A Refusal → ModelFault → Type 0
+abbrev pub IsWhy : {A : Type 0} → Result A ModelRefusal → ModelFault → Type 0
 IsWhy reading fault = answers.IsWhy NoMemory refusal_of reading fault
 
 -- the call answers what is read, or why nothing is, unless there was no memory
-abbrev pub Gives : {X A : Type 0} → (X → A) → Result X ModelFault → Result A Refusal → Type 0
+abbrev pub Gives : {X A : Type 0} → (X → A) → Result X ModelFault → Result A ModelRefusal → Type 0
 Gives seen result reading = answers.Answers NoMemory refusal_of seen result reading

@@ -10,7 +10,7 @@ use Rattle.rw_model.specs.declared.kind.Kind.{Kind}
 use Rattle.rw_model.specs.declared.kind.Kind.TheVariants.{DataObject, Gage, Confluence, Bifurcation, Reach, Reservoir, WaterUser, Canal}
 use Rattle.rw_model.specs.declared.kind.Supply.{Supply}
 use Rattle.rw_model_toml.specs.declared.options.Options.{Options}
-use Rattle.rw_model_toml.specs.Refusal.{Refusal, ◌>>=◌, refused_as, wrong_kind, unknown_kind, bad_table, out_of_range}
+use Rattle.rw_model_toml.specs.Refusal.{ModelRefusal, ◌>>=◌, refused_as, wrong_kind, unknown_kind, bad_table, out_of_range}
 use Rattle.rw_model_toml.specs.Path.{key_path}
 use Rattle.rw_model_toml.specs.Value.{text_of, truth_of, items_of, members_of, number_of, count_of, given_number}
 use Rattle.rw_model_toml.specs.Key.{required, optional, known_or, only_listed}
@@ -23,18 +23,18 @@ abbrev pub object_keys : List (List ℕ) → List (List ℕ)
 object_keys own = codes "name" ∷ codes "kind" ∷ own
 
 -- a kind that has no keys of its own
-abbrev pub bare_of : Kind → List ℕ → Members → Result Kind Refusal
+abbrev pub bare_of : Kind → List ℕ → Members → Result Kind ModelRefusal
 bare_of kind at table = only_listed (object_keys []) at table >>= λ listed. Ok kind
 
 -- ---- data objects
 
 -- what a slot measures
-abbrev pub unit_of : List ℕ → Members → Result Dimension Refusal
+abbrev pub unit_of : List ℕ → Members → Result Dimension ModelRefusal
 unit_of at table = required text_of at (codes "unit") table >>= λ word.
     known_or (key_path at (codes "unit")) (option_map (λ unit. unit.0) (unit_in units word))
 
 -- the table of a slot
-unfoldable pub slot_of : List ℕ → Data → Result DataSlot Refusal
+unfoldable pub slot_of : List ℕ → Data → Result DataSlot ModelRefusal
 slot_of at value = do
   table ← members_of at value
   name ← name_of at table
@@ -43,10 +43,10 @@ slot_of at value = do
   Ok (record { name = name; dim = dim })
 
 -- 1 to 8 of them
-abbrev pub few_slots : List ℕ → List DataSlot → Result (List DataSlot) Refusal
+abbrev pub few_slots : List ℕ → List DataSlot → Result (List DataSlot) ModelRefusal
 few_slots path slots = if nat_le 1 (length slots) && nat_le (length slots) 8 then Ok slots else Err (out_of_range path)
 
-unfoldable pub data_of : List ℕ → Members → Result Kind Refusal
+unfoldable pub data_of : List ℕ → Members → Result Kind ModelRefusal
 data_of at table = do
   items ← required items_of at (codes "slots") table
   slots ← list_of slot_of (key_path at (codes "slots")) 1 items
@@ -57,7 +57,7 @@ data_of at table = do
 -- ---- reaches and reservoirs
 
 -- the slots that a reach or a reservoir may have besides
-abbrev pub options_of : List ℕ → Members → Result Options Refusal
+abbrev pub options_of : List ℕ → Members → Result Options ModelRefusal
 options_of at table = do
   local_inflow ← optional false truth_of at (codes "local_inflow") table
   diversion ← optional false truth_of at (codes "diversion") table
@@ -65,21 +65,21 @@ options_of at table = do
   Ok (record { local_inflow = local_inflow; diversion = diversion; return_flow = return_flow })
 
 -- the array of past inflows, which only a reach without lag may leave out
-abbrev pub history_items_of : List ℕ → ℕ → Members → Result Items Refusal
+abbrev pub history_items_of : List ℕ → ℕ → Members → Result Items ModelRefusal
 history_items_of at lag table =
     if lag == 0 then optional no_items items_of at (codes "history") table else required items_of at (codes "history") table
 
-abbrev pub inflow_of : List ℕ → Data → Result ℤ Refusal
+abbrev pub inflow_of : List ℕ → Data → Result ℤ ModelRefusal
 inflow_of path value = number_of (neg_ℤ quantity_max) quantity_max path value
 
 -- one past inflow for each timestep of the lag
-abbrev pub history_of : List ℕ → ℕ → Members → Result (List ℤ) Refusal
+abbrev pub history_of : List ℕ → ℕ → Members → Result (List ℤ) ModelRefusal
 history_of at lag table = do
   items ← history_items_of at lag table
   inflows ← list_of inflow_of (key_path at (codes "history")) 1 items
   if length inflows == lag then Ok inflows else Err (out_of_range (key_path at (codes "history")))
 
-unfoldable pub reach_of : List ℕ → Members → Result Kind Refusal
+unfoldable pub reach_of : List ℕ → Members → Result Kind ModelRefusal
 reach_of at table = do
   lag ← optional 0 (count_of 0 30) at (codes "lag") table
   history ← history_of at lag table
@@ -97,31 +97,31 @@ abbrev pub row_in : Items → Option Row
 row_in (item elevation (item volume no_items)) = both_of (as_integer elevation) (as_integer volume)
 row_in _ = None
 
-abbrev pub row_or : List ℕ → Option Row → Result Row Refusal
+abbrev pub row_or : List ℕ → Option Row → Result Row ModelRefusal
 row_or path None = Err (wrong_kind path)
 row_or path (Some row) = Ok row
 
 -- an elevation and a volume
-abbrev pub row_of : List ℕ → Data → Result Row Refusal
+abbrev pub row_of : List ℕ → Data → Result Row ModelRefusal
 row_of path (array pair) = row_or path (row_in pair)
 row_of path _ = Err (wrong_kind path)
 
 -- the table that rows make
-abbrev pub rated : List ℕ → List Row → Result (Option (List Row)) Refusal
+abbrev pub rated : List ℕ → List Row → Result (Option (List Row)) ModelRefusal
 rated path rows = refused_as (bad_table path) (table_of rows) >>= λ table. Ok (Some table)
 
 -- the table of elevations and volumes
-abbrev pub rating_in : List ℕ → Data → Result (Option (List Row)) Refusal
+abbrev pub rating_in : List ℕ → Data → Result (Option (List Row)) ModelRefusal
 rating_in path value = do
   items ← items_of path value
   rows ← list_of row_of path 1 items
   rated path rows
 
 -- the same, if there is one
-abbrev pub rating_of : List ℕ → Members → Result (Option (List Row)) Refusal
+abbrev pub rating_of : List ℕ → Members → Result (Option (List Row)) ModelRefusal
 rating_of at table = optional None rating_in at (codes "table") table
 
-unfoldable pub reservoir_of : List ℕ → Members → Result Kind Refusal
+unfoldable pub reservoir_of : List ℕ → Members → Result Kind ModelRefusal
 reservoir_of at table = do
   initial_storage ← required (number_of (pos 0) quantity_max) at (codes "initial_storage") table
   rows ← rating_of at table
@@ -133,18 +133,18 @@ reservoir_of at table = do
 
 -- ---- water users and canals
 
-abbrev pub supply_of : List ℕ → Members → Result Supply Refusal
+abbrev pub supply_of : List ℕ → Members → Result Supply ModelRefusal
 supply_of at table = optional (codes "request") text_of at (codes "supply") table >>= λ word.
     known_or (key_path at (codes "supply")) (supply_in word)
 
-unfoldable pub water_user_of : List ℕ → Members → Result Kind Refusal
+unfoldable pub water_user_of : List ℕ → Members → Result Kind ModelRefusal
 water_user_of at table = do
   depletion ← required (count_of 0 1000) at (codes "depletion") table
   supply ← supply_of at table
   listed ← only_listed (object_keys (codes "depletion" ∷ codes "supply" ∷ [])) at table
   Ok (WaterUser depletion supply)
 
-unfoldable pub canal_of : List ℕ → Members → Result Kind Refusal
+unfoldable pub canal_of : List ℕ → Members → Result Kind ModelRefusal
 canal_of at table = do
   seepage ← required (count_of 0 999) at (codes "seepage") table
   listed ← only_listed (object_keys (codes "seepage" ∷ [])) at table
@@ -153,7 +153,7 @@ canal_of at table = do
 -- ---- any object
 
 -- the keys of the kind that the word names
-unfoldable pub kind_of : List ℕ → List ℕ → Members → Result Kind Refusal
+unfoldable pub kind_of : List ℕ → List ℕ → Members → Result Kind ModelRefusal
 kind_of at word table =
     if bytes_eq (codes "data") word then data_of at table
     else (if bytes_eq (codes "gage") word then bare_of Gage at table

@@ -1,4 +1,4 @@
-pub mod Refusal
+pub mod ModelRefusal
 pub mod Fault
 pub mod Path
 pub mod Value

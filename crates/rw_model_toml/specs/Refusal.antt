@@ -5,31 +5,31 @@ use Rattle.rw_table.specs.Table.{TableRefusal}
 use Rattle.rw_model.specs.Refusal.{BuildRefusal, bad_parameter}
 
 -- the path at which it is refused, and what is wrong there
-pub data Refusal : Type 0 where
-  not_toml : Refusal
-  missing : List ℕ → Refusal
-  wrong_kind : List ℕ → Refusal
-  unknown_key : List ℕ → Refusal
-  unknown_kind : List ℕ → Refusal
-  bad_build : List ℕ → BuildRefusal → Refusal
-  bad_table : List ℕ → TableRefusal → Refusal
-  bad_calendar : CalRefusal → Refusal
+pub data ModelRefusal : Type 0 where
+  not_toml : ModelRefusal
+  missing : List ℕ → ModelRefusal
+  wrong_kind : List ℕ → ModelRefusal
+  unknown_key : List ℕ → ModelRefusal
+  unknown_kind : List ℕ → ModelRefusal
+  bad_build : List ℕ → BuildRefusal → ModelRefusal
+  bad_table : List ℕ → TableRefusal → ModelRefusal
+  bad_calendar : CalRefusal → ModelRefusal
 
 -- a value outside its range
-abbrev pub out_of_range : List ℕ → Refusal
+abbrev pub out_of_range : List ℕ → ModelRefusal
 out_of_range path = bad_build path bad_parameter
 
 -- what is read, or the first that is wrong
 abbrev pub Reading : Type 0 → Type 0
-Reading A = Result A Refusal
+Reading A = Result A ModelRefusal
 
 -- what is refused below is refused here, in the words of a model
-abbrev pub refused_as : {R A : Type 0} → (R → Refusal) → Result A R → Result A Refusal
+abbrev pub refused_as : {R A : Type 0} → (R → ModelRefusal) → Result A R → Result A ModelRefusal
 refused_as tell (Ok x) = Ok x
 refused_as tell (Err refusal) = Err (tell refusal)
 
 -- what is read next, unless something is wrong already
 infixl 10 ◌>>=◌
-abbrev pub ◌>>=◌ : {A B : Type 0} → Result A Refusal → (A → Result B Refusal) → Result B Refusal
+abbrev pub ◌>>=◌ : {A B : Type 0} → Result A ModelRefusal → (A → Result B ModelRefusal) → Result B ModelRefusal
 (Ok x) >>= f = f x
 (Err refusal) >>= f = Err refusal

@@ -5,19 +5,19 @@ use Rattle.rw_calendar.specs.declared.step_length.StepLength.{StepLength}
 use Rattle.rw_model.specs.declared.control.AgendaOrder.{AgendaOrder}
 use Rattle.toml.specs.Data.{Members}
 use Rattle.rw_model_toml.specs.declared.run.Run.{Run}
-use Rattle.rw_model_toml.specs.Refusal.{Refusal, ◌>>=◌}
+use Rattle.rw_model_toml.specs.Refusal.{ModelRefusal, ◌>>=◌}
 use Rattle.rw_model_toml.specs.Value.{text_of, count_of}
 use Rattle.rw_model_toml.specs.Key.{required, optional, known_or, only_listed}
 use Rattle.rw_model_toml.specs.StartText.{start_in}
 use Rattle.rw_model_toml.specs.Word.{step_length_in, agenda_in}
 
-abbrev pub start_of : Members → Result Start Refusal
+abbrev pub start_of : Members → Result Start ModelRefusal
 start_of table = required text_of (codes "run") (codes "start") table >>= λ text. known_or (codes "run.start") (start_in text)
 
-abbrev pub step_length_of : Members → Result StepLength Refusal
+abbrev pub step_length_of : Members → Result StepLength ModelRefusal
 step_length_of table = required text_of (codes "run") (codes "step") table >>= λ word. known_or (codes "run.step") (step_length_in word)
 
-abbrev pub agenda_of : Members → Result AgendaOrder Refusal
+abbrev pub agenda_of : Members → Result AgendaOrder ModelRefusal
 agenda_of table = optional (codes "321") text_of (codes "run") (codes "agenda") table >>= λ word. known_or (codes "run.agenda") (agenda_in word)
 
 abbrev pub run_keys : List (List ℕ)
@@ -25,7 +25,7 @@ run_keys =
     codes "start" ∷ codes "step" ∷ codes "steps" ∷ codes "agenda" ∷ codes "object_limit" ∷ codes "rule_limit" ∷ []
 
 -- the keys of `run` in their order
-unfoldable pub run_of : Members → Result Run Refusal
+unfoldable pub run_of : Members → Result Run ModelRefusal
 run_of table = do
   start ← start_of table
   step_length ← step_length_of table

@@ -6,7 +6,7 @@ use Rattle.rw_model.specs.Slot.{Bounds}
 use Rattle.rw_model.specs.Objects.{Object, slot_named}
 use Rattle.rw_model.specs.Draft.{Draft}
 use Rattle.rw_model.specs.Build.{with_object, with_link, with_bound}
-use Rattle.rw_model_toml.specs.Refusal.{Refusal, ◌>>=◌, refused_as, bad_build, out_of_range}
+use Rattle.rw_model_toml.specs.Refusal.{ModelRefusal, ◌>>=◌, refused_as, bad_build, out_of_range}
 use Rattle.rw_model_toml.specs.Path.{key_path}
 use Rattle.rw_model_toml.specs.Value.{integer_of, text_of, items_of, members_of}
 use Rattle.rw_model_toml.specs.Key.{required, only_listed}
@@ -17,11 +17,11 @@ use Rattle.rw_model_toml.specs.Kinds.{kind_of}
 -- ---- objects
 
 -- the object is told to the builder, at a path
-unfoldable pub object_told : List ℕ → Draft → Object → Result Draft Refusal
+unfoldable pub object_told : List ℕ → Draft → Object → Result Draft ModelRefusal
 object_told at draft object = refused_as (bad_build at) (with_object draft object)
 
 -- the object whose table stands at the path
-unfoldable pub object_of : List ℕ → Data → Draft → Result Draft Refusal
+unfoldable pub object_of : List ℕ → Data → Draft → Result Draft ModelRefusal
 object_of at value draft = do
   table ← members_of at value
   name ← name_of at table
@@ -45,19 +45,19 @@ slot_number objects text =
 -- ---- links
 
 -- the slot that the value at the path names, by its number
-abbrev pub slot_in : List Object → List ℕ → Data → Result ℕ Refusal
+abbrev pub slot_in : List Object → List ℕ → Data → Result ℕ ModelRefusal
 slot_in objects path value = text_of path value >>= λ text. Ok (slot_number objects text)
 
 -- 2 to 8 of them
-abbrev pub few_linked : List ℕ → List ℕ → Result (List ℕ) Refusal
+abbrev pub few_linked : List ℕ → List ℕ → Result (List ℕ) ModelRefusal
 few_linked path slots = if nat_le 2 (length slots) && nat_le (length slots) 8 then Ok slots else Err (out_of_range path)
 
 -- the link is told to the builder
-unfoldable pub link_told : List ℕ → Draft → List ℕ → Result Draft Refusal
+unfoldable pub link_told : List ℕ → Draft → List ℕ → Result Draft ModelRefusal
 link_told at draft slots = refused_as (bad_build at) (with_link draft slots)
 
 -- the link whose table stands at the path
-unfoldable pub link_of : List ℕ → Data → Draft → Result Draft Refusal
+unfoldable pub link_of : List ℕ → Data → Draft → Result Draft ModelRefusal
 link_of at value draft = do
   table ← members_of at value
   items ← required items_of at (codes "slots") table
@@ -69,11 +69,11 @@ link_of at value draft = do
 -- ---- bounds
 
 -- the bounds of a slot are told to the builder
-unfoldable pub bound_told : List ℕ → Draft → ℕ → Bounds → Result Draft Refusal
+unfoldable pub bound_told : List ℕ → Draft → ℕ → Bounds → Result Draft ModelRefusal
 bound_told at draft slot bounds = refused_as (bad_build at) (with_bound draft slot bounds)
 
 -- the bound whose table stands at the path
-unfoldable pub bound_of : List ℕ → Data → Draft → Result Draft Refusal
+unfoldable pub bound_of : List ℕ → Data → Draft → Result Draft ModelRefusal
 bound_of at value draft = do
   table ← members_of at value
   text ← required text_of at (codes "slot") table

@@ -4,12 +4,12 @@ use Rattle.std.specs.Fmt.{decimal, signed_decimal}
 use Rattle.rw_calendar.specs.Stamps.{end_of, stamp_text}
 use Rattle.rw_model.specs.Objects.{Object, Placed, object_at, all_slots, slot_at}
 use Rattle.rw_model.specs.Draft.{Draft}
-use Rattle.rw_log.specs.declared.fault.RunFault.{RunFault}
-use Rattle.rw_log.specs.declared.fault.RunFault.TheVariants.{Conflict, ZeroDivisor, ObjectOutOfRange, RuleOutOfRange, ObjectLimit, RuleLimit}
-use Rattle.rw_log.specs.declared.run.RunEnd.{RunEnd}
-use Rattle.rw_log.specs.declared.run.RunEnd.TheVariants.{Settled, Fault}
-use Rattle.rw_log.specs.Dispatch.{cell_at}
-use Rattle.rw_log.specs.Log.{Cells, value_in}
+use Rattle.rw_run.specs.declared.fault.RunFault.{RunFault}
+use Rattle.rw_run.specs.declared.fault.RunFault.TheVariants.{Conflict, ZeroDivisor, ObjectOutOfRange, RuleOutOfRange, ObjectLimit, RuleLimit}
+use Rattle.rw_run.specs.declared.run.RunEnd.{RunEnd}
+use Rattle.rw_run.specs.declared.run.RunEnd.TheVariants.{Settled, Fault}
+use Rattle.rw_run.specs.Dispatch.{cell_at}
+use Rattle.rw_run.specs.Log.{Cells, value_in}
 
 -- ---- names
 

@@ -1,11 +1,11 @@
 ghost use Rattle.std.specs.Prelude.{◌≡◌, ◌++◌, OnOk, string_bytes};
-ghost use Rattle.rw_log.specs.declared.fault.RunFault.TheVariants as RunFault;
+ghost use Rattle.rw_run.specs.declared.fault.RunFault.TheVariants as RunFault;
 ghost use Rattle.rw_report.specs.Section.{end_words, fault_words, heading, place_words};
 
 use crate::names::{object_words, push_slot};
 use rw_base::{NoMemory, ObjectNo, RuleNo, SlotNo, StepNo};
-use rw_log::{RunEnd, RunFault};
 use rw_model::Basin;
+use rw_run::{RunEnd, RunFault};
 use std::fmt::Write;
 
 // Appends what an object met, and where.

@@ -5,8 +5,8 @@ ghost use Rattle.rw_report.specs.Section.{section_of, values_in};
 use crate::heading::push_heading;
 use crate::table::{push_columns, push_rows};
 use rw_base::NoMemory;
-use rw_log::Run;
 use rw_model::Basin;
+use rw_run::Run;
 use std::alloc::Global;
 
 /// The text of the section of the batch of this number: a line on how its run ended, a line of column names, and a line

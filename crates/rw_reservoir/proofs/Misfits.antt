@@ -4,7 +4,7 @@ use Rattle.std.specs.Prelude.{if◌then◌else◌, option_map, Result, Ok, Err}
 use Rattle.rw_method.specs.declared.put.Put.{Put}
 use Rattle.rw_method.specs.declared.solved.Solved.{Solved}
 use Rattle.rw_method.specs.declared.solved.Solved.TheVariants.{Puts, OutOfRange}
-use Rattle.rw_method.specs.Solve.{AllFit, first_misfit, all_or_misfit, judged}
+use Rattle.rw_method.specs.Solve.{AllFit, first_misfit, all_or_misfit, answer_of_puts}
 use Rattle.rw_reservoir.specs.Asking.{Asks, IsRefused}
 
 first_fits : (b : Bool) (rest : Option Put) (put : Put) → (if b then rest else Some put) ≡ None → (b ≡ true) × (rest ≡ None)
@@ -56,25 +56,25 @@ asks_at_once fit puts more old new answer refused =
     record { added = tt; fits = tt; refused = refused_at_once fit puts more answer refused }
 
 -- what is answered of all puts
-pub judged_all : (fit : Put → Bool) (puts : List Put) → AllFit fit puts → judged fit puts ≡ Puts puts
+pub judged_all : (fit : Put → Bool) (puts : List Put) → AllFit fit puts → answer_of_puts fit puts ≡ Puts puts
 judged_all fit puts all = ap (all_or_misfit puts) all
 
 refused_by : (puts : List Put) (found : Option Put) (answer : Solved) → option_map (λ (misfit : Put). OutOfRange misfit.place misfit.value) found ≡ Some answer → all_or_misfit puts found ≡ answer
 refused_by puts None answer refused = cc
 refused_by puts (Some misfit) answer refused = cc
 
-pub judged_refused : (fit : Put → Bool) (puts : List Put) (answer : Solved) → IsRefused fit puts answer → judged fit puts ≡ answer
+pub judged_refused : (fit : Put → Bool) (puts : List Put) (answer : Solved) → IsRefused fit puts answer → answer_of_puts fit puts ≡ answer
 judged_refused fit puts answer refused = refused_by puts (first_misfit fit puts) answer refused
 
 -- puts in four parts, of which the first two are asked for together, and then the last two
-pub refused_in_front : (fit : Put → Bool) (a b c d : List Put) (answer : Solved) → IsRefused fit (a ++ b) answer → judged fit (a ++ b ++ c ++ d) ≡ answer
+pub refused_in_front : (fit : Put → Bool) (a b c d : List Put) (answer : Solved) → IsRefused fit (a ++ b) answer → answer_of_puts fit (a ++ b ++ c ++ d) ≡ answer
 refused_in_front fit a b c d answer refused =
     rw append_assoc (judged_refused fit ((a ++ b) ++ (c ++ d)) answer (refused_at_once fit (a ++ b) (c ++ d) answer refused))
 
-pub refused_behind : (fit : Put → Bool) (a b c d : List Put) (answer : Solved) → AllFit fit (a ++ b) → IsRefused fit (c ++ d) answer → judged fit (a ++ b ++ c ++ d) ≡ answer
+pub refused_behind : (fit : Put → Bool) (a b c d : List Put) (answer : Solved) → AllFit fit (a ++ b) → IsRefused fit (c ++ d) answer → answer_of_puts fit (a ++ b ++ c ++ d) ≡ answer
 refused_behind fit a b c d answer all refused =
     rw append_assoc (judged_refused fit ((a ++ b) ++ (c ++ d)) answer (refused_later fit (a ++ b) (c ++ d) answer all refused))
 
-pub four_fit : (fit : Put → Bool) (a b c d puts : List Put) → AllFit fit (a ++ b) → AllFit fit (c ++ d) → puts ≡ (a ++ b) ++ (c ++ d) → judged fit (a ++ b ++ c ++ d) ≡ Puts puts
+pub four_fit : (fit : Put → Bool) (a b c d puts : List Put) → AllFit fit (a ++ b) → AllFit fit (c ++ d) → puts ≡ (a ++ b) ++ (c ++ d) → answer_of_puts fit (a ++ b ++ c ++ d) ≡ Puts puts
 four_fit fit a b c d puts all others is =
     rw (append_assoc, is) (judged_all fit ((a ++ b) ++ (c ++ d)) (all_fit fit (a ++ b) (c ++ d) all others))

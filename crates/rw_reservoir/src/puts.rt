@@ -1,15 +1,15 @@
 ghost use Rattle.std.specs.Prelude.{◌≡◌, ◌<◌, ◌+◌, ◌≤◌, ◌++◌, length, OnOk, IfErr};
 ghost use Rattle.rw_method.specs.declared.places.TheConstants.{OUTFLOW, POOL_ELEVATION, STORAGE};
 ghost use Rattle.rw_method.specs.View.{given};
-ghost use Rattle.rw_method.specs.Puts.{solved_put, level_puts, evaporation_put, release_puts, held_after, is_bounded};
-ghost use Rattle.rw_method.specs.Solve.{AllFit, judged};
+ghost use Rattle.rw_method.specs.Puts.{solved_put, level_puts, evaporation_put, release_puts, known_after, is_bounded};
+ghost use Rattle.rw_method.specs.Solve.{AllFit, answer_of_puts};
 ghost use Rattle.rw_reservoir.specs.Asking.{Asks, can_get};
 
 use crate::asking::ask;
 use crate::level::ask_level;
 use crate::release::{ask_evaporation, ask_release};
 use rw_method::places::{OUTFLOW, POOL_ELEVATION, STORAGE};
-use rw_method::{Balanced, Given, PutList, Solved, View, held_after};
+use rw_method::{Balanced, Given, PutList, Solved, View, known_after};
 use rw_table::Rating;
 
 // Puts the term that was solved.
@@ -94,17 +94,17 @@ pub(crate) fn put_all(
     max_release: Option<i64>,
     balanced: Balanced,
 ) -> Solved
-    ensures { result ≡ judged (can_get table.now view.entry.now) (solved_put balanced
+    ensures { result ≡ answer_of_puts (can_get table.now view.entry.now) (solved_put balanced
         ++ level_puts table.now (given view.entry.now STORAGE) (given view.entry.now POOL_ELEVATION) balanced
         ++ evaporation_put evaporation evaporated ++ release_puts max_release
-        (held_after view.entry.now balanced OUTFLOW)) }
+        (known_after view.entry.now balanced OUTFLOW)) }
 {
     let mut puts = PutList::none();
     match ask_contents(view, table, &mut puts, balanced) {
         Ok(()) => {}
         Err(answer) => return answer,
     }
-    let outflow = held_after(view, balanced, OUTFLOW);
+    let outflow = known_after(view, balanced, OUTFLOW);
     match ask_derived(
         view,
         table,

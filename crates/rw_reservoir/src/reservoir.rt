@@ -5,7 +5,7 @@ ghost use Rattle.rw_method.specs.declared.places.TheConstants.{OUTFLOW, POOL_ELE
 ghost use Rattle.rw_method.specs.View.{given};
 ghost use Rattle.rw_method.specs.Term.{IsWithin};
 ghost use Rattle.rw_method.specs.Balance.{side_flows};
-ghost use Rattle.rw_method.specs.Puts.{solved_put, level_puts, evaporation_put, release_puts, held_after};
+ghost use Rattle.rw_method.specs.Puts.{solved_put, level_puts, evaporation_put, release_puts, known_after};
 ghost use Rattle.rw_method.specs.Solve.{answer, solve_of};
 ghost use Rattle.rw_reservoir.specs.Asking.{can_get};
 
@@ -35,7 +35,7 @@ fn answer_by(
     ensures { result ≡ answer (can_get table.now view.entry.now) (solved_put balanced
         ++ level_puts table.now (given view.entry.now STORAGE) (given view.entry.now POOL_ELEVATION) balanced
         ++ evaporation_put evaporation evaporated ++ release_puts max_release
-        (held_after view.entry.now balanced OUTFLOW))
+        (known_after view.entry.now balanced OUTFLOW))
         balanced fault }
 {
     match (balanced, fault) {

@@ -20,8 +20,8 @@ mod reservoirs;
 #[cfg(test)]
 mod runs;
 #[cfg(test)]
-mod streams;
+mod statuses;
 #[cfg(test)]
-mod tests;
+mod streams;
 #[cfg(test)]
 mod users;

@@ -2,7 +2,7 @@
 use crate::basins::BASINS;
 use crate::objects::OBJECTS;
 use crate::pools::POOLS;
-use crate::tests::{NONE_FAILS, simulate};
+use crate::statuses::{NONE_FAILS, simulate};
 use rw_base::NoMemory;
 use std::alloc::Global;
 use std::process::Abort;

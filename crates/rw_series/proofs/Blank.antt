@@ -6,7 +6,7 @@ use Rattle.std.proofs.Math.ListN.{get_or-map, get_or-eq_default}
 use Rattle.std.proofs.lemmas.List.{get_or-replicate, length-replicate}
 use Rattle.std.proofs.lemmas.Bool.{cond_both}
 use Rattle.std.proofs.lemmas.Bool.Decides.{nat_tests}
-use Rattle.rw_series.specs.Cells.{is_kept, place_of, kept_at}
+use Rattle.rw_series.specs.Cells.{is_kept, position_of, kept_at}
 
 module _ {X A : Type 0} (read : X → Option A) (blank : X) (nothing : read blank ≡ None) where
   alike : (count k : ℕ) → (test : Bool) → nat_le count k ≡ test → slice_index_or (replicate count blank) k blank ≡ blank
@@ -25,5 +25,5 @@ module _ {X A : Type 0} (read : X → Option A) (blank : X) (nothing : read blan
   all-unknown slots steps first count before cells none filled s t =
       let is : cells ≡ replicate count blank = filled ∙ ap (λ xs. take first xs ++ replicate count blank) none ∙ ap (λ xs. xs ++ replicate count blank) (take-nil first) in
       ap (λ xs. kept_at slots steps (map read xs) s t) is
-      ∙ cond_both (is_kept slots steps s t) (slice_index_or (map read (replicate count blank)) (place_of slots s t) None) None (λ x. x ≡ None)
-      (λ _. unknown count (place_of slots s t)) (λ _. refl)
+      ∙ cond_both (is_kept slots steps s t) (slice_index_or (map read (replicate count blank)) (position_of slots s t) None) None (λ x. x ≡ None)
+      (λ _. unknown count (position_of slots s t)) (λ _. refl)

@@ -1,5 +1,5 @@
 -- Cells that share their value.
-use Rattle.std.proofs.Common.{◌≡◌, ℕ, ◌+◌, ◌-◌, ◌<◌, ◌==◌, ◌&&◌, Bool, true, false, if◌then◌else◌, List, length, Option, Some, None, refl, sym, ap, ap₂, subst, ◌∙◌, arith}
+use Rattle.std.proofs.Common.{◌≡◌, ℕ, ◌+◌, ◌-◌, ◌<◌, ◌==◌, ◌&&◌, ◌||◌, Bool, true, false, if◌then◌else◌, List, length, Option, Some, None, refl, sym, ap, ap₂, subst, ◌∙◌, arith}
 use Rattle.std.proofs.lemmas.Bool.{and_parts}
 use Rattle.std.proofs.lemmas.Cmp.{nat_eq_equiv}
 use Rattle.std.proofs.lemmas.Bool.Decides.{nat_tests}
@@ -85,3 +85,17 @@ Sets-made basin cell content old new made sets slots steps columns width = recor
       ∙ ap₂ (λ test there. if test then content else there) (shared_alike basin cell one other known shared) (made.shared one other known shared)
       ∙ sym (sets other);
 }
+
+-- together, from either side
+
+pub same_turned : (a b : ℕ) → (a == b) ≡ (b == a)
+same_turned a b = grind (arith, nat_tests)
+
+link_turned : (one other : Option ℕ) → is_same_link one other ≡ is_same_link other one
+link_turned None None = refl
+link_turned None (Some q) = refl
+link_turned (Some p) None = refl
+link_turned (Some p) (Some q) = same_turned p q
+
+pub together_turned : (links : List (List ℕ)) (one other : ℕ) → is_together links one other ≡ is_together links other one
+together_turned links one other = ap₂ (λ a b. a || b) (same_turned one other) (link_turned (link_of links one) (link_of links other))

@@ -7,22 +7,10 @@ use Rattle.std.proofs.lemmas.List.{length_push, get_or_append_left}
 use Rattle.rw_base.specs.declared.number.Cell.{Cell}
 use Rattle.rw_model.specs.Draft.{Draft}
 use Rattle.rw_model.specs.Links.{link_of, is_same_link, is_together}
-use Rattle.rw_series.specs.Columns.{column_of, AreColumns, IsFresh, IsShared, IsColumnFor}
-use Rattle.rw_series.proofs.Sharing.{together_alike}
+use Rattle.rw_series.specs.Columns.{column_of, AreColumns, HasNewColumn, IsShared, IsColumnFor}
+use Rattle.rw_series.proofs.Sharing.{same_turned, together_alike, together_turned}
 
 -- ---- together, from either side
-
-same_turned : (a b : ℕ) → (a == b) ≡ (b == a)
-same_turned a b = grind (arith, nat_tests)
-
-link_turned : (one other : Option ℕ) → is_same_link one other ≡ is_same_link other one
-link_turned None None = refl
-link_turned None (Some q) = refl
-link_turned (Some p) None = refl
-link_turned (Some p) (Some q) = same_turned p q
-
-together_turned : (links : List (List ℕ)) (one other : ℕ) → is_together links one other ≡ is_together links other one
-together_turned links one other = ap₂ (λ a b. a || b) (same_turned one other) (link_turned (link_of links one) (link_of links other))
 
 together_self : (links : List (List ℕ)) (slot : ℕ) → is_together links slot slot ≡ true
 together_self links slot = ap (λ same. same || is_same_link (link_of links slot) (link_of links slot)) (nat_eq_equiv.refl slot)

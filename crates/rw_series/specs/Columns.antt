@@ -17,7 +17,7 @@ pub record AreColumns (basin : Draft) (count width : ℕ) (columns : List ℕ) :
       → (column_of columns other == column_of columns one) ≡ is_together basin.links one other
 
 -- none of the first slots carries one value with the next one, which has a new column
-pub record IsFresh (basin : Draft) (count width column : ℕ) : Type 0 where
+pub record HasNewColumn (basin : Draft) (count width column : ℕ) : Type 0 where
   pub next : column ≡ width + 1
   pub alone : (slot : ℕ) → 1 ≤ slot → slot ≤ count → is_together basin.links (count + 1) slot ≡ false
 
@@ -30,4 +30,4 @@ pub record IsShared (basin : Draft) (count : ℕ) (columns : List ℕ) (column :
   pub same : column ≡ column_of columns slot
 
 abbrev pub IsColumnFor : Draft → ℕ → ℕ → List ℕ → ℕ → Type 0
-IsColumnFor basin count width columns column = IsFresh basin count width column ⊎ IsShared basin count columns column
+IsColumnFor basin count width columns column = HasNewColumn basin count width column ⊎ IsShared basin count columns column

@@ -1,6 +1,6 @@
 ghost use Rattle.std.specs.Prelude.{◌≡◌, ◌==◌, ◌*◌, ◌≤◌, ◌&&◌, ℕ, IsTrue, if◌then◌else◌, vec_len, length, map};
 ghost use Rattle.rw_series.specs.Kept.{content_of};
-ghost use Rattle.rw_series.specs.Cells.{is_kept, place_of, kept_at};
+ghost use Rattle.rw_series.specs.Cells.{is_kept, position_of, kept_at};
 
 use crate::kept::{Kept, content_of, kept_of};
 use rw_model::Content;
@@ -13,10 +13,10 @@ fn is_kept(slots: u16, steps: u16, slot: u16, step: u16) -> bool
 }
 
 // The place of a cell, counted from 0.
-fn place_of(slots: u16, slot: u16, step: u16) -> usize
+fn position_of(slots: u16, slot: u16, step: u16) -> usize
     requires slot { 1 ≤ slot }
     requires step { 1 ≤ step }
-    ensures { result ≡ place_of slots slot step }
+    ensures { result ≡ position_of slots slot step }
 {
     usize::from(step - 1) * usize::from(slots) + usize::from(slot - 1)
 }
@@ -27,7 +27,7 @@ pub fn kept_at(cells: &[Kept], slots: u16, steps: u16, slot: u16, step: u16) -> 
     ensures { result ≡ kept_at slots steps (map content_of cells.now) slot step }
 {
     if is_kept(slots, steps, slot, step) {
-        content_of(&cells[place_of(slots, slot, step)])
+        content_of(&cells[position_of(slots, slot, step)])
     } else {
         None
     }
@@ -49,5 +49,5 @@ pub fn hold(
         else kept_at slots steps (map content_of cells.old.items) s t) }
     ensures whole { vec_len cells.new ≡ vec_len cells.old }
 {
-    cells[place_of(slots, slot, step)] = kept_of(content);
+    cells[position_of(slots, slot, step)] = kept_of(content);
 }

@@ -11,7 +11,7 @@ use Rattle.rw_io.specs.declared.whole_file.ReadEnd.TheVariants.{ReadFault, TooLo
 use Rattle.rw_model.specs.Draft.{Draft}
 use Rattle.rw_model_toml.specs.Fault.{refusal_of}
 use Rattle.rw_model_toml.specs.Model.{model_of}
-use Rattle.rw_model_toml.specs.Refusal.{Refusal as Why}
+use Rattle.rw_model_toml.specs.Refusal.{ModelRefusal}
 use Rattle.rw_top.specs.Command.{Command, path_of}
 use Rattle.rw_top.specs.Reason.{Reason, BadModel, BadInputs, LongFile, status_by}
 use Rattle.rw_top.specs.Reading.{IsTooLong, Reaches, ReadsBoth, ReadsModel, WasRead}
@@ -22,12 +22,12 @@ use Rattle.rw_top.specs.declared.refusal.Refusal.{Refusal}
 use Rattle.rw_top.specs.declared.refusal.Refusal.TheVariants.{CannotRead, CannotWrite, NoMemory, Model, Inputs, TooLong}
 
 -- a fault that doesn't tell nothing tells why
-pub tells_why : (told : Option Why) → ¬ (told ≡ None) → (why : Why) × (told ≡ Some why)
+pub tells_why : (told : Option ModelRefusal) → ¬ (told ≡ None) → (why : ModelRefusal) × (told ≡ Some why)
 tells_why None tells = absurd (tells refl)
 tells_why (Some why) tells = (why, refl)
 
 -- a refusal that tells a reason has the status of the reason
-told_model : (why : Option Why) (reason : Reason) → option_map (λ bad. BadModel bad) why ≡ Some reason → 6 ≡ status_by reason
+told_model : (why : Option ModelRefusal) (reason : Reason) → option_map (λ bad. BadModel bad) why ≡ Some reason → 6 ≡ status_by reason
 told_model None reason tells = absurd cc
 told_model (Some why) reason tells = let same : BadModel why ≡ reason = cc in ap status_by same
 

@@ -3,7 +3,7 @@ use Rattle.std.proofs.Common.{◌≡◌, inl, inr, ℕ, List, refl, ◌∙◌}
 use Rattle.std.proofs.lemmas.Bool.{cases_lt}
 use Rattle.rw_io.specs.Causes.{Rose}
 use Rattle.rw_io.specs.Outside.{Change, Holds, ShelfView, SinkView}
-use Rattle.rw_log.specs.declared.run.RunEnd.{RunEnd}
+use Rattle.rw_run.specs.declared.run.RunEnd.{RunEnd}
 use Rattle.rw_top.specs.Command.{Command, order}
 use Rattle.rw_top.specs.Reason.{Reason, LongFile, IsFound, IsHonestFor, file_of, status_by}
 use Rattle.rw_top.specs.Reading.{AcceptsAll, IsHonestOfAll, IsHonestUpTo}

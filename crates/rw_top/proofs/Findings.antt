@@ -4,7 +4,7 @@ use Rattle.std.proofs.Common.{◌≡◌, ◌⊎◌, inl, inr, ℕ, ◌<◌, ◌�
 use Rattle.std.proofs.lemmas.Bool.{cases_lt}
 use Rattle.rw_model.specs.Draft.{Draft}
 use Rattle.rw_model_toml.specs.Model.{model_of}
-use Rattle.rw_model_toml.specs.Refusal.{Refusal as Why}
+use Rattle.rw_model_toml.specs.Refusal.{ModelRefusal}
 use Rattle.rw_inputs.specs.declared.fault.InputFault.{InputFault}
 use Rattle.rw_inputs.specs.Inputs.{Inputs as Given}
 use Rattle.rw_inputs.specs.Reading.{Refuses}
@@ -54,7 +54,7 @@ module _ (command : Command) (holds : Holds) where
       let both : Ok b ≡ Ok c = sym m.is ∙ ap model_of text ∙ n.is in
       cc
 
-  model_clash : (why : Why) (b : Draft) → IsSome (holds (path_of command Model))
+  model_clash : (why : ModelRefusal) (b : Draft) → IsSome (holds (path_of command Model))
       → RefusesModel command holds why → ReadsModel command holds b → ⊥
   model_clash why b told r m =
       let text = same_text holds (path_of command Model) r.text m.text told r.read m.read in
@@ -73,7 +73,7 @@ module _ (command : Command) (holds : Holds) where
 
   -- the file is refused, with this status
   abbrev IsBad : File → ℕ → Type 0
-  IsBad Model status = (status ≡ 6) × ((why : Why) × RefusesModel command holds why)
+  IsBad Model status = (status ≡ 6) × ((why : ModelRefusal) × RefusesModel command holds why)
   IsBad Inputs status = (status ≡ 8) × ((why : InputFault) × RefusesInputs command holds why)
 
   accepted_text : (file : File) → Accepts command holds file

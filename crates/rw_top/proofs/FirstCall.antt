@@ -1,12 +1,12 @@
 -- A call on one plain reservoir, by the law on the text of its run.
 use Rattle.std.proofs.Common.{◌≡◌, ◌↔◌, ℕ, ◌≤◌, ℤ, List, Option, None, IfOk, refl, sym, ap, ◌∙◌, subst, arith}
-use Rattle.rw_first.specs.FirstForm.{FirstModel, IsFirstForm, IsFirstFlows}
-use Rattle.rw_first.specs.Table.{IsRunText as IsFirstText}
+use Rattle.rw_plain_reservoir.specs.FirstForm.{FirstModel, IsFirstForm, IsFirstFlows}
+use Rattle.rw_plain_reservoir.specs.Table.{IsFirstText}
 use Rattle.rw_inputs.specs.Inputs.{Inputs as Given}
 use Rattle.rw_inputs.specs.Reading.{Reads}
 use Rattle.rw_io.specs.Known.{GrowsBy}
-use Rattle.rw_log.specs.declared.run.RunEnd.{RunEnd}
-use Rattle.rw_log.specs.declared.run.RunEnd.TheVariants.{Settled, Fault}
+use Rattle.rw_run.specs.declared.run.RunEnd.{RunEnd}
+use Rattle.rw_run.specs.declared.run.RunEnd.TheVariants.{Settled, Fault}
 use Rattle.rw_model.specs.Basin.{IsBasin}
 use Rattle.rw_model.specs.Draft.{Draft}
 use Rattle.rw_model_toml.specs.Model.{model_of}

@@ -7,13 +7,13 @@ use Rattle.rw_model.specs.Draft.{Draft}
 use Rattle.rw_model.specs.Objects.{all_slots}
 use Rattle.rw_series.specs.Series.{held}
 use Rattle.rw_inputs.specs.Inputs.{Inputs, value_at}
-use Rattle.rw_log.specs.declared.run.Run.{Run}
-use Rattle.rw_log.specs.declared.run.RunEnd.{RunEnd}
-use Rattle.rw_log.specs.Log.{Log, cells_of}
-use Rattle.rw_log.specs.Dispatch.{cell_at}
-use Rattle.rw_log.specs.Next.{Policy, no_rules}
-use Rattle.rw_log.specs.Runs.{IsRun}
-use Rattle.rw_log.specs.RunOf.{end_of}
+use Rattle.rw_run.specs.declared.run.Run.{Run}
+use Rattle.rw_run.specs.declared.run.RunEnd.{RunEnd}
+use Rattle.rw_run.specs.Log.{Log, cells_of}
+use Rattle.rw_run.specs.Dispatch.{cell_at}
+use Rattle.rw_run.specs.Next.{Policy, no_rules}
+use Rattle.rw_run.specs.Runs.{IsRun}
+use Rattle.rw_run.specs.RunOf.{end_of}
 use Rattle.rw_report.specs.Section.{section_of, values_in}
 use Rattle.rw_engine.specs.Givens.{if_given, givens_of, givens_to, givens}
 use Rattle.rw_engine.specs.Passing.{ComesTo}

@@ -1,7 +1,7 @@
 -- A call that wrote its run, or was refused, keeps the promise.
 use Rattle.std.proofs.Common.{◌≡◌, inl, inr, ℕ, ◌≤◌, List, None, Some, ◌∙◌, arith}
-use Rattle.rw_log.specs.declared.run.RunEnd.{RunEnd}
-use Rattle.rw_log.specs.declared.run.RunEnd.TheVariants.{Settled, Fault}
+use Rattle.rw_run.specs.declared.run.RunEnd.{RunEnd}
+use Rattle.rw_run.specs.declared.run.RunEnd.TheVariants.{Settled, Fault}
 use Rattle.rw_top.specs.Call.{Call}
 use Rattle.rw_top.specs.Command.{Asks, Command}
 use Rattle.rw_top.specs.Promise.{Promise, RefusedCommand, RefusedWords, WasRefused, WroteRun, status_of_end}

@@ -2,10 +2,10 @@
 use Rattle.std.proofs.Common.{◌≡◌, ◌≢◌, ℕ, ◌≤◌, refl, ◌∙◌, arith}
 use Rattle.rw_inputs.specs.declared.fault.InputFault.{InputFault}
 use Rattle.rw_io.specs.Causes.{Rose}
-use Rattle.rw_log.specs.declared.fault.RunFault.{RunFault}
-use Rattle.rw_log.specs.declared.run.RunEnd.{RunEnd}
-use Rattle.rw_log.specs.declared.run.RunEnd.TheVariants.{Settled, Fault}
-use Rattle.rw_model_toml.specs.Refusal.{Refusal as Why}
+use Rattle.rw_run.specs.declared.fault.RunFault.{RunFault}
+use Rattle.rw_run.specs.declared.run.RunEnd.{RunEnd}
+use Rattle.rw_run.specs.declared.run.RunEnd.TheVariants.{Settled, Fault}
+use Rattle.rw_model_toml.specs.Refusal.{ModelRefusal}
 use Rattle.rw_top.specs.Call.{Call}
 use Rattle.rw_top.specs.Command.{AskFor, AskNothing, Command}
 use Rattle.rw_top.specs.Reason.{Reason, BadModel, BadInputs, LongFile, status_by}
@@ -92,7 +92,7 @@ module _ (call : Call) where
       (there.0, there.1, (there.2.0, refused.1 ∙ there.2.1, there.2.2))
 
   bad_model : (command : Command) (reason : Reason) → 6 ≡ status_by reason → WasFound command call.shelf reason
-      → (why : Why) × RefusesModel command call.shelf.before.holds why
+      → (why : ModelRefusal) × RefusesModel command call.shelf.before.holds why
   bad_model command (BadModel why) is found = (why, found)
   bad_model command reason is found = absurd (omega (arith, is))
 
@@ -106,7 +106,7 @@ module _ (call : Call) where
   long_file command (LongFile file) is found = (file, found)
   long_file command reason is found = absurd (omega (arith, is))
 
-  pub model : Promise call 6 → AskFor call.words (λ command. (why : Why) × RefusesModel command call.shelf.before.holds why)
+  pub model : Promise call 6 → AskFor call.words (λ command. (why : ModelRefusal) × RefusesModel command call.shelf.before.holds why)
   model promise = let there = reason_of_status 6 (omega arith) promise in (there.0, there.1, bad_model there.0 there.2.0 there.2.1 there.2.2)
 
   pub inputs : Promise call 8 → AskFor call.words (λ command. (fault : InputFault) × RefusesInputs command call.shelf.before.holds fault)

@@ -1,6 +1,6 @@
 -- A call on one plain reservoir, whose inflow and outflow are given.
 use Rattle.std.specs.Prelude.{ℤ, List, IsSome}
-use Rattle.rw_first.specs.FirstForm.{FirstModel, IsFirstForm, IsFirstFlows}
+use Rattle.rw_plain_reservoir.specs.FirstForm.{FirstModel, IsFirstForm, IsFirstFlows}
 use Rattle.rw_inputs.specs.Inputs.{Inputs}
 use Rattle.rw_model.specs.Draft.{Draft}
 use Rattle.rw_top.specs.Call.{Call}

@@ -4,7 +4,7 @@ use Rattle.rw_io.specs.Causes.{Rose}
 use Rattle.rw_io.specs.declared.whole_file.TheConstants.{FILE_MAX}
 use Rattle.rw_model.specs.Draft.{Draft}
 use Rattle.rw_model_toml.specs.Model.{model_of}
-use Rattle.rw_model_toml.specs.Refusal.{Refusal as Why}
+use Rattle.rw_model_toml.specs.Refusal.{ModelRefusal}
 use Rattle.rw_inputs.specs.declared.fault.InputFault.{InputFault}
 use Rattle.rw_inputs.specs.Inputs.{Inputs as Given}
 use Rattle.rw_inputs.specs.Reading.{Reads, Refuses}
@@ -36,7 +36,7 @@ pub record ReadsBoth (command : Command) (holds : Holds) (basin : Draft) (inputs
   pub are : Reads basin text inputs
 
 -- the command names a model that is refused for this
-pub record RefusesModel (command : Command) (holds : Holds) (why : Why) : Type 0 where
+pub record RefusesModel (command : Command) (holds : Holds) (why : ModelRefusal) : Type 0 where
   pub text : List ℕ
   pub read : WasRead holds (path_of command Model) text
   pub is : model_of text ≡ Err why

@@ -1,7 +1,7 @@
 -- Reasons on which a command has to be refused, in the definitions' own terms.
 use Rattle.std.specs.Prelude.{ℕ}
 use Rattle.rw_inputs.specs.declared.fault.InputFault.{InputFault}
-use Rattle.rw_model_toml.specs.Refusal.{Refusal as Why}
+use Rattle.rw_model_toml.specs.Refusal.{ModelRefusal}
 use Rattle.rw_io.specs.Outside.{Change, Holds, ShelfView}
 use Rattle.rw_top.specs.Command.{Command}
 use Rattle.rw_top.specs.Reading.{HoldsTooLong, IsHonestUpTo, RefusesInputs, RefusesModel}
@@ -10,7 +10,7 @@ use Rattle.rw_top.specs.declared.refusal.File.TheVariants.{Model, Inputs}
 
 -- its model, its inputs, or a file that is too long
 pub data Reason : Type 0 where
-  BadModel : Why → Reason
+  BadModel : ModelRefusal → Reason
   BadInputs : InputFault → Reason
   LongFile : File → Reason
 

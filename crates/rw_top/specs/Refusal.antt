@@ -1,4 +1,4 @@
--- Why a command isn't done, and with which status the call says so.
+-- ModelRefusal a command isn't done, and with which status the call says so.
 use Rattle.std.specs.Prelude.{◌≡◌, ◌⊎◌, ℕ, ◌<◌, List, Option, option_map, None, Some, Err, ⊤}
 use Rattle.rw_io.specs.Causes.{Rose}
 use Rattle.rw_io.specs.Outside.{Change, ShelfView, SinkView}
@@ -8,7 +8,7 @@ use Rattle.rw_io.specs.declared.whole_file.ReadEnd.TheVariants.{ReadFault, TooLo
 use Rattle.rw_model.specs.Draft.{Draft}
 use Rattle.rw_model_toml.specs.Fault.{refusal_of}
 use Rattle.rw_model_toml.specs.Model.{model_of}
-use Rattle.rw_model_toml.specs.Refusal.{Refusal as Why}
+use Rattle.rw_model_toml.specs.Refusal.{ModelRefusal}
 use Rattle.rw_inputs.specs.Reading.{Refuses}
 use Rattle.rw_inputs.specs.declared.fault.InputFault.{InputFault}
 use Rattle.rw_inputs.specs.declared.fault.InputFault.TheVariants.{Refused}
@@ -83,7 +83,7 @@ Cause command shelf out why = FileCause command shelf why × (out.after.contents
 -- why the bytes of a model's file give no basin
 abbrev pub IsModelRefusal : List ℕ → Refusal → Type 0
 IsModelRefusal text why =
-    (why ≡ NoMemory) ⊎ ((bad : Why) × (reason_of why ≡ Some (BadModel bad)) × (model_of text ≡ Err bad))
+    (why ≡ NoMemory) ⊎ ((bad : ModelRefusal) × (reason_of why ≡ Some (BadModel bad)) × (model_of text ≡ Err bad))
 
 -- why the bytes of an inputs file give no inputs for the basin
 abbrev pub IsInputRefusal : Draft → List ℕ → Refusal → Type 0

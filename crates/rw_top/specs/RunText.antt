@@ -2,11 +2,11 @@
 use Rattle.std.specs.Prelude.{◌≡◌, ℕ, List}
 use Rattle.rw_model.specs.Draft.{Draft}
 use Rattle.rw_inputs.specs.Inputs.{Inputs}
-use Rattle.rw_log.specs.declared.run.RunEnd.{RunEnd}
-use Rattle.rw_log.specs.Log.{Log, cells_of}
-use Rattle.rw_log.specs.Next.{no_rules}
-use Rattle.rw_log.specs.Runs.{IsRun}
-use Rattle.rw_log.specs.RunOf.{end_of, last_closed}
+use Rattle.rw_run.specs.declared.run.RunEnd.{RunEnd}
+use Rattle.rw_run.specs.Log.{Log, cells_of}
+use Rattle.rw_run.specs.Next.{no_rules}
+use Rattle.rw_run.specs.Runs.{IsRun}
+use Rattle.rw_run.specs.RunOf.{end_of, last_closed}
 use Rattle.rw_report.specs.Section.{section_of, values_in}
 use Rattle.rw_engine.specs.Givens.{givens}
 

@@ -4,7 +4,7 @@ use Rattle.rw_inputs.specs.Inputs.{Inputs as Given}
 use Rattle.rw_io.specs.Causes.{Rose}
 use Rattle.rw_io.specs.Known.{GrowsBy, PrefixGrew}
 use Rattle.rw_io.specs.Outside.{Change, Holds, SinkView}
-use Rattle.rw_log.specs.declared.run.RunEnd.{RunEnd}
+use Rattle.rw_run.specs.declared.run.RunEnd.{RunEnd}
 use Rattle.rw_model.specs.Draft.{Draft}
 use Rattle.rw_top.specs.Command.{Command}
 use Rattle.rw_top.specs.Reading.{ReadsBoth}

@@ -1,18 +1,18 @@
 //! What the definitions of this crate speak of is one thing. Each law is the `ensures` of a function that does nothing.
 ghost use Rattle.std.specs.Prelude.{◌≡◌, ◌≢◌, ◌≤◌, ◌↔◌, ℕ, ℤ, List, Option, None};
-ghost use Rattle.rw_first.specs.FirstForm.{FirstModel, IsFirstForm, IsFirstFlows};
-ghost use Rattle.rw_first.specs.Table.{IsRunText as IsFirstText};
+ghost use Rattle.rw_plain_reservoir.specs.FirstForm.{FirstModel, IsFirstForm, IsFirstFlows};
+ghost use Rattle.rw_plain_reservoir.specs.Table.{IsFirstText};
 ghost use Rattle.rw_io.specs.Causes.{Rose};
 ghost use Rattle.rw_io.specs.Known.{GrowsBy};
-ghost use Rattle.rw_log.specs.declared.fault.RunFault.{RunFault};
-ghost use Rattle.rw_log.specs.declared.run.RunEnd.TheVariants.{Settled, Fault};
+ghost use Rattle.rw_run.specs.declared.fault.RunFault.{RunFault};
+ghost use Rattle.rw_run.specs.declared.run.RunEnd.TheVariants.{Settled, Fault};
 ghost use Rattle.rw_model.specs.Basin.{IsBasin};
 ghost use Rattle.rw_model.specs.Draft.{Draft};
 ghost use Rattle.rw_inputs.specs.declared.fault.InputFault.{InputFault};
 ghost use Rattle.rw_inputs.specs.Inputs.{Inputs, value_at};
 ghost use Rattle.rw_inputs.specs.Reading.{Reads, Refuses};
-ghost use Rattle.rw_log.specs.declared.run.RunEnd.{RunEnd};
-ghost use Rattle.rw_model_toml.specs.Refusal.{Refusal as Why};
+ghost use Rattle.rw_run.specs.declared.run.RunEnd.{RunEnd};
+ghost use Rattle.rw_model_toml.specs.Refusal.{ModelRefusal};
 ghost use Rattle.rw_top.specs.Call.{Call};
 ghost use Rattle.rw_top.specs.Command.{AskFor, AskNothing};
 ghost use Rattle.rw_top.specs.FirstCall.{IsFirstCall};
@@ -23,9 +23,9 @@ ghost use Rattle.rw_top.specs.Written.{WritesFront};
 ghost use Rattle.rw_top.specs.RunText.{IsRunText};
 ghost use Rattle.rw_top.specs.declared.refusal.File.{File};
 
-use rw_first::law::first_text;
-use rw_log::law::one_run;
 use rw_model_toml::law::files_are_basins;
+use rw_plain_reservoir::law::first_text;
+use rw_run::law::one_run;
 
 /// A text is read as inputs in one way, and isn't refused where it is read.
 pub fn one_inputs()
@@ -85,7 +85,7 @@ pub fn statuses()
     ensures write_front { (call : Call) → Promise call 4
         → AskFor call.words (λ command. WritesFront command call.shelf.before.holds call.out) }
     ensures model { (call : Call) → Promise call 6 → AskFor call.words
-        (λ command. (why : Why) × RefusesModel command call.shelf.before.holds why) }
+        (λ command. (why : ModelRefusal) × RefusesModel command call.shelf.before.holds why) }
     ensures inputs { (call : Call) → Promise call 8 → AskFor call.words
         (λ command. (fault : InputFault) × RefusesInputs command call.shelf.before.holds fault) }
     ensures too_long { (call : Call) → Promise call 10

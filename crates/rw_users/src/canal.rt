@@ -1,12 +1,12 @@
 ghost use Rattle.std.specs.Prelude.{◌≡◌, ◌≤◌, ◌-ℤ◌, ◌++◌, None};
 ghost use Rattle.rw_model.specs.declared.kind.Kind.TheVariants as Kind;
 ghost use Rattle.rw_method.specs.declared.places.TheConstants.{INFLOW, OUTFLOW};
-ghost use Rattle.rw_method.specs.Puts.{is_bounded, solved_put, seepage_put, held_after};
+ghost use Rattle.rw_method.specs.Puts.{is_bounded, solved_put, seepage_put, known_after};
 ghost use Rattle.rw_method.specs.Solve.{answer, solve_of};
 
 use rw_method::places::{INFLOW, OUTFLOW, SEEPAGE};
 use rw_method::{
-    Balanced, Given, Method, Seepage, Share, Solved, View, add_put, begin_puts, held_after, settle,
+    Balanced, Given, Method, Seepage, Share, Solved, View, add_put, begin_puts, known_after, settle,
 };
 use rw_model::Kind;
 
@@ -23,15 +23,15 @@ fn seeping(inflow: Given, outflow: Given) -> i128
 // What it answers that puts its solved flow, if one is solved, and what seeps away.
 fn put_seepage(view: &View, balanced: Balanced) -> Solved
     ensures { result ≡ answer (is_bounded view.entry.now)
-        (solved_put balanced ++ seepage_put (held_after view.entry.now balanced INFLOW)
-        (held_after view.entry.now balanced OUTFLOW)) balanced None }
+        (solved_put balanced ++ seepage_put (known_after view.entry.now balanced INFLOW)
+        (known_after view.entry.now balanced OUTFLOW)) balanced None }
 {
     let mut puts = match begin_puts(view, balanced) {
         Ok(puts) => puts,
         Err(answer) => return answer,
     };
-    let inflow = held_after(view, balanced, INFLOW);
-    let outflow = held_after(view, balanced, OUTFLOW);
+    let inflow = known_after(view, balanced, INFLOW);
+    let outflow = known_after(view, balanced, OUTFLOW);
     let seeping = seeping(inflow, outflow);
     if let Err(answer) = add_put(view, &mut puts, SEEPAGE, seeping, inflow.number) {
         return answer;

@@ -4,12 +4,12 @@ ghost use Rattle.rw_method.specs.declared.places.TheConstants.{DIVERSION};
 ghost use Rattle.rw_method.specs.Term.{IsWithin, per_mille};
 ghost use Rattle.rw_method.specs.View.{known_value};
 ghost use Rattle.rw_model.specs.declared.kind.Kind.TheVariants as Kind;
-ghost use Rattle.rw_method.specs.Puts.{is_bounded, solved_put, user_puts, held_after};
+ghost use Rattle.rw_method.specs.Puts.{is_bounded, solved_put, user_puts, known_after};
 ghost use Rattle.rw_method.specs.Solve.{answer, balanced_of, solve_of};
 
 use rw_method::places::{DEPLETION, DIVERSION, DIVERSION_REQUEST, RETURN_FLOW};
 use rw_method::{
-    Balanced, Given, Method, Share, Solved, View, add_put, begin_puts, held_after, per_mille,
+    Balanced, Given, Method, Share, Solved, View, add_put, begin_puts, known_after, per_mille,
     settle,
 };
 use rw_model::{Kind, Supply};
@@ -59,13 +59,13 @@ fn balanced_by(view: &View, supply: Supply) -> Balanced
 fn put_uses(view: &View, depletion: u16, balanced: Balanced) -> Solved
     ensures { result ≡ answer (is_bounded view.entry.now)
         (solved_put balanced
-        ++ user_puts depletion (held_after view.entry.now balanced DIVERSION)) balanced None }
+        ++ user_puts depletion (known_after view.entry.now balanced DIVERSION)) balanced None }
 {
     let mut puts = match begin_puts(view, balanced) {
         Ok(puts) => puts,
         Err(answer) => return answer,
     };
-    let diversion = held_after(view, balanced, DIVERSION);
+    let diversion = known_after(view, balanced, DIVERSION);
     let used = used_up(diversion, depletion);
     if let Err(answer) = add_put(view, &mut puts, DEPLETION, used, diversion.number) {
         return answer;

@@ -1,6 +1,6 @@
 use Rattle.std.proofs.Common.{take}
 use Rattle.rw_model.specs.Kept.{numbers_of}
-use Rattle.rw_log.specs.Waiting.{is_owner}
+use Rattle.rw_run.specs.Waiting.{is_owner}
 use Rattle.rw_dispatch.proofs.Owning.{slot-more}
 use Rattle.rw_dispatch.proofs.owners.nearest.Goals as goal
 

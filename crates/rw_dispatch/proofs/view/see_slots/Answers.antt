@@ -1,6 +1,6 @@
 use Rattle.std.specs.Prelude.{pos, None}
 use Rattle.rw_series.specs.Series.{held}
-use Rattle.rw_log.specs.Dispatch.{bounds_in_place, content_in}
+use Rattle.rw_run.specs.Dispatch.{bounds_in_place, content_in}
 use Rattle.rw_dispatch.proofs.Filling.{filled-more}
 use Rattle.rw_dispatch.proofs.view.see_slots.Goals as goal
 

@@ -1,7 +1,7 @@
 use Rattle.std.proofs.Common.{◌≡◌}
 use Rattle.std.specs.Prelude.{pos, None}
 use Rattle.rw_series.specs.Series.{held}
-use Rattle.rw_log.specs.Dispatch.{bounds_in_place, content_in}
+use Rattle.rw_run.specs.Dispatch.{bounds_in_place, content_in}
 use Rattle.rw_dispatch.proofs.Filling.{filled}
 use Rattle.rw_dispatch.proofs.view.see_slots.Given as goal
 

@@ -3,8 +3,8 @@ use Rattle.std.specs.Prelude.{take}
 use Rattle.rw_base.specs.declared.number.SlotNo.{SlotNo}
 use Rattle.rw_model.specs.Draft.{IsSlot}
 use Rattle.rw_model.specs.Kept.{numbers_of}
-use Rattle.rw_log.specs.Waiting.{slots_at}
-use Rattle.rw_log.specs.Dispatch.{asked_for}
+use Rattle.rw_run.specs.Waiting.{slots_at}
+use Rattle.rw_run.specs.Dispatch.{asked_for}
 use Rattle.rw_dispatch.proofs.written.slots_of.Given as goal
 
 abbrev pub invariant-loop-place : goal.invariant-loop-place

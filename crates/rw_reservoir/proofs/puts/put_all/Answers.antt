@@ -1,7 +1,7 @@
 use Rattle.std.proofs.Common.{sym}
 use Rattle.rw_method.specs.declared.places.TheConstants.{OUTFLOW, POOL_ELEVATION, STORAGE}
 use Rattle.rw_method.specs.View.{given}
-use Rattle.rw_method.specs.Puts.{solved_put, level_puts, evaporation_put, release_puts, held_after}
+use Rattle.rw_method.specs.Puts.{solved_put, level_puts, evaporation_put, release_puts, known_after}
 use Rattle.rw_reservoir.specs.Asking.{can_get}
 use Rattle.rw_reservoir.proofs.Misfits.{refused_in_front, refused_behind, four_fit}
 use Rattle.rw_reservoir.proofs.puts.put_all.Goals as goal
@@ -12,7 +12,7 @@ returns-in-Err c =
     let view = c.args.view.now in
     let balanced = c.args.balanced in
     sym (refused_in_front (can_get table view) (solved_put balanced) (level_puts table (given view STORAGE) (given view POOL_ELEVATION) balanced)
-    (evaporation_put c.args.evaporation c.args.evaporated) (release_puts c.args.max_release (held_after view balanced OUTFLOW))
+    (evaporation_put c.args.evaporation c.args.evaporated) (release_puts c.args.max_release (known_after view balanced OUTFLOW))
     c.in-Err.answer c.in-Err.ensures.asks.refused)
 
 pub returns-in-Ok-ask_derived : goal.returns-in-Ok-ask_derived

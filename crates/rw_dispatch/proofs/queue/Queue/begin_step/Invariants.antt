@@ -1,6 +1,6 @@
 use Rattle.std.proofs.Common.{◌≡◌, ℕ, not, length}
 use Rattle.std.specs.List.{filter}
-use Rattle.rw_log.specs.Waiting.{is_data, numbers}
+use Rattle.rw_run.specs.Waiting.{is_data, numbers}
 use Rattle.rw_dispatch.proofs.queue.Queue.begin_step.Given as goal
 
 abbrev pub invariant-loop : goal.invariant-loop

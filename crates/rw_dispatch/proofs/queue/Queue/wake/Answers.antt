@@ -2,7 +2,7 @@ use Rattle.std.proofs.Common.{rules, ◌∙◌, ap, length}
 use Rattle.std.specs.Prelude.{option_map}
 use Rattle.rw_base.specs.declared.number.ObjectNo.{ObjectNo}
 use Rattle.rw_model.specs.Kept.{numbers_of}
-use Rattle.rw_log.specs.Waiting.{is_woken}
+use Rattle.rw_run.specs.Waiting.{is_woken}
 use Rattle.rw_dispatch.proofs.Queues.{woken-later, woken-free, woken-unowned, next_passed, none_left}
 use Rattle.rw_dispatch.proofs.queue.Queue.wake.Goals as goal
 

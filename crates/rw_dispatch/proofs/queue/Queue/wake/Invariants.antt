@@ -3,7 +3,7 @@ use Rattle.std.specs.Prelude.{option_map}
 use Rattle.std.specs.List.{filter}
 use Rattle.rw_base.specs.declared.number.ObjectNo.{ObjectNo}
 use Rattle.rw_model.specs.Kept.{numbers_of}
-use Rattle.rw_log.specs.Waiting.{is_woken, numbers}
+use Rattle.rw_run.specs.Waiting.{is_woken, numbers}
 use Rattle.rw_dispatch.proofs.queue.Queue.wake.Given as goal
 
 abbrev pub invariant-loop-owner : goal.invariant-loop-owner

@@ -1,7 +1,7 @@
 use Rattle.std.proofs.Common.{sym, refl}
 use Rattle.std.specs.List.{range_with_len}
 use Rattle.rw_series.specs.Series.{held}
-use Rattle.rw_log.specs.Dispatch.{dispatched, looks_of}
+use Rattle.rw_run.specs.Dispatch.{dispatched, looks_of}
 use Rattle.rw_engine.proofs.After.{counted, keeps_noted, keeps_done, keeps_ended, on_the_way}
 use Rattle.rw_engine.proofs.Events.{next_is, goes_to}
 use Rattle.rw_engine.proofs.state.State.act.Goals as goal

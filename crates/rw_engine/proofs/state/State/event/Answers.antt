@@ -1,6 +1,6 @@
 use Rattle.std.proofs.Common.{◌≡◌, ◌∙◌, false}
 use Rattle.std.proofs.lemmas.List.Elements.{All-rest}
-use Rattle.rw_log.specs.Waiting.{is_data}
+use Rattle.rw_run.specs.Waiting.{is_data}
 use Rattle.rw_engine.proofs.state.State.event.Goals as goal
 
 pub ask-requires-clause-within : goal.ask-requires-clause-within

@@ -1,5 +1,5 @@
 use Rattle.std.proofs.Common.{◌∷◌}
-use Rattle.rw_log.specs.Log.{Log, opened}
+use Rattle.rw_run.specs.Log.{Log, opened}
 use Rattle.rw_engine.specs.Counts.{room}
 use Rattle.rw_engine.specs.Shows.{Shows, IsBefore}
 use Rattle.rw_engine.specs.State.{seen, IsRevocable, IsStill, IsWithinStep, Reached}

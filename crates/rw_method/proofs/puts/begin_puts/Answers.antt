@@ -1,0 +1,29 @@
+use Rattle.std.proofs.Common.{◌≡◌, ◌∙◌, refl, arith, rules, ℕ, ℤ, Bool, false, List, ◌++◌, None, FitsSigned}
+use Rattle.std.specs.Int.{w128}
+use Rattle.std.proofs.lemmas.Int.{to_z-of_z}
+use Rattle.std.specs.List.{All}
+use Rattle.rw_method.specs.declared.put.Put.{Put}
+use Rattle.rw_method.specs.declared.view.View.{View}
+use Rattle.rw_method.specs.declared.balanced.Balanced.{Balanced}
+use Rattle.rw_method.specs.declared.balanced.Balanced.TheVariants.{Solves}
+use Rattle.rw_method.specs.declared.solved.Solved.TheVariants.{OutOfRange}
+use Rattle.rw_method.specs.Puts.{put, is_bounded, solved_put}
+use Rattle.rw_method.specs.Solve.{answer}
+use Rattle.rw_method.proofs.puts.begin_puts.Goals as goal
+
+-- a solved term that doesn't fit is the answer, whatever else would be put
+solved_misfit : (view : View) (balanced : Balanced) (place : ℕ) (value : ℤ) (number : ℕ) (fit : Put → Bool) (more : List Put)
+    → balanced ≡ Solves place value number → is_bounded view (put place value number) ≡ false
+    → All (λ p. fit p ≡ is_bounded view p) (solved_put balanced)
+    → OutOfRange place value ≡ answer fit (solved_put balanced ++ more) balanced None
+solved_misfit view balanced place value number fit more is misfit same =
+    rw is rw ((rw is at same) 0 (put place value number) (omega arith) ∙ misfit) refl
+
+pub returns-in-Err-clause-err : goal.returns-in-Err-clause-err
+returns-in-Err-clause-err c fit more same =
+    let fits : FitsSigned w128 c.in-Solves.value = search rules in
+    let ended = simp (to_z-of_z w128 _ fits) at c.in-Err.ensures.err in
+    let accepted = simp (to_z-of_z w128 _ fits) at c.in-Err.ensures.fits in
+    let misfit : is_bounded c.args.view.now (put c.in-Solves.place c.in-Solves.value c.in-Solves.number) ≡ false = grind (arith, accepted) in
+    ended ∙ solved_misfit c.args.view.now c.args.balanced c.in-Solves.place c.in-Solves.value c.in-Solves.number fit more
+    c.in-Solves.is misfit same

@@ -1,0 +1,153 @@
+ghost use Rattle.std.specs.Prelude.{◌≡◌, ◌<◌, Bool, List, [], ◌∷◌, ◌++◌, length, None, IsTrue, IsOk, ◌↔◌, OnOk, OnErr, IfOk, IfErr};
+ghost use Rattle.rw_method.specs.declared.solved.Solved.TheVariants as Solved;
+ghost use Rattle.rw_model.specs.Slot.{all_quantities};
+ghost use Rattle.rw_method.specs.View.{bounds_at, is_between};
+ghost use Rattle.std.specs.List.{All};
+ghost use Rattle.rw_method.specs.Puts.{put, is_bounded, solved_put, held_by, known_after};
+ghost use Rattle.rw_method.specs.Solve.{AllFit, answer_of_puts, answer};
+ghost use Rattle.rw_method.specs.declared.put.Put.{Put};
+
+use crate::{Balanced, Given, Put, PutList, Solved, View};
+use rw_base::{QUANTITY_MAX, Qty};
+use rw_model::Content;
+
+fn is_between(low: i64, high: i64, value: i128) -> bool
+    ensures { result ≡ is_between (low, high) value }
+{
+    i128::from(low) <= value && value <= i128::from(high)
+}
+
+fn bounds_at(view: &View, place: u8) -> (i64, i64)
+    ensures { result ≡ bounds_at view.entry.now place }
+{
+    match view.bounds.get(usize::from(place)) {
+        Some(bounds) => *bounds,
+        None => (0, 0),
+    }
+}
+
+// Whether the slot in a place can have the value.
+fn is_bounded(view: &View, place: u8, value: i128) -> bool
+    ensures { result ≡ is_bounded view.entry.now (put place value 0) }
+{
+    let (low, high) = bounds_at(view, place);
+    is_between(low, high, value) && is_between(-QUANTITY_MAX, QUANTITY_MAX, value)
+}
+
+// The quantity of this value.
+fn quantity(value: i128) -> Qty
+    requires { IsTrue (is_between all_quantities value) }
+    ensures { result ≡ value }
+{
+    match Qty::of(value as i64) {
+        Some(quantity) => quantity,
+        None => unreachable!(),
+    }
+}
+
+/// Adds a put where its slot can have the value; otherwise that is the answer.
+pub fn add_put(
+    view: &View,
+    puts: &mut PutList,
+    place: u8,
+    value: i128,
+    number: u16,
+) -> Result<(), Solved>
+    requires { length puts.old < 8 }
+    ensures fits { IsOk result ↔ IsTrue (is_bounded view.entry.now (put place value number)) }
+    ensures ok { OnOk result (puts.new ≡ puts.old ++ put place value number ∷ []) }
+    ensures err { IfErr result (λ answer. answer ≡ Solved.OutOfRange place value) }
+    ensures unchanged { OnErr result (puts.new ≡ puts.old) }
+{
+    if !is_bounded(view, place, value) {
+        return Err(Solved::OutOfRange { place, value });
+    }
+    let value = quantity(value);
+    puts.push(Put {
+        place,
+        value,
+        number,
+    });
+    Ok(())
+}
+
+/// The puts that an answer begins with: the solved term, if one is solved. Otherwise that is the answer: too little is
+/// known, the terms conflict, or the slot of the solved term can't have its value.
+pub fn begin_puts(view: &View, balanced: Balanced) -> Result<PutList, Solved>
+    ensures ok { IfOk result (λ puts. puts ≡ solved_put balanced) }
+    ensures fits { IsOk result → AllFit (is_bounded view.entry.now) (solved_put balanced) }
+    ensures open { IsOk result → (fit : Put → Bool) (puts : List Put) → answer fit puts balanced None ≡ answer_of_puts fit puts }
+    ensures err { IfErr result (λ ended. (fit : Put → Bool) (more : List Put)
+        → All (λ put. fit put ≡ is_bounded view.entry.now put) (solved_put balanced)
+        → ended ≡ answer fit (solved_put balanced ++ more) balanced None) }
+{
+    let mut puts = PutList::none();
+    match balanced {
+        Balanced::Idle => return Err(Solved::Idle),
+        Balanced::Conflicts {
+            place,
+            held,
+            solved,
+        } => {
+            return Err(Solved::Conflict {
+                place,
+                held,
+                solved,
+            });
+        }
+        Balanced::Holds => {}
+        Balanced::Solves {
+            place,
+            value,
+            number,
+        } => {
+            if let Err(answer) = add_put(view, &mut puts, place, value, number) {
+                return Err(answer);
+            }
+        }
+    }
+    Ok(puts)
+}
+
+/// What an object answers that puts the solved term and nothing else.
+pub fn put_solved(view: &View, balanced: Balanced) -> Solved
+    ensures { result ≡ answer (is_bounded view.entry.now) (solved_put balanced) balanced None }
+{
+    match begin_puts(view, balanced) {
+        Ok(puts) => Solved::Puts(puts),
+        Err(answer) => answer,
+    }
+}
+
+fn held_by(content: Option<Content>) -> Given
+    ensures { result ≡ held_by content }
+{
+    match content {
+        Some(content) => Given {
+            value: content.value.get(),
+            number: content.number,
+        },
+        None => Given {
+            value: 0,
+            number: 0,
+        },
+    }
+}
+
+/// What a place holds once the balance is settled: what was just solved, or what is known, and 0 where nothing is.
+pub fn known_after(view: &View, balanced: Balanced, place: u8) -> Given
+    requires { AllFit (is_bounded view.now) (solved_put balanced) }
+    ensures { result ≡ known_after view.entry.now balanced place }
+{
+    match balanced {
+        Balanced::Solves {
+            place: solved,
+            value,
+            number,
+        } if solved == place => Given {
+            value: quantity(value).get(),
+            number,
+        },
+        _ => held_by(view.known(place)),
+    }
+}

@@ -1,0 +1,36 @@
+-- A basin is in the first form in one way.
+use Rattle.std.proofs.Common.{◌≡◌, ℕ, List, [], ◌∷◌, Option, Some, None, ap, sym, ◌∙◌, ℤ}
+use Rattle.rw_model.specs.declared.kind.Kind.{Kind}
+use Rattle.rw_model.specs.declared.kind.Kind.TheVariants.{DataObject, Gage, Confluence, Bifurcation, Reach, Reservoir, WaterUser, Canal}
+use Rattle.rw_model.specs.Objects.{Object}
+use Rattle.rw_model.specs.Draft.{Draft}
+use Rattle.rw_plain_reservoir.specs.FirstForm.{plain_reservoir, FirstModel, IsFirstForm}
+
+abbrev name_in : List Object → List ℕ
+name_in [] = []
+name_in (object ∷ objects) = object.name
+
+abbrev initial_of : Kind → Option ℤ
+initial_of (DataObject slots) = None
+initial_of Gage = None
+initial_of Confluence = None
+initial_of Bifurcation = None
+initial_of (Reach lag history local_inflow diversion return_flow) = None
+initial_of (Reservoir initial_storage table local_inflow diversion return_flow evaporation max_release) = Some initial_storage
+initial_of (WaterUser depletion supply) = None
+initial_of (Canal seepage) = None
+
+abbrev storage_in : List Object → Option ℤ
+storage_in [] = None
+storage_in (object ∷ objects) = initial_of object.kind
+
+pub one_model : (basin : Draft) (model other : FirstModel) → IsFirstForm basin model → IsFirstForm basin other → model ≡ other
+one_model basin model other h k =
+    let same : plain_reservoir model.name model.initial ∷ [] ≡ plain_reservoir other.name other.initial ∷ [] = sym h.alone ∙ k.alone in
+    let name : model.name ≡ other.name = ap name_in same in
+    let some : Some model.initial ≡ Some other.initial = ap storage_in same in
+    let initial : model.initial ≡ other.initial = cc in
+    let run : model.run ≡ other.run = sym h.run ∙ k.run in
+    ap (λ n. record { name = n; initial = model.initial; run = model.run }) name
+    ∙ ap (λ i. record { name = other.name; initial = i; run = model.run }) initial
+    ∙ ap (λ r. record { name = other.name; initial = other.initial; run = r }) run

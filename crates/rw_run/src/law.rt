@@ -1,0 +1,167 @@
+//! What the definitions of this crate come to in plain words. Each law is the `ensures` of a function that does
+//! nothing.
+ghost use Rattle.std.specs.Option.{option_or};
+ghost use Rattle.std.specs.Prelude.{◌≡◌, ◌↔◌, ◌<◌, ◌≤◌, ◌+◌, ℕ, ℤ, Bool, IsTrue, IsFalse, List, [], ◌∷◌, ◌++◌, Option, None, Some};
+ghost use Rattle.rw_base.specs.declared.number.Cell.{Cell};
+ghost use Rattle.rw_model.specs.Draft.{Draft};
+ghost use Rattle.rw_series.specs.Series.{is_shared};
+ghost use Rattle.rw_series.specs.declared.look.Look.{Look};
+ghost use Rattle.rw_run.specs.declared.fault.RunFault.{RunFault};
+ghost use Rattle.rw_run.specs.Log.{Asked, Cells, Dispatch, Event, Firing, Log, given, opened, closed, idle, solved, fired, fault, cells_of, input_content, last_put, written_by};
+ghost use Rattle.rw_run.specs.Waiting.{all_waiting, since, slots_at, waiting, woken};
+ghost use Rattle.rw_run.specs.Since.{WaitsSince};
+ghost use Rattle.rw_run.specs.Next.{Policy, no_rules};
+ghost use Rattle.rw_run.specs.Policy.{FireAlike, IsPolicyOf};
+ghost use Rattle.rw_run.specs.Runs.{IsRun, Leads, follows, placed};
+ghost use Rattle.rw_run.specs.Choice.{MayFollow, MayLead};
+ghost use Rattle.rw_run.specs.Step.{before_closing, before_opening, cell_count, events_of, line_count, looked_at};
+ghost use Rattle.rw_run.specs.Worked.{ahead, ahead_run, basin_of, counted, counted_run, divided, divided_run, five, first_of_ahead, followed, followed_run, given_run, outranked, outranked_run, put_twice, put_twice_run, raised, raised_run, three};
+ghost use Rattle.rw_model.specs.declared.control.AgendaOrder.TheVariants.{HighFirst, LowFirst};
+ghost use Rattle.rw_run.specs.Frame.{AreAlike, FollowInStep, IsFramed, IsStepFrom, looked_in, log_after};
+ghost use Rattle.rw_run.specs.Index.{IsIndex, MarksTouched};
+
+/// A cell holds what was last put to a cell that shares its value with it.
+pub fn cells_after()
+    ensures given { (basin : Draft) (log : Log) (cell other : Cell) (value : ℤ)
+        → IsTrue (is_shared basin cell other)
+        → cells_of basin (given cell value ∷ log) other ≡ Some (input_content value) }
+    ensures last { (basin : Draft) (puts : List Asked) (put : Asked) (cell : Cell)
+        → IsTrue (is_shared basin put.cell cell)
+        → last_put basin (puts ++ put ∷ []) cell ≡ Some put.content }
+    ensures earlier { (basin : Draft) (puts : List Asked) (put : Asked) (cell : Cell)
+        → IsFalse (is_shared basin put.cell cell)
+        → last_put basin (puts ++ put ∷ []) cell ≡ last_put basin puts cell }
+    ensures kept { (basin : Draft) (log : Log) (event : Event) (cell : Cell) → written_by event ≡ []
+        → cells_of basin (event ∷ log) cell ≡ cells_of basin log cell }
+{}
+
+/// One timestep after another is opened, the first one after the inputs. After the last one nothing follows, nor after a
+/// fault.
+pub fn timesteps()
+    ensures first { (basin : Draft) (policy : Policy) (log : Log) (cell : Cell) (value : ℤ)
+        → 1 ≤ basin.control.stamps.count
+        → follows basin policy (given cell value ∷ log) ≡ Some (opened 1) }
+    ensures next { (basin : Draft) (policy : Policy) (log : Log) (step : ℕ)
+        → step < basin.control.stamps.count
+        → follows basin policy (closed step ∷ log) ≡ Some (opened (step + 1)) }
+    ensures last { (basin : Draft) (policy : Policy) (log : Log) (step : ℕ)
+        → basin.control.stamps.count ≤ step → follows basin policy (closed step ∷ log) ≡ None }
+    ensures fault { (basin : Draft) (policy : Policy) (log : Log) (why : RunFault)
+        → follows basin policy (fault why ∷ log) ≡ None }
+{}
+
+/// A basin, a policy and inputs have one run.
+pub fn one_run()
+    ensures { (basin : Draft) (policy : Policy) (inputs : List (Cell × ℤ)) (log other : Log)
+        → IsRun basin policy inputs log → IsRun basin policy inputs other → log ≡ other }
+{}
+
+/// A policy that keeps its promises has a run: no event is without a next one, and limits end each timestep. That of no rules
+/// promises nothing that it could break.
+pub fn some_run()
+    ensures exists { (basin : Draft) (policy : Policy) (inputs : List (Cell × ℤ))
+        → IsPolicyOf basin policy → (log : Log) × IsRun basin policy inputs log }
+    ensures no_rules { (basin : Draft) → IsPolicyOf basin no_rules }
+{}
+
+/// Policies of as many rules that do the same have the same runs, and so have all policies without rules.
+pub fn same_runs()
+    ensures alike { (basin : Draft) (one other : Policy) (inputs : List (Cell × ℤ)) (log : Log)
+        → FireAlike one other → IsRun basin one inputs log → IsRun basin other inputs log }
+    ensures no_rules { (other : Policy) → other.rules ≡ 0 → FireAlike no_rules other }
+{}
+
+/// Where any object that waits may be dispatched next, the one that has waited longest is such a one.
+pub fn choices()
+    ensures event { (basin : Draft) (policy : Policy) (log : Log) (event : Event)
+        → follows basin policy log ≡ Some event → MayFollow basin policy log event }
+    ensures events { (basin : Draft) (policy : Policy) (old : Log) (events : List Event) (new : Log)
+        → Leads basin policy old events new → MayLead basin policy old events new }
+{}
+
+/// Small runs of rules, each worked out by hand, come out of the definitions: on the agenda, on rules that fire again, on their
+/// limit, on puts that are denied, left out, or a day ahead.
+pub fn worked_runs()
+    ensures raised { IsRun (basin_of HighFirst 1) raised [] (log_after raised_run []) }
+    ensures counted { IsRun (basin_of LowFirst 1) counted [] (log_after counted_run []) }
+    ensures followed { IsRun (basin_of HighFirst 1) followed [] (log_after followed_run []) }
+    ensures outranked { IsRun (basin_of HighFirst 1) outranked [] (log_after outranked_run []) }
+    ensures divided { IsRun (basin_of HighFirst 2) divided three
+        (log_after divided_run (placed [] three)) }
+    ensures ahead { IsRun (basin_of HighFirst 3) ahead [] (log_after ahead_run []) }
+    ensures put_twice { IsRun (basin_of HighFirst 1) put_twice [] (log_after put_twice_run []) }
+    ensures given { IsRun (basin_of HighFirst 1) put_twice five
+        (log_after given_run (placed [] five)) }
+{}
+
+/// What is said of a timestep within a log comes to this in two of them: what stood before it, how many cells it looked at
+/// or reached, and how many lines it has.
+pub fn worked_timesteps()
+    ensures opening { before_opening 1 (log_after raised_run []) ≡ Some [] }
+    ensures whole { events_of 1 (log_after raised_run []) ≡ log_after raised_run [] }
+    ensures closing { before_closing 1 (log_after ahead_run [])
+        ≡ Some (log_after first_of_ahead []) }
+    ensures open { before_closing 1 (log_after counted_run []) ≡ None }
+    ensures cells { cell_count (looked_at (basin_of HighFirst 1) 1 (log_after raised_run [])) ≡ 1 }
+    ensures both { cell_count (looked_at (basin_of HighFirst 1) 1 (log_after followed_run [])) ≡ 2 }
+    ensures lines { line_count 1 (log_after raised_run []) ≡ 8 }
+{}
+
+/// Which objects wait after an event, by those that waited before it. A timestep begins with all but the data objects. A
+/// dispatch takes its object out, wherever that stands. What is written puts others at the end, in order of number: each
+/// that owns a slot which it reaches and doesn't wait already, but no data object and not the one that wrote it.
+pub fn waiting_after()
+    ensures opened { (basin : Draft) (log : Log) (step : ℕ)
+        → waiting basin (opened step ∷ log) ≡ all_waiting basin }
+    ensures idle { (basin : Draft) (log : Log) (object step : ℕ) (looked : List Look)
+        (before after : List ℕ)
+        → waiting basin log ≡ before ++ object ∷ after
+        → waiting basin (idle object step looked ∷ log) ≡ before ++ after }
+    ensures solved { (basin : Draft) (log : Log) (dispatch : Dispatch) (before after : List ℕ)
+        → waiting basin log ≡ before ++ dispatch.object ∷ after
+        → waiting basin (solved dispatch ∷ log) ≡ (before ++ after)
+        ++ woken basin (Some dispatch.object) (before ++ after)
+        (slots_at dispatch.step dispatch.written) }
+    ensures fired { (basin : Draft) (log : Log) (firing : Firing)
+        → waiting basin (fired firing ∷ log) ≡ waiting basin log
+        ++ woken basin None (waiting basin log) (slots_at firing.step firing.written) }
+    ensures closed { (basin : Draft) (log : Log) (step : ℕ)
+        → waiting basin (closed step ∷ log) ≡ waiting basin log }
+    ensures given { (basin : Draft) (log : Log) (cell : Cell) (value : ℤ)
+        → waiting basin (given cell value ∷ log) ≡ waiting basin log }
+    ensures fault { (basin : Draft) (log : Log) (why : RunFault)
+        → waiting basin (fault why ∷ log) ≡ waiting basin log }
+{}
+
+/// An object waits since the first event that wakes it, from the opening of the timestep on, and after its last dispatch.
+pub fn since_is()
+    ensures { (basin : Draft) (log : Log) (object place : ℕ)
+        → (since basin log object ≡ Some place) ↔ WaitsSince basin log object place }
+{}
+
+/// Where the cells at which a timestep's events look are alike before it, the same events follow.
+pub fn frame()
+    ensures { (basin : Draft) (policy : Policy) (step : ℕ) (old other : Log) (events : List Event)
+        → IsFramed policy → FollowInStep basin policy step (opened step ∷ old) events
+        → AreAlike (cells_of basin old) (cells_of basin other) (looked_in events)
+        → FollowInStep basin policy step (opened step ∷ other) events }
+{}
+
+/// The events of a timestep that was closed lead on in another run, where the cells at which they look are alike.
+pub fn reuse()
+    ensures { (basin : Draft) (policy : Policy) (step : ℕ) (old other end : Log)
+        (first : Event) (events : List Event)
+        → IsFramed policy → IsStepFrom step first events
+        → Leads basin policy (opened step ∷ old) (first ∷ events) end
+        → AreAlike (cells_of basin old) (cells_of basin other) (looked_in (first ∷ events))
+        → Leads basin policy (opened step ∷ other) (first ∷ events)
+        (log_after (first ∷ events) (opened step ∷ other)) }
+{}
+
+/// Where each rule is marked whose last looks the puts touch, a rule without a mark still isn't due.
+pub fn index()
+    ensures { (basin : Draft) (cells : Cells) (puts : List Asked)
+        (looked : ℕ → Option (List Look)) (was_marked is_marked : ℕ → Bool)
+        → MarksTouched basin puts looked was_marked is_marked → IsIndex cells looked was_marked
+        → IsIndex (λ cell. option_or (last_put basin puts cell) (cells cell)) looked is_marked }
+{}

@@ -1,0 +1,87 @@
+ghost use Rattle.std.specs.Prelude.{◌≡◌, IfOk};
+ghost use Rattle.rw_run.specs.Line.{event_of};
+
+use crate::{RunFault, TraceEvent};
+use rw_base::{NoMemory, ObjectNo, Qty, RuleNo, SlotNo, StepNo};
+use rw_model::{Content, Writer};
+use std::alloc::Global;
+
+/// How a line of a trace is kept: small, since a run has some lines for each of its cells, and one fault at most.
+#[derive(Drop)]
+pub enum Line {
+    Opened(StepNo),
+    Idle(ObjectNo),
+    Solve(ObjectNo),
+    Fire {
+        done: bool,
+        rule: RuleNo,
+        count: u64,
+    },
+    Written {
+        slot: SlotNo,
+        step: StepNo,
+        number: u16,
+        writer: Writer,
+        value: Qty,
+    },
+    Closed(StepNo),
+    Fault(Box<RunFault>),
+}
+
+/// The line of an event.
+pub fn line_of(alloc: Global, event: TraceEvent) -> Result<Line, NoMemory>
+    ensures { IfOk result (λ line. event_of line ≡ event) }
+{
+    Ok(match event {
+        TraceEvent::Opened(step) => Line::Opened(step),
+        TraceEvent::Idle(object) => Line::Idle(object),
+        TraceEvent::Solve(object) => Line::Solve(object),
+        TraceEvent::Fire { rule, done, count } => Line::Fire { done, rule, count },
+        TraceEvent::Written {
+            slot,
+            step,
+            content,
+        } => Line::Written {
+            slot,
+            step,
+            number: content.number,
+            writer: content.writer,
+            value: content.value,
+        },
+        TraceEvent::Closed(step) => Line::Closed(step),
+        TraceEvent::Fault(fault) => Line::Fault(Box::new(alloc, fault)?),
+    })
+}
+
+/// The event that a line tells.
+pub fn event_of(line: &Line) -> TraceEvent
+    ensures { result ≡ event_of line.now }
+{
+    match line {
+        Line::Opened(step) => TraceEvent::Opened(*step),
+        Line::Idle(object) => TraceEvent::Idle(*object),
+        Line::Solve(object) => TraceEvent::Solve(*object),
+        Line::Fire { done, rule, count } => TraceEvent::Fire {
+            rule: *rule,
+            done: *done,
+            count: *count,
+        },
+        Line::Written {
+            slot,
+            step,
+            number,
+            writer,
+            value,
+        } => TraceEvent::Written {
+            slot: *slot,
+            step: *step,
+            content: Content {
+                value: *value,
+                number: *number,
+                writer: *writer,
+            },
+        },
+        Line::Closed(step) => TraceEvent::Closed(*step),
+        Line::Fault(fault) => TraceEvent::Fault(**fault),
+    }
+}
