@@ -1,5 +1,6 @@
 -- The stamps of timesteps: where each step begins and ends, and how a moment is written.
 use Rattle.std.specs.Prelude.{◌≡◌, ℕ, zero, suc, ◌+◌, ◌-◌, ◌/◌, ◌%◌, ◌<◌, ◌≤◌, nat_lt, if◌then◌else◌, List, [], ◌∷◌, ◌++◌, length, slice_index_or, codes, Option, Some, None, Result}
+use Rattle.rw_calendar.specs.declared.limits.TheConstants.{STEPS_MAX}
 use Rattle.rw_base.specs.Answers.{unless_refused}
 use Rattle.rw_calendar.specs.declared.fault.CalFault.{CalFault}
 use Rattle.rw_calendar.specs.declared.fault.CalFault.TheVariants.{BadStart, NotFirstOfMonth, BeyondYears, NoMemory}
@@ -32,7 +33,7 @@ timesteps_of start length steps = record { start = moment_of start; step_length 
 -- written with
 pub record AreTimesteps (run : Timesteps) : Type 0 where
   pub some : 1 ≤ run.count
-  pub few : run.count ≤ 4096
+  pub few : run.count ≤ STEPS_MAX
   pub dated : (k : ℕ) → k ≤ run.count → IsDated (moment_after run.start run.step_length k)
 
 -- the last step ends past year 9999

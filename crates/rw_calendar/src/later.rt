@@ -1,3 +1,4 @@
+ghost use Rattle.rw_calendar.specs.declared.limits.TheConstants.{STEPS_MAX};
 ghost use Rattle.std.specs.Prelude.{◌≡◌, ◌↔◌, ◌<◌, ◌≤◌, IsTrue, MatchOption};
 ghost use Rattle.rw_calendar.specs.Clock.{moment_at, IsOnTheHour, ShowsMoment};
 ghost use Rattle.rw_calendar.specs.Moment.{IsDated, hours_later, months_later};
@@ -36,7 +37,7 @@ fn after_months(start: DateTime, months: u16) -> Option<DateTime>
     requires sharp { IsOnTheHour start }
     requires first { start.date.day ≡ 1 }
     requires midnight { start.time.hour ≡ 0 }
-    requires few { months ≤ 4096 }
+    requires few { months ≤ STEPS_MAX }
     ensures { MatchOption result (9999 < (months_later (moment_at start) months).year)
         (λ dt. ShowsMoment dt (months_later (moment_at start) months)) }
 {
@@ -48,7 +49,7 @@ fn after_steps(start: DateTime, length: StepLength, steps: u16) -> Option<DateTi
     requires sharp { IsOnTheHour start }
     requires length { IsStepLength length }
     requires begin { CanBegin length (moment_at start) }
-    requires few { steps ≤ 4096 }
+    requires few { steps ≤ STEPS_MAX }
     ensures { MatchOption result (9999 < (moment_after (moment_at start) length steps).year)
         (λ dt. ShowsMoment dt (moment_after (moment_at start) length steps)) }
 {
@@ -77,7 +78,7 @@ pub(crate) fn after(start: DateTime, length: StepLength, steps: u16) -> Option<M
     requires sharp { IsOnTheHour start }
     requires length { IsStepLength length }
     requires begin { CanBegin length (moment_at start) }
-    requires few { steps ≤ 4096 }
+    requires few { steps ≤ STEPS_MAX }
     ensures { MatchOption result (9999 < (moment_after (moment_at start) length steps).year)
         (λ later. IsMomentAfter (moment_at start) length steps later) }
 {

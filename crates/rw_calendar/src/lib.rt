@@ -5,12 +5,14 @@
 mod fault;
 mod later;
 pub mod law;
+mod limits;
 mod moment;
 mod stamps;
 mod start;
 mod step_length;
 
 pub use fault::CalFault;
+pub use limits::STEPS_MAX;
 pub use moment::Moment;
 pub use stamps::Stamps;
 pub use start::Start;

@@ -1,3 +1,4 @@
+ghost use Rattle.rw_calendar.specs.declared.limits.TheConstants.{STEPS_MAX};
 ghost use Rattle.std.specs.Prelude.{◌≡◌, ◌↔◌, ◌+◌, ◌<◌, ◌≤◌, pos, unsigned_abs, OnOk, IfOk, IsErrOf, string_bytes};
 ghost use Rattle.std.specs.Int.{IsInRange};
 ghost use Rattle.rw_base.specs.Answers.{Answers};
@@ -25,6 +26,7 @@ pub struct Stamps {
 
 impl Model for Stamps {
     ghost use Rattle.std.specs.Prelude.{◌≤◌, ◌+◌};
+    ghost use Rattle.rw_calendar.specs.declared.limits.TheConstants.{STEPS_MAX};
     ghost use Rattle.rw_calendar.specs.Stamps.{AreTimesteps, Timesteps, HasMoments};
 
     ghost Value = { Timesteps };
@@ -32,7 +34,7 @@ impl Model for Stamps {
     ghost view = { λ s.
         record { start = s.start; step_length = s.step_length; count = s.count } };
 
-    ghost invariant = { λ s. (1 ≤ s.count) × (s.count ≤ 4096)
+    ghost invariant = { λ s. (1 ≤ s.count) × (s.count ≤ STEPS_MAX)
         × HasMoments s.start s.step_length (s.count + 1) s.moments.items };
 }
 
@@ -46,7 +48,7 @@ fn moments(
     requires sharp { IsOnTheHour start }
     requires length { IsStepLength length }
     requires begin { CanBegin length (moment_at start) }
-    requires few { steps ≤ 4096 }
+    requires few { steps ≤ STEPS_MAX }
     requires within { (moment_after (moment_at start) length steps).year ≤ 9999 }
     ensures { IfOk result (λ moments. HasMoments (moment_at start) length (steps + 1) moments.items) }
 {
@@ -70,7 +72,7 @@ impl Stamps {
         steps: u16,
     ) -> Result<Stamps, CalFault>
         requires some { 1 ≤ steps }
-        requires few { steps ≤ 4096 }
+        requires few { steps ≤ STEPS_MAX }
         requires length { IsStepLength length }
         ensures ok { IfOk result (λ stamps. stamps ≡ timesteps_of start length steps) }
         ensures stamped { OnOk result (CanBeStamped start length steps) }
@@ -106,7 +108,7 @@ impl Stamps {
     /// How many steps there are, from 1 to 4096.
     pub fn count(&self) -> u16
         ensures value { result ≡ self.now.count }
-        ensures bounds { IsInRange 1 4096 result }
+        ensures bounds { IsInRange 1 STEPS_MAX result }
         ensures timesteps { AreTimesteps self.now }
     {
         self.count

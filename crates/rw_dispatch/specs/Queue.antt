@@ -1,5 +1,6 @@
 -- The objects that wait, as a queue.
 use Rattle.std.specs.Prelude.{◌≡◌, ◌≤◌, ◌-◌, ◌+◌, ℕ, Bool, false, ◌&&◌, cond, nat_lt, List, [], ◌∷◌, length, slice_index_or}
+use Rattle.rw_model.specs.declared.limits.TheConstants.{OBJECTS_MAX}
 use Rattle.rw_model.specs.Draft.{Draft}
 use Rattle.rw_run.specs.Times.{times}
 
@@ -26,4 +27,4 @@ pub record KeepsQueue (items : List ℕ) (filled room : ℕ) (waits : List Bool)
   pub count : filled ≡ length items
   pub left : length items + unmarked waits ≡ length waits
   pub fits : length waits ≤ room
-  pub few : length waits ≤ 500
+  pub few : length waits ≤ OBJECTS_MAX

@@ -1,5 +1,6 @@
 -- What a builder makes of what it is told, and what it refuses.
 use Rattle.std.specs.Prelude.{ℕ, nat_lt, int_le, Bool, true, ◌&&◌, not, if◌then◌else◌, List, [], ◌∷◌, ◌++◌, length, Option, None, Some, is_some, Result}
+use Rattle.rw_model.specs.declared.limits.TheConstants.{OBJECTS_MAX, SLOTS_MAX}
 use Rattle.rw_base.specs.Answers.{unless_refused}
 use Rattle.rw_model.specs.Name.{is_name}
 use Rattle.rw_model.specs.Kind.{is_kind}
@@ -23,8 +24,8 @@ is_fresh objects object = not (is_some (object_named objects object.name)) && ha
 -- there are too many objects, or they have too many slots
 abbrev pub size_refusal : List Object → Option BuildRefusal
 size_refusal objects =
-    if nat_lt 500 (length objects) then Some (too_many 500)
-    else (if nat_lt 4000 (length (all_slots objects)) then Some (too_many 4000) else None)
+    if nat_lt OBJECTS_MAX (length objects) then Some (too_many OBJECTS_MAX)
+    else (if nat_lt SLOTS_MAX (length (all_slots objects)) then Some (too_many SLOTS_MAX) else None)
 
 -- why an object isn't added to others, if it isn't
 abbrev pub object_refusal : List Object → Object → Option BuildRefusal

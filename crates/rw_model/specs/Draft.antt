@@ -1,5 +1,6 @@
 -- What a builder was told, and what it can be told next.
 use Rattle.std.specs.Option.{ForSome}
+use Rattle.rw_model.specs.declared.limits.TheConstants.{OBJECTS_MAX, SLOTS_MAX}
 use Rattle.rw_model.specs.Slot.{Bounds, IsInside}
 use Rattle.std.specs.Prelude.{Option, ◌==◌, if◌then◌else◌, Some, ◌≡◌, ℕ, ◌≤◌, Bool, true, false, ◌&&◌, ◌||◌, not, IsTrue, List, [], ◌∷◌, ◌++◌, length, None, bytes_eq}
 use Rattle.rw_calendar.specs.Stamps.{AreTimesteps}
@@ -66,8 +67,8 @@ pub record IsFresh (objects : List Object) (object : Object) : Type 0 where
 pub record CanAdd (objects : List Object) (object : Object) : Type 0 where
   pub sound : IsSound object
   pub fresh : IsFresh objects object
-  pub few_objects : length (objects ++ object ∷ []) ≤ 500
-  pub few_slots : length (all_slots (objects ++ object ∷ [])) ≤ 4000
+  pub few_objects : length (objects ++ object ∷ []) ≤ OBJECTS_MAX
+  pub few_slots : length (all_slots (objects ++ object ∷ [])) ≤ SLOTS_MAX
 
 -- the bounds that the slot was given, if it was
 abbrev pub bound_of : List Bound → ℕ → Option Bounds

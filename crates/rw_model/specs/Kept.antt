@@ -1,6 +1,7 @@
 -- How objects and slots are kept: an object by its name, and a slot by its owner and place.
 use Rattle.std.specs.Prelude.{◌≡◌, ℕ, ◌+◌, ◌*◌, ◌/◌, ◌%◌, ◌≤◌, List, [], ◌∷◌, length, map, All, Bool, Option, Some, None, slice_index_or, string_bytes}
 use Rattle.std.specs.declared.vec.Vec.{Vec}
+use Rattle.rw_model.specs.declared.limits.TheConstants.{OBJECTS_MAX, SLOTS_MAX}
 use Rattle.rw_base.specs.declared.number.SlotNo.{SlotNo}
 use Rattle.std.specs.declared.string.String.{String}
 use Rattle.rw_model.specs.declared.kind.Kind.{Kind}
@@ -29,8 +30,8 @@ pub record KeepsSlots (objects : List Object) (places : List Place) (firsts : Li
   pub stand : places ≡ map place_of (all_slots objects)
   pub begin : firsts ≡ firsts_from 1 0 objects
   pub few_places : All (λ (object : Object). length (slots_of object.kind) ≤ 11) objects
-  pub few_objects : length objects ≤ 500
-  pub few_slots : length (all_slots objects) ≤ 4000
+  pub few_objects : length objects ≤ OBJECTS_MAX
+  pub few_slots : length (all_slots objects) ≤ SLOTS_MAX
 
 -- the bounds that the map's slots were given
 abbrev pub bounds_of : List (ℕ × Bounds) → List Bound

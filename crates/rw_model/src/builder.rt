@@ -10,6 +10,7 @@ ghost use Rattle.rw_model.specs.Build.{with_object, with_link, with_bound, finis
 use crate::basin::Basin;
 use crate::bounds::has_crossed_bounds;
 use crate::judge::{judge_bound, judge_link, judge_object};
+use crate::limits::CELLS_MAX;
 use crate::links::Links;
 use crate::lookups::Tables;
 use crate::objects::Objects;
@@ -18,9 +19,6 @@ use crate::{BuildFault, Kind, RunControl};
 use rw_base::{NoMemory, ObjectNo, SlotNo};
 use std::alloc::Global;
 use std::marker::Model;
-
-// The most values of a basin, over all slots and timesteps.
-const CELLS_MAX: u32 = 1_000_000;
 
 /// A basin in the making, seen as what it was told so far.
 #[derive(Drop)]

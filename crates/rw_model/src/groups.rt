@@ -1,3 +1,4 @@
+ghost use Rattle.rw_model.specs.declared.limits.TheConstants.{SLOTS_MAX};
 ghost use Rattle.std.specs.Prelude.{◌≡◌, ◌+◌, ◌<◌, ◌≤◌, length, [], ◌∷◌, ◌++◌, IfOk, OnOk, slice_index_or, slice_set, vec_len};
 ghost use Rattle.std.specs.List.{range_with_len};
 ghost use Rattle.rw_model.specs.Kept.{numbers_of, links_of, KeepsGroups};
@@ -40,7 +41,7 @@ fn join(groups: &mut Vec<Vec<SlotNo>>, place: usize, slot: SlotNo) -> Result<(),
 // A slot joins the group of its link, if it has one.
 fn join_link(groups: &mut Vec<Vec<SlotNo>>, links: &Links, before: u16) -> Result<(), NoMemory>
     requires kept { KeepsGroups links.now before (links_of groups.old.items) }
-    requires few { before < 4000 }
+    requires few { before < SLOTS_MAX }
     ensures { OnOk result (KeepsGroups links.now (before + 1) (links_of groups.new.items)) }
 {
     match links.place(before + 1) {
@@ -51,7 +52,7 @@ fn join_link(groups: &mut Vec<Vec<SlotNo>>, links: &Links, before: u16) -> Resul
 
 /// The slots of each link, rising, of a basin with so many slots.
 pub fn groups_of(alloc: Global, links: &Links, count: u16) -> Result<Vec<Vec<SlotNo>>, NoMemory>
-    requires { count ≤ 4000 }
+    requires { count ≤ SLOTS_MAX }
     ensures { IfOk result (λ groups. KeepsGroups links.now count (links_of groups.items)) }
 {
     let mut groups = empty_groups(alloc, links)?;

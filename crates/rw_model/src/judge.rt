@@ -9,21 +9,13 @@ ghost use Rattle.rw_model.specs.Kind.{IsKind};
 ghost use Rattle.rw_model.specs.Refusal.{refusal_of};
 ghost use Rattle.rw_model.specs.Build.{size_refusal, object_refusal, is_allowed, bound_refusal};
 
+use crate::limits::{LINK_MAX, OBJECTS_MAX, SLOTS_MAX};
 use crate::links::Links;
 use crate::objects::Objects;
 use crate::own_bounds::OwnBounds;
 use crate::place::count_places;
 use crate::{BuildFault, DataSlot, Kind, is_kind, is_name};
 use rw_base::{Dim, SlotNo};
-
-// The most objects of a basin.
-const OBJECTS_MAX: u16 = 500;
-
-// The most slots of a basin.
-const SLOTS_MAX: u16 = 4000;
-
-// The most slots of a link.
-const LINK_MAX: usize = 8;
 
 fn has_slot_named(name: &str, slots: &[DataSlot]) -> bool
     ensures { result ≡ has_slot_named name.now slots.now }

@@ -20,6 +20,7 @@ mod judge;
 mod kind;
 mod kind_rule;
 pub mod law;
+pub mod limits;
 mod links;
 mod lookups;
 mod name;

@@ -1,3 +1,4 @@
+ghost use Rattle.rw_model.specs.declared.limits.TheConstants.{OBJECTS_MAX};
 ghost use Rattle.std.specs.Prelude.{◌≡◌, ◌+◌, ◌*◌, ◌<◌, IfOk, OnOk, length};
 ghost use Rattle.rw_model.specs.Kept.{numbers_up_to};
 
@@ -7,7 +8,7 @@ use std::alloc::Global;
 
 // Adds the slots of one more object, place by place.
 fn push_numbers(all: &mut Vec<Option<u16>>, objects: &Objects, before: u16) -> Result<(), NoMemory>
-    requires few { before < 500 }
+    requires few { before < OBJECTS_MAX }
     requires object { before < length objects.now }
     requires all { all.old.items ≡ numbers_up_to objects.now (before * 12) }
     ensures { OnOk result (all.new.items ≡ numbers_up_to objects.now ((before + 1) * 12)) }

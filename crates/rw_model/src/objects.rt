@@ -1,3 +1,4 @@
+ghost use Rattle.rw_model.specs.declared.limits.TheConstants.{OBJECTS_MAX, SLOTS_MAX};
 ghost use Rattle.std.specs.Prelude.{◌≡◌, ◌+◌, ◌-◌, ◌<◌, ◌≤◌, [], ◌∷◌, ◌++◌, length, take, None, Some, option_map, option_and_then, IfSome, OnOk, OnErr};
 ghost use Rattle.rw_model.specs.Slots.{slots_of, slot_in};
 ghost use Rattle.rw_model.specs.Objects.{object_named, object_at, slots_from, all_slots, slot_at, slot_in_place, slot_named};
@@ -52,7 +53,7 @@ impl Objects {
     /// How many objects there are.
     pub fn count(&self) -> u16
         ensures count { result ≡ length self.now }
-        ensures few { result ≤ 500 }
+        ensures few { result ≤ OBJECTS_MAX }
     {
         self.kinds.len() as u16
     }
@@ -60,7 +61,7 @@ impl Objects {
     /// How many slots there are.
     pub fn slot_count(&self) -> u16
         ensures count { result ≡ length (all_slots self.now) }
-        ensures few { result ≤ 4000 }
+        ensures few { result ≤ SLOTS_MAX }
     {
         self.places.len() as u16
     }
@@ -79,9 +80,9 @@ impl Objects {
     /// Adds an object.
     pub fn add(&mut self, name: &str, kind: Kind) -> Result<(), NoMemory>
         requires fresh { object_named self.old name.now ≡ None }
-        requires few { length self.old < 500 }
+        requires few { length self.old < OBJECTS_MAX }
         requires places { length (slots_of kind) ≤ 11 }
-        requires few_slots { length (all_slots (self.old ++ record { name = name.now; kind = kind } ∷ [])) ≤ 4000 }
+        requires few_slots { length (all_slots (self.old ++ record { name = name.now; kind = kind } ∷ [])) ≤ SLOTS_MAX }
         ensures ok { OnOk result (self.new ≡ self.old ++ record { name = name.now; kind = kind } ∷ []) }
         ensures err { OnErr result (self.new ≡ self.old) }
     {
@@ -155,7 +156,7 @@ impl Objects {
         requires first { 1 ≤ o }
         requires last { o ≤ length self.now }
         ensures before { result ≡ length (slots_from 1 (take (o - 1) self.now)) }
-        ensures few { result ≤ 4000 }
+        ensures few { result ≤ SLOTS_MAX }
     {
         self.firsts[usize::from(o) - 1]
     }

@@ -1,5 +1,6 @@
 -- What the table `run` says.
 use Rattle.std.specs.Prelude.{ℕ, List, [], ◌∷◌, Result, Ok, codes}
+use Rattle.rw_calendar.specs.declared.limits.TheConstants.{STEPS_MAX}
 use Rattle.rw_calendar.specs.declared.start.Start.{Start}
 use Rattle.rw_calendar.specs.declared.step_length.StepLength.{StepLength}
 use Rattle.rw_model.specs.declared.control.AgendaOrder.{AgendaOrder}
@@ -29,7 +30,7 @@ unfoldable pub run_of : Members → Result Run ModelRefusal
 run_of table = do
   start ← start_of table
   step_length ← step_length_of table
-  steps ← required (count_of 1 4096) (codes "run") (codes "steps") table
+  steps ← required (count_of 1 STEPS_MAX) (codes "run") (codes "steps") table
   agenda ← agenda_of table
   object_limit ← optional 50 (count_of 16 100) (codes "run") (codes "object_limit") table
   rule_limit ← optional 20 (count_of 1 100) (codes "run") (codes "rule_limit") table

@@ -1,3 +1,4 @@
+ghost use Rattle.rw_calendar.specs.declared.limits.TheConstants.{STEPS_MAX};
 ghost use Rattle.std.specs.Prelude.{◌≤◌, IfOk};
 ghost use Rattle.std.specs.Int.{IsInRange};
 ghost use Rattle.rw_calendar.specs.StepLength.{IsStepLength};
@@ -11,7 +12,7 @@ use crate::listed::only_listed;
 use crate::path::key_path;
 use crate::start_text::start_in;
 use crate::word::{agenda_in, step_length_in};
-use rw_calendar::{Start, StepLength};
+use rw_calendar::{STEPS_MAX, Start, StepLength};
 use rw_model::{AgendaOrder, BuildFault};
 use std::alloc::Global;
 use toml::Table;
@@ -79,13 +80,13 @@ fn read_agenda(alloc: Global, table: &Table) -> Result<AgendaOrder, ModelFault>
 pub fn read_run(alloc: Global, table: &Table) -> Result<Run, ModelFault>
     ensures read { Gives (λ run. run) result (run_of (table_view table.now)) }
     ensures length { IfOk result (λ run. IsStepLength run.step_length) }
-    ensures steps { IfOk result (λ run. IsInRange 1 4096 run.steps) }
+    ensures steps { IfOk result (λ run. IsInRange 1 STEPS_MAX run.steps) }
     ensures object_limit { IfOk result (λ run. IsInRange 16 100 run.object_limit) }
     ensures rule_limit { IfOk result (λ run. IsInRange 1 100 run.rule_limit) }
 {
     let start = read_start(alloc, table)?;
     let step_length = read_step_length(alloc, table)?;
-    let steps = required_count(alloc, "run", "steps", table, 1, 4096)?;
+    let steps = required_count(alloc, "run", "steps", table, 1, STEPS_MAX)?;
     let agenda = read_agenda(alloc, table)?;
     let object_limit = optional_count(alloc, "run", "object_limit", table, 50, 16, 100)?;
     let rule_limit = optional_count(alloc, "run", "rule_limit", table, 20, 1, 100)?;

@@ -1,3 +1,4 @@
+ghost use Rattle.rw_calendar.specs.declared.limits.TheConstants.{STEPS_MAX};
 ghost use Rattle.std.specs.Prelude.{◌≤◌, IfOk};
 ghost use Rattle.std.specs.Int.{IsInRange};
 ghost use Rattle.rw_calendar.specs.StepLength.{IsStepLength};
@@ -14,7 +15,7 @@ use std::alloc::Global;
 /// How the run goes, with its stamps.
 pub fn stamp_run(alloc: Global, run: Run) -> Result<RunControl, ModelFault>
     requires length { IsStepLength run.step_length }
-    requires steps { IsInRange 1 4096 run.steps }
+    requires steps { IsInRange 1 STEPS_MAX run.steps }
     requires object_limit { IsInRange 16 100 run.object_limit }
     requires rule_limit { IsInRange 1 100 run.rule_limit }
     ensures read { Gives (λ control. control) result (control_of run) }

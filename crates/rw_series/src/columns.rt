@@ -1,3 +1,4 @@
+ghost use Rattle.rw_model.specs.declared.limits.TheConstants.{SLOTS_MAX};
 ghost use Rattle.std.specs.Prelude.{◌≡◌, ◌+◌, ◌<◌, ◌≤◌, true, All, IfOk, MatchOption, length};
 ghost use Rattle.rw_model.specs.Draft.{IsSlot};
 ghost use Rattle.rw_model.specs.Kept.{numbers_of};
@@ -46,7 +47,7 @@ fn earlier(group: &[SlotNo], before: u16) -> Option<u16>
 // The column of the next slot.
 fn column_for(basin: &Basin, columns: &[u16], width: u16, before: u16) -> u16
     requires next { IsSlot basin.now.objects (before + 1) }
-    requires few { before < 4000 }
+    requires few { before < SLOTS_MAX }
     requires columns { AreColumns basin.now before width columns.now }
     ensures { IsColumnFor basin.now before width columns.now result }
 {

@@ -1,6 +1,7 @@
 -- The rows that make a table, and why others make none.
 use Rattle.std.specs.Prelude.{◌≡◌, ℕ, zero, suc, ◌+◌, ◌<◌, ◌≤◌, nat_lt, ℤ, pos, ◌≤ℤ◌, ◌<ℤ◌, int_lt, Bool, true, ◌&&◌, if◌then◌else◌, List, length, slice_index_or, Option, Some, None, Result}
 use Rattle.std.specs.Option.{option_or}
+use Rattle.rw_table.specs.declared.fault.TheConstants.{ELEVATION_MAX, ROWS_MAX, VOLUME_MAX}
 use Rattle.rw_base.specs.Answers.{unless_refused}
 use Rattle.rw_base.specs.Range.{is_from_to}
 use Rattle.rw_table.specs.declared.fault.TableFault.{TableFault}
@@ -17,9 +18,9 @@ row_at rows k = slice_index_or rows k (pos 0, pos 0)
 -- an elevation from 0 to 10^7 mm, and a volume from 0 to 10^13 m3
 pub record IsWithinBounds (row : Row) : Type 0 where
   pub lowest : pos 0 ≤ℤ row.0
-  pub highest : row.0 ≤ℤ pos 10000000
+  pub highest : row.0 ≤ℤ ELEVATION_MAX
   pub empty : pos 0 ≤ℤ row.1
-  pub fullest : row.1 ≤ℤ pos 10000000000000
+  pub fullest : row.1 ≤ℤ VOLUME_MAX
 
 -- greater in both columns
 pub record IsAbove (row before : Row) : Type 0 where
@@ -37,7 +38,7 @@ pub record IsGoodRow (rows : List Row) (k : ℕ) : Type 0 where
 -- 2 to 200 rows, each of them good
 pub record IsTable (rows : List Row) : Type 0 where
   pub some : 2 ≤ length rows
-  pub few : length rows ≤ 200
+  pub few : length rows ≤ ROWS_MAX
   pub good : (k : ℕ) → k < length rows → IsGoodRow rows k
 
 -- ---- why rows are no table
@@ -58,7 +59,7 @@ refusal_of (NotRising number) = Some (not_rising number)
 refusal_of NoMemory = None
 
 abbrev pub is_within_bounds : Row → Bool
-is_within_bounds row = is_from_to (pos 0) (pos 10000000) row.0 && is_from_to (pos 0) (pos 10000000000000) row.1
+is_within_bounds row = is_from_to (pos 0) ELEVATION_MAX row.0 && is_from_to (pos 0) VOLUME_MAX row.1
 
 abbrev pub is_above : Row → Row → Bool
 is_above row before = int_lt before.0 row.0 && int_lt before.1 row.1
@@ -83,7 +84,7 @@ rows_refusal rows (suc n) = option_or (rows_refusal rows n) (row_refusal rows n)
 abbrev pub table_refusal : List Row → Option TableRefusal
 table_refusal rows =
     if nat_lt (length rows) 2 then Some too_few_rows
-    else (if nat_lt 200 (length rows) then Some too_many_rows else rows_refusal rows (length rows))
+    else (if nat_lt ROWS_MAX (length rows) then Some too_many_rows else rows_refusal rows (length rows))
 
 -- the table that rows make
 abbrev pub table_of : List Row → Result (List Row) TableRefusal

@@ -1,3 +1,4 @@
+ghost use Rattle.rw_table.specs.declared.fault.TheConstants.{ROWS_MAX};
 ghost use Rattle.std.specs.Prelude.{◌≡◌, ◌<◌, ◌≤◌, length, None};
 ghost use Rattle.rw_base.specs.Answers.{Finds};
 ghost use Rattle.rw_table.specs.Table.{IsTable, refusal_of, is_within_bounds, is_above, row_refusal, rows_refusal, table_refusal};
@@ -48,7 +49,7 @@ fn is_above(row: (i64, i64), before: (i64, i64)) -> bool
 
 // What is wrong with the row in this place, if something is.
 fn judge_row(rows: &[(i64, i64)], place: usize) -> Option<TableFault>
-    requires few { length rows.now ≤ 200 }
+    requires few { length rows.now ≤ ROWS_MAX }
     requires within { place < length rows.now }
     ensures { Finds refusal_of result (row_refusal rows.now place) }
 {
@@ -65,7 +66,7 @@ fn judge_row(rows: &[(i64, i64)], place: usize) -> Option<TableFault>
 
 // The first fault of a row.
 fn judge_rows(rows: &[(i64, i64)]) -> Option<TableFault>
-    requires few { length rows.now ≤ 200 }
+    requires few { length rows.now ≤ ROWS_MAX }
     ensures { Finds refusal_of result (rows_refusal rows.now (length rows.now)) }
 {
     for place in 0..rows.len() {

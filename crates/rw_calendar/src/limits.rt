@@ -1,0 +1,2 @@
+/// The most timesteps of a run.
+pub const STEPS_MAX: u16 = 4_096;
