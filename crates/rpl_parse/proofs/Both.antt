@@ -223,9 +223,13 @@ body_sound x ps ts d e =
     let h = sound 100 7 i.0 g.0 i.2 in
     let same : got g.0.tree g.0.deep v.0 ≡ b.0 = some_one _ b.0 v.2 in
     let none : v.0 ≡ [] = ap (λ (y : Got). y.rest) same ∙ w.0 in
-    let one : g.0.tree ≡ b.0.tree = ap (λ (y : Got). y.tree) same in
-    (k.0.of_type, g.0.tree, sym w.1 ∙ ap (function x ps k.0.of_type) (sym one), (let z = h.within in let y = h.deep in omega arith),
-    (c.0, behind_sound M.Colon ts c.0 c.1, (k.0.next, type_sound c.0 k.0 c.2, (i.0, behind_sound M.Is k.0.next i.0 i.1, (g.0.rest, h.spells, behind_sound M.EndFunction g.0.rest v.0 v.1 ∙ ap (λ l. mark M.EndFunction ∷ l) none)))))
+    let one : g.0.tree ≡ b.0.tree = ap (λ (y : Got). y.tree) same in (
+      k.0.of_type,
+      g.0.tree,
+      sym w.1 ∙ ap (function x ps k.0.of_type) (sym one),
+      (let z = h.within in let y = h.deep in omega arith),
+      (c.0, behind_sound M.Colon ts c.0 c.1, (k.0.next, type_sound c.0 k.0 c.2, (i.0, behind_sound M.Is k.0.next i.0 i.1, (g.0.rest, h.spells, behind_sound M.EndFunction g.0.rest v.0 v.1 ∙ ap (λ l. mark M.EndFunction ∷ l) none)))),
+    )
 
 function_sound : (ts us : List Tok) (d : Declared) → ts ≡ mark M.Function ∷ us → function_behind us ≡ Some d → IsDeclaration ts d
 function_sound ts us d front e =

@@ -11,3 +11,4 @@ pub mod CompleteActs
 pub mod TurnsParameters
 pub mod Both
 pub mod CutFacts
+pub mod Rows

@@ -316,8 +316,35 @@ module _ (inner : ℕ → List Tok → Read) (d : ℕ) (ih : (k : ℕ) (ts : Lis
       let wf = hf.within in
       let wb = hb.within in
       as_is 0 (mark M.For ∷ ts) _ g (record {
-        spells = (ts, refl, (hx.0, hx.1, (x.0.next, hx.2, (hl.spells.0, hl.spells.1, (l.0.rest, hl.spells.2, (ha.0, ha.1, (a.0.next, ha.2,
-            (hf.spells.0, hf.spells.1, (f.0.rest, hf.spells.2, hb.spells))))))))); 
+        spells = (
+          ts,
+          refl,
+          (
+            hx.0,
+            hx.1,
+            (
+              x.0.next,
+              hx.2,
+              (
+                hl.spells.0,
+                hl.spells.1,
+                (
+                  l.0.rest,
+                  hl.spells.2,
+                  (
+                    ha.0,
+                    ha.1,
+                    (
+                      a.0.next,
+                      ha.2,
+                      (hf.spells.0, hf.spells.1, (f.0.rest, hf.spells.2, hb.spells)),
+                    ),
+                  ),
+                ),
+              ),
+            ),
+          ),
+        );
         loose = omega arith;
         deep = three_deep hl.deep hf.deep hb.deep;
         within = omega arith;

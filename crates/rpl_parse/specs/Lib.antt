@@ -13,3 +13,4 @@ pub mod Statements
 pub mod Declarations
 pub mod Cut
 pub mod Parsing
+pub mod Worked

@@ -13,6 +13,9 @@ decreases-level l = 1000 * l.depth + 500 + l.k
 abbrev pub decreases-up_to : goal.decreases-up_to
 decreases-up_to l = 1000 * l.depth + 1
 
+abbrev pub decreases-operand : goal.decreases-operand
+decreases-operand l = 1000 * l.depth + 1
+
 abbrev pub decreases-more : goal.decreases-more
 decreases-more l = 1000 * l.depth + 1
 
