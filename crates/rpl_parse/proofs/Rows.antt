@@ -1,5 +1,5 @@
 -- Worked tokens are read as their trees, or aren't read.
-use Rattle.std.proofs.Common.{◌≡◌, ℕ, List, [], ◌∷◌, refl}
+use Rattle.std.proofs.Common.{[], refl}
 use Rattle.rpl_tree.specs.Tree.{Declared}
 use Rattle.rpl_parse.specs.Grammar.{Spells}
 use Rattle.rpl_parse.specs.Statements.{IsDeclaration}

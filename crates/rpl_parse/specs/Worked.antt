@@ -1,10 +1,10 @@
 -- Worked tokens, and the trees that they spell.
-use Rattle.std.specs.Prelude.{ℕ, pos, codes, Some, None, List, [], ◌∷◌, ◌++◌, map}
+use Rattle.std.specs.Prelude.{ℕ, pos, codes, None, List, [], ◌∷◌, ◌++◌}
 use Rattle.rpl_tree.specs.declared.words.OneWord.TheVariants as O
 use Rattle.rpl_tree.specs.declared.words.TwoWord.TheVariants as T
-use Rattle.rpl_tree.specs.Tree.{Tree, literal, name, brackets, one, two, Acts, Declared, rule, assign, no_acts, act}
+use Rattle.rpl_tree.specs.Tree.{Tree, literal, name, one, two, Declared, rule, assign, no_acts, act}
 use Rattle.rpl_parse.specs.declared.token.Mark.TheVariants as M
-use Rattle.rpl_parse.specs.Tokens.{Tok, mark, word, digits, text, Lined, lined}
+use Rattle.rpl_parse.specs.Tokens.{Tok, mark, word, digits, text}
 
 abbrev pub number : ℕ → Tok
 number n = digits (pos n)

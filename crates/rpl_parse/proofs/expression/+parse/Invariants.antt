@@ -1,4 +1,4 @@
-use Rattle.std.proofs.Common.{◌≡◌, ◌≤◌, ◌<◌, ◌+◌, ◌-◌, ◌*◌, length, map, ℕ}
+use Rattle.std.proofs.Common.{◌≡◌, ◌≤◌, ◌+◌, ◌-◌, ◌*◌, length, map}
 use Rattle.rpl_tree.specs.Seen.{tree_of}
 use Rattle.rpl_parse.specs.Reading.{read, steps, chain, turns_of, got, many, items}
 use Rattle.rpl_parse.specs.Tokens.{toks}
