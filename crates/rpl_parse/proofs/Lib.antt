@@ -12,3 +12,4 @@ pub mod TurnsParameters
 pub mod Both
 pub mod CutFacts
 pub mod Rows
+pub mod BoundFacts

@@ -2,18 +2,26 @@
 ghost use Rattle.std.specs.Prelude.{◌≡◌, ◌≤◌, ℕ, List, [], ◌∷◌, codes, pos};
 ghost use Rattle.rw_base.specs.Quantity.{quantity_max};
 ghost use Rattle.rpl_tree.specs.Tree.{Declared, brackets};
+ghost use Rattle.rpl_tree.specs.declared.rules.ParsedRules.{ParsedRules};
+ghost use Rattle.rpl_tree.specs.Seen.{rules_of};
+ghost use Rattle.rpl_parse.specs.Bounds.{AreBounded};
 ghost use Rattle.rpl_parse.specs.declared.token.Mark.TheVariants as Mark;
 ghost use Rattle.rpl_parse.specs.Tokens.{Tok, mark, word, digits, text, lined};
 ghost use Rattle.rpl_parse.specs.Scan.{tokens, all, bad_at, greatest};
 ghost use Rattle.rpl_parse.specs.Depth.{depth};
 ghost use Rattle.rpl_parse.specs.Grammar.{Spells};
 ghost use Rattle.rpl_parse.specs.Statements.{IsDeclaration};
-ghost use Rattle.rpl_parse.specs.Declarations.{pieces, piece, IsReading, spelt, bad_token, one_reading};
+ghost use Rattle.rpl_parse.specs.Declarations.{pieces, piece, IsReading, spelt, bad_token, one_reading, IsRuleset};
 ghost use Rattle.rpl_parse.specs.Worked.{number, whole, differences, from_the_left, logical, or_last, setting, set_to, comparisons};
 
 /// A text is read as one ruleset, or refused for one reason.
 pub fn one_reading()
     ensures one { one_reading }
+{}
+
+/// In a ruleset each declaration is at most 100 deep, and there are at most 200 rules and 200 functions.
+pub fn bounds()
+    ensures all { (rules : ParsedRules) → IsRuleset rules → AreBounded (rules_of rules) }
 {}
 
 /// Tokens are the longest; a word that begins as a reserved word is a name; comments and blanks part tokens.
