@@ -1,22 +1,22 @@
 -- Reading a declaration, and the grammar.
-use Rattle.std.proofs.Common.{◌≡◌, ◌≤◌, ◌<◌, ◌-◌, ◌+◌, ◌∙◌, ◌++◌, ℕ, ℤ, zero, suc, Bool, true, false, List, [], ◌∷◌, length, max, Option, Some, None, refl, sym, ap, subst, arith, rules}
+use Rattle.std.proofs.Common.{◌≡◌, ◌≤◌, ◌<◌, ◌∙◌, ◌++◌, ℕ, zero, suc, List, [], ◌∷◌, length, Some, None, refl, sym, ap, subst, arith}
 use Rattle.std.proofs.lemmas.List.{append-nil, append_assoc}
 use Rattle.rpl_tree.specs.Tree.{TypeName, numeric, boolean, datetime, slot_type, numeric_list, slot_list, Tree, Acts, Parameter, Declared, rule, function}
 use Rattle.rpl_parse.specs.declared.token.Mark.{Mark}
 use Rattle.rpl_parse.specs.declared.token.Mark.TheVariants as M
 use Rattle.rpl_parse.specs.declared.token.TokenAt.{TokenAt}
-use Rattle.rpl_parse.specs.Tokens.{Tok, mark, word, digits, text, same, toks}
-use Rattle.rpl_parse.specs.Depth.{depth, acts_depth, declared_depth}
-use Rattle.rpl_parse.specs.Grammar.{Part, ◌⨾◌, sign, token, nothing, Spells}
-use Rattle.rpl_parse.specs.Statements.{SpellsActs, SpellsType, SpellsParameter, SpellsParameters, SpellsMoreParameters, SpellsDeclared, IsDeclaration}
-use Rattle.rpl_parse.specs.Reading.{◌>>=◌, Got, got, Named, read, behind, behind_name, closed, if_found}
-use Rattle.rpl_parse.specs.ReadingActs.{Done, done, Numbered, behind_number, read_acts, acts_of}
-use Rattle.rpl_parse.specs.ReadingDeclared.{behind_text, Typed, typed, in_unit, element, list_type, type_by, read_type, Given, parameter, given, read_parameter, Takes, takes, more_parameters, some_parameters, closed_parameters, parameters, if_all, rule_behind, body_behind, function_behind, read_declared}
+use Rattle.rpl_parse.specs.Tokens.{Tok, mark, word, digits, text, toks}
+use Rattle.rpl_parse.specs.Depth.{depth, acts_depth}
+use Rattle.rpl_parse.specs.Grammar.{◌⨾◌, sign, token, Spells}
+use Rattle.rpl_parse.specs.Statements.{SpellsActs, SpellsType, SpellsParameter, SpellsParameters, SpellsMoreParameters, IsDeclaration}
+use Rattle.rpl_parse.specs.Reading.{◌>>=◌, Got, got, Named, read, behind, behind_name, closed}
+use Rattle.rpl_parse.specs.ReadingActs.{behind_number, read_acts, acts_of}
+use Rattle.rpl_parse.specs.ReadingDeclared.{behind_text, Typed, typed, in_unit, element, list_type, type_by, read_type, Given, given, read_parameter, Takes, takes, more_parameters, some_parameters, closed_parameters, parameters, if_all, rule_behind, body_behind, function_behind, read_declared}
 use Rattle.rpl_parse.proofs.Sound.{some_one, and_then, found, behind_sound, name_sound, sound}
 use Rattle.rpl_parse.proofs.SoundActs.{number_sound, acts_sound}
 use Rattle.rpl_parse.proofs.Complete.{Shrinks, one_shrinks, shrinks_then, mark_then, Closes, behind_here, name_here, not_here}
 use Rattle.rpl_parse.proofs.TurnsParameters.{more_stops, more_turn}
-use Rattle.rpl_parse.proofs.CompleteActs.{acts_complete, ActsRead, mark_ends, list_acts, acts_back, value_reads, number_here}
+use Rattle.rpl_parse.proofs.CompleteActs.{acts_complete, ActsRead, mark_ends, acts_back, value_reads}
 
 text_sound : (ts : List Tok) (t : Named) → behind_text ts ≡ Some t → ts ≡ text t.called ∷ t.next
 text_sound [] t e = absurd (cc e)

@@ -1,9 +1,8 @@
 -- What is in the grammar is read, to that very tree.
-use Rattle.std.proofs.Common.{◌≡◌, ◌<◌, ◌≤◌, ◌-◌, ◌+◌, ◌*◌, ◌==◌, ◌∙◌, ◌++◌, ◌⊎◌, ℕ, ℤ, zero, suc, Bool, true, false, List, [], ◌∷◌, length, map, max, Option, Some, None, refl, sym, ap, subst, arith, rules, if◌then◌else◌}
+use Rattle.std.proofs.Common.{◌≡◌, ◌<◌, ◌≤◌, ◌-◌, ◌+◌, ◌*◌, ◌==◌, ◌∙◌, ◌++◌, ◌⊎◌, ℕ, ℤ, zero, suc, Bool, true, false, List, [], ◌∷◌, length, max, Option, Some, None, refl, sym, ap, subst, arith, if◌then◌else◌}
 use mathlib.Core.Logic.{inl, inr}
 use Rattle.std.proofs.lemmas.Bool.{lt-ltb}
 use Rattle.std.proofs.lemmas.List.{append-nil, append_assoc}
-use Rattle.std.proofs.Math.Dec.{ltb}
 use Rattle.rpl_parse.specs.declared.token.Mark.{Mark}
 use Rattle.rpl_parse.specs.declared.token.Mark.TheVariants as M
 use Rattle.rpl_tree.specs.declared.words.OneWord.{OneWord}
@@ -15,10 +14,10 @@ use Rattle.rpl_tree.specs.declared.words.ConvertWord.TheVariants as C
 use Rattle.rpl_parse.specs.Tokens.{Tok, mark, word, digits, text, same}
 use Rattle.rpl_tree.specs.Tree.{Tree, Trees, literal, truth, now, slot, name, call, brackets, list, choice, bind, each, mapped, one, two, convert, at, no_trees, tree}
 use Rattle.rpl_parse.specs.Depth.{depth, depths}
-use Rattle.rpl_parse.specs.Grammar.{Part, ◌⨾◌, sign, token, nothing, form, at_most, Spells, SpellsList, SpellsMore, looseness, looseness_of, looseness_of_one, left_of, mark_of, mark_of_one, mark_of_truth, mark_of_convert, is_prefix, is_operator}
-use Rattle.rpl_parse.specs.Reading.{Read, Got, got, Many, many, Named, Turn, ◌>>=◌, behind, behind_name, name_before, kept, closed, up_to, items, some_items, args, slots, named, braces, in_brackets, choices, binds, loops, maps, word_of_one, word_of_two, converts, opened, prim, steps, turn, if_word, if_loose, operator, chain, guarded, if_found, prefixed, prefix_of, level, read, turns_of, trees_of}
+use Rattle.rpl_parse.specs.Grammar.{Part, ◌⨾◌, sign, token, form, at_most, Spells, SpellsList, SpellsMore, looseness, looseness_of, looseness_of_one, left_of, mark_of, mark_of_one, mark_of_truth, mark_of_convert, is_prefix, is_operator}
+use Rattle.rpl_parse.specs.Reading.{Read, got, Many, many, ◌>>=◌, behind, behind_name, name_before, up_to, items, some_items, word_of_one, word_of_two, converts, opened, prim, steps, turn, if_loose, operator, chain, prefix_of, level, read, turns_of, trees_of}
 use Rattle.rpl_parse.proofs.Marks.{same_self, same_mark}
-use Rattle.rpl_parse.proofs.Sound.{max_three, IsPrefix, prefix_sound}
+use Rattle.rpl_parse.proofs.Sound.{max_three, prefix_sound}
 use Rattle.rpl_parse.proofs.Turns.{items_stops, items_turn, steps_stops, steps_turn, chain_stops, chain_turn}
 
 -- A part leaves no more than there was.

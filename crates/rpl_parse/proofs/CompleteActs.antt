@@ -1,18 +1,18 @@
 -- What statements are in the grammar are read, to those very trees.
-use Rattle.std.proofs.Common.{◌≡◌, ◌<◌, ◌≤◌, ◌-◌, ◌+◌, ◌∙◌, ◌++◌, ◌⊎◌, ℕ, ℤ, pos, zero, suc, false, List, [], ◌∷◌, length, max, Option, Some, None, refl, sym, ap, subst, arith, rules}
+use Rattle.std.proofs.Common.{◌≡◌, ◌<◌, ◌≤◌, ◌+◌, ◌∙◌, ◌++◌, ℕ, ℤ, zero, suc, false, List, [], ◌∷◌, length, max, Some, None, refl, sym, ap, subst, arith}
 use mathlib.Core.Logic.{inl, inr}
 use Rattle.std.proofs.lemmas.List.{append-nil, append_assoc}
 use Rattle.rpl_tree.specs.Tree.{Tree, Act, Acts, assign, branch, with_name, no_acts, act}
 use Rattle.rpl_parse.specs.declared.token.Mark.{Mark}
 use Rattle.rpl_parse.specs.declared.token.Mark.TheVariants as M
-use Rattle.rpl_parse.specs.Tokens.{Tok, mark, word, digits, text, same}
+use Rattle.rpl_parse.specs.Tokens.{Tok, mark, word, digits, same}
 use Rattle.rpl_parse.specs.Depth.{depth, act_depth, acts_depth}
 use Rattle.rpl_parse.specs.Grammar.{Part, ◌⨾◌, sign, token, Spells}
 use Rattle.rpl_parse.specs.Statements.{SpellsAct, SpellsActs, if_none, if_zero, ◌or◌}
-use Rattle.rpl_parse.specs.Reading.{Read, Got, got, ◌>>=◌, behind, behind_name, name_before, closed, if_found, read}
-use Rattle.rpl_parse.specs.ReadingActs.{Done, done, Step, step, Numbered, behind_number, ahead_of, Target, dated, target, acts_of, with_act, assigns, ended, others, branches, withs, one_act, no_room, more_acts, read_acts}
+use Rattle.rpl_parse.specs.Reading.{got, ◌>>=◌, behind, behind_name, closed, read}
+use Rattle.rpl_parse.specs.ReadingActs.{Done, done, step, behind_number, ahead_of, dated, acts_of, with_act, assigns, others, branches, withs, one_act, no_room, more_acts, read_acts}
 use Rattle.rpl_parse.proofs.Sound.{max_three}
-use Rattle.rpl_parse.proofs.Complete.{Shrinks, one_shrinks, shrinks_then, mark_then, shrinks, behind_here, name_here, name_here_before, not_here, not_word, Stops, Closes, closing, complete, Reads, loose_all, ends_then, ends_do}
+use Rattle.rpl_parse.proofs.Complete.{Shrinks, one_shrinks, shrinks_then, mark_then, shrinks, behind_here, name_here, name_here_before, not_here, Stops, Closes, closing, complete, Reads, loose_all, ends_then, ends_do}
 use Rattle.rpl_parse.proofs.TurnsActs.{acts_stop, acts_turn}
 
 -- Statements leave no more tokens than there were.

@@ -1,12 +1,11 @@
 -- Where the first declaration is cut; that what is due is one thing.
-use Rattle.std.proofs.Common.{◌≡◌, ◌≤◌, ◌<◌, ◌+◌, ◌∙◌, ◌++◌, ◌==◌, ◌⊎◌, ℕ, zero, suc, Bool, true, false, List, [], ◌∷◌, length, map, take, drop, slice_index_or, Some, None, refl, sym, ap, subst, arith, rules, if◌then◌else◌, Vec, Global}
+use Rattle.std.proofs.Common.{◌≡◌, ◌<◌, ◌+◌, ◌∙◌, ◌++◌, ℕ, suc, Bool, true, false, List, [], ◌∷◌, length, map, take, drop, slice_index_or, Some, None, refl, sym, ap, subst, arith, if◌then◌else◌}
 use mathlib.Core.Logic.{inl, inr}
 use Rattle.rpl_tree.specs.Tree.{Declared}
 use Rattle.rpl_parse.specs.declared.token.TokenAt.{TokenAt}
 use Rattle.rpl_parse.specs.Tokens.{Tok, Lined, seen, lined_of, toks}
 use Rattle.rpl_parse.specs.Scan.{Scanned, all, bad_at, tokens}
-use Rattle.rpl_parse.specs.Statements.{IsDeclaration}
-use Rattle.rpl_parse.specs.Declarations.{Piece, piece, is_end, joined, pieces, begins_rule, begins_function, one_more_if, is_full, Due, spelt, bad_token, bad_declaration, too_many, IsDue, IsDueOf, IsReading, one_reading}
+use Rattle.rpl_parse.specs.Declarations.{Piece, piece, is_end, joined, pieces, begins_rule, begins_function, one_more_if, is_full, Due, spelt, bad_declaration, too_many, IsDue, IsDueOf, one_reading}
 use Rattle.rpl_parse.specs.Cut.{size}
 use Rattle.rpl_parse.specs.ReadingDeclared.{read_declared}
 use Rattle.rpl_parse.proofs.Both.{one_declaration, no_declaration, declared_sound}

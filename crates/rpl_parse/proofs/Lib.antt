@@ -11,3 +11,5 @@ pub mod CompleteActs
 pub mod TurnsParameters
 pub mod Both
 pub mod CutFacts
+pub mod Rows
+pub mod BoundFacts

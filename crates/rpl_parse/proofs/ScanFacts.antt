@@ -1,9 +1,9 @@
 -- Numbers only grow while they are read; one turn of the scanner.
-use Rattle.std.proofs.Common.{◌≡◌, ◌<◌, ◌≤◌, ◌-◌, ◌+◌, ◌*◌, ◌++◌, ◌∙◌, ℕ, Bool, true, false, zero, suc, List, [], ◌∷◌, Option, Some, None, arith, drop, take, length, slice_index_or, refl, sym, ap, subst, map, if◌then◌else◌}
+use Rattle.std.proofs.Common.{◌≡◌, ◌<◌, ◌≤◌, ◌-◌, ◌+◌, ◌*◌, ◌++◌, ◌∙◌, ℕ, zero, suc, List, [], ◌∷◌, arith, drop, take, length, slice_index_or, refl, sym, ap, subst}
 use Rattle.std.proofs.lemmas.List.{append_assoc, append-nil, length-drop}
 use Rattle.rpl_parse.specs.declared.token.Span.{Span}
-use Rattle.rpl_parse.specs.Tokens.{Tok, mark, word, digits, text, Lined, lined, bytes_in}
-use Rattle.rpl_parse.specs.Scan.{number_of, scan, Scanned, all, bad_at, led_by, Front, gap, token, bad, front, by_front, line_behind, tokens}
+use Rattle.rpl_parse.specs.Tokens.{Tok, text, Lined, lined, bytes_in}
+use Rattle.rpl_parse.specs.Scan.{number_of, scan, Scanned, all, bad_at, led_by, gap, token, bad, front, line_behind, tokens}
 
 pub number_grows : (n : ℕ) (bs : List ℕ) → n ≤ number_of n bs
 number_grows n [] = omega arith

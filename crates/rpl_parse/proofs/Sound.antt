@@ -1,5 +1,5 @@
 -- What is read is in the grammar.
-use Rattle.std.proofs.Common.{◌≡◌, ◌<◌, ◌≤◌, ◌-◌, ◌+◌, ◌*◌, ◌==◌, ◌∙◌, ◌++◌, ℕ, ℤ, zero, suc, Bool, true, false, List, [], ◌∷◌, length, map, max, Option, Some, None, refl, sym, ap, subst, arith, rules, if◌then◌else◌}
+use Rattle.std.proofs.Common.{◌≡◌, ◌≤◌, ◌-◌, ◌+◌, ◌*◌, ◌==◌, ◌∙◌, ◌++◌, ℕ, zero, suc, Bool, true, false, List, [], ◌∷◌, length, max, Option, Some, None, refl, sym, ap, subst, arith, if◌then◌else◌}
 use Rattle.std.proofs.lemmas.Bool.{ltb-true}
 use Rattle.std.proofs.lemmas.List.{append-nil, append_assoc}
 use Rattle.std.proofs.Math.Dec.{ltb}
@@ -12,10 +12,10 @@ use Rattle.rpl_tree.specs.declared.words.TwoWord.TheVariants as T
 use Rattle.rpl_tree.specs.declared.words.ConvertWord.{ConvertWord}
 use Rattle.rpl_tree.specs.declared.words.ConvertWord.TheVariants as C
 use Rattle.rpl_parse.specs.Tokens.{Tok, mark, word, digits, text, same}
-use Rattle.rpl_tree.specs.Tree.{Tree, Trees, literal, truth, now, slot, name, call, brackets, list, choice, bind, each, mapped, one, two, convert, at, no_trees, tree}
+use Rattle.rpl_tree.specs.Tree.{Tree, literal, truth, now, slot, name, call, list, no_trees}
 use Rattle.rpl_parse.specs.Depth.{depth, depths}
-use Rattle.rpl_parse.specs.Grammar.{Part, ◌⨾◌, sign, token, form, Spells, SpellsList, SpellsMore, looseness, looseness_of, looseness_of_one, left_of, mark_of, mark_of_one, mark_of_convert, is_prefix, is_operator}
-use Rattle.rpl_parse.specs.Reading.{Read, Got, got, Many, many, Named, Turn, ◌>>=◌, behind, behind_name, name_before, kept, closed, up_to, items, some_items, args, slots, named, braces, in_brackets, choices, binds, loops, maps, word_of_one, word_of_two, converts, opened, prim, steps, turn, if_word, if_loose, operator, chain, guarded, if_found, prefixed, prefix_of, level, read, turns_of, trees_of}
+use Rattle.rpl_parse.specs.Grammar.{Part, ◌⨾◌, sign, form, Spells, SpellsMore, looseness, looseness_of, looseness_of_one, left_of, mark_of, mark_of_one, mark_of_convert, is_prefix, is_operator}
+use Rattle.rpl_parse.specs.Reading.{Read, Got, got, Many, many, Named, Turn, ◌>>=◌, behind, behind_name, name_before, kept, closed, up_to, items, some_items, args, named, braces, loops, maps, word_of_one, word_of_two, converts, opened, prim, steps, turn, if_word, if_loose, operator, chain, guarded, if_found, prefix_of, level, read, turns_of, trees_of}
 use Rattle.rpl_parse.proofs.Marks.{same_mark}
 
 pub some_one : {A : Type 0} (x y : A) → Some x ≡ Some y → x ≡ y

@@ -1,8 +1,8 @@
 -- What statements are read is in the grammar.
-use Rattle.std.proofs.Common.{◌≡◌, ◌<◌, ◌≤◌, ◌-◌, ◌+◌, ◌∙◌, ◌++◌, ◌⊎◌, ℕ, ℤ, zero, suc, Bool, true, false, if◌then◌else◌, List, [], ◌∷◌, length, max, Option, Some, None, refl, sym, ap, subst, arith, rules}
+use Rattle.std.proofs.Common.{◌≡◌, ◌≤◌, ◌+◌, ◌∙◌, ◌++◌, ℕ, zero, suc, Bool, true, false, if◌then◌else◌, List, [], ◌∷◌, length, max, Option, Some, None, refl, sym, ap, subst, arith}
 use mathlib.Core.Logic.{inl, inr}
 use Rattle.std.proofs.lemmas.List.{append-nil, append_assoc}
-use Rattle.rpl_tree.specs.Tree.{Tree, Act, Acts, assign, branch, with_name, no_acts, act}
+use Rattle.rpl_tree.specs.Tree.{Act, assign, branch, with_name}
 use Rattle.rpl_parse.specs.declared.token.Mark.{Mark}
 use Rattle.rpl_parse.specs.declared.token.Mark.TheVariants as M
 use Rattle.rpl_parse.specs.Tokens.{Tok, mark, word, digits, text}

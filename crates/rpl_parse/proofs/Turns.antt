@@ -1,11 +1,11 @@
 -- One turn of each loop of the reading.
-use Rattle.std.proofs.Common.{◌≡◌, ◌<◌, ◌≤◌, ◌-◌, ◌+◌, ◌∙◌, ◌++◌, ℕ, zero, suc, List, [], ◌∷◌, length, map, max, Option, Some, None, refl, sym, ap, arith, rules, true}
+use Rattle.std.proofs.Common.{◌≡◌, ◌<◌, ◌≤◌, ◌-◌, ◌+◌, ◌∙◌, ◌++◌, ℕ, zero, suc, List, [], ◌∷◌, max, Some, None, refl, ap, arith, true}
 use Rattle.std.proofs.lemmas.Bool.{lt-ltb}
 use Rattle.std.proofs.Math.Dec.{ltb}
 use Rattle.rpl_parse.specs.declared.token.Mark.TheVariants as M
 use Rattle.rpl_parse.specs.Tokens.{Tok}
-use Rattle.rpl_tree.specs.Tree.{Tree, two, at}
-use Rattle.rpl_parse.specs.Reading.{Read, Got, got, Many, many, Turn, behind, turn, up_to, items, steps, chain, guarded, if_found}
+use Rattle.rpl_tree.specs.Tree.{two, at}
+use Rattle.rpl_parse.specs.Reading.{Read, Got, got, Many, many, Turn, behind, turn, up_to, items, steps, chain}
 
 module _ (inner : ℕ → List Tok → Read) (d : ℕ) where
   pub items_stops : (n : ℕ) (a : Many) → behind M.Comma a.left ≡ None → items inner d n a ≡ Some a

@@ -5,7 +5,7 @@ use Rattle.rpl_tree.specs.declared.expression.Expr.{Expr, Row_of-Expr, end_of-Ex
 use Rattle.rpl_tree.specs.declared.expression.Expr.TheVariants.{Call, Call', List as Listed, List'}
 use Rattle.rpl_tree.specs.declared.statement.Statement.{Statement, Row_of-Statement, end_of-Statement, more_of-Statement, items-the_row-Statement, items_hidden-the_row-Statement-0}
 use Rattle.rpl_tree.specs.declared.statement.Statement.TheVariants.{If as Branched, If', With, With'}
-use Rattle.rpl_tree.specs.Tree.{Tree, Trees, no_trees, tree, call, list, Act, Acts, no_acts, act, branch, with_name}
+use Rattle.rpl_tree.specs.Tree.{Trees, tree, call, list, Acts, act, branch, with_name}
 use Rattle.rpl_tree.specs.Seen.{tree_of, act_of}
 use Rattle.rpl_tree.specs.Seen as Seen
 use Rattle.rpl_parse.specs.Reading.{trees_of}

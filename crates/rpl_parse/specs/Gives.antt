@@ -8,8 +8,8 @@ use Rattle.rpl_tree.specs.Seen.{tree_of}
 use Rattle.rpl_parse.specs.declared.token.TokenAt.{TokenAt}
 use Rattle.rpl_parse.specs.declared.stop.Stop.{Stop}
 use Rattle.rpl_parse.specs.declared.stop.Stop.TheVariants as S
-use Rattle.rpl_parse.specs.Tokens.{Tok, toks}
-use Rattle.rpl_parse.specs.Reading.{Read, Got, got, Many, many}
+use Rattle.rpl_parse.specs.Tokens.{toks}
+use Rattle.rpl_parse.specs.Reading.{Read, got, Many, many}
 
 -- nothing is read, unless memory ran out
 abbrev pub Fails : {A : Type 0} → Stop → Option A → Type 0

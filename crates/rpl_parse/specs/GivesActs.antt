@@ -1,14 +1,13 @@
 -- What a result of the code says of a reading of statements.
-use Rattle.std.specs.Prelude.{◌≡◌, ◌≤◌, ℕ, ℤ, List, Option, Some, None, Result, Ok, Err, map}
+use Rattle.std.specs.Prelude.{◌≡◌, ◌≤◌, ℕ, List, Option, Some, None, Result, Ok, Err, map}
 use Rattle.std.specs.Borrow.{Bor}
 use Rattle.std.specs.declared.vec.Vec.{Vec}
 use Rattle.std.specs.declared.alloc.Global.{Global}
 use Rattle.rpl_tree.specs.declared.statement.Statement.{Statement}
 use Rattle.rpl_tree.specs.Seen.{act_of}
 use Rattle.rpl_parse.specs.declared.token.TokenAt.{TokenAt}
-use Rattle.rpl_parse.specs.declared.token.Span.{Span}
 use Rattle.rpl_parse.specs.declared.stop.Stop.{Stop}
-use Rattle.rpl_parse.specs.Tokens.{Tok, toks, bytes_in}
+use Rattle.rpl_parse.specs.Tokens.{toks}
 use Rattle.rpl_parse.specs.Gives.{Fails}
 use Rattle.rpl_parse.specs.ReadingActs.{Done, done, Step, step}
 

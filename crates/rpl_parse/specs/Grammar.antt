@@ -1,5 +1,5 @@
 -- GRAMMAR, first part: which tokens spell which expression, one case for each production.
-use Rattle.std.specs.Prelude.{◌≡◌, ◌≤◌, ◌+◌, ◌-◌, ℕ, ℤ, Bool, true, false, Option, Some, None, List, [], ◌∷◌}
+use Rattle.std.specs.Prelude.{◌≡◌, ◌≤◌, ◌-◌, ℕ, Bool, true, false, Some, None, List, ◌∷◌}
 use Rattle.rpl_tree.specs.declared.words.OneWord.{OneWord}
 use Rattle.rpl_tree.specs.declared.words.OneWord.TheVariants as O
 use Rattle.rpl_tree.specs.declared.words.TwoWord.{TwoWord}
@@ -10,7 +10,6 @@ use Rattle.rpl_tree.specs.Tree.{Tree, Trees, literal, truth, now, slot, name, ca
 use Rattle.rpl_parse.specs.declared.token.Mark.{Mark}
 use Rattle.rpl_parse.specs.declared.token.Mark.TheVariants as M
 use Rattle.rpl_parse.specs.Tokens.{Tok, mark, word, digits, text}
-use Rattle.rpl_parse.specs.Depth.{depth}
 
 -- what stands at the front of some tokens, and which tokens are left behind it
 abbrev pub Part : Type 1

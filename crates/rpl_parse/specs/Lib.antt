@@ -12,4 +12,6 @@ pub mod GivesDeclared
 pub mod Statements
 pub mod Declarations
 pub mod Cut
+pub mod Bounds
 pub mod Parsing
+pub mod Worked

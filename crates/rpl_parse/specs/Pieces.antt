@@ -9,7 +9,7 @@ use Rattle.rpl_parse.specs.declared.scan.ScanStop.{ScanStop}
 use Rattle.rpl_parse.specs.declared.scan.ScanStop.TheVariants as S
 use Rattle.rpl_parse.specs.declared.scan.Found.{Found}
 use Rattle.rpl_parse.specs.declared.scan.Found.TheVariants as F
-use Rattle.rpl_parse.specs.Tokens.{Tok, mark, word, digits, text, seen, lined_of}
+use Rattle.rpl_parse.specs.Tokens.{mark, word, digits, text, seen, lined_of}
 use Rattle.rpl_parse.specs.Scan.{greatest, Front, gap, token, bad, Scanned, all, bad_at}
 
 -- what stands at the front of some bytes

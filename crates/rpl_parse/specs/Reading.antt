@@ -1,5 +1,5 @@
 -- How expressions are read, from the front, with one token of look-ahead.
-use Rattle.std.specs.Prelude.{◌≡◌, ◌≤◌, ◌<◌, ◌+◌, ◌-◌, ◌==◌, ◌++◌, ℕ, zero, suc, ℤ, Bool, true, false, if◌then◌else◌, ltb, Option, Some, None, List, [], ◌∷◌, max, length, option_and_then, option_map}
+use Rattle.std.specs.Prelude.{◌+◌, ◌-◌, ◌==◌, ◌++◌, ℕ, zero, suc, ℤ, Bool, true, false, if◌then◌else◌, ltb, Option, Some, None, List, [], ◌∷◌, max, length, option_and_then}
 use Rattle.rpl_tree.specs.declared.words.OneWord.{OneWord}
 use Rattle.rpl_tree.specs.declared.words.OneWord.TheVariants as O
 use Rattle.rpl_tree.specs.declared.words.TwoWord.{TwoWord}

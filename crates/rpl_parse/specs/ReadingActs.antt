@@ -1,10 +1,10 @@
 -- How statements are read.
-use Rattle.std.specs.Prelude.{◌≡◌, ◌≤◌, ◌+◌, ◌++◌, ℕ, zero, suc, ℤ, pos, Bool, true, false, if◌then◌else◌, List, [], ◌∷◌, max, length, Option, Some, None}
-use Rattle.rpl_tree.specs.Tree.{Tree, Act, Acts, assign, branch, with_name, no_acts, act}
+use Rattle.std.specs.Prelude.{◌+◌, ◌++◌, ℕ, zero, suc, ℤ, pos, Bool, true, false, if◌then◌else◌, List, [], ◌∷◌, max, length, Option, Some, None}
+use Rattle.rpl_tree.specs.Tree.{Act, Acts, assign, branch, with_name, no_acts, act}
 use Rattle.rpl_parse.specs.declared.token.Mark.{Mark}
 use Rattle.rpl_parse.specs.declared.token.Mark.TheVariants as M
-use Rattle.rpl_parse.specs.Tokens.{Tok, mark, word, digits, text}
-use Rattle.rpl_parse.specs.Reading.{◌>>=◌, Got, Read, read, behind, behind_name, name_before, closed, if_found}
+use Rattle.rpl_parse.specs.Tokens.{Tok, mark, word, digits}
+use Rattle.rpl_parse.specs.Reading.{◌>>=◌, Read, read, behind, behind_name, name_before, closed, if_found}
 
 abbrev pub acts_of : List Act → Acts
 acts_of [] = no_acts

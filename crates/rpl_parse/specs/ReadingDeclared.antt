@@ -1,11 +1,11 @@
 -- How types, parameters and declarations are read.
-use Rattle.std.specs.Prelude.{◌≡◌, ◌+◌, ◌++◌, ℕ, zero, suc, ℤ, List, [], ◌∷◌, length, Option, Some, None}
+use Rattle.std.specs.Prelude.{◌++◌, ℕ, zero, suc, ℤ, List, [], ◌∷◌, length, Option, Some, None}
 use Rattle.rpl_tree.specs.Tree.{TypeName, numeric, boolean, datetime, slot_type, numeric_list, slot_list, Parameter, Declared, rule, function}
 use Rattle.rpl_parse.specs.declared.token.Mark.{Mark}
 use Rattle.rpl_parse.specs.declared.token.Mark.TheVariants as M
-use Rattle.rpl_parse.specs.Tokens.{Tok, mark, word, digits, text}
-use Rattle.rpl_parse.specs.Reading.{◌>>=◌, Got, Named, read, behind, behind_name, closed, if_found}
-use Rattle.rpl_parse.specs.ReadingActs.{Numbered, behind_number, read_acts, acts_of}
+use Rattle.rpl_parse.specs.Tokens.{Tok, mark, text}
+use Rattle.rpl_parse.specs.Reading.{◌>>=◌, Named, read, behind, behind_name, closed, if_found}
+use Rattle.rpl_parse.specs.ReadingActs.{behind_number, read_acts, acts_of}
 
 -- a string, and the tokens behind it
 abbrev pub behind_text : List Tok → Option Named

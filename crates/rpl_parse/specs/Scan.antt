@@ -1,5 +1,5 @@
 -- The tokens of a text: from each place the longest, and the line in which each begins.
-use Rattle.std.specs.Prelude.{◌≡◌, ◌==◌, ◌≤◌, ◌+◌, ◌-◌, ◌*◌, ◌++◌, ◌&&◌, ◌||◌, ℕ, zero, suc, ℤ, pos, Bool, true, false, if◌then◌else◌, leb, codes, nat_eq, Option, Some, None, List, [], ◌∷◌, take, drop, length}
+use Rattle.std.specs.Prelude.{◌==◌, ◌+◌, ◌-◌, ◌*◌, ◌++◌, ◌&&◌, ◌||◌, ℕ, zero, suc, pos, Bool, true, false, if◌then◌else◌, leb, codes, nat_eq, Option, Some, None, List, [], ◌∷◌, take, drop}
 use Rattle.std.specs.Cmp.Lexicographic.{pointwise}
 use Rattle.rpl_parse.specs.declared.token.Mark.{Mark}
 use Rattle.rpl_parse.specs.declared.token.Mark.TheVariants as M

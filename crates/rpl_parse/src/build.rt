@@ -73,7 +73,8 @@ pub fn slot_text(alloc: Global, text: &[u8], object: Span, slot: Span) -> Result
 
 /// `Object.Slot`, as an expression.
 pub fn slot_of(alloc: Global, text: &[u8], object: Span, slot_name: Span) -> Result<Expr, Stop>
-    ensures ok { IfOk result (λ e. tree_of e ≡ slot (bytes_in text.now object) (bytes_in text.now slot_name)) }
+    ensures ok { IfOk result (λ e. tree_of e ≡ slot (bytes_in text.now object)
+        (bytes_in text.now slot_name)) }
     ensures err { IfErr result (λ f. f ≡ Stop.NoMemory) }
 {
     let found = slot_text(alloc, text, object, slot_name)?;
@@ -82,7 +83,8 @@ pub fn slot_of(alloc: Global, text: &[u8], object: Span, slot_name: Span) -> Res
 
 /// `name(args)`.
 pub fn call_of(alloc: Global, text: &[u8], named: Span, args: Vec<Expr>) -> Result<Expr, Stop>
-    ensures ok { IfOk result (λ e. tree_of e ≡ call (bytes_in text.now named) (trees_of (map tree_of args.items))) }
+    ensures ok { IfOk result (λ e. tree_of e ≡ call (bytes_in text.now named) (trees_of
+        (map tree_of args.items))) }
     ensures err { IfErr result (λ f. f ≡ Stop.NoMemory) }
 {
     let name = copied(alloc, text, named)?;
@@ -137,7 +139,8 @@ pub fn at_step(alloc: Global, slot: Expr, step: Expr) -> Result<Expr, Stop>
 
 /// `IF condition THEN yes ELSE no ENDIF`.
 pub fn choice(alloc: Global, condition: Expr, yes: Expr, no: Expr) -> Result<Expr, Stop>
-    ensures ok { IfOk result (λ e. tree_of e ≡ choice (tree_of condition) (tree_of yes) (tree_of «no»)) }
+    ensures ok { IfOk result (λ e. tree_of e ≡ choice (tree_of condition) (tree_of yes)
+        (tree_of «no»)) }
     ensures err { IfErr result (λ f. f ≡ Stop.NoMemory) }
 {
     let condition = boxed(alloc, condition)?;
@@ -154,7 +157,8 @@ pub fn binding(
     value: Expr,
     body: Expr,
 ) -> Result<Expr, Stop>
-    ensures ok { IfOk result (λ e. tree_of e ≡ bind (bytes_in text.now named) (tree_of value) (tree_of body)) }
+    ensures ok { IfOk result (λ e. tree_of e ≡ bind (bytes_in text.now named) (tree_of value)
+        (tree_of body)) }
     ensures err { IfErr result (λ f. f ≡ Stop.NoMemory) }
 {
     let name = copied(alloc, text, named)?;
@@ -181,7 +185,8 @@ pub fn for_each(
     first: Expr,
     body: Expr,
 ) -> Result<Expr, Stop>
-    ensures ok { IfOk result (λ e. tree_of e ≡ each (bytes_in text.now names.name) (tree_of list) (bytes_in text.now names.total) (tree_of first) (tree_of body)) }
+    ensures ok { IfOk result (λ e. tree_of e ≡ each (bytes_in text.now names.name) (tree_of list)
+        (bytes_in text.now names.total) (tree_of first) (tree_of body)) }
     ensures err { IfErr result (λ f. f ≡ Stop.NoMemory) }
 {
     let name = copied(alloc, text, names.name)?;
@@ -206,7 +211,8 @@ pub fn mapping(
     list: Expr,
     body: Expr,
 ) -> Result<Expr, Stop>
-    ensures ok { IfOk result (λ e. tree_of e ≡ mapped (bytes_in text.now named) (tree_of list) (tree_of body)) }
+    ensures ok { IfOk result (λ e. tree_of e ≡ mapped (bytes_in text.now named) (tree_of list)
+        (tree_of body)) }
     ensures err { IfErr result (λ f. f ≡ Stop.NoMemory) }
 {
     let name = copied(alloc, text, named)?;
@@ -223,7 +229,8 @@ pub fn conversion(
     object: Span,
     arg: Expr,
 ) -> Result<Expr, Stop>
-    ensures ok { IfOk result (λ e. tree_of e ≡ convert word (bytes_in text.now object) (tree_of arg)) }
+    ensures ok { IfOk result (λ e. tree_of e ≡ convert word (bytes_in text.now object)
+        (tree_of arg)) }
     ensures err { IfErr result (λ f. f ≡ Stop.NoMemory) }
 {
     let object = copied(alloc, text, object)?;

@@ -72,7 +72,8 @@ fn function_body(
     params: Vec<Param>,
     tokens: &[TokenAt],
 ) -> Result<Declaration, Stop>
-    ensures { GivesDeclared result (body_behind (bytes_in text.now named) (map parameter_of params.items) (toks text.now tokens.now)) }
+    ensures { GivesDeclared result (body_behind (bytes_in text.now named)
+        (map parameter_of params.items) (toks text.now tokens.now)) }
 {
     let Some(rest) = behind(text, Mark::Colon, tokens) else {
         return Err(Stop::Bad);

@@ -44,7 +44,8 @@ fn level<'a>(
     k: u8,
 ) -> Result<(Expr, u8, &'a [TokenAt]), Stop>
     requires { depth < 100 }
-    ensures { Gives text.now (depth + 1) result (level (read depth) depth k (toks text.now tokens.entry.now)) }
+    ensures { Gives text.now (depth + 1) result (level (read depth) depth k
+        (toks text.now tokens.entry.now)) }
 {
     if k == 0 {
         let (first, deep, rest) = primary(alloc, text, tokens, depth)?;
@@ -70,7 +71,8 @@ fn primary<'a>(
     depth: u8,
 ) -> Result<(Expr, u8, &'a [TokenAt]), Stop>
     requires { depth < 100 }
-    ensures { Gives text.now (depth + 1) result (prim (read depth) depth (toks text.now tokens.entry.now)) }
+    ensures { Gives text.now (depth + 1) result (prim (read depth) depth
+        (toks text.now tokens.entry.now)) }
 {
     let [first, rest @ ..] = tokens else {
         return Err(Stop::Bad);
@@ -110,7 +112,8 @@ fn opened<'a>(
     depth: u8,
 ) -> Result<(Expr, u8, &'a [TokenAt]), Stop>
     requires { depth < 100 }
-    ensures { Gives text.now (depth + 1) result (opened (read depth) depth mark (toks text.now tokens.entry.now)) }
+    ensures { Gives text.now (depth + 1) result (opened (read depth) depth mark
+        (toks text.now tokens.entry.now)) }
 {
     match mark {
         Mark::True => Ok((Expr::Truth(true), 1, tokens)),
@@ -147,7 +150,8 @@ fn in_brackets<'a>(
     depth: u8,
 ) -> Result<(Expr, u8, &'a [TokenAt]), Stop>
     requires { depth < 100 }
-    ensures { Gives text.now (depth + 1) result (in_brackets (read depth) depth (toks text.now tokens.entry.now)) }
+    ensures { Gives text.now (depth + 1) result (in_brackets (read depth) depth
+        (toks text.now tokens.entry.now)) }
 {
     let (inside, deep, rest) = up_to(alloc, text, Mark::RightParen, tokens, depth)?;
     let whole = brackets(alloc, inside)?;
@@ -162,7 +166,8 @@ fn choices<'a>(
     depth: u8,
 ) -> Result<(Expr, u8, &'a [TokenAt]), Stop>
     requires { depth < 100 }
-    ensures { Gives text.now (depth + 1) result (choices (read depth) depth (toks text.now tokens.entry.now)) }
+    ensures { Gives text.now (depth + 1) result (choices (read depth) depth
+        (toks text.now tokens.entry.now)) }
 {
     let (condition, a, rest) = up_to(alloc, text, Mark::Then, tokens, depth)?;
     let (yes, b, rest) = up_to(alloc, text, Mark::Else, rest, depth)?;
@@ -179,7 +184,8 @@ fn binds<'a>(
     depth: u8,
 ) -> Result<(Expr, u8, &'a [TokenAt]), Stop>
     requires { depth < 100 }
-    ensures { Gives text.now (depth + 1) result (binds (read depth) depth (toks text.now tokens.entry.now)) }
+    ensures { Gives text.now (depth + 1) result (binds (read depth) depth
+        (toks text.now tokens.entry.now)) }
 {
     let Some((name, rest)) = name_before(text, Mark::Assign, tokens) else {
         return Err(Stop::Bad);
@@ -198,7 +204,8 @@ fn loops<'a>(
     depth: u8,
 ) -> Result<(Expr, u8, &'a [TokenAt]), Stop>
     requires { depth < 100 }
-    ensures { Gives text.now (depth + 1) result (loops (read depth) depth (toks text.now tokens.entry.now)) }
+    ensures { Gives text.now (depth + 1) result (loops (read depth) depth
+        (toks text.now tokens.entry.now)) }
 {
     let Some((name, rest)) = name_before(text, Mark::In, tokens) else {
         return Err(Stop::Bad);
@@ -221,7 +228,8 @@ fn maps<'a>(
     depth: u8,
 ) -> Result<(Expr, u8, &'a [TokenAt]), Stop>
     requires { depth < 100 }
-    ensures { Gives text.now (depth + 1) result (maps (read depth) depth (toks text.now tokens.entry.now)) }
+    ensures { Gives text.now (depth + 1) result (maps (read depth) depth
+        (toks text.now tokens.entry.now)) }
 {
     let Some((name, rest)) = name_before(text, Mark::In, tokens) else {
         return Err(Stop::Bad);
@@ -242,7 +250,8 @@ fn of_one<'a>(
     depth: u8,
 ) -> Result<(Expr, u8, &'a [TokenAt]), Stop>
     requires { depth < 100 }
-    ensures { Gives text.now (depth + 1) result (word_of_one (read depth) depth word (toks text.now tokens.entry.now)) }
+    ensures { Gives text.now (depth + 1) result (word_of_one (read depth) depth word
+        (toks text.now tokens.entry.now)) }
 {
     let Some(rest) = behind(text, Mark::LeftParen, tokens) else {
         return Err(Stop::Bad);
@@ -262,7 +271,8 @@ fn of_two<'a>(
     depth: u8,
 ) -> Result<(Expr, u8, &'a [TokenAt]), Stop>
     requires { depth < 100 }
-    ensures { Gives text.now (depth + 1) result (word_of_two (read depth) depth word (toks text.now tokens.entry.now)) }
+    ensures { Gives text.now (depth + 1) result (word_of_two (read depth) depth word
+        (toks text.now tokens.entry.now)) }
 {
     let Some(rest) = behind(text, Mark::LeftParen, tokens) else {
         return Err(Stop::Bad);
@@ -282,7 +292,8 @@ fn converts<'a>(
     depth: u8,
 ) -> Result<(Expr, u8, &'a [TokenAt]), Stop>
     requires { depth < 100 }
-    ensures { Gives text.now (depth + 1) result (converts (read depth) depth word (toks text.now tokens.entry.now)) }
+    ensures { Gives text.now (depth + 1) result (converts (read depth) depth word
+        (toks text.now tokens.entry.now)) }
 {
     let Some(rest) = behind(text, Mark::LeftParen, tokens) else {
         return Err(Stop::Bad);
@@ -305,7 +316,8 @@ fn up_to<'a>(
     depth: u8,
 ) -> Result<(Expr, u8, &'a [TokenAt]), Stop>
     requires { depth < 100 }
-    ensures { Gives text.now depth result (up_to (read depth) depth mark (toks text.now tokens.entry.now)) }
+    ensures { Gives text.now depth result (up_to (read depth) depth mark
+        (toks text.now tokens.entry.now)) }
 {
     let (e, deep, rest) = expression(alloc, text, tokens, depth, 7)?;
     let Some(rest) = behind(text, mark, rest) else {
@@ -323,7 +335,8 @@ fn named<'a>(
     depth: u8,
 ) -> Result<(Expr, u8, &'a [TokenAt]), Stop>
     requires { depth < 100 }
-    ensures { Gives text.now (depth + 1) result (named (read depth) depth (bytes_in text.now name) (toks text.now tokens.entry.now)) }
+    ensures { Gives text.now (depth + 1) result (named (read depth) depth (bytes_in text.now name)
+        (toks text.now tokens.entry.now)) }
 {
     if let Some(rest) = behind(text, Mark::LeftParen, tokens) {
         return arguments(alloc, text, name, rest, depth);
@@ -348,7 +361,8 @@ fn arguments<'a>(
     depth: u8,
 ) -> Result<(Expr, u8, &'a [TokenAt]), Stop>
     requires { depth < 100 }
-    ensures { Gives text.now (depth + 1) result (args (read depth) depth (bytes_in text.now name) (toks text.now tokens.entry.now)) }
+    ensures { Gives text.now (depth + 1) result (args (read depth) depth (bytes_in text.now name)
+        (toks text.now tokens.entry.now)) }
 {
     if let Some(rest) = behind(text, Mark::RightParen, tokens) {
         let whole = call_of(alloc, text, name, Vec::new(alloc))?;
@@ -370,7 +384,8 @@ fn braces<'a>(
     depth: u8,
 ) -> Result<(Expr, u8, &'a [TokenAt]), Stop>
     requires { depth < 100 }
-    ensures { Gives text.now (depth + 1) result (braces (read depth) depth (toks text.now tokens.entry.now)) }
+    ensures { Gives text.now (depth + 1) result (braces (read depth) depth
+        (toks text.now tokens.entry.now)) }
 {
     let (items, most, rest) = items(alloc, text, tokens, depth)?;
     let Some(rest) = behind(text, Mark::RightBrace, rest) else {
@@ -388,7 +403,8 @@ fn items<'a>(
     depth: u8,
 ) -> Result<(Vec<Expr>, u8, &'a [TokenAt]), Stop>
     requires { depth < 100 }
-    ensures { GivesMany text.now depth result (some_items (read depth) depth (toks text.now tokens.entry.now)) }
+    ensures { GivesMany text.now depth result (some_items (read depth) depth
+        (toks text.now tokens.entry.now)) }
 {
     let (first, deep, rest) = expression(alloc, text, tokens, depth, 7)?;
     let mut items = Vec::new(alloc);
@@ -408,7 +424,8 @@ fn more<'a>(
 ) -> Result<(Vec<Expr>, u8, &'a [TokenAt]), Stop>
     requires limit { depth < 100 }
     requires within { deep ≤ depth }
-    ensures { GivesMany text.now depth result (items (read depth) depth (length tokens.entry.now) (many (map tree_of first.items) deep (toks text.now tokens.entry.now))) }
+    ensures { GivesMany text.now depth result (items (read depth) depth (length tokens.entry.now)
+        (many (map tree_of first.items) deep (toks text.now tokens.entry.now))) }
 {
     let mut items = first;
     let mut most = deep;
@@ -438,7 +455,8 @@ fn steps<'a>(
 ) -> Result<(Expr, u8, &'a [TokenAt]), Stop>
     requires limit { depth < 100 }
     requires within { first_deep ≤ depth + 1 }
-    ensures { Gives text.now (depth + 1) result (steps (read depth) depth depth (got (tree_of first) first_deep (toks text.now tokens.entry.now))) }
+    ensures { Gives text.now (depth + 1) result (steps (read depth) depth depth (got
+        (tree_of first) first_deep (toks text.now tokens.entry.now))) }
 {
     let mut slot = first;
     let mut deep = first_deep;
@@ -473,7 +491,8 @@ fn chain<'a>(
     requires limit { depth < 100 }
     requires within { first_deep ≤ depth + 1 }
     requires level { 0 < k }
-    ensures { Gives text.now (depth + 1) result (chain (read depth) depth k (turns_of k depth) (got (tree_of first) first_deep (toks text.now tokens.entry.now))) }
+    ensures { Gives text.now (depth + 1) result (chain (read depth) depth k (turns_of k depth)
+        (got (tree_of first) first_deep (toks text.now tokens.entry.now))) }
 {
     let mut left = first;
     let mut deep = first_deep;
@@ -485,10 +504,26 @@ fn chain<'a>(
         if deep > depth {
             return Err(Stop::Bad);
         }
-        let (right, right_deep, after) = expression(alloc, text, next, depth, k - 1)?;
+        let (right, right_deep, after) = operand(alloc, text, next, depth, k)?;
         left = two(alloc, word, left, right)?;
         deep = max_of(deep, right_deep) + 1;
         rest = after;
     }
     Ok((left, deep, rest))
+}
+
+/// What stands behind an operator of a level: an expression that is tighter, since chains associate to the left.
+#[cycle(parse)]
+fn operand<'a>(
+    alloc: Global,
+    text: &[u8],
+    tokens: &'a [TokenAt],
+    depth: u8,
+    k: u8,
+) -> Result<(Expr, u8, &'a [TokenAt]), Stop>
+    requires limit { depth < 100 }
+    requires level { 0 < k }
+    ensures { Gives text.now depth result (read depth (k - 1) (toks text.now tokens.entry.now)) }
+{
+    expression(alloc, text, tokens, depth, k - 1)
 }

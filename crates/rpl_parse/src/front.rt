@@ -25,7 +25,8 @@ pub enum Piece {
 
 /// What digits stand for, if that isn't above Q.
 fn number_of(digits: &[u8]) -> Option<u64>
-    ensures { MatchOption result (greatest < number_of 0 digits.now) (λ v. (v ≡ number_of 0 digits.now) × (v ≤ greatest)) }
+    ensures { MatchOption result (greatest < number_of 0 digits.now) (λ v. (v
+        ≡ number_of 0 digits.now) × (v ≤ greatest)) }
 {
     let mut value: u64 = 0;
     for digit in digits {
@@ -85,7 +86,8 @@ fn single(b: u8) -> Option<Mark>
 }
 
 fn one_or_two(short: Mark, long: Mark, bytes: &[u8]) -> Piece
-    ensures value { (b : ℕ) → piece_seen (b ∷ bytes.now) result ≡ one_or_two short long (head_is 61 bytes.now) }
+    ensures value { (b : ℕ) → piece_seen (b ∷ bytes.now) result ≡ one_or_two short long
+        (head_is 61 bytes.now) }
     ensures within { fits (length bytes.now + 1) result }
 {
     if head_is(61, bytes) {

@@ -1,4 +1,8 @@
-//! The parser of rulesets.
+//! The parser of rulesets. `parse` reads a text as the tree that the grammar relates to it, and names the first bad token,
+//! or the first declaration that isn't in the grammar or is one too many. What the tokens of a text are, `specs/Scan.antt`
+//! says; which tokens spell which tree, `specs/Grammar.antt` and `specs/Statements.antt` say, a case for each production; and
+//! what is due for a whole text, `specs/Declarations.antt`. The laws say that a text is read in one way. The code goes
+//! through the text once, looks at one token ahead, and calls itself no deeper than a declaration may be nested.
 #![tactic(auto)]
 
 mod build;
@@ -8,6 +12,7 @@ mod declaration;
 mod expression;
 mod fault;
 mod front;
+pub mod law;
 mod look;
 mod reserved;
 mod ruleset;
@@ -19,4 +24,3 @@ mod types;
 
 pub use fault::ParseFault;
 pub use ruleset::parse;
-pub use token::{Mark, Span, Token, TokenAt};

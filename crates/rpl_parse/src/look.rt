@@ -11,7 +11,8 @@ use std::alloc::Global;
 
 /// The tokens behind a mark.
 pub fn behind<'a>(_text: &[u8], mark: Mark, tokens: &'a [TokenAt]) -> Option<&'a [TokenAt]>
-    ensures { option_map (λ r. toks _text.now r.now) result ≡ behind mark (toks _text.now tokens.entry.now) }
+    ensures { option_map (λ r. toks _text.now r.now) result ≡ behind mark
+        (toks _text.now tokens.entry.now) }
 {
     match tokens {
         [first, rest @ ..] => match first.token {
@@ -30,7 +31,10 @@ fn is_same(a: Mark, b: Mark) -> bool
 
 /// The name at the front.
 pub fn behind_name<'a>(_text: &[u8], tokens: &'a [TokenAt]) -> Option<(Span, &'a [TokenAt])>
-    ensures { option_map (λ r. record { called = bytes_in _text.now r.0; next = toks _text.now r.1.now }) result ≡ behind_name (toks _text.now tokens.entry.now) }
+    ensures { option_map (λ r. record {
+      called = bytes_in _text.now r.0;
+      next = toks _text.now r.1.now;
+    }) result ≡ behind_name (toks _text.now tokens.entry.now) }
 {
     match tokens {
         [first, rest @ ..] => match first.token {
@@ -47,7 +51,10 @@ pub fn name_before<'a>(
     mark: Mark,
     tokens: &'a [TokenAt],
 ) -> Option<(Span, &'a [TokenAt])>
-    ensures { option_map (λ r. record { called = bytes_in text.now r.0; next = toks text.now r.1.now }) result ≡ name_before mark (toks text.now tokens.entry.now) }
+    ensures { option_map (λ r. record {
+      called = bytes_in text.now r.0;
+      next = toks text.now r.1.now;
+    }) result ≡ name_before mark (toks text.now tokens.entry.now) }
 {
     let (name, rest) = behind_name(text, tokens)?;
     let rest = behind(text, mark, rest)?;
@@ -56,7 +63,8 @@ pub fn name_before<'a>(
 
 /// An operator of a level.
 pub fn turn<'a>(_text: &[u8], k: u8, tokens: &'a [TokenAt]) -> Option<(TwoWord, &'a [TokenAt])>
-    ensures { option_map (λ r. record { op = r.0; more = toks _text.now r.1.now }) result ≡ turn k (toks _text.now tokens.entry.now) }
+    ensures { option_map (λ r. record { op = r.0; more = toks _text.now r.1.now }) result ≡ turn k
+        (toks _text.now tokens.entry.now) }
 {
     match tokens {
         [first, rest @ ..] => match first.token {

@@ -1,5 +1,5 @@
-ghost use Rattle.std.specs.Prelude.{◌≡◌, ◌≤◌, ◌<◌, ◌+◌, ◌-◌, ◌^◌, ◌++◌, ◌∷◌, [], IfErr, OnOk, length, drop, map};
-ghost use Rattle.rpl_parse.specs.Declarations.{is_full, one_more_if, begins_rule, pieces};
+ghost use Rattle.std.specs.Prelude.{◌≡◌, ◌≤◌, ◌<◌, ◌+◌, ◌-◌, ◌^◌, ◌++◌, ◌∷◌, [], IfOk, IfErr, OnOk, length, drop, map};
+ghost use Rattle.rpl_parse.specs.Declarations.{is_full, one_more_if, begins_rule, pieces, IsRuleset};
 ghost use Rattle.rpl_parse.specs.Parsing.{Answers, AnswersPieces};
 ghost use Rattle.rpl_parse.specs.Tokens.{toks, lined_of};
 
@@ -17,6 +17,7 @@ use std::alloc::Global;
 pub fn parse(alloc: Global, text: &[u8]) -> Result<ParsedRules, ParseFault>
     requires { length text.now ≤ 16_777_216 }
     ensures reading { Answers result text.now }
+    ensures ruleset { IfOk result (λ rules. IsRuleset rules) }
 {
     let tokens = match tokens_of(alloc, text) {
         Ok(tokens) => tokens,

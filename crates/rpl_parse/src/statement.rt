@@ -117,7 +117,8 @@ fn assigns<'a>(
     depth: u8,
 ) -> Result<(Statement, u8, &'a [TokenAt]), Stop>
     requires { depth < 100 }
-    ensures { GivesStep text.now (depth + 1) result (assigns (read depth 7) (read_acts depth) (bytes_in text.now object) (toks text.now tokens.entry.now)) }
+    ensures { GivesStep text.now (depth + 1) result (assigns (read depth 7) (read_acts depth)
+        (bytes_in text.now object) (toks text.now tokens.entry.now)) }
 {
     let Some((found, rest)) = behind_target(text, tokens) else {
         return Err(Stop::Bad);
@@ -134,7 +135,8 @@ fn assignment(
     found: Target,
     value: Expr,
 ) -> Result<Statement, Stop>
-    ensures ok { IfOk result (λ s. act_of s ≡ assign (bytes_in text.now object) (bytes_in text.now found.slot) found.ahead (tree_of value)) }
+    ensures ok { IfOk result (λ s. act_of s ≡ assign (bytes_in text.now object)
+        (bytes_in text.now found.slot) found.ahead (tree_of value)) }
     ensures err { IfErr result (λ f. f ≡ Stop.NoMemory) }
 {
     let target = slot_text(alloc, text, object, found.slot)?;
@@ -148,7 +150,11 @@ fn assignment(
 
 /// What is set, behind the name of its object.
 fn behind_target<'a>(text: &[u8], tokens: &'a [TokenAt]) -> Option<(Target, &'a [TokenAt])>
-    ensures { option_map (λ r. record { slot = bytes_in text.now r.0.slot; ahead = r.0.ahead; next = toks text.now r.1.now }) result ≡ target (toks text.now tokens.entry.now) }
+    ensures { option_map (λ r. record {
+      slot = bytes_in text.now r.0.slot;
+      ahead = r.0.ahead;
+      next = toks text.now r.1.now;
+    }) result ≡ target (toks text.now tokens.entry.now) }
 {
     let rest = behind(text, Mark::Dot, tokens)?;
     let (slot, rest) = behind_name(text, rest)?;
@@ -161,7 +167,8 @@ fn behind_target<'a>(text: &[u8], tokens: &'a [TokenAt]) -> Option<(Target, &'a 
 }
 
 fn ahead<'a>(text: &[u8], tokens: &'a [TokenAt]) -> Option<(i64, &'a [TokenAt])>
-    ensures { option_map (λ r. record { value = r.0; next = toks text.now r.1.now }) result ≡ ahead_of (toks text.now tokens.entry.now) }
+    ensures { option_map (λ r. record { value = r.0; next = toks text.now r.1.now }) result
+        ≡ ahead_of (toks text.now tokens.entry.now) }
 {
     match behind(text, Mark::Plus, tokens) {
         Some(rest) => behind_number(text, rest),
@@ -171,7 +178,8 @@ fn ahead<'a>(text: &[u8], tokens: &'a [TokenAt]) -> Option<(i64, &'a [TokenAt])>
 
 /// The number at the front.
 pub fn behind_number<'a>(_text: &[u8], tokens: &'a [TokenAt]) -> Option<(i64, &'a [TokenAt])>
-    ensures { option_map (λ r. record { value = r.0; next = toks _text.now r.1.now }) result ≡ behind_number (toks _text.now tokens.entry.now) }
+    ensures { option_map (λ r. record { value = r.0; next = toks _text.now r.1.now }) result
+        ≡ behind_number (toks _text.now tokens.entry.now) }
 {
     match tokens {
         [first, rest @ ..] => match first.token {
@@ -190,7 +198,8 @@ fn branches<'a>(
     depth: u8,
 ) -> Result<(Statement, u8, &'a [TokenAt]), Stop>
     requires { depth < 100 }
-    ensures { GivesStep text.now (depth + 1) result (branches (read depth 7) (read_acts depth) (toks text.now tokens.entry.now)) }
+    ensures { GivesStep text.now (depth + 1) result (branches (read depth 7) (read_acts depth)
+        (toks text.now tokens.entry.now)) }
 {
     let (condition, a, rest) = value_to(alloc, text, Mark::Then, tokens, depth)?;
     let (yes, b, rest) = statements(alloc, text, rest, depth)?;
@@ -204,7 +213,8 @@ fn branches<'a>(
 
 #[tactic(auto, using(crate::proofs::Viewed::act_of_branch))]
 fn branch_of(condition: Expr, yes: Vec<Statement>, no: Vec<Statement>) -> Statement
-    ensures { act_of result ≡ branch (tree_of condition) (acts_of (map act_of yes.items)) (acts_of (map act_of «no».items)) }
+    ensures { act_of result ≡ branch (tree_of condition) (acts_of (map act_of yes.items)) (acts_of
+        (map act_of «no».items)) }
 {
     Statement::If { condition, yes, no }
 }
@@ -217,7 +227,8 @@ fn otherwise<'a>(
     depth: u8,
 ) -> Result<(Vec<Statement>, u8, &'a [TokenAt]), Stop>
     requires { depth < 100 }
-    ensures { GivesActs text.now depth result (others (read depth 7) (read_acts depth) (toks text.now tokens.entry.now)) }
+    ensures { GivesActs text.now depth result (others (read depth 7) (read_acts depth)
+        (toks text.now tokens.entry.now)) }
 {
     match behind(text, Mark::Else, tokens) {
         Some(rest) => statements(alloc, text, rest, depth),
@@ -233,7 +244,8 @@ fn withs<'a>(
     depth: u8,
 ) -> Result<(Statement, u8, &'a [TokenAt]), Stop>
     requires { depth < 100 }
-    ensures { GivesStep text.now (depth + 1) result (withs (read depth 7) (read_acts depth) (toks text.now tokens.entry.now)) }
+    ensures { GivesStep text.now (depth + 1) result (withs (read depth 7) (read_acts depth)
+        (toks text.now tokens.entry.now)) }
 {
     let Some((name, rest)) = name_before(text, Mark::Assign, tokens) else {
         return Err(Stop::Bad);
@@ -254,7 +266,8 @@ fn with_of(
     value: Expr,
     body: Vec<Statement>,
 ) -> Result<Statement, Stop>
-    ensures ok { IfOk result (λ s. act_of s ≡ with_name (bytes_in text.now named) (tree_of value) (acts_of (map act_of body.items))) }
+    ensures ok { IfOk result (λ s. act_of s ≡ with_name (bytes_in text.now named) (tree_of value)
+        (acts_of (map act_of body.items))) }
     ensures err { IfErr result (λ f. f ≡ Stop.NoMemory) }
 {
     let name = copied(alloc, text, named)?;
@@ -270,7 +283,8 @@ pub fn value_to<'a>(
     limit: u8,
 ) -> Result<(Expr, u8, &'a [TokenAt]), Stop>
     requires { limit ≤ 100 }
-    ensures { Gives text.now limit result (option_and_then (closed mark) (read limit 7 (toks text.now tokens.entry.now))) }
+    ensures { Gives text.now limit result (option_and_then (closed mark) (read limit 7
+        (toks text.now tokens.entry.now))) }
 {
     let (e, deep, rest) = expression(alloc, text, tokens, limit, 7)?;
     let Some(rest) = behind(text, mark, rest) else {

@@ -158,7 +158,8 @@ fn more_parameters<'a>(
     first: Vec<Param>,
     tokens: &'a [TokenAt],
 ) -> Result<(Vec<Param>, &'a [TokenAt]), Stop>
-    ensures { GivesParameters text.now result (more_parameters (length tokens.entry.now) (takes (map parameter_of first.items) (toks text.now tokens.entry.now))) }
+    ensures { GivesParameters text.now result (more_parameters (length tokens.entry.now) (takes
+        (map parameter_of first.items) (toks text.now tokens.entry.now))) }
 {
     let mut params = first;
     let mut rest = tokens;

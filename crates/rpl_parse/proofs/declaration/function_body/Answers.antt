@@ -1,4 +1,4 @@
-use Rattle.std.proofs.Common.{rules, arith, ◌≡◌, map}
+use Rattle.std.proofs.Common.{rules, arith, map}
 use Rattle.rpl_tree.specs.Seen.{tree_of, type_of, parameter_of}
 use Rattle.rpl_parse.specs.Tokens.{toks, bytes_in}
 use Rattle.rpl_parse.specs.ReadingDeclared.{typed}

@@ -1,4 +1,4 @@
-use Rattle.std.proofs.Common.{rules, arith, ◌≡◌, ◌≤◌, ◌+◌, ◌∙◌, sym, ap, ◌∷◌, [], length, map, Some, Err}
+use Rattle.std.proofs.Common.{arith, ◌∙◌, sym, ◌∷◌, [], length, map}
 use Rattle.rpl_parse.specs.Reading.{read, got, many, turns_of}
 use Rattle.rpl_tree.specs.Seen.{tree_of}
 use Rattle.rpl_parse.specs.Tokens.{toks}

@@ -1,4 +1,4 @@
-use Rattle.std.proofs.Common.{◌≡◌, ◌≤◌, ◌<◌, ◌+◌, ◌-◌, ◌*◌, length, map, ℕ}
+use Rattle.std.proofs.Common.{◌≡◌, ◌≤◌, ◌+◌, ◌-◌, ◌*◌, length, map}
 use Rattle.rpl_tree.specs.Seen.{tree_of}
 use Rattle.rpl_parse.specs.Reading.{read, steps, chain, turns_of, got, many, items}
 use Rattle.rpl_parse.specs.Tokens.{toks}
@@ -12,6 +12,9 @@ decreases-level l = 1000 * l.depth + 500 + l.k
 
 abbrev pub decreases-up_to : goal.decreases-up_to
 decreases-up_to l = 1000 * l.depth + 1
+
+abbrev pub decreases-operand : goal.decreases-operand
+decreases-operand l = 1000 * l.depth + 1
 
 abbrev pub decreases-more : goal.decreases-more
 decreases-more l = 1000 * l.depth + 1

@@ -1,4 +1,4 @@
-use Rattle.std.proofs.Common.{rules, arith, ◌≡◌, ◌+◌, ◌*◌, ◌-◌, drop, length, slice_index_or}
+use Rattle.std.proofs.Common.{rules, arith}
 use Rattle.rpl_parse.proofs.ScanFacts.{number_over}
 use Rattle.rpl_parse.proofs.front.number_of.Goals as goal
 

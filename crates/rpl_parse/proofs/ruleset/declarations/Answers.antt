@@ -1,7 +1,7 @@
-use Rattle.std.proofs.Common.{rules, arith, ◌≡◌, ◌<◌, ◌+◌, ◌∙◌, sym, ap, ◌∷◌, [], length, map}
+use Rattle.std.proofs.Common.{rules, arith, ◌<◌, ◌∙◌, sym, ap, ◌∷◌, [], length, map}
 use Rattle.std.proofs.lemmas.List.{map-append, length-drop}
 use Rattle.rpl_tree.specs.Seen.{declared_of}
-use Rattle.rpl_parse.specs.Declarations.{one_more_if, too_many, bad_declaration}
+use Rattle.rpl_parse.specs.Declarations.{one_more_if, too_many}
 use Rattle.rpl_parse.proofs.Faults.{fails_bad}
 use Rattle.rpl_parse.proofs.CutFacts.{found_full, found_bad, found_later}
 use Rattle.rpl_parse.proofs.ruleset.declarations.Goals as goal

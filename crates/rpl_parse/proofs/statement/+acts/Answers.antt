@@ -1,7 +1,7 @@
-use Rattle.std.proofs.Common.{rules, arith, ◌≡◌, ◌≤◌, ◌+◌, ◌-◌, ◌∙◌, sym, ap, ◌∷◌, [], length, map}
+use Rattle.std.proofs.Common.{arith, ◌∙◌, sym, ◌∷◌, [], length, map}
 use Rattle.std.proofs.lemmas.List.{map-append, length-map}
 use Rattle.rpl_tree.specs.Seen.{act_of}
-use Rattle.rpl_parse.specs.ReadingActs.{read_acts, more_acts, act_at, done, step}
+use Rattle.rpl_parse.specs.ReadingActs.{act_at, done, step}
 use Rattle.rpl_parse.specs.declared.token.TokenAt.{TokenAt}
 use Rattle.rpl_parse.specs.Tokens.{toks, seen}
 use Rattle.rpl_parse.proofs.Faults.{fails_on}

@@ -1,4 +1,4 @@
-use Rattle.std.proofs.Common.{◌≡◌, ap, map, ◌∙◌, ℕ, List}
+use Rattle.std.proofs.Common.{ap, map, ◌∙◌, ℕ, List}
 use Rattle.rpl_tree.specs.Tree.{with_name}
 use Rattle.rpl_tree.specs.Seen.{tree_of, act_of}
 use Rattle.rpl_parse.specs.ReadingActs.{acts_of}

@@ -1,4 +1,4 @@
-use Rattle.std.proofs.Common.{rules, arith, ◌≡◌, ◌+◌, ◌∙◌, sym, ap, ◌∷◌, [], length, map, Some}
+use Rattle.std.proofs.Common.{◌∙◌, sym, ◌∷◌, [], length, map}
 use Rattle.std.proofs.lemmas.List.{map-append}
 use Rattle.rpl_tree.specs.Seen.{parameter_of}
 use Rattle.rpl_parse.specs.ReadingDeclared.{takes, read_parameter}

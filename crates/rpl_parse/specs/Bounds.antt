@@ -1,0 +1,24 @@
+-- What is bounded in a ruleset.
+use Rattle.std.specs.Prelude.{◌≤◌, ◌+◌, ℕ, List, [], ◌∷◌}
+use Rattle.rpl_tree.specs.Tree.{Declared, rule, function}
+use Rattle.rpl_parse.specs.Depth.{declared_depth}
+
+abbrev pub rule_count : List Declared → ℕ
+rule_count [] = 0
+rule_count (rule called body ∷ ds) = rule_count ds + 1
+rule_count (function called params result body ∷ ds) = rule_count ds
+
+abbrev pub function_count : List Declared → ℕ
+function_count [] = 0
+function_count (rule called body ∷ ds) = function_count ds
+function_count (function called params result body ∷ ds) = function_count ds + 1
+
+-- each is at most so deep
+abbrev pub AreShallow : ℕ → List Declared → Type 0
+AreShallow most [] = Unit {0}
+AreShallow most (d ∷ ds) = (declared_depth d ≤ most) × AreShallow most ds
+
+pub record AreBounded (ds : List Declared) : Type 0 where
+  pub depth : AreShallow 100 ds
+  pub rules : rule_count ds ≤ 200
+  pub functions : function_count ds ≤ 200

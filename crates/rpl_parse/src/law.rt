@@ -1,0 +1,71 @@
+// What the definitions of this crate come to: worked tokens and declarations, and that a text is read in one way.
+ghost use Rattle.std.specs.Prelude.{◌≡◌, ◌≤◌, ℕ, List, [], ◌∷◌, codes, pos};
+ghost use Rattle.rw_base.specs.Quantity.{quantity_max};
+ghost use Rattle.rpl_tree.specs.Tree.{Declared, brackets};
+ghost use Rattle.rpl_tree.specs.declared.rules.ParsedRules.{ParsedRules};
+ghost use Rattle.rpl_tree.specs.Seen.{rules_of};
+ghost use Rattle.rpl_parse.specs.Bounds.{AreBounded};
+ghost use Rattle.rpl_parse.specs.declared.token.Mark.TheVariants as Mark;
+ghost use Rattle.rpl_parse.specs.Tokens.{Tok, mark, word, digits, text, lined};
+ghost use Rattle.rpl_parse.specs.Scan.{tokens, all, bad_at, greatest};
+ghost use Rattle.rpl_parse.specs.Depth.{depth};
+ghost use Rattle.rpl_parse.specs.Grammar.{Spells};
+ghost use Rattle.rpl_parse.specs.Statements.{IsDeclaration};
+ghost use Rattle.rpl_parse.specs.Declarations.{pieces, piece, IsReading, spelt, bad_token, one_reading, IsRuleset};
+ghost use Rattle.rpl_parse.specs.Worked.{number, whole, differences, from_the_left, logical, or_last, setting, set_to, comparisons};
+
+/// A text is read as one ruleset, or refused for one reason.
+pub fn one_reading()
+    ensures one { one_reading }
+{}
+
+/// In a ruleset each declaration is at most 100 deep, and there are at most 200 rules and 200 functions.
+pub fn bounds()
+    ensures all { (rules : ParsedRules) → IsRuleset rules → AreBounded (rules_of rules) }
+{}
+
+/// Tokens are the longest; a word that begins as a reserved word is a name; comments and blanks part tokens.
+#[tactic(auto, unfolding(crate::specs::Scan::scan))]
+pub fn worked_tokens()
+    ensures longest { tokens (codes "<=>") ≡ all (lined (mark Mark.LessEqual) 1
+        ∷ lined (mark Mark.Greater) 1 ∷ []) }
+    ensures word { tokens (codes "ENDIFS") ≡ all (lined (word (codes "ENDIFS")) 1 ∷ []) }
+    ensures reserved { tokens (codes "ENDIF") ≡ all (lined (mark Mark.EndIf) 1 ∷ []) }
+    ensures line { tokens (codes "# a\n\nt") ≡ all (lined (mark Mark.Now) 3 ∷ []) }
+    ensures string { tokens (codes "\"a#\"") ≡ all (lined (text (codes "a#")) 1 ∷ []) }
+    ensures zeros { tokens (codes "000000000000000012") ≡ all (lined (number 12) 1 ∷ []) }
+    ensures most { tokens (codes "100000000000000000") ≡ all (lined (number greatest) 1 ∷ []) }
+{}
+
+/// A byte that no token begins with, a string that isn't closed in its line, 19 digits and a number above Q are bad
+/// tokens, at the line in which they begin.
+#[tactic(auto, unfolding(crate::specs::Scan::scan))]
+pub fn worked_bad_tokens()
+    ensures byte { tokens (codes "t\n@\n@") ≡ bad_at 2 }
+    ensures string { tokens (codes "\n\"a\n\"") ≡ bad_at 2 }
+    ensures digits { tokens (codes "0000000000000000001") ≡ bad_at 1 }
+    ensures above { tokens (codes "100000000000000001") ≡ bad_at 1 }
+    ensures limit { pos greatest ≡ quantity_max }
+{}
+
+/// Chains associate to the left; NOT binds tighter than AND, and AND tighter than OR; brackets are a node.
+pub fn worked_expressions()
+    ensures chain { Spells from_the_left differences [] }
+    ensures logic { Spells or_last logical [] }
+    ensures node { depth (brackets (whole 1)) ≡ 2 }
+{}
+
+/// A rule that sets a slot, and one that compares twice.
+pub fn worked_rules()
+    ensures set { IsDeclaration (setting differences) (set_to from_the_left) }
+    ensures twice { (d : Declared) → ¬ IsDeclaration (setting comparisons) d }
+{}
+
+/// Declarations are cut behind the first word that ends one; what is left is one, too.
+#[tactic(auto, unfolding(crate::specs::Scan::scan))]
+pub fn worked_pieces()
+    ensures two { pieces (lined (mark Mark.EndRule) 1 ∷ lined (mark Mark.Rule) 2 ∷ lined (mark Mark.Is) 3 ∷ [])
+        ≡ piece (mark Mark.EndRule ∷ []) 1 ∷ piece (mark Mark.Rule ∷ mark Mark.Is ∷ []) 2 ∷ [] }
+    ensures none { IsReading [] (spelt []) }
+    ensures bad { IsReading (codes "RULE @ 0") (bad_token 1) }
+{}
