@@ -1,2 +1,5 @@
+pub mod Operated
+pub mod Operating
+pub mod KindFacts
 pub mod Rulings
 pub mod Endless
