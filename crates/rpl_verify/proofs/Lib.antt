@@ -1,3 +1,5 @@
+pub mod Loops
+pub mod Judged
 pub mod Operated
 pub mod Operating
 pub mod KindFacts
