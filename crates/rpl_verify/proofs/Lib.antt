@@ -1,3 +1,5 @@
+pub mod Acting
+pub mod Frames
 pub mod Loops
 pub mod Judged
 pub mod Operated

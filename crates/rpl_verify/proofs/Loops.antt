@@ -79,7 +79,7 @@ module _ (scope : Scope) (lines : List Instruction) (bs : List Before) (spotted 
   pub rel : (p : ℕ) (i : Instruction) → slice_get lines p ≡ Some i → OpenRel p (bracket i) ((B p).loops) (B (suc p))
   rel p i h = rel_of scope p (B p) i (B (suc p)) (spot p i h)
 
-  ends_at : (p : ℕ) (i : Instruction) → slice_get lines p ≡ Some i → P p ≡ ends_before (bracket i) p (P (suc p))
+  pub ends_at : (p : ℕ) (i : Instruction) → slice_get lines p ≡ Some i → P p ≡ ends_before (bracket i) p (P (suc p))
   ends_at p i h = ap (loop_ends p) (drop_at lines p i h)
 
   -- where the loop that begins at a place ends
@@ -110,7 +110,7 @@ module _ (scope : Scope) (lines : List Instruction) (bs : List Before) (spotted 
   linked_by p (closing loop) os c h r l = linked_down (suc p) (P (suc p)) 0 c.loops ((subst (λ os. Linked (suc p ∷ P (suc p)) 0 os) r.1 (subst (λ ends. Linked ends 0 os) h l)).1)
   linked_by p level os c h r l = subst (λ l. Linked (P (suc p)) 0 l) (sym r) (subst (λ ends. Linked ends 0 os) h l)
 
-  shut_at : (p : ℕ) → slice_get lines p ≡ None → (B p).loops ≡ []
+  pub shut_at : (p : ℕ) → slice_get lines p ≡ None → (B p).loops ≡ []
   shut_at p h = end_shut scope 0 (before [] []) lines bs p fits h
 
   linked_next : (p : ℕ) (o : Option Instruction) → slice_get lines p ≡ o → Linked (P p) 0 ((B p).loops) → Linked (P (suc p)) 0 ((B (suc p)).loops)
