@@ -1,3 +1,4 @@
+pub mod Costs
 pub mod Acting
 pub mod Frames
 pub mod Loops
