@@ -9,7 +9,7 @@ use Rattle.rpl_verify.specs.Places.{loop_end, rest_of}
 use Rattle.rpl_tree.specs.Budget.{Budget}
 use Rattle.rpl_verify.specs.Names.{Scope}
 use Rattle.rpl_verify.specs.Fits.{Before, before, room_on_top}
-use Rattle.rpl_verify.specs.Budget.{Measure, Way, onward, jumping, branching, entering, turning, way_of, first_of, most, most_from, summed, table}
+use Rattle.rpl_verify.specs.Budget.{Measure, Way, onward, jumping, branching, entering, turning, way_of, at_a_time, first_of, most, most_from, summed, table, words_at, words_before}
 use Rattle.rpl_verify.specs.Machine.{Running}
 use Rattle.rpl_verify.proofs.Judged.{before_at}
 use Rattle.rpl_verify.proofs.Loops.{drop_at}
@@ -158,3 +158,64 @@ module _ (scope : Scope) (budgets : List Budget) (price : Before → Instruction
       omega (arith, by_turn m lines bs p i e w, ap C h, ap loops_cost l, ap loops_cost k, one_more (length s.left) (length r.left) (C (suc r.start)) n,
         ap (λ a. length s.left * C (suc a) + C (ends a)) st)
   flow_costs p q i rs ss e (goes_out r w l h) = omega (arith, by_turn m lines bs p i e w, ap C h, ap loops_cost l)
+
+-- ---- words
+
+module _ (scope : Scope) (budgets : List Budget) (lines : List Instruction) (bs : List Before) where
+  abbrev at_once : Measure
+  at_once = at_a_time scope budgets
+
+  abbrev pub W : ℕ → ℕ
+  W p = M at_once lines bs p
+
+  abbrev ending : ℕ → ℕ
+  ending start = loop_end (suc start) (drop (suc start) lines)
+
+  -- the most words in loops that are gone through, and behind each
+  abbrev pub loops_words : List Running → ℕ
+  loops_words [] = 0
+  loops_words (r ∷ rs) = max (W (suc r.start)) (max (W (ending r.start)) (loops_words rs))
+
+  pub flow_words : (p q : ℕ) (i : Instruction) (rs ss : List Running) → slice_get lines p ≡ Some i → Flow ending (way_of i) (room_on_top (before_at bs p).kinds) p q rs ss
+      → max (words_at scope budgets (before_at bs p) i) (max (W q) (loops_words ss)) ≤ max (W p) (loops_words rs)
+  flow_words p q i rs ss e (to_next w h l) = omega (arith, by_next at_once lines bs p i e w, ap W h, ap loops_words l)
+  flow_words p q i rs ss e (to_other w far l) = omega (arith, by_jump at_once lines bs p i e q w far, ap loops_words l)
+  flow_words p q i rs ss e (not_taken to w h l) = omega (arith, by_branch at_once lines bs p i e to w, ap W h, ap loops_words l)
+  flow_words p q i rs ss e (is_taken w far l) = omega (arith, by_far_branch at_once lines bs p i e q w far, ap loops_words l)
+  flow_words p q i rs ss e (goes_in r w far h l s rm few) =
+      omega (arith, by_far_entry at_once lines bs p i e w far, ap W h, ap loops_words l, ap (λ a. W (suc a)) s, ap (λ a. W (ending a)) s)
+  flow_words p q i rs ss e (goes_over w h far l) =
+      let z : p < ending p = omega (arith, far, h) in
+      omega (arith, by_far_entry at_once lines bs p i e w z, ap W h, ap loops_words l)
+  flow_words p q i rs ss e (turns_back r s others w l k h st lp rm n) =
+      omega (arith, by_turn at_once lines bs p i e w, ap W h, ap loops_words l, ap loops_words k, ap (λ a. W (suc a)) st, ap (λ a. W (ending a)) st)
+  flow_words p q i rs ss e (goes_out r w l h) = omega (arith, by_turn at_once lines bs p i e w, ap W h, ap loops_words l)
+
+  -- there is room for what is before an instruction
+  pub words_fit : (p : ℕ) (i : Instruction) → slice_get lines p ≡ Some i → words_at scope budgets (before_at bs p) i ≤ W p
+  words_fit p i e = by (way_of i) refl
+    where
+      by : (w : Way) → way_of i ≡ w → words_at scope budgets (before_at bs p) i ≤ W p
+      by onward h = omega (arith, by_next at_once lines bs p i e h)
+      by (jumping to) h = let z = by_way at_once lines bs p i e (jumping to) h in omega (arith, z)
+      by (branching to) h = omega (arith, by_branch at_once lines bs p i e to h)
+      by entering h = omega (arith, by_entry at_once lines bs p i e h)
+      by turning h = omega (arith, by_turn at_once lines bs p i e h)
+
+  pub words_fit_at_end : words_before scope budgets (before_at bs (length lines)) ≤ W (length lines)
+  words_fit_at_end = omega (arith, end_is at_once lines bs)
+
+-- an instruction alone never comes to more
+module _ (scope : Scope) (budgets : List Budget) (price : Before → Instruction → ℕ) (lines : List Instruction) (bs : List Before) where
+  abbrev sum : Measure
+  sum = summed scope budgets price
+
+  pub price_fits : (p : ℕ) (i : Instruction) → slice_get lines p ≡ Some i → price (before_at bs p) i ≤ M sum lines bs p
+  price_fits p i e = by (way_of i) refl
+    where
+      by : (w : Way) → way_of i ≡ w → price (before_at bs p) i ≤ M sum lines bs p
+      by onward h = omega (arith, by_next sum lines bs p i e h)
+      by (jumping to) h = let z = by_way sum lines bs p i e (jumping to) h in omega (arith, z)
+      by (branching to) h = omega (arith, by_branch sum lines bs p i e to h)
+      by entering h = omega (arith, by_entry sum lines bs p i e h)
+      by turning h = omega (arith, by_turn sum lines bs p i e h)

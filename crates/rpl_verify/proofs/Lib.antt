@@ -1,3 +1,5 @@
+pub mod States
+pub mod Stepping
 pub mod Costs
 pub mod Acting
 pub mod Frames
