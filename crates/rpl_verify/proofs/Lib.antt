@@ -1,3 +1,5 @@
+pub mod Accepted
+pub mod Running
 pub mod States
 pub mod Stepping
 pub mod Costs
