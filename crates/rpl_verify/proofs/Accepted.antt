@@ -125,14 +125,15 @@ module _ (basin : Draft) (code : List Block) (budgets : List Budget) (accepted :
       let y : suc (length (take k code)) ≡ n = omega (arith, length-take k code, slice_get_within code k x s.0, s.1) in
       let b = then_do_ok (block_befores basin code (take k code) x) (λ (places : List Before).
         at_place (length x.lines) (within_limits (budget_by (scope_of basin code (suc (length (take k code))) x) (take (0 + k) budgets) places x.lines)) (λ d. Ok d)) j.0 j.1 in
-      let w = at_place_ok (length x.lines) (within_limits (budget_by (scope_of basin code (suc (length (take k code))) x) (take (0 + k) budgets) b.0 x.lines)) j.0 b.2 in
+      let spends : Budget = budget_by (scope_of basin code (suc (length (take k code))) x) (take (0 + k) budgets) b.0 x.lines in
+      let w = at_place_ok (length x.lines) (within_limits spends) j.0 b.2 in
       record {
         places = b.0;
         fit = ap (λ m. befores (scope_of basin code m x) 0 (before [] []) x.lines) (sym y) ∙ few (nat_lt (count_alike x.head (take k code)) 200) _ b.0 b.1;
         budget_is = j.0;
         at = numbered_by budgets n j.0 (ap (slice_get budgets) (sym z) ∙ j.2) s.1;
-        same = ap₂ (λ m i. budget_by (scope_of basin code m x) (take i budgets) b.0 x.lines) (sym y) (sym z) ∙ same_budget _ j.0 w;
-        limited = within _ j.0 w;
+        same = ap₂ (λ m i. budget_by (scope_of basin code m x) (take i budgets) b.0 x.lines) (sym y) (sym z) ∙ same_budget spends j.0 w;
+        limited = within spends j.0 w;
       }
     where
       few : (t : Bool) (r : Result (List Before) Misplaced) (l : List Before) → (if t then r else Err (record { misfit = TooMany; place = 0 })) ≡ Ok l → r ≡ Ok l
@@ -193,3 +194,81 @@ module _ (basin : Draft) (code : List Block) (budgets : List Budget) (accepted :
           puts = omega (arith, m3, ap (part_of (λ (d : Budget). d.puts)) d);
           words = omega (arith, m4, ap (part_of (λ (d : Budget). d.words)) d);
         }
+
+    abbrev the_world : World
+    the_world = record { basin = basin; values = values; step = now }
+
+    -- a rule that there is begins, with no arguments
+    alike_rule : (h : BlockHead) → is_alike Rule h ≡ true → h ≡ Rule
+    alike_rule Rule e = refl
+    alike_rule (Function result ps) e = absurd (cc e)
+
+    rule_there : (m : ℕ) (xs : List Block) (rule n : ℕ) → rule_from m xs rule ≡ Some n → (x : Block) × (slice_get xs (n - m) ≡ Some x) × (x.head ≡ Rule) × (m ≤ n)
+    rule_there m [] rule n h = absurd (cc h)
+    rule_there m (x ∷ xs) rule n h = by (is_alike Rule x.head) refl h (λ r e. further (rule_there (suc m) xs r n e))
+      where
+        shifted : (d : ℕ) (y : Block) → suc m ≤ n → n - suc m ≡ d → slice_get xs d ≡ Some y → slice_get (x ∷ xs) (n - m) ≡ Some y
+        shifted d y le e g = let z : n - m ≡ suc d = omega (arith, e, le) in ap (slice_get (x ∷ xs)) z ∙ g
+
+        further : (y : Block) × (slice_get xs (n - suc m) ≡ Some y) × (y.head ≡ Rule) × (suc m ≤ n) → (y : Block) × (slice_get (x ∷ xs) (n - m) ≡ Some y) × (y.head ≡ Rule) × (m ≤ n)
+        further q = (q.0, shifted (n - suc m) q.0 q.3 refl q.1, q.2, omega (arith, q.3))
+
+        here : is_alike Rule x.head ≡ true → Some m ≡ Some n → (y : Block) × (slice_get (x ∷ xs) (n - m) ≡ Some y) × (y.head ≡ Rule) × (m ≤ n)
+        here e f = let q : m ≡ n = cc f in let z : n - m ≡ 0 = omega (arith, q) in (x, ap (slice_get (x ∷ xs)) z, alike_rule x.head e, omega (arith, q))
+
+        by_number : (t : Bool) → is_alike Rule x.head ≡ true → (if t then Some m else rule_from (suc m) xs (rule - 1)) ≡ Some n
+            → ((r : ℕ) → rule_from (suc m) xs r ≡ Some n → (y : Block) × (slice_get (x ∷ xs) (n - m) ≡ Some y) × (y.head ≡ Rule) × (m ≤ n))
+            → (y : Block) × (slice_get (x ∷ xs) (n - m) ≡ Some y) × (y.head ≡ Rule) × (m ≤ n)
+        by_number true e f later = here e f
+        by_number false e f later = later (rule - 1) f
+
+        by : (t : Bool) → is_alike Rule x.head ≡ t → (if t then (if rule == 1 then Some m else rule_from (suc m) xs (rule - 1)) else rule_from (suc m) xs rule) ≡ Some n
+            → ((r : ℕ) → rule_from (suc m) xs r ≡ Some n → (y : Block) × (slice_get (x ∷ xs) (n - m) ≡ Some y) × (y.head ≡ Rule) × (m ≤ n))
+            → (y : Block) × (slice_get (x ∷ xs) (n - m) ≡ Some y) × (y.head ≡ Rule) × (m ≤ n)
+        by true e f later = by_number (rule == 1) e f later
+        by false e f later = later rule f
+
+    -- what a firing comes to that is not stuck
+    record Comes (f : Frame) (a : Answer (Unit {0})) (t : Trail) : Type 0 where
+      fire : Fire
+      is : fire_of a t ≡ Some fire
+      ran : Ran basin code values now bs earlier fits (f ∷ []) (states code the_world most_steps (f ∷ [])) t
+      count : fire.count ≡ t.count
+      looked : fire.looked ≡ t.looked
+
+    comes : (f : Frame) (a : Answer (Unit {0})) (t : Trail) → EndsOn basin code values now bs earlier fits (f ∷ []) (states code the_world most_steps (f ∷ [])) a t → Comes f a t
+    comes f (value done) t e = record { fire = _; is = refl; ran = e; count = refl; looked = refl }
+    comes f (ended end) t e = record { fire = _; is = refl; ran = e; count = refl; looked = refl }
+    comes f stuck t e = absurd e
+
+  pub safe : AreSafe basin code budgets
+  safe rule n step values b h g =
+      let r = rule_there values step 1 code rule n h in
+      let e = numbered_by code n r.0 r.1 r.3 in
+      let d = ruled n r.0 e in
+      let same : d.budget_is ≡ b = cc (d.at, g) in
+      let x = exact n r.0 e in
+      let f : Frame = begin n r.0 [] in
+      let fits_first : Fits basin code values step bs earlier fits [] f = begun basin code values step bs earlier fits n r.0 [] e (ap parameters_of (sym r.2)) tt in
+      let y : block_or (numbered code n) ≡ r.0 = ap block_or e in
+      let m1 : C (scope_of basin code n (block_or (numbered code n))) (earlier n) (count_of (scope_of basin code n (block_or (numbered code n))) (earlier n)) (block_or (numbered code n)).lines (bs n) 0 ≡ b.count =
+          ap (λ (z : Block). C (scope_of basin code n z) (earlier n) (count_of (scope_of basin code n z) (earlier n)) z.lines (bs n) 0) y ∙ x.count ∙ ap (λ (d : Budget). d.count) same in
+      let m2 : C (scope_of basin code n (block_or (numbered code n))) (earlier n) (looks_of (scope_of basin code n (block_or (numbered code n))) (earlier n)) (block_or (numbered code n)).lines (bs n) 0 ≡ b.looks =
+          ap (λ (z : Block). C (scope_of basin code n z) (earlier n) (looks_of (scope_of basin code n z) (earlier n)) z.lines (bs n) 0) y ∙ x.looks ∙ ap (λ (d : Budget). d.looks) same in
+      let m3 : C (scope_of basin code n (block_or (numbered code n))) (earlier n) (puts_of (scope_of basin code n (block_or (numbered code n))) (earlier n)) (block_or (numbered code n)).lines (bs n) 0 ≡ b.puts =
+          ap (λ (z : Block). C (scope_of basin code n z) (earlier n) (puts_of (scope_of basin code n z) (earlier n)) z.lines (bs n) 0) y ∙ x.puts ∙ ap (λ (d : Budget). d.puts) same in
+      let m4 : W (scope_of basin code n (block_or (numbered code n))) (earlier n) (block_or (numbered code n)).lines (bs n) 0 ≡ b.words =
+          ap (λ (z : Block). W (scope_of basin code n z) (earlier n) z.lines (bs n) 0) y ∙ x.words ∙ ap (λ (d : Budget). d.words) same in
+      let limit : b.count ≤ 1000000 = subst (λ (d : Budget). d.count ≤ 1000000) same d.limited.count in
+      let done = comes values step f (run code (the_world values step) most_steps (f ∷ [])).answer (run code (the_world values step) most_steps (f ∷ [])).trail
+          (runs basin code values step bs earlier fits (covered values step) most_steps (f ∷ []) (fits_first, tt) (omega (arith, m1, limit))) in
+      let q : first_frame code rule ≡ Some f = ap (option_and_then (λ n. option_map (λ x. begin n x []) (numbered code n))) h ∙ ap (option_map (λ x. begin n x [])) e in
+      record {
+        fire = done.fire;
+        fires = ap (fired code (the_world values step)) q ∙ done.is;
+        count = omega (arith, done.count, done.ran.count, m1);
+        cells = omega (arith, ap (λ (l : List _). length l) done.looked, done.ran.cells, done.ran.looks, m2);
+        looks = subst (λ o. looks_in code (firing_from code (the_world values step) o) ≤ b.looks) (sym q) (omega (arith, done.ran.looks, m2));
+        puts = subst (λ o. puts_from code (the_world values step) o ≤ b.puts) (sym q) (omega (arith, done.ran.puts, m3));
+        words = subst (λ o. most_words (firing_from code (the_world values step) o) ≤ b.words) (sym q) (omega (arith, done.ran.words, m4));
+      }
