@@ -1,6 +1,6 @@
 -- Accepted code is safe: its blocks fit, and their budgets are what they may come to.
-use Rattle.std.proofs.Common.{◌≡◌, ℕ, zero, suc, ◌+◌, ◌-◌, ◌*◌, max, min, ◌≤◌, ◌<◌, ◌==◌, ℤ, Bool, true, false, nat_lt, nat_le, List, [], ◌∷◌, ◌++◌, length, map, take, Option, Some, None, Result, Ok, Err, refl, sym, ap, ap₂, ◌∙◌, subst, arith, rules, append_assoc, append-nil, length-append, if◌then◌else◌}
-use Rattle.std.specs.Prelude.{slice_get, slice_index, option_and_then, option_map}
+use Rattle.std.proofs.Common.{◌≡◌, ℕ, zero, suc, ◌+◌, ◌-◌, ◌≤◌, ◌<◌, ◌==◌, ℤ, Bool, true, false, nat_lt, nat_le, List, [], ◌∷◌, ◌++◌, length, take, Option, Some, None, Result, Ok, Err, refl, sym, ap, ap₂, ◌∙◌, subst, arith, append_assoc, append-nil, length-append, if◌then◌else◌}
+use Rattle.std.specs.Prelude.{slice_get, option_and_then, option_map}
 use Rattle.std.proofs.lemmas.Option.{slice_get_within}
 use Rattle.std.proofs.lemmas.List.{length-take}
 use Rattle.std.proofs.lemmas.Bool.Decides.{nat_tests}
@@ -12,20 +12,18 @@ use Rattle.rpl_code.specs.declared.block.Block.{Block}
 use Rattle.rpl_code.specs.declared.block.BlockHead.{BlockHead}
 use Rattle.rpl_code.specs.declared.block.BlockHead.TheVariants.{Rule, Function}
 use Rattle.rpl_tree.specs.Budget.{Budget, capped, limits}
-use Rattle.rpl_tree.specs.Outcome.{Answer, Outcome, Trail, ended, stuck, value}
+use Rattle.rpl_tree.specs.Outcome.{Answer, Trail, ended, stuck, value}
 use Rattle.rpl_tree.specs.World.{World}
 use Rattle.rpl_tree.specs.Mean.{fire_of}
-use Rattle.rpl_verify.specs.declared.verify_kind.VerifyKind.{VerifyKind}
 use Rattle.rpl_verify.specs.declared.verify_kind.VerifyKind.TheVariants.{TooMany}
 use Rattle.rpl_verify.specs.Names.{Scope}
-use Rattle.rpl_verify.specs.Fits.{Before, Misplaced, Refusal, at_place, before, befores, block_befores, count_alike, each_block, in_block, is_alike, parameters_of, scope_of, then_do}
-use Rattle.rpl_verify.specs.Budget.{AreAccepted, IsWithinLimits, at_a_time, block_ruling, budget_by, count_of, looks_of, most, part_of, puts_of, ruling, summed, within_limits}
-use Rattle.rpl_verify.specs.Operations.{kinds_of}
-use Rattle.rpl_verify.specs.Machine.{Frame, begin, fired, fire_of_code, first_frame, most_steps, rule_from, run, State}
-use Rattle.rpl_verify.specs.Safety.{AreSafe, IsSafe, firing_from, looks_in, most_words, puts_from, states}
+use Rattle.rpl_verify.specs.Fits.{Before, Misplaced, at_place, before, befores, block_befores, count_alike, each_block, is_alike, parameters_of, scope_of}
+use Rattle.rpl_verify.specs.Budget.{AreAccepted, IsWithinLimits, at_a_time, block_ruling, budget_by, count_of, looks_of, most, part_of, puts_of, summed, within_limits}
+use Rattle.rpl_verify.specs.Machine.{Frame, begin, fired, first_frame, most_steps, rule_from, run}
+use Rattle.rpl_verify.specs.Safety.{AreSafe, firing_from, looks_in, most_words, puts_from, states}
 use Rattle.rpl_verify.proofs.Rulings.{at_place_ok, in_block_ok, same_budget, then_do_ok, within}
 use Rattle.rpl_verify.proofs.Costs.{C, W}
-use Rattle.rpl_verify.proofs.States.{Covers, Fits, Inv, begun, block_or}
+use Rattle.rpl_verify.proofs.States.{Covers, Fits, begun, block_or}
 use Rattle.rpl_verify.proofs.Running.{EndsOn, Ran, runs}
 
 -- ---- lists
@@ -81,17 +79,19 @@ module _ {A : Type 0} (judge : List Block → List A → Block → Result A Misp
       let r = front (earlier ++ y ∷ []) (done ++ q.0 ∷ []) xs all q.2 in
       let o : y ≡ x = cc e in
       let z : length done ≡ length done + 0 = omega arith in
-      let d : take (length done) all ≡ done = ap (take (length done)) (sym r.1 ∙ append_assoc done (q.0 ∷ []) r.0) ∙ take_front done (q.0 ∷ r.0) in
-      ( q.0
-      , ap₂ (λ es ds. judge es ds x) (append-nil earlier) (ap (λ n. take n all) (sym z) ∙ d) ∙ ap (judge earlier done) (sym o) ∙ q.1
-      , ap₂ (λ ds n. slice_get ds n) (sym r.1) (sym z) ∙ get_behind done r.0 q.0)
+      let d : take (length done) all ≡ done = ap (take (length done)) (sym r.1 ∙ append_assoc done (q.0 ∷ []) r.0) ∙ take_front done (q.0 ∷ r.0) in (
+        q.0,
+        ap₂ (λ es ds. judge es ds x) (append-nil earlier) (ap (λ n. take n all) (sym z) ∙ d) ∙ ap (judge earlier done) (sym o) ∙ q.1,
+        ap₂ (λ ds n. slice_get ds n) (sym r.1) (sym z) ∙ get_behind done r.0 q.0,
+      )
   judged_at earlier done (y ∷ xs) all (suc k) x h e =
       let q = in_block_ok (suc (length earlier)) (judge earlier done y) (λ a. each_block judge (earlier ++ y ∷ []) (done ++ a ∷ []) xs) all h in
       let r = judged_at (earlier ++ y ∷ []) (done ++ q.0 ∷ []) xs all k x q.2 e in
-      let z : length (done ++ q.0 ∷ []) + k ≡ length done + suc k = omega (arith, length-append done (q.0 ∷ [])) in
-      ( r.0
-      , ap₂ (λ es n. judge es (take n all) x) (sym (append_assoc earlier (y ∷ []) (take k xs))) (sym z) ∙ r.1
-      , ap (slice_get all) (sym z) ∙ r.2)
+      let z : length (done ++ q.0 ∷ []) + k ≡ length done + suc k = omega (arith, length-append done (q.0 ∷ [])) in (
+        r.0,
+        ap₂ (λ es n. judge es (take n all) x) (sym (append_assoc earlier (y ∷ []) (take k xs))) (sym z) ∙ r.1,
+        ap (slice_get all) (sym z) ∙ r.2,
+      )
 
 uncapped : (limit n : ℕ) → capped limit n ≤ limit → capped limit n ≡ n
 uncapped limit n h = omega (arith, h)
@@ -124,7 +124,7 @@ module _ (basin : Draft) (code : List Block) (budgets : List Budget) (accepted :
       let z : 0 + k ≡ k = omega arith in
       let y : suc (length (take k code)) ≡ n = omega (arith, length-take k code, slice_get_within code k x s.0, s.1) in
       let b = then_do_ok (block_befores basin code (take k code) x) (λ (places : List Before).
-        at_place (length x.lines) (within_limits (budget_by (scope_of basin code (suc (length (take k code))) x) (take (0 + k) budgets) places x.lines)) (λ d. Ok d)) j.0 j.1 in
+      at_place (length x.lines) (within_limits (budget_by (scope_of basin code (suc (length (take k code))) x) (take (0 + k) budgets) places x.lines)) (λ d. Ok d)) j.0 j.1 in
       let spends : Budget = budget_by (scope_of basin code (suc (length (take k code))) x) (take (0 + k) budgets) b.0 x.lines in
       let w = at_place_ok (length x.lines) (within_limits spends) j.0 b.2 in
       record {
@@ -181,13 +181,13 @@ module _ (basin : Draft) (code : List Block) (budgets : List Budget) (accepted :
         let less : k < n = grind (arith, nat_tests, lt) in
         let d : numbered (earlier n) k ≡ Some r.budget_is = numbered_by (earlier n) k r.budget_is (get_taken (n - 1) (k - 1) budgets r.budget_is (omega (arith, less, s.1)) s.0) s.1 in
         let m1 : C (scope_of basin code k (block_or (numbered code k))) (earlier k) (count_of (scope_of basin code k (block_or (numbered code k))) (earlier k)) (block_or (numbered code k)).lines (bs k) 0 ≡ r.budget_is.count =
-            ap (λ (z : Block). C (scope_of basin code k z) (earlier k) (count_of (scope_of basin code k z) (earlier k)) z.lines (bs k) 0) b ∙ q.count in
+        ap (λ (z : Block). C (scope_of basin code k z) (earlier k) (count_of (scope_of basin code k z) (earlier k)) z.lines (bs k) 0) b ∙ q.count in
         let m2 : C (scope_of basin code k (block_or (numbered code k))) (earlier k) (looks_of (scope_of basin code k (block_or (numbered code k))) (earlier k)) (block_or (numbered code k)).lines (bs k) 0 ≡ r.budget_is.looks =
-            ap (λ (z : Block). C (scope_of basin code k z) (earlier k) (looks_of (scope_of basin code k z) (earlier k)) z.lines (bs k) 0) b ∙ q.looks in
+        ap (λ (z : Block). C (scope_of basin code k z) (earlier k) (looks_of (scope_of basin code k z) (earlier k)) z.lines (bs k) 0) b ∙ q.looks in
         let m3 : C (scope_of basin code k (block_or (numbered code k))) (earlier k) (puts_of (scope_of basin code k (block_or (numbered code k))) (earlier k)) (block_or (numbered code k)).lines (bs k) 0 ≡ r.budget_is.puts =
-            ap (λ (z : Block). C (scope_of basin code k z) (earlier k) (puts_of (scope_of basin code k z) (earlier k)) z.lines (bs k) 0) b ∙ q.puts in
+        ap (λ (z : Block). C (scope_of basin code k z) (earlier k) (puts_of (scope_of basin code k z) (earlier k)) z.lines (bs k) 0) b ∙ q.puts in
         let m4 : W (scope_of basin code k (block_or (numbered code k))) (earlier k) (block_or (numbered code k)).lines (bs k) 0 ≡ r.budget_is.words =
-            ap (λ (z : Block). W (scope_of basin code k z) (earlier k) z.lines (bs k) 0) b ∙ q.words in
+        ap (λ (z : Block). W (scope_of basin code k z) (earlier k) z.lines (bs k) 0) b ∙ q.words in
         record {
           count = omega (arith, m1, ap (part_of (λ (d : Budget). d.count)) d);
           looks = omega (arith, m2, ap (part_of (λ (d : Budget). d.looks)) d);
@@ -242,33 +242,36 @@ module _ (basin : Draft) (code : List Block) (budgets : List Budget) (accepted :
     comes f stuck t e = absurd e
 
   pub safe : AreSafe basin code budgets
-  safe rule n step values b h g =
+  safe rule n step values h =
       let r = rule_there values step 1 code rule n h in
       let e = numbered_by code n r.0 r.1 r.3 in
       let d = ruled n r.0 e in
-      let same : d.budget_is ≡ b = cc (d.at, g) in
+      let b : Budget = d.budget_is in
       let x = exact n r.0 e in
       let f : Frame = begin n r.0 [] in
       let fits_first : Fits basin code values step bs earlier fits [] f = begun basin code values step bs earlier fits n r.0 [] e (ap parameters_of (sym r.2)) tt in
       let y : block_or (numbered code n) ≡ r.0 = ap block_or e in
       let m1 : C (scope_of basin code n (block_or (numbered code n))) (earlier n) (count_of (scope_of basin code n (block_or (numbered code n))) (earlier n)) (block_or (numbered code n)).lines (bs n) 0 ≡ b.count =
-          ap (λ (z : Block). C (scope_of basin code n z) (earlier n) (count_of (scope_of basin code n z) (earlier n)) z.lines (bs n) 0) y ∙ x.count ∙ ap (λ (d : Budget). d.count) same in
+      ap (λ (z : Block). C (scope_of basin code n z) (earlier n) (count_of (scope_of basin code n z) (earlier n)) z.lines (bs n) 0) y ∙ x.count in
       let m2 : C (scope_of basin code n (block_or (numbered code n))) (earlier n) (looks_of (scope_of basin code n (block_or (numbered code n))) (earlier n)) (block_or (numbered code n)).lines (bs n) 0 ≡ b.looks =
-          ap (λ (z : Block). C (scope_of basin code n z) (earlier n) (looks_of (scope_of basin code n z) (earlier n)) z.lines (bs n) 0) y ∙ x.looks ∙ ap (λ (d : Budget). d.looks) same in
+      ap (λ (z : Block). C (scope_of basin code n z) (earlier n) (looks_of (scope_of basin code n z) (earlier n)) z.lines (bs n) 0) y ∙ x.looks in
       let m3 : C (scope_of basin code n (block_or (numbered code n))) (earlier n) (puts_of (scope_of basin code n (block_or (numbered code n))) (earlier n)) (block_or (numbered code n)).lines (bs n) 0 ≡ b.puts =
-          ap (λ (z : Block). C (scope_of basin code n z) (earlier n) (puts_of (scope_of basin code n z) (earlier n)) z.lines (bs n) 0) y ∙ x.puts ∙ ap (λ (d : Budget). d.puts) same in
+      ap (λ (z : Block). C (scope_of basin code n z) (earlier n) (puts_of (scope_of basin code n z) (earlier n)) z.lines (bs n) 0) y ∙ x.puts in
       let m4 : W (scope_of basin code n (block_or (numbered code n))) (earlier n) (block_or (numbered code n)).lines (bs n) 0 ≡ b.words =
-          ap (λ (z : Block). W (scope_of basin code n z) (earlier n) z.lines (bs n) 0) y ∙ x.words ∙ ap (λ (d : Budget). d.words) same in
-      let limit : b.count ≤ 1000000 = subst (λ (d : Budget). d.count ≤ 1000000) same d.limited.count in
+      ap (λ (z : Block). W (scope_of basin code n z) (earlier n) z.lines (bs n) 0) y ∙ x.words in
+      let limit : b.count ≤ 1000000 = d.limited.count in
       let done = comes values step f (run code (the_world values step) most_steps (f ∷ [])).answer (run code (the_world values step) most_steps (f ∷ [])).trail
-          (runs basin code values step bs earlier fits (covered values step) most_steps (f ∷ []) (fits_first, tt) (omega (arith, m1, limit))) in
-      let q : first_frame code rule ≡ Some f = ap (option_and_then (λ n. option_map (λ x. begin n x []) (numbered code n))) h ∙ ap (option_map (λ x. begin n x [])) e in
-      record {
-        fire = done.fire;
-        fires = ap (fired code (the_world values step)) q ∙ done.is;
-        count = omega (arith, done.count, done.ran.count, m1);
-        cells = omega (arith, ap (λ (l : List _). length l) done.looked, done.ran.cells, done.ran.looks, m2);
-        looks = subst (λ o. looks_in code (firing_from code (the_world values step) o) ≤ b.looks) (sym q) (omega (arith, done.ran.looks, m2));
-        puts = subst (λ o. puts_from code (the_world values step) o ≤ b.puts) (sym q) (omega (arith, done.ran.puts, m3));
-        words = subst (λ o. most_words (firing_from code (the_world values step) o) ≤ b.words) (sym q) (omega (arith, done.ran.words, m4));
-      }
+      (runs basin code values step bs earlier fits (covered values step) most_steps (f ∷ []) (fits_first, tt) (omega (arith, m1, limit))) in
+      let q : first_frame code rule ≡ Some f = ap (option_and_then (λ n. option_map (λ x. begin n x []) (numbered code n))) h ∙ ap (option_map (λ x. begin n x [])) e in (
+        b,
+        d.at,
+        record {
+          fire = done.fire;
+          fires = ap (fired code (the_world values step)) q ∙ done.is;
+          count = omega (arith, done.count, done.ran.count, m1);
+          cells = omega (arith, ap (λ (l : List _). length l) done.looked, done.ran.cells, done.ran.looks, m2);
+          looks = subst (λ o. looks_in code (firing_from code (the_world values step) o) ≤ b.looks) (sym q) (omega (arith, done.ran.looks, m2));
+          puts = subst (λ o. puts_from code (the_world values step) o ≤ b.puts) (sym q) (omega (arith, done.ran.puts, m3));
+          words = subst (λ o. most_words (firing_from code (the_world values step) o) ≤ b.words) (sym q) (omega (arith, done.ran.words, m4));
+        },
+      )

@@ -1,5 +1,5 @@
 -- The most that there is from each place on, and that a way from place to place never comes to more.
-use Rattle.std.proofs.Common.{◌≡◌, ℕ, zero, suc, ◌+◌, ◌-◌, ◌*◌, max, ◌≤◌, ◌<◌, List, [], ◌∷◌, length, drop, Option, Some, None, refl, sym, ap, ap₂, ◌∙◌, subst, arith, mul-le-mul_right}
+use Rattle.std.proofs.Common.{◌≡◌, ℕ, zero, suc, ◌+◌, ◌-◌, ◌*◌, max, ◌≤◌, ◌<◌, List, [], ◌∷◌, length, drop, Some, refl, sym, ap, ap₂, ◌∙◌, arith, mul-le-mul_right}
 use Rattle.std.proofs.Math.Nat.{suc-mul}
 use Rattle.std.specs.Prelude.{slice_get, slice_index}
 use Rattle.std.proofs.lemmas.List.{get_or-drop}
@@ -8,8 +8,8 @@ use Rattle.rpl_code.specs.declared.instruction.Instruction.{Instruction}
 use Rattle.rpl_verify.specs.Places.{loop_end, rest_of}
 use Rattle.rpl_tree.specs.Budget.{Budget}
 use Rattle.rpl_verify.specs.Names.{Scope}
-use Rattle.rpl_verify.specs.Fits.{Before, before, room_on_top}
-use Rattle.rpl_verify.specs.Budget.{Measure, Way, onward, jumping, branching, entering, turning, way_of, at_a_time, first_of, most, most_from, summed, table, words_at, words_before}
+use Rattle.rpl_verify.specs.Fits.{Before, room_on_top}
+use Rattle.rpl_verify.specs.Budget.{Measure, Way, onward, jumping, branching, entering, turning, way_of, at_a_time, first_of, most_from, summed, table, words_at, words_before}
 use Rattle.rpl_verify.specs.Machine.{Running}
 use Rattle.rpl_verify.proofs.Judged.{before_at}
 use Rattle.rpl_verify.proofs.Loops.{drop_at}
@@ -155,8 +155,15 @@ module _ (scope : Scope) (budgets : List Budget) (price : Before → Instruction
       let z : p < ends p = omega (arith, far, h) in
       omega (arith, by_far_entry m lines bs p i e w z, ap C h, ap loops_cost l)
   flow_costs p q i rs ss e (turns_back r s others w l k h st lp rm n) =
-      omega (arith, by_turn m lines bs p i e w, ap C h, ap loops_cost l, ap loops_cost k, one_more (length s.left) (length r.left) (C (suc r.start)) n,
-        ap (λ a. length s.left * C (suc a) + C (ends a)) st)
+      omega (
+        arith,
+        by_turn m lines bs p i e w,
+        ap C h,
+        ap loops_cost l,
+        ap loops_cost k,
+        one_more (length s.left) (length r.left) (C (suc r.start)) n,
+        ap (λ a. length s.left * C (suc a) + C (ends a)) st,
+      )
   flow_costs p q i rs ss e (goes_out r w l h) = omega (arith, by_turn m lines bs p i e w, ap C h, ap loops_cost l)
 
 -- ---- words

@@ -1,5 +1,5 @@
 -- What holds before each place of a block that fits, and what each instruction does to the open loops.
-use Rattle.std.proofs.Common.{◌≡◌, ℕ, zero, suc, ◌+◌, Bool, true, false, ◌&&◌, ◌==◌, nat_lt, List, [], ◌∷◌, ◌++◌, length, take, drop, reverse, Option, Some, None, Result, Ok, Err, refl, sym, ap, ap₂, ◌∙◌, subst, arith, rules, if◌then◌else◌}
+use Rattle.std.proofs.Common.{◌≡◌, ℕ, zero, suc, ◌+◌, Bool, true, false, ◌&&◌, nat_lt, List, [], ◌∷◌, ◌++◌, length, take, drop, reverse, Option, Some, None, Result, Ok, Err, refl, sym, ap, ◌∙◌, subst, arith, if◌then◌else◌}
 use Rattle.std.specs.Prelude.{slice_get}
 use Rattle.rpl_code.specs.declared.kind.ValueKind.{ValueKind}
 use Rattle.rpl_code.specs.declared.kind.ValueKind.TheVariants as K
@@ -7,11 +7,11 @@ use Rattle.rpl_code.specs.declared.instruction.Instruction.{Instruction}
 use Rattle.rpl_code.specs.declared.instruction.Instruction.TheVariants as I
 use Rattle.rpl_verify.specs.declared.verify_kind.VerifyKind.{VerifyKind}
 use Rattle.rpl_verify.specs.declared.verify_kind.VerifyKind.TheVariants.{MissingOperand}
-use Rattle.rpl_verify.specs.Kinds.{are_same_kinds, is_kind, room_of, element_of, top_of}
-use Rattle.rpl_verify.specs.Table.{Row, takes, goes_by, row, left_of, of_list, on_top_of, operand_count, operands_behind, or_wrong}
-use Rattle.rpl_verify.specs.Places.{Loop, visiting, mapping, is_same_loop, Bracket, opening, closing, level, bracket, Opener, closed as closed_by, declared_by, openers_behind, start_of, Spot, spots_from}
+use Rattle.rpl_verify.specs.Kinds.{are_same_kinds, is_kind, room_of, element_of}
+use Rattle.rpl_verify.specs.Table.{Row, goes_by, row, left_of, of_list, on_top_of, operand_count, operands_behind, or_wrong}
+use Rattle.rpl_verify.specs.Places.{Loop, visiting, mapping, is_same_loop, Bracket, opening, closing, level, bracket}
 use Rattle.rpl_verify.specs.Names.{Scope, name_misfit}
-use Rattle.rpl_verify.specs.Fits.{Open, Before, Misplaced, at_place, before, befores, behind, behind_loop, branched, carried, closed, declared_at, element_on_top, end_kinds, ended, found, if_fits, innermost, is_same_place, judged, jumped, opened, restarted, room_on_top, shut, taken, then_do, unless_misfit}
+use Rattle.rpl_verify.specs.Fits.{Open, Before, Misplaced, at_place, before, befores, behind, behind_loop, carried, closed, declared_at, element_on_top, end_kinds, ended, found, if_fits, judged, opened, restarted, room_on_top, shut, taken, then_do}
 use Rattle.rpl_verify.proofs.KindFacts.{and_true, same_kinds_true, is_kind_true, then_do_ok, same_ok, fits_ok, no_misfit}
 
 -- ---- steps of a judgement
@@ -91,13 +91,16 @@ module _ (scope : Scope) where
   pub opens_by : (p : ℕ) (loop : Loop) (n : ℕ) (i : Instruction) (b c : Before) → row scope.heads scope.locals i ≡ goes_by 1 (of_list []) → opened scope p loop n i b ≡ Ok c → Opens p loop n b c
   opens_by p loop n i b c r h =
       let q = then_do_ok (taken scope i b) (λ (c : Before).
-        if_fits (is_kind (slice_get scope.locals n) (element_on_top b.kinds)) (before c.kinds (record { start = p; loop = loop; room = room_on_top b.kinds; under = c.kinds } ∷ b.loops))) c h in
+      if_fits (is_kind (slice_get scope.locals n) (element_on_top b.kinds)) (before c.kinds (record { start = p; loop = loop; room = room_on_top b.kinds; under = c.kinds } ∷ b.loops))) c h in
       let t = taken_is i b q.0 q.1 in
       let l = list_taken b.kinds q.0.kinds (ap (λ r. operands_behind r b.kinds) (sym r) ∙ t.0) in
       let f = fits_ok (is_kind (slice_get scope.locals n) (element_on_top b.kinds)) _ c q.2 in
       let k = is_kind_true (slice_get scope.locals n) (element_on_top b.kinds) f.0 in
       record {
-        list = l.0; under = q.0.kinds; element = k.0; top = l.1;
+        list = l.0;
+        under = q.0.kinds;
+        element = k.0;
+        top = l.1;
         of_list = sym (ap element_on_top l.1) ∙ k.2;
         local = k.1;
         news = sym f.1 ∙ ap (λ m. before q.0.kinds (record { start = p; loop = loop; room = m; under = q.0.kinds } ∷ b.loops)) (ap room_on_top l.1);

@@ -1,17 +1,16 @@
 -- Loops and jumps of a block that fits.
-use Rattle.std.proofs.Common.{◌≡◌, ℕ, zero, suc, ◌+◌, ◌-◌, ◌≤◌, ◌<◌, Bool, true, false, ◌==◌, nat_lt, List, [], ◌∷◌, length, drop, reverse, Option, Some, None, Result, Ok, Err, refl, sym, ap, ap₂, ◌∙◌, subst, arith, rules, if◌then◌else◌}
-use Rattle.std.specs.Prelude.{slice_get, slice_index, map}
+use Rattle.std.proofs.Common.{◌≡◌, ℕ, zero, suc, ◌+◌, ◌≤◌, ◌<◌, Bool, true, false, nat_lt, List, [], ◌∷◌, length, drop, reverse, Option, Some, None, Ok, refl, sym, ap, ap₂, ◌∙◌, subst, arith, rules, if◌then◌else◌}
+use Rattle.std.specs.Prelude.{slice_get, slice_index}
 use Rattle.std.proofs.lemmas.Bool.Decides.{nat_tests}
 use Rattle.rpl_code.specs.declared.kind.ValueKind.{ValueKind}
 use Rattle.rpl_code.specs.declared.instruction.Instruction.{Instruction}
 use Rattle.rpl_code.specs.declared.instruction.Instruction.TheVariants as I
-use Rattle.rpl_verify.specs.declared.verify_kind.VerifyKind.{VerifyKind}
 use Rattle.rpl_verify.specs.declared.verify_kind.VerifyKind.TheVariants.{BackwardJump, JumpOutside}
 use Rattle.rpl_verify.specs.Kinds.{top_of}
 use Rattle.rpl_verify.specs.Places.{Loop, is_same_loop, Bracket, opening, closing, level, bracket, Opener, closed as closed_by, declared_by, ends_before, loop_end, loop_ends, openers_behind, rest_of, start_of, Spot, spots, spots_from}
 use Rattle.rpl_verify.specs.Names.{Scope}
-use Rattle.rpl_verify.specs.Fits.{Open, Before, before, befores, behind_loop, carried, found, innermost, is_same_place, judged, landing, lands_on}
-use Rattle.rpl_verify.proofs.KindFacts.{then_do_ok, same_ok, test_ok}
+use Rattle.rpl_verify.specs.Fits.{Open, Before, before, befores, behind_loop, found, innermost, is_same_place, judged, landing, lands_on}
+use Rattle.rpl_verify.proofs.KindFacts.{same_ok, test_ok}
 use Rattle.rpl_verify.proofs.Judged.{OpenRel, before_at, begins, carried_is, end_shut, named, parts, places_fit, rel_of, same_loop_refl}
 
 pub drop_at : {A : Type 0} (xs : List A) (p : ℕ) (x : A) → slice_get xs p ≡ Some x → drop p xs ≡ x ∷ drop (suc p) xs

@@ -65,7 +65,7 @@ pub record IsSafe (code : List Block) (basin : Draft) (rule step : ℕ) (values 
   pub puts : puts_from code (record { basin = basin; values = values; step = step }) (first_frame code rule) ≤ b.puts
   pub words : most_words (firing_from code (record { basin = basin; values = values; step = step }) (first_frame code rule)) ≤ b.words
 
--- however the cells are and at whatever timestep, each rule of accepted code keeps to the budget of its block
+-- each rule of the code has a block, and that a budget, to which it keeps, at whatever timestep and however the cells are
 abbrev pub AreSafe : Draft → List Block → List Budget → Type 0
-AreSafe basin code budgets = (rule n step : ℕ) (values : Cell → Option ℤ) (b : Budget) → rule_from 1 code rule ≡ Some n → numbered budgets n ≡ Some b
-    → IsSafe code basin rule step values b
+AreSafe basin code budgets = (rule n step : ℕ) (values : Cell → Option ℤ) → rule_from 1 code rule ≡ Some n
+    → (b : Budget) × (numbered budgets n ≡ Some b) × IsSafe code basin rule step values b
