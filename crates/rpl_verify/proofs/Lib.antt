@@ -1,2 +1,14 @@
+pub mod Accepted
+pub mod Running
+pub mod States
+pub mod Stepping
+pub mod Costs
+pub mod Acting
+pub mod Frames
+pub mod Loops
+pub mod Judged
+pub mod Operated
+pub mod Operating
+pub mod KindFacts
 pub mod Rulings
 pub mod Endless

@@ -11,11 +11,11 @@ use Rattle.rpl_verify.specs.declared.verify_kind.VerifyKind.TheVariants.{TooCost
 use Rattle.rpl_verify.specs.Fits.{AreFit, Before, Misplaced, Refusal, at_place, block_befores, each_block, in_block, refusal_in, scope_of, then_do}
 use Rattle.rpl_verify.specs.Budget.{AreAccepted, IsWithinLimits, block_ruling, budget_by, within_limits}
 
-then_do_ok : {A B E : Type 0} (r : Result A E) (go : A → Result B E) (b : B) → then_do r go ≡ Ok b → (a : A) × (r ≡ Ok a) × (go a ≡ Ok b)
+pub then_do_ok : {A B E : Type 0} (r : Result A E) (go : A → Result B E) (b : B) → then_do r go ≡ Ok b → (a : A) × (r ≡ Ok a) × (go a ≡ Ok b)
 then_do_ok (Ok a) go b h = (a, refl, h)
 then_do_ok (Err e) go b h = absurd (cc h)
 
-in_block_ok : {A B : Type 0} (n : ℕ) (r : Result A Misplaced) (go : A → Result B Refusal) (b : B) → in_block n r go ≡ Ok b → (a : A) × (r ≡ Ok a) × (go a ≡ Ok b)
+pub in_block_ok : {A B : Type 0} (n : ℕ) (r : Result A Misplaced) (go : A → Result B Refusal) (b : B) → in_block n r go ≡ Ok b → (a : A) × (r ≡ Ok a) × (go a ≡ Ok b)
 in_block_ok n (Ok a) go b h = (a, refl, h)
 in_block_ok n (Err e) go b h = absurd (cc h)
 
@@ -56,7 +56,7 @@ not_over false misfit r c h = (refl, h)
 at_most : (m n : ℕ) → nat_lt m n ≡ false → n ≤ m
 at_most m n h = grind (arith, nat_tests)
 
-within : (b c : Budget) → within_limits b ≡ Ok c → IsWithinLimits c
+pub within : (b c : Budget) → within_limits b ≡ Ok c → IsWithinLimits c
 within b c h =
     let one = not_over (nat_lt limits.count b.count) TooCostly _ c h in
     let two = not_over (nat_lt limits.looks b.looks) TooManyReads _ c one.1 in
@@ -69,7 +69,15 @@ within b c h =
       words = at_most limits.words b.words four.0;
     })
 
-at_place_ok : (place : ℕ) (r : Result Budget VerifyKind) (c : Budget) → at_place place r (λ b. Ok b) ≡ Ok c → r ≡ Ok c
+pub same_budget : (b c : Budget) → within_limits b ≡ Ok c → b ≡ c
+same_budget b c h =
+    let one = not_over (nat_lt limits.count b.count) TooCostly _ c h in
+    let two = not_over (nat_lt limits.looks b.looks) TooManyReads _ c one.1 in
+    let three = not_over (nat_lt limits.puts b.puts) TooManyPuts _ c two.1 in
+    let four = not_over (nat_lt limits.words b.words) TooDeep _ c three.1 in
+    ok_same (Ok b) b c refl four.1
+
+pub at_place_ok : (place : ℕ) (r : Result Budget VerifyKind) (c : Budget) → at_place place r (λ b. Ok b) ≡ Ok c → r ≡ Ok c
 at_place_ok place (Ok b) c h = cc h
 at_place_ok place (Err misfit) c h = absurd (cc h)
 

@@ -6,4 +6,5 @@ pub mod Fits
 pub mod Budget
 pub mod Operations
 pub mod Machine
+pub mod Safety
 pub mod Worked

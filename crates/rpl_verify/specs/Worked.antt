@@ -16,7 +16,9 @@ use Rattle.rpl_tree.specs.Worked.{basin_of, dam, flow_object, numbers_object, po
 use Rattle.rpl_verify.specs.declared.verify_kind.VerifyKind.{VerifyKind}
 use Rattle.rpl_verify.specs.Fits.{Refusal, first_misfit, refusal}
 use Rattle.rpl_verify.specs.Budget.{ruling}
-use Rattle.rpl_verify.specs.Machine.{fire_of_code}
+use Rattle.rpl_tree.specs.World.{World}
+use Rattle.rpl_verify.specs.Machine.{fire_of_code, first_frame}
+use Rattle.rpl_verify.specs.Safety.{firing_from, looks_in, most_words, puts_from}
 
 -- ---- basins of one day
 
@@ -211,3 +213,27 @@ abbrev pub sum_of_slots : List Block
 sum_of_slots = rule_with (K.S ∷ K.N ∷ [])
     (x_slot ∷ I.List 1 ∷ y_slot ∷ I.Append ∷ I.Widen 5 ∷ I.Foreach 0 ∷ I.Load 1 ∷ I.Load 0 ∷ I.Now ∷ I.Read ∷ I.Add ∷ I.Store 1
     ∷ I.Next ∷ I.Load 1 ∷ put_x ∷ []) ∷ []
+
+-- ---- what firings pass
+
+-- a look before the run, which there is not known, and one at the first day
+abbrev pub seen_before : List Block
+seen_before = plain_rule
+    (y_slot ∷ I.Now ∷ number 1 ∷ I.Back ∷ I.Known ∷ I.Branch 6 ∷ I.Target [] ∷ y_slot ∷ I.Now ∷ I.Read ∷ put_x ∷ [])
+
+-- a put, and then a look
+abbrev pub put_before_look : List Block
+put_before_look = plain_rule (number 1 ∷ put_x ∷ y_slot ∷ I.Now ∷ I.Read ∷ put_x ∷ [])
+
+-- on the first of two days, where nothing is known
+abbrev pub first_day : World
+first_day = record { basin = numbers_basin; values = unknown_cells; step = 1 }
+
+abbrev pub looks_of_firing : List Block → ℕ
+looks_of_firing code = looks_in code (firing_from code first_day (first_frame code 1))
+
+abbrev pub puts_of_firing : List Block → ℕ
+puts_of_firing code = puts_from code first_day (first_frame code 1)
+
+abbrev pub words_of_firing : List Block → ℕ
+words_of_firing code = most_words (firing_from code first_day (first_frame code 1))

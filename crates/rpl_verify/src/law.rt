@@ -13,8 +13,9 @@ ghost use Rattle.rpl_tree.specs.Worked.{all_cells, done_by, ended_by, fire, only
 ghost use Rattle.rpl_verify.specs.declared.verify_kind.VerifyKind.TheVariants.{BackwardJump, JumpOutside, LaterCall, MissingOperand, NoSuchName, NotSettable, PutInFunction, TargetStep, TooCostly, TooDeep, TooMany, TooManyPuts, TooManyReads, WrongOperand, WrongShape};
 ghost use Rattle.rpl_verify.specs.Budget.{AreAccepted, IsWithinLimits};
 ghost use Rattle.rpl_verify.specs.Machine.{fire_of_code};
+ghost use Rattle.rpl_verify.specs.Safety.{AreSafe};
 ghost use Rattle.rpl_verify.specs.Fits.{AreFit, first_misfit, refusal};
-ghost use Rattle.rpl_verify.specs.Worked.{cap_and_base_code, code_does, dam_and_flow, doubled_items, earlier_code, endless, hundredth_code, long_locals, many_puts, misfit_at, misfit_in, function_with, misfit_of, nested, number, number_function, numbers_basin, one_dam, one_or_sum, one_or_two, over_a_list, pair_then, put_outflow, put_spill, raise_and_reset_code, rule_with, ruled, second_slot, skipped, sum_of_slots, spilling_dam, sum_ahead_code, sum_or_two, three_counted, tower, x_by_truth, x_of, x_of_pool, x_slot, y_slot};
+ghost use Rattle.rpl_verify.specs.Worked.{cap_and_base_code, code_does, dam_and_flow, doubled_items, earlier_code, endless, hundredth_code, long_locals, many_puts, misfit_at, misfit_in, function_with, misfit_of, nested, number, number_function, numbers_basin, looks_of_firing, one_dam, one_or_sum, one_or_two, over_a_list, pair_then, put_before_look, put_outflow, put_spill, puts_of_firing, raise_and_reset_code, rule_with, ruled, second_slot, seen_before, skipped, sum_of_slots, spilling_dam, sum_ahead_code, sum_or_two, three_counted, tower, words_of_firing, x_by_truth, x_of, x_of_pool, x_slot, y_slot};
 
 /// Codes that fit. What a jump leaves out is judged as well, with the operands that the target behind the jump declares.
 pub fn codes_that_fit()
@@ -282,4 +283,24 @@ pub fn accepted_code()
         → AreAccepted basin blocks budgets → AreFit basin blocks }
     ensures within { (basin : Draft) (blocks : List Block) (budgets : List Budget)
         → AreAccepted basin blocks budgets → All IsWithinLimits budgets }
+{}
+
+/// Verified code never goes wrong. However the cells are and at whatever timestep, each rule of accepted code is never stuck and
+/// ends. What it counts, how often it looks, inside the run and outside, the puts that it executes and the words of each
+/// state that it passes are at most those of its budget.
+pub fn verified_code_is_safe()
+    ensures { (basin : Draft) (blocks : List Block) (budgets : List Budget)
+        → AreAccepted basin blocks budgets → AreSafe basin blocks budgets }
+{}
+
+/// What firings pass: each look counts, also one outside the run, which looks at no cell; a put counts that is executed before
+/// a firing ends at a look; and the words are those of the state that keeps most.
+pub fn passed_by_firings()
+    ensures look { looks_of_firing seen_before ≡ 2 }
+    ensures no_cell { code_does seen_before unknown_cells ≡ ended_by Unknown (cell_of 2 1 ∷ []) 10 }
+    ensures put { puts_of_firing put_before_look ≡ 1 }
+    ensures no_put { code_does put_before_look unknown_cells
+        ≡ ended_by Unknown (cell_of 2 1 ∷ []) 5 }
+    ensures words { words_of_firing earlier_code ≡ 5 }
+    ensures loop_words { words_of_firing sum_of_slots ≡ 13 }
 {}
