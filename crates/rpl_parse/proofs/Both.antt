@@ -78,7 +78,7 @@ type_reads (slot_type u) ts rest h = rw (h.1, h.2) refl
 type_reads (numeric_list m u) ts rest h = rw (h.1, h.2.1, h.2.2.1, h.2.2.2.1, h.2.2.2.2) refl
 type_reads (slot_list m u) ts rest h = rw (h.1, h.2.1, h.2.2.1, h.2.2.2.1, h.2.2.2.2) refl
 
-type_shrinks : (k : TypeName) → Shrinks (SpellsType k)
+pub type_shrinks : (k : TypeName) → Shrinks (SpellsType k)
 type_shrinks (numeric u) = mark_then (mark M.Numeric) _ (one_shrinks (text u))
 type_shrinks boolean = one_shrinks (mark M.Boolean)
 type_shrinks datetime = one_shrinks (mark M.Datetime)
@@ -111,6 +111,14 @@ parameter_reads p ts rest h = rw (type_reads p.of_type ts h.0 h.1, name_here p.n
 
 parameter_shrinks : (p : Parameter) → Shrinks (SpellsParameter p)
 parameter_shrinks p = shrinks_then (SpellsType p.of_type) _ (type_shrinks p.of_type) (one_shrinks (word p.name))
+
+more_shrink : (ps : List Parameter) → Shrinks (SpellsMoreParameters ps)
+more_shrink [] = λ ts rest e. let f : length ts ≡ length rest = ap length e in omega arith
+more_shrink (p ∷ ps) = mark_then (mark M.Comma) _ (shrinks_then (SpellsParameter p) _ (parameter_shrinks p) (more_shrink ps))
+
+pub parameters_shrink : (ps : List Parameter) → Shrinks (SpellsParameters ps)
+parameters_shrink [] = λ ts rest e. let f : length ts ≡ length rest = ap length e in omega arith
+parameters_shrink (p ∷ ps) = shrinks_then (SpellsParameter p) _ (parameter_shrinks p) (more_shrink ps)
 
 record IsTaken (a b : Takes) : Type 0 where
   others : List Parameter

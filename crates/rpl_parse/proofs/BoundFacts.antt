@@ -1,15 +1,17 @@
 -- What is bounded in a ruleset, from the declarations on.
-use Rattle.std.proofs.Common.{◌≡◌, ◌≤◌, ◌<◌, ◌+◌, ◌∙◌, ◌++◌, ◌==◌, ◌⊎◌, ℕ, Bool, true, false, List, [], ◌∷◌, length, refl, sym, ap, subst, arith, if◌then◌else◌}
+use Rattle.std.proofs.Common.{◌≡◌, ◌≤◌, ◌+◌, ◌++◌, ◌==◌, ℕ, Bool, true, false, List, [], ◌∷◌, length, refl, sym, ap, subst, arith}
 use mathlib.Core.Logic.{inl, inr}
 use Rattle.rpl_tree.specs.Tree.{Declared, rule, function}
 use Rattle.rpl_tree.specs.declared.rules.ParsedRules.{ParsedRules}
 use Rattle.rpl_tree.specs.Seen.{rules_of}
-use Rattle.rpl_parse.specs.Tokens.{Tok}
+use Rattle.rpl_tree.specs.Count.{nodes_of}
+use Rattle.rpl_parse.specs.Tokens.{Tok, Lined}
 use Rattle.rpl_parse.specs.Scan.{Scanned, all, bad_at, tokens}
 use Rattle.rpl_parse.specs.Depth.{declared_depth}
 use Rattle.rpl_parse.specs.Statements.{IsDeclaration}
-use Rattle.rpl_parse.specs.Declarations.{Piece, pieces, begins_rule, begins_function, one_more_if, is_full, Due, spelt, bad_token, bad_declaration, too_many, IsDue, IsDueOf, IsReading, IsRuleset}
-use Rattle.rpl_parse.specs.Bounds.{rule_count, function_count, AreShallow, AreBounded}
+use Rattle.rpl_parse.specs.Declarations.{Piece, pieces, begins_rule, begins_function, one_more_if, is_full, Due, spelt, IsDue, IsDueOf, IsRuleset}
+use Rattle.rpl_parse.specs.Bounds.{rule_count, function_count, AreWithin, AreBounded}
+use Rattle.rpl_parse.proofs.NodeFacts.{nodes_within, tokens_few, ArePieces, pieces_within}
 
 -- one more at the end
 
@@ -23,9 +25,9 @@ functions_end [] d = let e : 0 + function_count (d ∷ []) ≡ function_count (d
 functions_end (rule x body ∷ ds) d = functions_end ds d
 functions_end (function x ps k b ∷ ds) d = let h = functions_end ds d in omega (arith, h)
 
-shallow_end : (most : ℕ) (ds : List Declared) (d : Declared) → AreShallow most ds → declared_depth d ≤ most → AreShallow most (ds ++ d ∷ [])
-shallow_end most [] d h le = (le, tt)
-shallow_end most (x ∷ ds) d h le = (h.0, shallow_end most ds d h.1 le)
+within_end : (much : Declared → ℕ) (most : ℕ) (ds : List Declared) (d : Declared) → AreWithin much most ds → much d ≤ most → AreWithin much most (ds ++ d ∷ [])
+within_end much most [] d h le = (le, tt)
+within_end much most (x ∷ ds) d h le = (h.0, within_end much most ds d h.1 le)
 
 -- the first token tells what is declared
 record Begins (ts : List Tok) (d : Declared) (r f : ℕ) : Type 0 where
@@ -52,13 +54,13 @@ is_spelt (spelt ds) = true
 is_spelt _ = false
 
 bounded : (k r f : ℕ) (before : List Declared) (ps : List Piece) (ds : List Declared) → IsDue k r f before ps (spelt ds)
-    → AreShallow 100 before → rule_count before ≡ r → function_count before ≡ f → r ≤ 200 → f ≤ 200 → AreBounded ds
+    → (most : ℕ) → most ≤ 16777216 → ArePieces most ps → AreWithin declared_depth 100 before → AreWithin nodes_of 16777216 before → rule_count before ≡ r → function_count before ≡ f → r ≤ 200 → f ≤ 200 → AreBounded ds
 unfolding listed is_spelt
-bounded k r f before [] ds due deep er ef lr lf =
-    subst AreBounded (sym (ap listed due)) (record { depth = deep; rules = omega (arith, er); functions = omega (arith, ef) })
-bounded k r f before (p ∷ ps) ds (inl h) deep er ef lr lf = absurd (cc (ap is_spelt h.1))
-bounded k r f before (p ∷ ps) ds (inr (inl h)) deep er ef lr lf = absurd (cc (ap is_spelt h.2))
-bounded k r f before (p ∷ ps) ds (inr (inr h)) deep er ef lr lf =
+bounded k r f before [] ds due most few small deep nodes er ef lr lf =
+    subst AreBounded (sym (ap listed due)) (record { depth = deep; nodes = nodes; rules = omega (arith, er); functions = omega (arith, ef) })
+bounded k r f before (p ∷ ps) ds (inl h) most few small deep nodes er ef lr lf = absurd (cc (ap is_spelt h.1))
+bounded k r f before (p ∷ ps) ds (inr (inl h)) most few small deep nodes er ef lr lf = absurd (cc (ap is_spelt h.2))
+bounded k r f before (p ∷ ps) ds (inr (inr h)) most few small deep nodes er ef lr lf =
     let d = h.1.0 in
     let b = begins p.toks d r f h.1.1 in
     let br = b.rules in
@@ -68,12 +70,14 @@ bounded k r f before (p ∷ ps) ds (inr (inr h)) deep er ef lr lf =
     let nr = rules_end before d in
     let nf = functions_end before d in
     bounded (k + 1) (one_more_if (begins_rule p.toks) r) (one_more_if (begins_function p.toks) f) (before ++ d ∷ []) ps ds h.1.2
-    (shallow_end 100 before d deep (let a = h.1.1 in a.1)) (omega (arith, nr, er, br)) (omega (arith, nf, ef, bf)) (omega (arith, br, lr2)) (omega (arith, bf, lf2))
+    most few small.1
+    (within_end declared_depth 100 before d deep (let a = h.1.1 in a.1))
+    (within_end nodes_of 16777216 before d nodes (let a = nodes_within p.toks d h.1.1 in let l = small.0 in omega arith)) (omega (arith, nr, er, br)) (omega (arith, nf, ef, bf)) (omega (arith, br, lr2)) (omega (arith, bf, lf2))
 
-of_scanned : (s : Scanned) (ds : List Declared) → IsDueOf s (spelt ds) → AreBounded ds
+of_scanned : (s : Scanned) (ds : List Declared) → IsDueOf s (spelt ds) → ((ts : List Lined) → s ≡ all ts → length ts ≤ 16777216) → AreBounded ds
 unfolding is_spelt
-of_scanned (all ts) ds h = bounded 1 0 0 [] (pieces ts) ds h tt refl refl (omega arith) (omega arith)
-of_scanned (bad_at line) ds h = absurd (cc (ap is_spelt h))
+of_scanned (all ts) ds h few = bounded 1 0 0 [] (pieces ts) ds h (length ts) (few ts refl) (pieces_within ts) tt tt refl refl (omega arith) (omega arith)
+of_scanned (bad_at line) ds h few = absurd (cc (ap is_spelt h))
 
 pub bounds_hold : (rules : ParsedRules) → IsRuleset rules → AreBounded (rules_of rules)
-bounds_hold rules h = of_scanned (tokens h.0) (rules_of rules) h.2
+bounds_hold rules h = of_scanned (tokens h.0) (rules_of rules) h.2 (λ ts e. let a = tokens_few h.0 ts e in let b = h.1 in omega arith)

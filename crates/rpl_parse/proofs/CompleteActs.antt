@@ -28,10 +28,10 @@ none_shrinks : (xs : Acts) → Shrinks (if_none xs)
 none_shrinks no_acts ts rest e = let f : length ts ≡ length rest = ap length e in omega arith
 none_shrinks (act a more) ts rest e = absurd e
 
-abbrev Ahead : ℤ → Part
+abbrev pub Ahead : ℤ → Part
 Ahead z = if_zero z or (sign M.Plus ⨾ token (digits z))
 
-ahead_shrinks : (z : ℤ) → Shrinks (Ahead z)
+pub ahead_shrinks : (z : ℤ) → Shrinks (Ahead z)
 ahead_shrinks z = or_shrinks (if_zero z) _ (zero_shrinks z) (mark_then (mark M.Plus) _ (one_shrinks (digits z)))
 
 -- what of an assignment follows the name of its object

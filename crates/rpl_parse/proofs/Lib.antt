@@ -12,4 +12,5 @@ pub mod TurnsParameters
 pub mod Both
 pub mod CutFacts
 pub mod Rows
+pub mod NodeFacts
 pub mod BoundFacts

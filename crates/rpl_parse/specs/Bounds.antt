@@ -1,6 +1,7 @@
 -- What is bounded in a ruleset.
 use Rattle.std.specs.Prelude.{◌≤◌, ◌+◌, ℕ, List, [], ◌∷◌}
 use Rattle.rpl_tree.specs.Tree.{Declared, rule, function}
+use Rattle.rpl_tree.specs.Count.{nodes_of}
 use Rattle.rpl_parse.specs.Depth.{declared_depth}
 
 abbrev pub rule_count : List Declared → ℕ
@@ -13,12 +14,13 @@ function_count [] = 0
 function_count (rule called body ∷ ds) = function_count ds
 function_count (function called params result body ∷ ds) = function_count ds + 1
 
--- each is at most so deep
-abbrev pub AreShallow : ℕ → List Declared → Type 0
-AreShallow most [] = Unit {0}
-AreShallow most (d ∷ ds) = (declared_depth d ≤ most) × AreShallow most ds
+-- of each it is at most so much
+abbrev pub AreWithin : (Declared → ℕ) → ℕ → List Declared → Type 0
+AreWithin much most [] = Unit {0}
+AreWithin much most (d ∷ ds) = (much d ≤ most) × AreWithin much most ds
 
 pub record AreBounded (ds : List Declared) : Type 0 where
-  pub depth : AreShallow 100 ds
+  pub depth : AreWithin declared_depth 100 ds
+  pub nodes : AreWithin nodes_of 16777216 ds
   pub rules : rule_count ds ≤ 200
   pub functions : function_count ds ≤ 200

@@ -19,7 +19,8 @@ pub fn one_reading()
     ensures one { one_reading }
 {}
 
-/// In a ruleset each declaration is at most 100 deep, and there are at most 200 rules and 200 functions.
+/// In a ruleset each declaration is at most 100 deep and has no more nodes than a text has bytes, and there are at most 200
+/// rules and 200 functions.
 pub fn bounds()
     ensures all { (rules : ParsedRules) → IsRuleset rules → AreBounded (rules_of rules) }
 {}

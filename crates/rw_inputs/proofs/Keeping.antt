@@ -12,7 +12,7 @@ use Rattle.rw_inputs.specs.Inputs.{Inputs, IsInputsOf, IsKeptValue, Keeps, colum
 use Rattle.rw_inputs.specs.Column.{Column, HasMore, IsColumn, IsFree, IsTaken, value_in}
 use Rattle.rw_inputs.specs.Reading.{shares_cell}
 use Rattle.rw_inputs.specs.Sound.{IsGiven}
-use Rattle.rw_inputs.specs.Taking.{IsTwice, TakesRow}
+use Rattle.rw_inputs.specs.Taking.{IsTwice, TakesGiven}
 use Rattle.rw_inputs.proofs.Columns.{set-column, set-more}
 use Rattle.rw_inputs.proofs.Groups.{kept_slot-together, kept_slot-again}
 
@@ -168,7 +168,7 @@ taken-shares basin given rows old kept taken =
 pub record Taking (basin : Draft) (given : Given) (old new : Inputs) (before after : Column) : Type 0 where
   pub nothing : after ≡ before → new.columns ≡ old.columns
   pub made : HasMore given.value given.first given.last before after → IsInputsOf basin new
-  pub takes : IsFree before given.first given.last → HasMore given.value given.first given.last before after → TakesRow basin given old new
+  pub takes : IsFree before given.first given.last → HasMore given.value given.first given.last before after → TakesGiven basin given old new
   pub twice : IsTaken before given.first given.last → IsTwice basin given old
 
 module _ (basin : Draft) (given : Given) (old new : Inputs) (slot steps : ℕ) (before after : Column) (made : IsInputsOf basin old) (sound : IsGiven basin given)

@@ -10,8 +10,8 @@ use Rattle.rw_inputs.specs.Inputs.{Inputs, Keeps}
 use Rattle.rw_inputs.specs.Reading.{givens, refused_or, shares_cell, wrong_behind}
 
 -- whatever rows the inputs keep, what is given shares no cell with them, and is kept with them from now on
-abbrev pub TakesRow : Draft → Given → Inputs → Inputs → Type 0
-TakesRow basin given old new = (rows : List Given) → Keeps basin rows old
+abbrev pub TakesGiven : Draft → Given → Inputs → Inputs → Type 0
+TakesGiven basin given old new = (rows : List Given) → Keeps basin rows old
     → (list_any (shares_cell basin given) rows ≡ false) × Keeps basin (rows ++ given ∷ []) new
 
 -- whatever rows the inputs keep, what is given shares a cell with one of them

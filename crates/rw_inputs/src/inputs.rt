@@ -2,7 +2,7 @@ ghost use Rattle.std.specs.Prelude.{◌≡◌, ◌⊎◌, [], ℕ, true, false, 
 ghost use Rattle.rw_inputs.specs.Inputs.{column_of, value_at, kept_slot, IsInputsOf, Keeps};
 ghost use Rattle.rw_model.specs.Draft.{IsSlot};
 ghost use Rattle.rw_inputs.specs.Sound.{IsGiven};
-ghost use Rattle.rw_inputs.specs.Taking.{TakesRow, IsTwice};
+ghost use Rattle.rw_inputs.specs.Taking.{TakesGiven, IsTwice};
 
 use crate::column::Column;
 use crate::given::Given;
@@ -76,7 +76,7 @@ impl Inputs {
         requires made { IsInputsOf basin.now self.old }
         requires given { IsGiven basin.now given.now }
         ensures made { IsInputsOf basin.now self.new }
-        ensures taken { result ≡ Ok true → TakesRow basin.now given.now self.old self.new }
+        ensures taken { result ≡ Ok true → TakesGiven basin.now given.now self.old self.new }
         ensures twice { result ≡ Ok false → IsTwice basin.now given.now self.old }
         ensures unchanged { (result ≡ Ok true) ⊎ (self.new ≡ self.old) }
     {

@@ -9,15 +9,15 @@ use Rattle.std.specs.Str.{bytes_eq}
 use Rattle.rw_io.specs.Files.{Files, left_at, position_of}
 use Rattle.std.specs.declared.alloc.Global.{Global}
 
-pub place_of-here : (files : Files) (path : List ℕ) (i : ℕ) (file : String Global × Vec ℕ Global)
+pub position_of-here : (files : Files) (path : List ℕ) (i : ℕ) (file : String Global × Vec ℕ Global)
     → i < length files → file ≡ get_or files i file → bytes_eq (string_bytes file.0) path ≡ true
     → position_of (drop i files) path ≡ 0
-place_of-here files path i file lt is same = rw (drop-cons files i file, ← is, same) refl
+position_of-here files path i file lt is same = rw (drop-cons files i file, ← is, same) refl
 
-pub place_of-next : (files : Files) (path : List ℕ) (i : ℕ) (file : String Global × Vec ℕ Global)
+pub position_of-next : (files : Files) (path : List ℕ) (i : ℕ) (file : String Global × Vec ℕ Global)
     → i < length files → file ≡ get_or files i file → bytes_eq (string_bytes file.0) path ≡ false
     → position_of (drop i files) path ≡ position_of (drop (i + 1) files) path + 1
-place_of-next files path i file lt is other = rw (drop-cons files i file, ← is, other, add-one i) refl
+position_of-next files path i file lt is other = rw (drop-cons files i file, ← is, other, add-one i) refl
 
 -- what a read takes from the started file, and that it takes nothing only at the end
 pub left_at-read : (files : Files) (started : Option (String Global)) (place at n room : ℕ) (taken : List ℕ) (file : String Global × Vec ℕ Global)

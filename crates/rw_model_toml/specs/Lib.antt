@@ -1,4 +1,4 @@
-pub mod ModelRefusal
+pub mod Refusal
 pub mod Fault
 pub mod Path
 pub mod Value

@@ -19,7 +19,7 @@ loop-place-preserved c = next_placed c.args.kind.now c.args.view.now c.loop-plac
 
 pub returns : goal.returns
 returns c is_kind = record {
-  parameters = c.is_kind.ensures.0 is_kind;
+  parameters = c.is_kind.ensures.kind.0 is_kind;
   absent = λ place lt. (c.loop-place.invariant place (omega (arith, lt))).absent;
   bounded = λ place slot lt. (c.loop-place.invariant place (omega (arith, lt))).bounded slot;
 }

@@ -10,7 +10,7 @@ returns-in-Err-add_put c =
     let fits : FitsSigned w128 c.seeping-seeping.result = search rules in
     let ended = simp (to_z-of_z w128 _ fits) at c.in-Err-add_put.ensures.err in
     let accepted = simp (to_z-of_z w128 _ fits) at c.in-Err-add_put.ensures.fits in
-    let misfit : is_bounded c.args.view.now (put 2 c.seeping-seeping.result c.held_after-inflow.result.number) ≡ false = grind (arith, accepted) in
+    let misfit : is_bounded c.args.view.now (put 2 c.seeping-seeping.result c.known_after-inflow.result.number) ≡ false = grind (arith, accepted) in
     rw (c.in-Ok.ensures.open refl (is_bounded c.args.view.now) _)
-    rw (← c.held_after-inflow.ensures, ← c.held_after-outflow.ensures, ← c.seeping-seeping.ensures)
+    rw (← c.known_after-inflow.ensures, ← c.known_after-outflow.ensures, ← c.seeping-seeping.ensures)
     (ended ∙ misfit_judged (is_bounded c.args.view.now) _ _ [] (c.in-Ok.ensures.fits refl) misfit)
