@@ -1,5 +1,7 @@
-//! When the code of a policy is accepted for a basin, what a firing of it may cost, and what it does: definitions, and laws
-//! that say what they come to on worked codes. No code is judged by them yet.
+//! When the code of a policy is accepted for a basin, what a firing of it may cost, and what it does: definitions, and laws.
+//! Accepted code is safe (`verified_code_is_safe`): whatever the cells hold and at whatever timestep, its rules are never
+//! stuck, end, and keep to their budgets. The other laws say what the definitions come to on worked codes. No call judges
+//! code by them yet.
 #![tactic(auto)]
 
 pub mod law;
