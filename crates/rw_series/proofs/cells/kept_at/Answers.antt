@@ -6,8 +6,8 @@ use Rattle.rw_series.specs.Cells.{is_kept}
 use Rattle.rw_series.proofs.Places.{Kept-of, within, kept_at-at}
 use Rattle.rw_series.proofs.cells.kept_at.Goals as goal
 
-pub bounds-cells-place_of : goal.bounds-cells-place_of
-bounds-cells-place_of c =
+pub bounds-cells-position_of : goal.bounds-cells-position_of
+bounds-cells-position_of c =
     let kept = Kept-of c.args.slots c.args.steps c.args.slot c.args.step (sym c.is_kept.ensures ∙ c.if-is_kept.true) in
     omega (arith, within c.args.slots c.args.steps c.args.slot c.args.step kept, c.position_of.ensures, c.requires)
 
@@ -20,7 +20,7 @@ returns-then-is_kept c =
     let items = c.args.cells.now in
     let inside : c.position_of.result < length (map content_of items) = omega (arith, near, length-map items content_of) in
     c.content_of.ensures
-    ∙ ap content_of c.index-cells-place_of.is
-    ∙ sym (get_or-map content_of items c.position_of.result c.index-cells-place_of.result (content_of c.index-cells-place_of.result) near)
-    ∙ kept_at-at c.args.slots c.args.steps (map content_of items) c.args.slot c.args.step c.position_of.result (content_of c.index-cells-place_of.result)
+    ∙ ap content_of c.index-cells-position_of.is
+    ∙ sym (get_or-map content_of items c.position_of.result c.index-cells-position_of.result (content_of c.index-cells-position_of.result) near)
+    ∙ kept_at-at c.args.slots c.args.steps (map content_of items) c.args.slot c.args.step c.position_of.result (content_of c.index-cells-position_of.result)
     there c.position_of.ensures inside

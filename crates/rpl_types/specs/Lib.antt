@@ -1,0 +1,6 @@
+pub mod Fits
+pub mod Forms
+pub mod Functions
+pub mod Nodes
+pub mod Judged
+pub mod Worked

@@ -1,0 +1,9 @@
+//! The judge of rulesets: which type each expression of a ruleset has with a basin, or the first thing that is wrong. The
+//! definitions say which type each form has by those of its parts (`specs/Forms.antt`), go over a declaration's nodes
+//! (`specs/Nodes.antt`) and over all declarations (`specs/Judged.antt`). The laws have worked rulesets.
+#![tactic(auto)]
+
+pub mod law;
+mod type_kind;
+
+pub use type_kind::TypeKind;
