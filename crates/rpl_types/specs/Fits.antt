@@ -1,5 +1,5 @@
 -- When a type fits another, and what is wrong where it doesn't.
-use Rattle.std.specs.Prelude.{ℕ, nat_le, nat_lt, max, Bool, true, false, List, [], ◌∷◌, length, Option, Some, None, Result, Ok, Err, if◌then◌else◌}
+use Rattle.std.specs.Prelude.{ℕ, nat_le, nat_lt, max, List, [], ◌∷◌, Option, Some, None, Result, if◌then◌else◌}
 use Rattle.rw_base.specs.Answers.{unless_refused}
 use Rattle.rw_base.specs.Dimension.{Dimension}
 use Rattle.rw_model.specs.Links.{is_same_dim}

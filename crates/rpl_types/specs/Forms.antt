@@ -1,5 +1,5 @@
 -- The type that each form has by the types of its parts, or why it has none.
-use Rattle.std.specs.Prelude.{ℕ, ◌+◌, ℤ, pos, neg_ℤ, ◌*ℤ◌, int_le, bytes_eq, Bool, true, false, ◌&&◌, List, [], ◌∷◌, length, Option, Some, None, unwrap_or, Result, Ok, Err, if◌then◌else◌}
+use Rattle.std.specs.Prelude.{ℕ, ◌+◌, ℤ, pos, neg_ℤ, ◌*ℤ◌, int_le, bytes_eq, Bool, true, false, ◌&&◌, List, [], ◌∷◌, length, Option, Some, None, unwrap_or, Ok, Err, if◌then◌else◌}
 use Rattle.std.specs.Ordering.{int_eq}
 use Rattle.rw_base.specs.Answers.{unless_refused}
 use Rattle.rw_base.specs.Dimension.{Dimension, times_of, per_of}
@@ -7,7 +7,7 @@ use Rattle.rw_base.specs.Unit.{units, unit_in, volume, length as length_unit, ti
 use Rattle.rw_table.specs.Table.{Row}
 use Rattle.rw_model.specs.Draft.{Draft}
 use Rattle.rw_model.specs.Links.{dim_of}
-use Rattle.rw_model.specs.Objects.{object_named, slot_named}
+use Rattle.rw_model.specs.Objects.{slot_named}
 use Rattle.rpl_tree.specs.declared.words.OneWord.{OneWord}
 use Rattle.rpl_tree.specs.declared.words.OneWord.TheVariants.{Not, Minus, Known, Length, Month, Day, Year}
 use Rattle.rpl_tree.specs.declared.words.TwoWord.{TwoWord}
@@ -15,7 +15,7 @@ use Rattle.rpl_tree.specs.declared.words.TwoWord.TheVariants.{Or, And, Equal, Un
 use Rattle.rpl_tree.specs.declared.words.ConvertWord.{ConvertWord}
 use Rattle.rpl_tree.specs.declared.words.ConvertWord.TheVariants.{StorageToElevation, ElevationToStorage}
 use Rattle.rpl_tree.specs.Operators.{is_quantity}
-use Rattle.rpl_tree.specs.World.{can_set, table_named}
+use Rattle.rpl_tree.specs.World.{can_set}
 use Rattle.rpl_tree.specs.Tree.{Tree, at}
 use Rattle.rpl_tree.specs.declared.rpl_type.RplType.{RplType}
 use Rattle.rpl_tree.specs.declared.rpl_type.RplType.TheVariants.{Numeric, Boolean, Datetime, Slot, NumericList, SlotList}

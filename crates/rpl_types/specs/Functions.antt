@@ -1,13 +1,12 @@
 -- Functions as calls see them, and what the head of a declaration says of its types.
-use Rattle.std.specs.Prelude.{ℕ, ◌==◌, ℤ, pos, int_le, unsigned_abs, codes, bytes_eq, Bool, true, false, ◌&&◌, ◌||◌, List, [], ◌∷◌, length, map, Option, Some, None, is_some, Result, Ok, Err, if◌then◌else◌}
+use Rattle.std.specs.Prelude.{ℕ, ◌==◌, ℤ, pos, int_le, unsigned_abs, codes, bytes_eq, Bool, false, ◌&&◌, ◌||◌, List, [], ◌∷◌, length, map, Option, Some, None, is_some, Ok, Err, if◌then◌else◌}
 use Rattle.std.specs.List.{list_any}
 use Rattle.rw_base.specs.Answers.{unless_refused}
 use Rattle.rw_base.specs.Dimension.{Dimension}
 use Rattle.rw_base.specs.Unit.{units, unit_in, plain_number}
-use Rattle.rpl_tree.specs.Value.{Kind}
 use Rattle.rpl_tree.specs.Kinds.{Head}
 use Rattle.rpl_tree.specs.Mean.{heads_of, predefined_functions}
-use Rattle.rpl_tree.specs.Tree.{TypeName, numeric, boolean, datetime, slot_type, numeric_list, slot_list, Parameter, Declared, rule, function}
+use Rattle.rpl_tree.specs.Tree.{TypeName, numeric, boolean, datetime, slot_type, numeric_list, slot_list, Parameter}
 use Rattle.rpl_tree.specs.declared.rpl_type.RplType.{RplType}
 use Rattle.rpl_tree.specs.declared.rpl_type.RplType.TheVariants.{Numeric, Boolean, Datetime, Slot, NumericList, SlotList}
 use Rattle.rpl_types.specs.declared.type_kind.TypeKind.{TypeKind}

@@ -1,15 +1,15 @@
 -- How a ruleset is judged with a basin: the types of all its nodes, or its first refusal.
-use Rattle.std.specs.Prelude.{ℕ, ◌+◌, nat_le, nat_lt, Bool, ◌&&◌, ◌-◌, List, [], ◌∷◌, slice_get, Option, Some, None, option_and_then, unwrap_or, Result, Ok, Err, if◌then◌else◌}
+use Rattle.std.specs.Prelude.{ℕ, ◌+◌, nat_le, Bool, ◌&&◌, List, [], ◌∷◌, Option, Some, None, option_and_then, unwrap_or, Result, Ok, Err, if◌then◌else◌}
 use Rattle.rw_model.specs.Draft.{Draft}
 use Rattle.rw_model.specs.Objects.{numbered}
 use Rattle.rpl_tree.specs.Budget.{Budget, budget_of, limits}
-use Rattle.rpl_tree.specs.Tree.{Tree, TypeName, Parameter, Declared, rule, function}
+use Rattle.rpl_tree.specs.Tree.{TypeName, Parameter, Declared, rule, function}
 use Rattle.rpl_tree.specs.declared.rpl_type.RplType.{RplType}
 use Rattle.rpl_types.specs.declared.type_kind.TypeKind.{TypeKind}
 use Rattle.rpl_types.specs.declared.type_kind.TypeKind.TheVariants.{DuplicateName, TooCostly}
 use Rattle.rpl_types.specs.Fits.{misfit}
 use Rattle.rpl_types.specs.Functions.{Callable, Signature, head_misfit, is_duplicate, param_scope, signature, type_here}
-use Rattle.rpl_types.specs.Nodes.{Judged, NodeRefusal, Types, nodes, types_of, types_of_acts, ◌>>=◌}
+use Rattle.rpl_types.specs.Nodes.{Judged, Types, nodes, types_of, types_of_acts, ◌>>=◌}
 
 -- ---- a declaration, whose own number among its nodes is 0
 
@@ -25,8 +25,8 @@ head_refusal earlier f ps result = if is_duplicate earlier f ps then Some Duplic
 abbrev pub declared_types : Draft → Callable → Declared → Judged Types
 declared_types basin callable (rule called_so body) = types_of_acts basin callable [] 1 body
 declared_types basin callable (function f ps result body) =
-    refused_as_whole (head_refusal callable.earlier f ps result) tt >>= λ fine.
-    types_of basin callable (param_scope ps) 1 body >>= λ e.
+    refused_as_whole (head_refusal callable.earlier f ps result) ps >>= λ params.
+    types_of basin callable (param_scope params) 1 body >>= λ e.
     refused_as_whole (misfit e.own (type_here result)) (nodes e)
 
 -- each of its budgets is within its limit
@@ -90,6 +90,10 @@ type_in types node = unwrap_or (numbered types node) None
 abbrev pub type_at : List Types → ℕ → ℕ → Option RplType
 type_at all declaration node = option_and_then (λ types. type_in types node) (numbered all declaration)
 
--- the types, where there are some
+-- the types, where the ruleset is accepted
+abbrev pub types_or_none : Result (List Types) Refusal → List Types
+types_or_none (Ok all) = all
+types_or_none (Err refused) = []
+
 abbrev pub judged_types : Draft → List Declared → List Types
-judged_types basin rules = unwrap_or (result_ok (judged basin rules)) []
+judged_types basin rules = types_or_none (judged basin rules)

@@ -1,14 +1,14 @@
 -- Small rulesets, worked out by hand, that are accepted or refused.
-use Rattle.std.specs.Prelude.{ℕ, ℤ, pos, codes, List, [], ◌∷◌, ◌++◌, Option, Some, None, Result, Ok, Err}
-use Rattle.rw_base.specs.Dimension.{Dimension, dimension}
-use Rattle.rw_base.specs.Unit.{volume, timestep}
+use Rattle.std.specs.Prelude.{ℕ, ℤ, pos, codes, List, [], ◌∷◌, ◌++◌, Option, Some, Result, Ok, Err}
+use Rattle.rw_base.specs.Dimension.{Dimension}
+use Rattle.rw_base.specs.Unit.{length, plain_number, volume, timestep}
 use Rattle.rw_model.specs.Draft.{Draft}
 use Rattle.rw_model.specs.Slot.{flow_unit}
-use Rattle.rpl_tree.specs.declared.words.TwoWord.TheVariants.{Append, Item, Plus, Times}
-use Rattle.rpl_tree.specs.Tree.{TypeName, numeric, numeric_list, slot_list, Tree, name, call, each, list, now, slot, two, at, no_acts, Act, Parameter, Declared, function}
-use Rattle.rpl_tree.specs.Worked.{acts_of, at_now, basin_of, call_of, canal, cap_and_base, dam, flow_object, l_name, n_name, numbers_object, of_unit, over, pair, pool, puts_at, rule_of, s_name, sum_ahead, trees_of, whole, x_rule}
+use Rattle.rpl_tree.specs.declared.words.TwoWord.TheVariants.{Plus, Times}
+use Rattle.rpl_tree.specs.Tree.{numeric, numeric_list, Tree, name, each, two, Act, Parameter, Declared, function}
+use Rattle.rpl_tree.specs.Worked.{at_now, basin_of, call_of, canal, dam, flow_object, l_name, n_name, numbers_object, of_unit, pool, puts_at, rule_of, s_name, whole, x_rule}
 use Rattle.rpl_tree.specs.declared.rpl_type.RplType.{RplType}
-use Rattle.rpl_tree.specs.declared.rpl_type.RplType.TheVariants.{Boolean, Datetime, Numeric, NumericList, Slot}
+use Rattle.rpl_tree.specs.declared.rpl_type.RplType.TheVariants.{Datetime, Numeric, NumericList, Slot}
 use Rattle.rpl_types.specs.declared.type_kind.TypeKind.{TypeKind}
 use Rattle.rpl_types.specs.Forms.{plain}
 use Rattle.rpl_types.specs.Nodes.{Types}
@@ -102,3 +102,17 @@ look_types d = Some (Numeric d) ∷ Some (Slot d) ∷ Some Datetime ∷ []
 
 abbrev pub dam_and_flow : Draft
 dam_and_flow = basin_of 3 (dam ∷ flow_object ∷ [])
+
+-- `1 "m"`, its third power, and its type
+abbrev pub metre : Tree
+metre = of_unit (pos 1) (codes "m")
+
+abbrev pub cubed : Tree
+cubed = two Times (two Times metre metre) metre
+
+abbrev pub a_length : Option RplType
+a_length = Some (Numeric length)
+
+-- a list of so many plain numbers
+abbrev pub numbers : ℕ → Option RplType
+numbers m = Some (NumericList m plain_number)
