@@ -1,8 +1,9 @@
 -- The type that each form has by the types of its parts, or why it has none.
-use Rattle.std.specs.Prelude.{ℕ, ◌+◌, ℤ, pos, neg_ℤ, ◌*ℤ◌, int_le, bytes_eq, Bool, true, false, ◌&&◌, List, [], ◌∷◌, length, Option, Some, None, unwrap_or, Ok, Err, if◌then◌else◌}
+use Rattle.std.specs.Prelude.{ℕ, ◌+◌, ℤ, pos, neg_ℤ, ◌*ℤ◌, bytes_eq, Bool, true, false, ◌&&◌, List, [], ◌∷◌, length, Option, Some, None, unwrap_or, Ok, Err, if◌then◌else◌}
 use Rattle.std.specs.Ordering.{int_eq}
 use Rattle.rw_base.specs.Answers.{unless_refused}
 use Rattle.rw_base.specs.Dimension.{Dimension, times_of, per_of}
+use Rattle.rw_base.specs.Range.{is_from_to}
 use Rattle.rw_base.specs.Unit.{units, unit_in, volume, length as length_unit, timestep, plain_number}
 use Rattle.rw_table.specs.Table.{Row}
 use Rattle.rw_model.specs.Draft.{Draft}
@@ -116,14 +117,22 @@ difference_type Datetime Datetime = Ok (Numeric timestep)
 difference_type a b = sum_type a b
 
 abbrev pub is_exponent : ℤ → Bool
-is_exponent z = int_le (neg_ℤ (pos 6)) z && int_le z (pos 6)
+is_exponent z = is_from_to (neg_ℤ (pos 6)) (pos 6) z
 
 abbrev pub is_dimension : Dimension → Bool
 is_dimension d = is_exponent d.volume && is_exponent d.length && is_exponent d.step && is_exponent d.energy
 
+-- the dimension, where each of its exponents is from -6 to 6
+abbrev pub a_dimension : Dimension → Option Dimension
+a_dimension d = if is_dimension d then Some d else None
+
+abbrev pub measured_in : Option Dimension → Typed
+measured_in None = Err WrongUnit
+measured_in (Some d) = Ok (Numeric d)
+
 -- a product or a quotient, by what becomes of the dimensions
 abbrev pub product_type : (Dimension → Dimension → Dimension) → RplType → RplType → Typed
-product_type made (Numeric a) (Numeric b) = if is_dimension (made a b) then Ok (Numeric (made a b)) else Err WrongUnit
+product_type made (Numeric a) (Numeric b) = measured_in (a_dimension (made a b))
 product_type made _ _ = Err WrongType
 
 abbrev pub append_type : RplType → RplType → Typed

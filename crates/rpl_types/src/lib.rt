@@ -3,6 +3,8 @@
 //! (`specs/Nodes.antt`) and over all declarations (`specs/Judged.antt`). The laws have worked rulesets.
 #![tactic(auto)]
 
+mod fits;
+mod forms;
 pub mod law;
 mod type_kind;
 
