@@ -14,9 +14,10 @@ decides_exponent z =
 decides_dimension : (d : Dimension) → Decides (is_dimension d) (IsDimension d)
 decides_dimension d =
     let all = Decides-and _ _ (Decides-and _ _ (Decides-and _ _ (decides_exponent d.volume) (decides_exponent d.length))
-      (decides_exponent d.step)) (decides_exponent d.energy) in
-    (λ e. record { volume = (all.0 e).0.0.0; length = (all.0 e).0.0.1; step = (all.0 e).0.1; energy = (all.0 e).1 },
-    λ h. all.1 (((h.volume, h.length), h.step), h.energy))
+    (decides_exponent d.step)) (decides_exponent d.energy) in (
+      λ e. record { volume = (all.0 e).0.0.0; length = (all.0 e).0.0.1; step = (all.0 e).0.1; energy = (all.0 e).1 },
+      λ h. all.1 (((h.volume, h.length), h.step), h.energy),
+    )
 
 found : (r : Option Dimension) (d : Dimension) → AnswersDimension d r → r ≡ a_dimension d
 found None d h = sym (unless (is_dimension d) (Some d) None (fails _ (decides_dimension d) h))

@@ -1,5 +1,5 @@
 -- When a type fits another, and what is wrong where it doesn't.
-use Rattle.std.specs.Prelude.{ℕ, nat_le, nat_lt, max, List, [], ◌∷◌, Option, Some, None, Result, if◌then◌else◌}
+use Rattle.std.specs.Prelude.{ℕ, ◌==◌, nat_le, nat_lt, max, List, [], ◌∷◌, length, Option, Some, None, Result, if◌then◌else◌}
 use Rattle.rw_base.specs.Answers.{unless_refused}
 use Rattle.rw_base.specs.Dimension.{Dimension}
 use Rattle.rw_model.specs.Links.{is_same_dim}
@@ -65,11 +65,14 @@ abbrev pub misfit_among : List RplType → RplType → Option TypeKind
 misfit_among [] asked = None
 misfit_among (t ∷ ts) asked = sooner (misfit t asked) (misfit_among ts asked)
 
+-- why not each of them can stand where the one in its place is asked for
+abbrev pub misfit_in_places : List RplType → List RplType → Option TypeKind
+misfit_in_places (t ∷ ts) (asked ∷ more) = sooner (misfit t asked) (misfit_in_places ts more)
+misfit_in_places _ _ = None
+
 -- why these can't be the arguments where those are asked for
 abbrev pub arguments_misfit : List RplType → List RplType → Option TypeKind
-arguments_misfit [] [] = None
-arguments_misfit (t ∷ ts) (asked ∷ more) = sooner (misfit t asked) (arguments_misfit ts more)
-arguments_misfit _ _ = Some WrongCount
+arguments_misfit ts asked = if length ts == length asked then misfit_in_places ts asked else Some WrongCount
 
 -- the type of what is either the one or the other: of two lists that with more room
 abbrev pub joined : RplType → RplType → Typed

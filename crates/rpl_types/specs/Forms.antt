@@ -5,7 +5,6 @@ use Rattle.rw_base.specs.Answers.{unless_refused}
 use Rattle.rw_base.specs.Dimension.{Dimension, times_of, per_of}
 use Rattle.rw_base.specs.Range.{is_from_to}
 use Rattle.rw_base.specs.Unit.{units, unit_in, volume, length as length_unit, timestep, plain_number}
-use Rattle.rw_table.specs.Table.{Row}
 use Rattle.rw_model.specs.Draft.{Draft}
 use Rattle.rw_model.specs.Links.{dim_of}
 use Rattle.rw_model.specs.Objects.{slot_named}
@@ -178,14 +177,14 @@ abbrev pub answers : ConvertWord → Dimension
 answers StorageToElevation = length_unit
 answers ElevationToStorage = volume
 
-abbrev pub table_type : ConvertWord → Option (List Row) → RplType → Typed
-table_type word None t = Err NoTable
-table_type word (Some rows) t = unless_refused (misfit t (Numeric (asks word))) (Numeric (answers word))
+abbrev pub table_type : ConvertWord → Bool → RplType → Typed
+table_type word false t = Err NoTable
+table_type word true t = unless_refused (misfit t (Numeric (asks word))) (Numeric (answers word))
 
--- an object, by its number, and its table
-abbrev pub convert_type : ConvertWord → Option ℕ → Option (List Row) → RplType → Typed
-convert_type word None table t = Err UnknownName
-convert_type word (Some object) table t = table_type word table t
+-- whether there is an object, and whether it has a table
+abbrev pub convert_type : ConvertWord → Bool → Bool → RplType → Typed
+convert_type word false table t = Err UnknownName
+convert_type word true table t = table_type word table t
 
 -- ---- several parts
 

@@ -27,13 +27,13 @@ pub record Callable : Type 0 where
   pub earlier : List Signature
   pub later : List (List ℕ)
 
-abbrev pub head_named : List Head → List ℕ → Option Head
-head_named [] f = None
-head_named (head ∷ heads) f = if bytes_eq head.name f then Some head else head_named heads f
+abbrev pub count_named : List Head → List ℕ → Option ℕ
+count_named [] f = None
+count_named (head ∷ heads) f = if bytes_eq head.name f then Some (length head.takes) else count_named heads f
 
--- the predefined function of the name
-abbrev pub predefined_named : List ℕ → Option Head
-predefined_named f = head_named (heads_of predefined_functions) f
+-- how many arguments the predefined function of the name takes
+abbrev pub predefined_count : List ℕ → Option ℕ
+predefined_count f = count_named (heads_of predefined_functions) f
 
 abbrev pub signature_named : List Signature → List ℕ → Option Signature
 signature_named [] f = None
@@ -48,8 +48,9 @@ numbers_type made _ = Err WrongType
 abbrev pub measured_by : List ℕ → Dimension → Dimension
 measured_by f d = if bytes_eq (codes "Sign") f then plain_number else d
 
-abbrev pub predefined_type : Head → List RplType → Typed
-predefined_type head ts = if length head.takes == length ts then numbers_type (measured_by head.name) ts else Err WrongCount
+-- the types of its arguments, where it takes so many
+abbrev pub predefined_type : List ℕ → ℕ → List RplType → Typed
+predefined_type f count ts = if length ts == count then numbers_type (measured_by f) ts else Err WrongCount
 
 abbrev pub unknown_type : List (List ℕ) → List ℕ → Typed
 unknown_type later f = if list_any (bytes_eq f) later then Err NotEarlier else Err UnknownName
@@ -58,12 +59,12 @@ abbrev pub declared_type : Callable → List ℕ → Option Signature → List R
 declared_type callable f None ts = unknown_type callable.later f
 declared_type callable f (Some known) ts = unless_refused (arguments_misfit ts known.takes) known.result
 
-abbrev pub called_type : Callable → List ℕ → Option Head → List RplType → Typed
+abbrev pub called_type : Callable → List ℕ → Option ℕ → List RplType → Typed
 called_type callable f None ts = declared_type callable f (signature_named callable.earlier f) ts
-called_type callable f (Some head) ts = predefined_type head ts
+called_type callable f (Some count) ts = predefined_type f count ts
 
 abbrev pub call_type : Callable → List ℕ → List RplType → Typed
-call_type callable f ts = called_type callable f (predefined_named f) ts
+call_type callable f ts = called_type callable f (predefined_count f) ts
 
 -- ---- types as they are written
 
@@ -121,4 +122,4 @@ repeats_name (p ∷ ps) = list_any (is_named_as p.name) ps || repeats_name ps
 
 -- the name is taken, or two parameters share one
 abbrev pub is_duplicate : List Signature → List ℕ → List Parameter → Bool
-is_duplicate earlier f ps = is_some (predefined_named f) || is_some (signature_named earlier f) || repeats_name ps
+is_duplicate earlier f ps = is_some (predefined_count f) || is_some (signature_named earlier f) || repeats_name ps

@@ -1,5 +1,5 @@
 -- How a ruleset is judged with a basin: the types of all its nodes, or its first refusal.
-use Rattle.std.specs.Prelude.{ℕ, ◌+◌, nat_le, Bool, ◌&&◌, List, [], ◌∷◌, Option, Some, None, option_and_then, unwrap_or, Result, Ok, Err, if◌then◌else◌}
+use Rattle.std.specs.Prelude.{ℕ, ◌+◌, nat_le, Bool, ◌&&◌, List, [], ◌∷◌, ◌++◌, Option, Some, None, option_and_then, unwrap_or, Result, Ok, Err, if◌then◌else◌}
 use Rattle.rw_model.specs.Draft.{Draft}
 use Rattle.rw_model.specs.Objects.{numbered}
 use Rattle.rpl_tree.specs.Budget.{Budget, budget_of, limits}
@@ -59,7 +59,7 @@ function_names (function f ps result body ∷ ds) = f ∷ function_names ds
 -- the functions that later declarations can call
 abbrev pub and_function : Declared → List Signature → List Signature
 and_function (rule called_so body) earlier = earlier
-and_function (function f ps result body) earlier = signature f ps result ∷ earlier
+and_function (function f ps result body) earlier = earlier ++ signature f ps result ∷ []
 
 -- the types of a declaration before those of the later ones
 abbrev pub and_then : {A : Type 0} → ℕ → Judged A → (A → Result (List A) Refusal) → Result (List A) Refusal

@@ -3,4 +3,5 @@ pub mod Forms
 pub mod Functions
 pub mod Nodes
 pub mod Judged
+pub mod Seen
 pub mod Worked

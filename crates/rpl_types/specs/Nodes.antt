@@ -1,6 +1,6 @@
 -- The types of a declaration's nodes, or the first refusal. Nodes are counted from 1, each before its parts, and these from left to
 -- right; but a node is judged after its parts.
-use Rattle.std.specs.Prelude.{ℕ, ◌+◌, List, [], ◌∷◌, ◌++◌, length, Option, Some, None, Result, Ok, Err}
+use Rattle.std.specs.Prelude.{ℕ, ◌+◌, List, [], ◌∷◌, ◌++◌, length, Option, Some, None, is_some, Result, Ok, Err}
 use Rattle.rw_model.specs.Draft.{Draft}
 use Rattle.rw_model.specs.Objects.{object_named}
 use Rattle.rpl_tree.specs.World.{table_named}
@@ -100,7 +100,7 @@ module _ (basin : Draft) (callable : Callable) where
         expression n (nodes left ++ nodes right) (two_type word left.own right.own)
     types_of scope n (convert word o e) =
         types_of scope (n + 1) e >>= λ part.
-        expression n (nodes part) (convert_type word (object_named basin.objects o) (table_named basin o) part.own)
+        expression n (nodes part) (convert_type word (is_some (object_named basin.objects o)) (is_some (table_named basin o)) part.own)
     types_of scope n (at s d) =
         types_of scope (n + 1) s >>= λ place.
         types_of scope (behind (n + 1) (nodes place)) d >>= λ date.

@@ -97,7 +97,10 @@ pub fn misfit(given: &RplType, asked: &RplType) -> Option<TypeKind>
 fn list_misfit(n: u16, a: Dim, m: u16, b: Dim) -> Option<TypeKind>
     ensures { result ≡ sooner (unit_misfit a b) (length_misfit n m) }
 {
-    sooner(unit_misfit(a, b), length_misfit(usize::from(n), usize::from(m)))
+    sooner(
+        unit_misfit(a, b),
+        length_misfit(usize::from(n), usize::from(m)),
+    )
 }
 
 /// The type of what is either the one or the other.

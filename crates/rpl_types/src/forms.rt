@@ -6,8 +6,8 @@ ghost use Rattle.rw_base.specs.Unit.{plain_number, timestep};
 ghost use Rattle.rpl_types.specs.Fits.{longest, sooner, unit_misfit, length_misfit};
 ghost use Rattle.rpl_types.specs.Forms.{append_type, choice_type, compared_type, condition_misfit, difference_type, element_type, is_boolean, is_datetime, item_type, length_type, look_type, mapped_type, measured_in, negative_type, one_type, only_if, plain, product_type, sum_type, total_type, two_type};
 
-use crate::fits::{LONGEST, joined, length_misfit, misfit, sooner, unit_misfit};
 use crate::TypeKind;
+use crate::fits::{LONGEST, joined, length_misfit, misfit, sooner, unit_misfit};
 use rpl_tree::{OneWord, RplType, TwoWord};
 use rw_base::Dim;
 
@@ -216,7 +216,10 @@ fn one_more(m: u16, a: Dim, b: Dim) -> Option<TypeKind>
     ensures refusal { result ≡ sooner (unit_misfit a b) (length_misfit (m + 1) longest) }
     ensures room { result ≡ None → m < longest }
 {
-    sooner(unit_misfit(a, b), length_misfit(usize::from(m) + 1, usize::from(LONGEST)))
+    sooner(
+        unit_misfit(a, b),
+        length_misfit(usize::from(m) + 1, usize::from(LONGEST)),
+    )
 }
 
 fn item_type(a: &RplType, b: &RplType) -> Result<RplType, TypeKind>
@@ -273,11 +276,7 @@ pub fn look_type(slot: &RplType, date: &RplType) -> Result<RplType, TypeKind>
 // ---- several parts
 
 /// The type of one of two branches, by a condition.
-pub fn choice_type(
-    condition: &RplType,
-    yes: &RplType,
-    no: &RplType,
-) -> Result<RplType, TypeKind>
+pub fn choice_type(condition: &RplType, yes: &RplType, no: &RplType) -> Result<RplType, TypeKind>
     ensures { result ≡ choice_type condition.now yes.now no.now }
 {
     match condition {
