@@ -11,7 +11,8 @@ ghost use Rattle.rpl_tree.specs.Worked.{acts_of, at_now, call_of, cap_and_base, 
 ghost use Rattle.rpl_tree.specs.declared.rpl_type.RplType.TheVariants.{Boolean, Datetime, Numeric, NumericList, Slot};
 ghost use Rattle.rpl_types.specs.declared.type_kind.TypeKind.TheVariants.{DuplicateName, ListTooLong, LiteralRange, NoTable, NotEarlier, NotSettable, TargetStep, TooCostly, UnknownName, UnknownSlot, UnknownUnit, WrongCount, WrongType, WrongUnit};
 ghost use Rattle.rpl_types.specs.Forms.{plain};
-ghost use Rattle.rpl_types.specs.Judged.{judged, judged_types, type_at};
+ghost use Rattle.rpl_tree.specs.Budget.{budget, limits};
+ghost use Rattle.rpl_types.specs.Judged.{cost_refusal, judged, judged_types, type_at};
 ghost use Rattle.rpl_types.specs.Worked.{a_count, a_flow, a_length, a_step, a_volume, accepted, added_to_storage, cubed, dam_and_flow, inflow_now, judged_acts, judged_put, judged_with, judged_x, list_function, look_types, metre, nested_loops, number_function, number_param, numbers, pool_storage, refused, twice, twice_call, worked_basin};
 
 /// A flow can't be added to a storage; what flows in a timestep can.
@@ -140,6 +141,15 @@ pub fn functions()
     ensures sign { judged_x (call (codes "Sign") (trees_of (metre ∷ [])))
         ≡ accepted (None ∷ a_count ∷ a_length ∷ []) }
     ensures least { judged_x (call (codes "Min") (trees_of (metre ∷ whole (pos 1) ∷ []))) ≡ refused WrongUnit 1 2 }
+{}
+
+/// Each of the four budgets may be at its limit, and none above it.
+pub fn costs()
+    ensures limits { cost_refusal limits ≡ None }
+    ensures count { cost_refusal (budget 1000001 0 0 0) ≡ Some TooCostly }
+    ensures looks { cost_refusal (budget 0 20001 0 0) ≡ Some TooCostly }
+    ensures puts { cost_refusal (budget 0 0 2001 0) ≡ Some TooCostly }
+    ensures words { cost_refusal (budget 0 0 0 1000001) ≡ Some TooCostly }
 {}
 
 /// What is wrong with a declaration as a whole: first its head, and after its nodes its result and its cost.
