@@ -1,5 +1,5 @@
 -- Causes as the code comes to them, step by step.
-use Rattle.std.proofs.Common.{◌≡◌, ◌≢◌, inl, inr, ℕ, ◌<◌, List, refl, sym, ap, arith, subst, Some, None, Option, option_map, Result, Ok, Err, IsErrOf, MatchResult}
+use Rattle.std.proofs.Common.{◌≡◌, ◌≢◌, inl, inr, ℕ, ◌<◌, List, refl, sym, ap, arith, subst, Some, None, Option, option_map, Result, Ok, Err, IsErrOf, MatchResult, IsSomeAnd}
 use Rattle.rw_inputs.specs.declared.fault.InputFault.TheVariants.{Refused}
 use Rattle.rw_inputs.specs.Inputs.{Inputs as Given}
 use Rattle.rw_inputs.specs.Reading.{Reads}
@@ -12,14 +12,23 @@ use Rattle.rw_model.specs.Draft.{Draft}
 use Rattle.rw_model_toml.specs.Fault.{refusal_of}
 use Rattle.rw_model_toml.specs.Model.{model_of}
 use Rattle.rw_model_toml.specs.Refusal.{ModelRefusal}
+use Rattle.rpl_parse.specs.declared.fault.ParseFault.{ParseFault}
+use Rattle.rpl_tree.specs.Tree.{Declared}
+use Rattle.rpl_parse.specs.declared.fault.ParseFault.TheVariants as P
+use Rattle.rpl_parse.specs.Parsing.{Answers as Parses}
+use Rattle.rpl_parse.specs.Declarations.{IsReading, spelt}
+use Rattle.rpl_types.specs.Checked.{checked, with_types}
+use Rattle.rpl_types.specs.Judged.{Refusal as NodeRefusal, judged, refusal}
+use Rattle.rpl_types.specs.Nodes.{Types as NodeTypes}
 use Rattle.rw_top.specs.Command.{Command, path_of}
-use Rattle.rw_top.specs.Reason.{Reason, BadModel, BadInputs, LongFile, status_by}
-use Rattle.rw_top.specs.Reading.{IsTooLong, Reaches, ReadsBoth, ReadsModel, WasRead}
-use Rattle.rw_top.specs.Refusal.{Cause, FileCause, IsInputRefusal, IsModelRefusal, TellsReason, WasFound, reason_of, refusal_after, status_of}
+use Rattle.rw_top.specs.Policy.{RulesRefusal, BadToken, BadDeclaration, TooMany, BadNode, IsRulesetOf, RefusesNode}
+use Rattle.rw_top.specs.Reason.{Reason, BadModel, BadRules, BadInputs, LongFile, status_by}
+use Rattle.rw_top.specs.Reading.{IsTooLong, Reaches, ReadsBoth, ReadsModel, ReadsRules, WasRead}
+use Rattle.rw_top.specs.Refusal.{Cause, FileCause, IsInputRefusal, IsModelRefusal, IsRulesRefusal, TellsReason, WasFound, reason_of, refusal_after, refusal_of_grammar, status_of}
 use Rattle.rw_top.specs.declared.refusal.File.{File}
-use Rattle.rw_top.specs.declared.refusal.File.TheVariants.{Model as ModelFile, Inputs as InputsFile}
+use Rattle.rw_top.specs.declared.refusal.File.TheVariants.{Model as ModelFile, Policy as PolicyFile, Inputs as InputsFile}
 use Rattle.rw_top.specs.declared.refusal.Refusal.{Refusal}
-use Rattle.rw_top.specs.declared.refusal.Refusal.TheVariants.{CannotRead, CannotWrite, NoMemory, Model, Inputs, TooLong}
+use Rattle.rw_top.specs.declared.refusal.Refusal.TheVariants.{CannotRead, CannotWrite, NoMemory, Model, Grammar, Types, Inputs, TooLong}
 
 -- a fault that doesn't tell nothing tells why
 pub tells_why : (told : Option ModelRefusal) → ¬ (told ≡ None) → (why : ModelRefusal) × (told ≡ Some why)
@@ -31,8 +40,15 @@ told_model : (why : Option ModelRefusal) (reason : Reason) → option_map (λ ba
 told_model None reason tells = absurd cc
 told_model (Some why) reason tells = let same : BadModel why ≡ reason = cc in ap status_by same
 
+told_rules : (why : Option RulesRefusal) (reason : Reason) → option_map (λ bad. BadRules bad) why ≡ Some reason → 7 ≡ status_by reason
+told_rules None reason tells = absurd cc
+told_rules (Some why) reason tells = let same : BadRules why ≡ reason = cc in ap status_by same
+
 pub told_status : (why : Refusal) (reason : Reason) → reason_of why ≡ Some reason → status_of why ≡ status_by reason
 told_status (Model fault) reason tells = told_model (refusal_of fault) reason tells
+told_status (Grammar fault) reason tells = told_rules (refusal_of_grammar fault) reason tells
+told_status (Types kind declaration node) reason tells =
+    let same : BadRules (BadNode (refusal kind declaration node)) ≡ reason = cc in ap status_by same
 told_status (Inputs kind row column) reason tells = let same : BadInputs (Refused kind row column) ≡ reason = cc in ap status_by same
 told_status (TooLong file) reason tells = let same : LongFile file ≡ reason = cc in ap status_by same
 told_status why reason tells = absurd cc
@@ -48,23 +64,29 @@ no_memory : (command : Command) (shelf : Change ShelfView) (why : Refusal) → w
 no_memory command shelf why is = subst (FileCause command shelf) (sym is) tt
 
 -- why a file isn't read whole
-pub read_cause : {A : Type 0} (command : Command) (shelf : Change ShelfView) (file : File) (end : ReadEnd) (result : Result A ReadEnd)
-    → result ≡ Err end → Reaches command shelf.before.holds file
-    → (IsErrOf result ReadFault → Rose (shelf.before.faults (path_of command file)) (shelf.after.faults (path_of command file)))
+pub read_cause : {A : Type 0} (command : Command) (shelf : Change ShelfView) (file : File) (path : List ℕ) (end : ReadEnd) (result : Result A ReadEnd)
+    → result ≡ Err end → path_of command file ≡ Some path → Reaches command shelf.before.holds file
+    → (IsErrOf result ReadFault → Rose (shelf.before.faults path) (shelf.after.faults path))
     → (IsErrOf result EndTooLong → FILE_MAX < shelf.after.given)
-    → (IsErrOf result EndTooLong → IsTooLong shelf.before.holds (path_of command file))
+    → (IsErrOf result EndTooLong → IsTooLong shelf.before.holds path)
     → FileCause command shelf (refusal_after end file)
-read_cause command shelf file ReadFault result is reached fault long longer = record { reached = reached; rose = fault is }
-read_cause command shelf file EndTooLong result is reached fault long longer = record {
+read_cause command shelf file path ReadFault result is named reached fault long longer = record {
+  reached = reached;
+  rose = subst (λ o. IsSomeAnd o (λ p. Rose (shelf.before.faults p) (shelf.after.faults p))) (sym named) (fault is);
+}
+read_cause command shelf file path EndTooLong result is named reached fault long longer = record {
   reason = LongFile file;
   tells = refl;
-  found = record { holds_too_long = record { reached = reached; longer = longer is }; more = long is };
+  found = record {
+    holds_too_long = record { reached = reached; longer = subst (λ o. IsSomeAnd o (IsTooLong shelf.before.holds)) (sym named) (longer is) };
+    more = long is;
+  };
 }
-read_cause command shelf file EndNoMemory result is reached fault long longer = tt
+read_cause command shelf file path EndNoMemory result is named reached fault long longer = tt
 
 -- why a model that was read isn't accepted
 model_cause : (command : Command) (shelf : Change ShelfView) (text : List ℕ) (why : Refusal)
-    → WasRead shelf.before.holds (path_of command ModelFile) text → IsModelRefusal text why → FileCause command shelf why
+    → WasRead command shelf.before.holds ModelFile text → IsModelRefusal text why → FileCause command shelf why
 model_cause command shelf text why read (inl is) = no_memory command shelf why is
 model_cause command shelf text why read (inr bad) = tells_cause command shelf why (record {
   reason = BadModel bad.0;
@@ -73,7 +95,7 @@ model_cause command shelf text why read (inr bad) = tells_cause command shelf wh
 })
 
 pub judged_model : (command : Command) (shelf : Change ShelfView) (text : List ℕ) (result : Result Draft Refusal)
-    → WasRead shelf.before.holds (path_of command ModelFile) text
+    → WasRead command shelf.before.holds ModelFile text
     → MatchResult result (λ basin. model_of text ≡ Ok basin) (IsModelRefusal text)
     → MatchResult result (ReadsModel command shelf.before.holds) (FileCause command shelf)
 judged_model command shelf text (Ok basin) read is = record { text = text; read = read; is = is }
@@ -81,7 +103,7 @@ judged_model command shelf text (Err why) read bad = model_cause command shelf t
 
 -- and why inputs aren't
 inputs_cause : (command : Command) (shelf : Change ShelfView) (basin : Draft) (text : List ℕ) (why : Refusal)
-    → ReadsModel command shelf.before.holds basin → WasRead shelf.before.holds (path_of command InputsFile) text
+    → ReadsModel command shelf.before.holds basin → WasRead command shelf.before.holds InputsFile text
     → IsInputRefusal basin text why → FileCause command shelf why
 inputs_cause command shelf basin text why model read (inl is) = no_memory command shelf why is
 inputs_cause command shelf basin text why model read (inr bad) = tells_cause command shelf why (record {
@@ -91,13 +113,54 @@ inputs_cause command shelf basin text why model read (inr bad) = tells_cause com
 })
 
 pub judged_inputs : (command : Command) (shelf : Change ShelfView) (basin : Draft) (text : List ℕ) (result : Result Given Refusal)
-    → ReadsModel command shelf.before.holds basin → WasRead shelf.before.holds (path_of command InputsFile) text
+    → ReadsModel command shelf.before.holds basin → WasRead command shelf.before.holds InputsFile text
     → MatchResult result (Reads basin text) (IsInputRefusal basin text)
     → MatchResult result (ReadsBoth command shelf.before.holds basin) (FileCause command shelf)
 judged_inputs command shelf basin text (Ok inputs) model read are = record { model = model; text = text; read = read; are = are }
 judged_inputs command shelf basin text (Err why) model read bad = inputs_cause command shelf basin text why model read bad
 
+-- why a text is no ruleset
+pub grammar_refusal : (basin : Draft) (text : List ℕ) (fault : ParseFault) → ¬ (fault ≡ P.NoMemory) → Parses (Err fault) text
+    → IsRulesRefusal basin text (Grammar fault)
+grammar_refusal basin text (P.BadToken line) some is = inr (BadToken line, refl, is)
+grammar_refusal basin text (P.BadDeclaration declaration line) some is = inr (BadDeclaration declaration line, refl, is)
+grammar_refusal basin text (P.TooMany declaration) some is = inr (TooMany declaration, refl, is)
+grammar_refusal basin text P.NoMemory some is = absurd (some refl)
+
+-- and why a ruleset is refused
+judged_err : (rules : List Declared) (result : Result (List NodeTypes) NodeRefusal) (why : NodeRefusal) → with_types rules result ≡ Err why → result ≡ Err why
+judged_err rules (Ok types) why is = absurd cc
+judged_err rules (Err refused) why is = cc
+
+pub refused_rules : (basin : Draft) (text : List ℕ) (rules : List Declared) (why : NodeRefusal) → IsReading text (spelt rules)
+    → checked basin rules ≡ Err why → RefusesNode basin text why
+refused_rules basin text rules why spells is = record { rules = rules; spells = spells; refused = judged_err rules (judged basin rules) why is }
+
+-- why a policy isn't accepted
+rules_cause : (command : Command) (shelf : Change ShelfView) (basin : Draft) (text : List ℕ) (why : Refusal)
+    → ReadsModel command shelf.before.holds basin → WasRead command shelf.before.holds PolicyFile text
+    → IsRulesRefusal basin text why → FileCause command shelf why
+rules_cause command shelf basin text why model read (inl is) = no_memory command shelf why is
+rules_cause command shelf basin text why model read (inr bad) = tells_cause command shelf why (record {
+  reason = BadRules bad.0;
+  tells = bad.1;
+  found = record { basin = basin; model = model; text = text; read = read; are = bad.2 };
+})
+
+pub judged_rules : {A : Type 0} (seen : A → List Declared) (command : Command) (shelf : Change ShelfView) (basin : Draft) (text : List ℕ)
+    (result : Result A Refusal) → ReadsModel command shelf.before.holds basin → WasRead command shelf.before.holds PolicyFile text
+    → MatchResult result (λ x. IsRulesetOf basin text (seen x)) (IsRulesRefusal basin text)
+    → MatchResult result (λ x. ReadsRules command shelf.before.holds basin (seen x)) (FileCause command shelf)
+judged_rules seen command shelf basin text (Ok x) model read are = record { model = model; text = text; read = read; are = are }
+judged_rules seen command shelf basin text (Err why) model read bad = rules_cause command shelf basin text why model read bad
+
 -- faults that are counted from earlier on
+rose_since : (first later now : ShelfView) (o : Option (List ℕ)) → NoneFell first.faults later.faults
+    → IsSomeAnd o (λ path. Rose (later.faults path) (now.faults path))
+    → IsSomeAnd o (λ path. Rose (first.faults path) (now.faults path))
+rose_since first later now None fell rose = absurd rose
+rose_since first later now (Some path) fell rose = let least = fell path in omega (arith, least, rose)
+
 since_reason : (command : Command) (first later now : ShelfView) (reason : Reason)
     → WasFound command (change (record later { holds = first.holds }) now) reason → WasFound command (change first now) reason
 since_reason command first later now (LongFile file) found = record { holds_too_long = found.holds_too_long; more = found.more }
@@ -106,8 +169,7 @@ since_reason command first later now reason found = found
 since : (command : Command) (first later now : ShelfView) (why : Refusal) → NoneFell first.faults later.faults
     → FileCause command (change (record later { holds = first.holds }) now) why → FileCause command (change first now) why
 since command first later now (CannotRead file) fell cause =
-    let least = fell (path_of command file) in
-    record { reached = cause.reached; rose = omega (arith, least, cause.rose) }
+    record { reached = cause.reached; rose = rose_since first later now (path_of command file) fell cause.rose }
 since command first later now NoMemory fell cause = tt
 since command first later now why fell cause =
     record { reason = cause.reason; tells = cause.tells; found = since_reason command first later now cause.reason cause.found }

@@ -1,6 +1,6 @@
 -- What is found of a file is one thing, where the shelf tells what its path holds: the file is accepted, or refused with
 -- one status, or too long.
-use Rattle.std.proofs.Common.{◌≡◌, ◌⊎◌, inl, inr, ℕ, ◌<◌, ◌≤◌, List, length, refl, sym, ap, ◌∙◌, subst, arith, None, Some, Ok, Err, IfSome, Option, IsSome}
+use Rattle.std.proofs.Common.{◌≡◌, ◌⊎◌, inl, inr, ℕ, ◌<◌, ◌≤◌, List, length, refl, sym, ap, ◌∙◌, subst, arith, None, Some, Ok, Err, IfSome, Option, IsSome, IsSomeAnd}
 use Rattle.std.proofs.lemmas.Bool.{cases_lt}
 use Rattle.rw_model.specs.Draft.{Draft}
 use Rattle.rw_model_toml.specs.Model.{model_of}
@@ -10,90 +10,121 @@ use Rattle.rw_inputs.specs.Inputs.{Inputs as Given}
 use Rattle.rw_inputs.specs.Reading.{Refuses}
 use Rattle.rw_io.specs.Outside.{Holds}
 use Rattle.rw_io.specs.declared.whole_file.TheConstants.{FILE_MAX}
-use Rattle.rw_top.specs.Command.{Command, order, path_of}
-use Rattle.rw_top.specs.Reason.{Reason, BadModel, BadInputs, LongFile, IsFound, file_of, status_by}
-use Rattle.rw_top.specs.Reading.{Accepts, HoldsTooLong, IsTooLong, Reaches, ReadsBoth, ReadsModel, RefusesInputs, RefusesModel, WasRead}
+use Rattle.rpl_tree.specs.Tree.{Declared}
+use Rattle.rw_top.specs.Command.{Command, Names, order, path_of}
+use Rattle.rw_top.specs.Policy.{RulesRefusal, RefusesRules}
+use Rattle.rw_top.specs.Reason.{Reason, BadModel, BadRules, BadInputs, LongFile, IsFound, file_of, status_by}
+use Rattle.rw_top.specs.Reading.{Accepts, HoldsTooLong, IsTextAt, IsTooLong, Reaches, ReadsBoth, ReadsModel, ReadsRules, RefusesInputs, RefusesModel, RefusesPolicy, WasRead}
 use Rattle.rw_top.specs.declared.refusal.File.{File}
-use Rattle.rw_top.specs.declared.refusal.File.TheVariants.{Model, Inputs}
-use Rattle.rw_top.proofs.OneReading.{refuses_clash}
+use Rattle.rw_top.specs.declared.refusal.File.TheVariants.{Model, Policy, Inputs}
+use Rattle.rw_top.proofs.CommandLemmas.{inputs_alone, is_there}
+use Rattle.rw_top.proofs.OneReading.{refuses_clash, rules_clash}
 
 -- what was read of a path that is told is one text
 one_told : (o : Option (List ℕ)) (a b : List ℕ) → IsSome o → IfSome o (λ f. a ≡ f) → IfSome o (λ f. b ≡ f) → a ≡ b
 one_told None a b told h k = cc
 one_told (Some f) a b told h k = h ∙ sym k
 
-pub same_text : (holds : Holds) (path a b : List ℕ) → IsSome (holds path)
-    → WasRead holds path a → WasRead holds path b → a ≡ b
-same_text holds path a b told h k = one_told (holds path) a b told h.told k.told
+-- the shelf tells what the path of the file holds, where the command reads it
+abbrev pub IsTold : Command → Holds → File → Type 0
+IsTold command holds file = IfSome (path_of command file) (λ path. IsSome (holds path))
+
+text_at : (holds : Holds) (o : Option (List ℕ)) (a b : List ℕ) → IfSome o (λ path. IsSome (holds path))
+    → IsSomeAnd o (IsTextAt holds a) → IsSomeAnd o (IsTextAt holds b) → a ≡ b
+text_at holds None a b told h k = absurd h
+text_at holds (Some path) a b told h k = one_told (holds path) a b told h.told k.told
+
+pub same_text : (command : Command) (holds : Holds) (file : File) (a b : List ℕ) → IsTold command holds file
+    → WasRead command holds file a → WasRead command holds file b → a ≡ b
+same_text command holds file a b told h k = text_at holds (path_of command file) a b told h k
 
 not_long : (o : Option (List ℕ)) (a : List ℕ) → IsSome o → IfSome o (λ f. FILE_MAX < length f)
     → IfSome o (λ f. a ≡ f) → length a ≤ FILE_MAX → ⊥
 not_long None a told long h short = cc
 not_long (Some f) a told long h short = let longer : FILE_MAX < length a = rw h long in omega arith
 
--- a path that was read isn't too long
-long_clash : (holds : Holds) (path a : List ℕ) → IsSome (holds path) → IsTooLong holds path → WasRead holds path a → ⊥
-long_clash holds path a told long h = not_long (holds path) a told long h.told h.short
+-- a file that was read isn't too long
+long_clash : (holds : Holds) (o : Option (List ℕ)) (a : List ℕ) → IfSome o (λ path. IsSome (holds path))
+    → IsSomeAnd o (IsTooLong holds) → IsSomeAnd o (IsTextAt holds a) → ⊥
+long_clash holds None a told long h = absurd h
+long_clash holds (Some path) a told long h = not_long (holds path) a told long h.told h.short
 
 -- files of one place are one
 one_file : (a b : File) → order a ≡ order b → a ≡ b
 one_file Model Model same = refl
+one_file Policy Policy same = refl
 one_file Inputs Inputs same = refl
 one_file a b same = absurd (omega (arith, same))
 
 -- the shelf tells of that file, and of each that is read before it
 abbrev pub IsToldUpTo : Command → Holds → File → Type 0
-IsToldUpTo command holds file = (it : File) → order it ≤ order file → IsSome (holds (path_of command it))
+IsToldUpTo command holds file = (it : File) → order it ≤ order file → IsTold command holds it
 
 module _ (command : Command) (holds : Holds) where
   -- a model is read as one basin, and isn't refused where it is read
-  pub one_basin : (b c : Draft) → IsSome (holds (path_of command Model))
+  pub one_basin : (b c : Draft) → IsTold command holds Model
       → ReadsModel command holds b → ReadsModel command holds c → b ≡ c
   one_basin b c told m n =
-      let text = same_text holds (path_of command Model) m.text n.text told m.read n.read in
+      let text = same_text command holds Model m.text n.text told m.read n.read in
       let both : Ok b ≡ Ok c = sym m.is ∙ ap model_of text ∙ n.is in
       cc
 
-  model_clash : (why : ModelRefusal) (b : Draft) → IsSome (holds (path_of command Model))
+  model_clash : (why : ModelRefusal) (b : Draft) → IsTold command holds Model
       → RefusesModel command holds why → ReadsModel command holds b → ⊥
   model_clash why b told r m =
-      let text = same_text holds (path_of command Model) r.text m.text told r.read m.read in
+      let text = same_text command holds Model r.text m.text told r.read m.read in
       let both : Err why ≡ Ok b = sym r.is ∙ ap model_of text ∙ m.is in
       cc
 
   -- inputs that are refused aren't read
   inputs_clash : (why : InputFault) (b : Draft) (i : Given)
-      → IsSome (holds (path_of command Model)) → IsSome (holds (path_of command Inputs))
+      → IsTold command holds Model → IsTold command holds Inputs
       → RefusesInputs command holds why → ReadsBoth command holds b i → ⊥
   inputs_clash why b i model inputs r h =
       let basin = one_basin r.basin b model r.model h.model in
-      let text = same_text holds (path_of command Inputs) r.text h.text inputs r.read h.read in
+      let text = same_text command holds Inputs r.text h.text inputs r.read h.read in
       let there : Refuses b h.text why = subst (λ t. Refuses b t why) text (subst (λ d. Refuses d r.text why) basin r.are) in
       refuses_clash b h.text i why h.are there
+
+  -- nor is a policy
+  policy_clash : (why : RulesRefusal) (b : Draft) (rules : List Declared)
+      → IsTold command holds Model → IsTold command holds Policy
+      → RefusesPolicy command holds why → ReadsRules command holds b rules → ⊥
+  policy_clash why b rules model policy r h =
+      let basin = one_basin r.basin b model r.model h.model in
+      let text = same_text command holds Policy r.text h.text policy r.read h.read in
+      let there : RefusesRules b h.text why = subst (λ t. RefusesRules b t why) text (subst (λ d. RefusesRules d r.text why) basin r.are) in
+      rules_clash b h.text rules why h.are there
 
   -- the file is refused, with this status
   abbrev IsBad : File → ℕ → Type 0
   IsBad Model status = (status ≡ 6) × ((why : ModelRefusal) × RefusesModel command holds why)
+  IsBad Policy status = (status ≡ 7) × ((why : RulesRefusal) × RefusesPolicy command holds why)
   IsBad Inputs status = (status ≡ 8) × ((why : InputFault) × RefusesInputs command holds why)
 
   accepted_text : (file : File) → Accepts command holds file
-      → (text : List ℕ) × WasRead holds (path_of command file) text
+      → (text : List ℕ) × WasRead command holds file text
   accepted_text Model accepted = (accepted.1.text, accepted.1.read)
+  accepted_text Policy accepted = (accepted.2.text, accepted.2.read)
   accepted_text Inputs accepted = (accepted.2.text, accepted.2.read)
 
   bad_text : (file : File) (status : ℕ) → IsBad file status
-      → (text : List ℕ) × WasRead holds (path_of command file) text
+      → (text : List ℕ) × WasRead command holds file text
   bad_text Model status bad = (bad.1.1.text, bad.1.1.read)
+  bad_text Policy status bad = (bad.1.1.text, bad.1.1.read)
   bad_text Inputs status bad = (bad.1.1.text, bad.1.1.read)
 
   one_status : (file : File) (a b : ℕ) → IsToldUpTo command holds file → IsBad file a → IsBad file b → a ≡ b
   one_status Model a b told bad other = bad.0 ∙ sym other.0
+  one_status Policy a b told bad other = bad.0 ∙ sym other.0
   one_status Inputs a b told bad other = bad.0 ∙ sym other.0
 
   bad_clash : (file : File) (status : ℕ) → IsToldUpTo command holds file
       → Accepts command holds file → IsBad file status → ⊥
   bad_clash Model status told accepted bad =
       model_clash bad.1.0 accepted.0 (told Model (omega arith)) bad.1.1 accepted.1
+  bad_clash Policy status told accepted bad =
+      policy_clash bad.1.0 accepted.0 accepted.1 (told Model (omega arith)) (told Policy (omega arith)) bad.1.1 accepted.2
   bad_clash Inputs status told accepted bad =
       inputs_clash bad.1.0 accepted.0 accepted.1 (told Model (omega arith)) (told Inputs (omega arith)) bad.1.1 accepted.2
 
@@ -102,7 +133,7 @@ module _ (command : Command) (holds : Holds) where
   Finding file status = IsBad file status ⊎ (HoldsTooLong command holds file × (status ≡ 10))
 
   too_long : (file : File) → IsToldUpTo command holds file → HoldsTooLong command holds file
-      → (text : List ℕ) × WasRead holds (path_of command file) text → ⊥
+      → (text : List ℕ) × WasRead command holds file text → ⊥
   too_long file told long read =
       long_clash holds (path_of command file) read.0 (told file (omega arith)) long.longer read.1
 
@@ -120,20 +151,35 @@ module _ (command : Command) (holds : Holds) where
   -- each reason is a finding of its file
   finding : (reason : Reason) → IsFound command holds reason → Finding (file_of reason) (status_by reason)
   finding (BadModel why) found = inl (refl, (why, found))
+  finding (BadRules why) found = inl (refl, (why, found))
   finding (BadInputs why) found = inl (refl, (why, found))
   finding (LongFile file) found = inr (found, refl)
 
-  -- behind a model that is read stand the inputs
+  -- behind a model that is read stand the policy and the inputs
   pub reaches_model : Reaches command holds Model
-  reaches_model earlier before = absurd (omega (arith, before))
+  reaches_model earlier named before = absurd (omega (arith, before))
 
-  pub reaches_inputs : (basin : Draft) → ReadsModel command holds basin → Reaches command holds Inputs
-  reaches_inputs basin model Model before = (basin, model)
-  reaches_inputs basin model Inputs before = absurd (omega (arith, before))
+  pub reaches_policy : (basin : Draft) → ReadsModel command holds basin → Reaches command holds Policy
+  reaches_policy basin model Model named before = (basin, model)
+  reaches_policy basin model Policy named before = absurd (omega (arith, before))
+  reaches_policy basin model Inputs named before = absurd (omega (arith, before))
+
+  pub reaches_inputs : (basin : Draft) → Names command Inputs → ReadsModel command holds basin → Reaches command holds Inputs
+  reaches_inputs basin is model Model named before = (basin, model)
+  reaches_inputs basin is model Policy named before = absurd (inputs_alone command is named)
+  reaches_inputs basin is model Inputs named before = absurd (omega (arith, before))
+
+  -- the file of a reason is read
+  pub names : (reason : Reason) → IsFound command holds reason → Names command (file_of reason)
+  names (BadModel why) found = is_there (path_of command Model) (IsTextAt holds found.text) found.read
+  names (BadRules why) found = is_there (path_of command Policy) (IsTextAt holds found.text) found.read
+  names (BadInputs why) found = is_there (path_of command Inputs) (IsTextAt holds found.text) found.read
+  names (LongFile file) found = is_there (path_of command file) (IsTooLong holds) found.longer
 
   reached : (reason : Reason) → IsFound command holds reason → Reaches command holds (file_of reason)
   reached (BadModel why) found = reaches_model
-  reached (BadInputs why) found = reaches_inputs found.basin found.model
+  reached (BadRules why) found = reaches_policy found.basin found.model
+  reached (BadInputs why) found = reaches_inputs found.basin (names (BadInputs why) found) found.model
   reached (LongFile file) found = found.reached
 
   -- where the file of a reason is accepted, the reason isn't found
@@ -148,9 +194,9 @@ module _ (command : Command) (holds : Holds) where
   one_reason a b told found other =
       elim (cases_lt (order (file_of b)) (order (file_of a))) [
         | inl before ↦
-            absurd (not_found b (λ it least. told it (omega (arith, least, before))) (reached a found (file_of b) before) other)
+            absurd (not_found b (λ it least. told it (omega (arith, least, before))) (reached a found (file_of b) (names b other) before) other)
         | inr least ↦ elim (cases_lt (order (file_of a)) (order (file_of b))) [
-          | inl before ↦ absurd (not_found a told (reached b other (file_of a) before) found)
+          | inl before ↦ absurd (not_found a told (reached b other (file_of a) (names a found) before) found)
           | inr most ↦
               let same : file_of b ≡ file_of a = one_file (file_of b) (file_of a) (omega (arith, least, most)) in
               one_finding (file_of a) (status_by b) (status_by a) told

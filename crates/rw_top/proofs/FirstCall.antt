@@ -11,12 +11,12 @@ use Rattle.rw_model.specs.Basin.{IsBasin}
 use Rattle.rw_model.specs.Draft.{Draft}
 use Rattle.rw_model_toml.specs.Model.{model_of}
 use Rattle.rw_top.specs.Call.{Call}
-use Rattle.rw_top.specs.Command.{path_of}
+use Rattle.rw_top.specs.Command.{Command, Simulate}
 use Rattle.rw_top.specs.FirstCall.{IsFirstCall}
-use Rattle.rw_top.specs.Promise.{Promise, status_of_end}
+use Rattle.rw_top.specs.Promise.{Promise}
 use Rattle.rw_top.specs.RunText.{IsRunText}
-use Rattle.rw_top.specs.Written.{HasText, WritesAll}
-use Rattle.rw_top.specs.declared.refusal.File.TheVariants.{Model, Inputs}
+use Rattle.rw_top.specs.Written.{HasRunText, WritesAll, status_of_end}
+use Rattle.rw_top.specs.declared.refusal.File.TheVariants.{Inputs}
 use Rattle.rw_top.proofs.CommandLemmas.{of_command}
 use Rattle.rw_top.proofs.Findings.{one_basin, same_text}
 use Rattle.rw_top.proofs.OneReading.{same_values}
@@ -29,11 +29,12 @@ is_settled (Fault why) is = absurd (omega (arith, is))
 -- what was written is the text of the basin and the inputs that the shelf tells
 its_text : (call : Call) (model : FirstModel) (inflows outflows : List ℤ)
     (first : IsFirstCall call model inflows outflows) (end : RunEnd) (text : List ℕ)
-    → HasText first.command call.shelf.before.holds end text → IsRunText first.basin first.inputs end text
+    → HasRunText (Simulate first.model_path first.inputs_path) call.shelf.before.holds end text → IsRunText first.basin first.inputs end text
 its_text call model inflows outflows first end text is =
+    let command : Command = Simulate first.model_path first.inputs_path in
     let holds = call.shelf.before.holds in
-    let basin = one_basin first.command holds is.basin first.basin (first.told Model) is.read.model first.read.model in
-    let bytes = same_text holds (path_of first.command Inputs) is.read.text first.read.text (first.told Inputs) is.read.read first.read.read in
+    let basin = one_basin command holds is.basin first.basin first.told_model is.read.model first.read.model in
+    let bytes = same_text command holds Inputs is.read.text first.read.text first.told_inputs is.read.read first.read.read in
     let reads : Reads first.basin first.read.text is.inputs =
     subst (λ t. Reads first.basin t is.inputs) bytes (subst (λ d. Reads d is.read.text is.inputs) basin is.read.are) in
     of_values is.inputs first.inputs (same_values first.basin first.read.text is.inputs first.inputs reads first.read.are) first.basin end text
@@ -50,14 +51,16 @@ pub first_call : ((basin : Draft) (model : FirstModel) (inputs : Given) (inflows
     × GrowsBy call.out.before.contents call.out.after.contents text × ((fault ≡ None) ↔ (status ≡ 0))
 first_call first_form basins call status model inflows outflows promise low first =
     let done = promise.done low in
-    let wrote = of_command call.words done.2.command first.command done.2.asked first.asked
-    (λ it. WritesAll it call.shelf.before.holds call.out done.0) done.2.text in
+    let command : Command = Simulate first.model_path first.inputs_path in
+    let wrote = of_command call.words done.command command done.asked first.asked
+    (λ it. WritesAll it call.shelf.before.holds call.out status) done.text in
+    let end = wrote.is.0 in
     let valid : IsBasin first.basin = rw first.read.model.is at (basins first.read.model.text) in
-    let table = first_form first.basin model first.inputs inflows outflows valid first.form first.flows done.0 wrote.text
-    (its_text call model inflows outflows first done.0 wrote.text wrote.is) in (
+    let table = first_form first.basin model first.inputs inflows outflows valid first.form first.flows end wrote.text
+    (its_text call model inflows outflows first end wrote.text wrote.is.2) in (
       table.0,
       wrote.text,
       table.1,
       wrote.grew,
-      (λ none. done.1 ∙ ap status_of_end (table.2.0 none), λ zero. table.2.1 (is_settled done.0 (sym done.1 ∙ zero))),
+      (λ none. wrote.is.1 ∙ ap status_of_end (table.2.0 none), λ zero. table.2.1 (is_settled end (sym wrote.is.1 ∙ zero))),
     )

@@ -8,4 +8,5 @@ pub mod DueLemmas
 pub mod PromiseLemmas
 pub mod StatusLemmas
 pub mod TellLemmas
+pub mod BudgetLemmas
 pub mod FirstCall

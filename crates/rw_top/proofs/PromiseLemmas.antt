@@ -1,12 +1,13 @@
 -- A call that wrote its run, or was refused, keeps the promise.
 use Rattle.std.proofs.Common.{◌≡◌, inl, inr, ℕ, ◌≤◌, List, None, Some, ◌∙◌, arith}
+use Rattle.rw_io.specs.Outside.{Holds}
 use Rattle.rw_run.specs.declared.run.RunEnd.{RunEnd}
 use Rattle.rw_run.specs.declared.run.RunEnd.TheVariants.{Settled, Fault}
 use Rattle.rw_top.specs.Call.{Call}
-use Rattle.rw_top.specs.Command.{Asks, Command}
-use Rattle.rw_top.specs.Promise.{Promise, RefusedCommand, RefusedWords, WasRefused, WroteRun, status_of_end}
+use Rattle.rw_top.specs.Command.{Asks, Command, Simulate, Check}
+use Rattle.rw_top.specs.Promise.{Promise, RefusedCommand, RefusedWords, WasRefused, Wrote}
 use Rattle.rw_top.specs.Refusal.{Cause, status_of}
-use Rattle.rw_top.specs.Written.{WritesAll}
+use Rattle.rw_top.specs.Written.{HasText, WritesAll, status_of_end}
 use Rattle.rw_top.specs.declared.refusal.Refusal.{Refusal}
 use Rattle.rw_top.specs.declared.refusal.Refusal.TheVariants.{Words}
 use Rattle.rw_top.proofs.CommandLemmas.{of_command}
@@ -15,6 +16,10 @@ use Rattle.rw_top.proofs.DueLemmas.{complete, due, none_due}
 at_most_1 : (end : RunEnd) → status_of_end end ≤ 1
 at_most_1 Settled = omega arith
 at_most_1 (Fault why) = omega arith
+
+status_at_most_1 : (command : Command) (holds : Holds) (status : ℕ) (text : List ℕ) → HasText command holds status text → status ≤ 1
+status_at_most_1 (Simulate model inputs) holds status text is = let most = at_most_1 is.0 in omega (arith, most, is.1)
+status_at_most_1 (Check model policy) holds status text is = omega (arith, is.0)
 
 at_least_2 : (why : Refusal) → 2 ≤ status_of why
 at_least_2 Words = omega arith
@@ -25,18 +30,17 @@ was_refused call Words was = let tells : None ≡ Some was.cause.0.reason = was.
 was_refused call why was = was
 
 module _ (call : Call) (held : (path : List ℕ) → call.shelf.after.holds path ≡ call.shelf.before.holds path) where
-  pub promised_run : (end : RunEnd) (status : ℕ) → status ≡ status_of_end end → WroteRun call end → Promise call status
-  promised_run end status is wrote =
-      let most = at_most_1 end in
-      let low : status ≤ 1 = omega arith in
+  pub promised_text : (status : ℕ) → Wrote call status → Promise call status
+  promised_text status wrote =
+      let low = status_at_most_1 wrote.command call.shelf.before.holds status wrote.text.text wrote.text.is in
       record {
-        done = λ below. (end, is, wrote);
-        refused = λ above. absurd (omega arith);
+        done = λ below. wrote;
+        refused = λ above. absurd (omega (arith, low, above));
         words = λ nothing. absurd (nothing wrote.command wrote.asked);
         due = λ command asks reason found honest.
             let wrote_all = of_command call.words wrote.command command wrote.asked asks
-            (λ it. WritesAll it call.shelf.before.holds call.out end) wrote.text in
-            absurd (none_due command call.shelf end wrote_all.text wrote_all.is reason found honest);
+            (λ it. WritesAll it call.shelf.before.holds call.out status) wrote.text in
+            absurd (none_due command call.shelf status wrote_all.text wrote_all.is reason found honest);
         complete = λ command asks accepted calm. inl low;
         held = held;
       }

@@ -1,18 +1,20 @@
 -- What each status says of a call that keeps its promise.
-use Rattle.std.proofs.Common.{◌≡◌, ◌≢◌, ℕ, ◌≤◌, refl, ◌∙◌, arith}
+use Rattle.std.proofs.Common.{◌≡◌, ◌≢◌, ◌⊎◌, inl, inr, ℕ, ◌≤◌, List, refl, ◌∙◌, arith}
 use Rattle.rw_inputs.specs.declared.fault.InputFault.{InputFault}
 use Rattle.rw_io.specs.Causes.{Rose}
+use Rattle.rw_io.specs.Known.{GrowsBy}
 use Rattle.rw_run.specs.declared.fault.RunFault.{RunFault}
 use Rattle.rw_run.specs.declared.run.RunEnd.{RunEnd}
 use Rattle.rw_run.specs.declared.run.RunEnd.TheVariants.{Settled, Fault}
 use Rattle.rw_model_toml.specs.Refusal.{ModelRefusal}
 use Rattle.rw_top.specs.Call.{Call}
-use Rattle.rw_top.specs.Command.{AskFor, AskNothing, Command}
-use Rattle.rw_top.specs.Reason.{Reason, BadModel, BadInputs, LongFile, status_by}
-use Rattle.rw_top.specs.Promise.{Promise, RefusedCommand, WasRefused, WroteRun, status_of_end}
-use Rattle.rw_top.specs.Reading.{RefusesInputs, RefusesModel}
+use Rattle.rw_top.specs.Command.{AskFor, AskNothing, Asks, Command, Simulate, Check}
+use Rattle.rw_top.specs.Reason.{Reason, BadModel, BadRules, BadInputs, LongFile, status_by}
+use Rattle.rw_top.specs.Promise.{Promise, RefusedCommand, WasRefused, WroteCheck, WroteRun}
+use Rattle.rw_top.specs.Policy.{RulesRefusal}
+use Rattle.rw_top.specs.Reading.{RefusesInputs, RefusesModel, RefusesPolicy}
 use Rattle.rw_top.specs.Refusal.{FailsToRead, FindsTooLong, WasFound, status_of}
-use Rattle.rw_top.specs.Written.{WritesFront}
+use Rattle.rw_top.specs.Written.{HasText, WritesFront, status_of_end}
 use Rattle.rw_top.specs.declared.refusal.File.{File}
 use Rattle.rw_top.specs.declared.refusal.Refusal.{Refusal}
 use Rattle.rw_top.specs.declared.refusal.Refusal.TheVariants.{Words, CannotRead, CannotWrite, NoMemory}
@@ -20,17 +22,35 @@ use Rattle.rw_top.proofs.CauseLemmas.{told_status}
 
 settles : (call : Call) (end : RunEnd) → 0 ≡ status_of_end end → WroteRun call end → WroteRun call Settled
 settles call Settled is wrote = wrote
-settles call (Fault why) is wrote = absurd (omega arith)
-
-pub settled : (call : Call) → Promise call 0 → WroteRun call Settled
-settled call promise = let done = promise.done (omega arith) in settles call done.0 done.1 done.2
+settles call (Fault why) is wrote = absurd (omega (arith, is))
 
 faults : (call : Call) (end : RunEnd) → 1 ≡ status_of_end end → WroteRun call end → (why : RunFault) × WroteRun call (Fault why)
-faults call Settled is wrote = absurd (omega arith)
+faults call Settled is wrote = absurd (omega (arith, is))
 faults call (Fault why) is wrote = (why, wrote)
 
+module _ (call : Call) (text : List ℕ) (grew : GrowsBy call.out.before.contents call.out.after.contents text) where
+  settled_by : (command : Command) → Asks call.words command → HasText command call.shelf.before.holds 0 text
+      → WroteRun call Settled ⊎ WroteCheck call
+  settled_by (Simulate model inputs) asked is =
+      inl (settles call is.0 is.1 (record { command = Simulate model inputs; asked = asked; text = text; is = is.2; grew = grew }))
+  settled_by (Check model policy) asked is =
+      inr (record { command = Check model policy; asked = asked; text = text; is = is.1; grew = grew })
+
+  faulted_by : (command : Command) → Asks call.words command → HasText command call.shelf.before.holds 1 text
+      → (why : RunFault) × WroteRun call (Fault why)
+  faulted_by (Simulate model inputs) asked is =
+      faults call is.0 is.1 (record { command = Simulate model inputs; asked = asked; text = text; is = is.2; grew = grew })
+  faulted_by (Check model policy) asked is = absurd (omega (arith, is.0))
+
+pub settled : (call : Call) → Promise call 0 → WroteRun call Settled ⊎ WroteCheck call
+settled call promise =
+    let wrote = promise.done (omega arith) in
+    settled_by call wrote.text.text wrote.text.grew wrote.command wrote.asked wrote.text.is
+
 pub faulted : (call : Call) → Promise call 1 → (why : RunFault) × WroteRun call (Fault why)
-faulted call promise = let done = promise.done (omega arith) in faults call done.0 done.1 done.2
+faulted call promise =
+    let wrote = promise.done (omega arith) in
+    faulted_by call wrote.text.text wrote.text.grew wrote.command wrote.asked wrote.text.is
 
 module _ (call : Call) where
   by_words : (why : Refusal) → 2 ≡ status_of why → WasRefused call why → AskNothing call.words
@@ -96,6 +116,11 @@ module _ (call : Call) where
   bad_model command (BadModel why) is found = (why, found)
   bad_model command reason is found = absurd (omega (arith, is))
 
+  bad_rules : (command : Command) (reason : Reason) → 7 ≡ status_by reason → WasFound command call.shelf reason
+      → (why : RulesRefusal) × RefusesPolicy command call.shelf.before.holds why
+  bad_rules command (BadRules why) is found = (why, found)
+  bad_rules command reason is found = absurd (omega (arith, is))
+
   bad_inputs : (command : Command) (reason : Reason) → 8 ≡ status_by reason → WasFound command call.shelf reason
       → (fault : InputFault) × RefusesInputs command call.shelf.before.holds fault
   bad_inputs command (BadInputs fault) is found = (fault, found)
@@ -108,6 +133,9 @@ module _ (call : Call) where
 
   pub model : Promise call 6 → AskFor call.words (λ command. (why : ModelRefusal) × RefusesModel command call.shelf.before.holds why)
   model promise = let there = reason_of_status 6 (omega arith) promise in (there.0, there.1, bad_model there.0 there.2.0 there.2.1 there.2.2)
+
+  pub rules : Promise call 7 → AskFor call.words (λ command. (why : RulesRefusal) × RefusesPolicy command call.shelf.before.holds why)
+  rules promise = let there = reason_of_status 7 (omega arith) promise in (there.0, there.1, bad_rules there.0 there.2.0 there.2.1 there.2.2)
 
   pub inputs : Promise call 8 → AskFor call.words (λ command. (fault : InputFault) × RefusesInputs command call.shelf.before.holds fault)
   inputs promise = let there = reason_of_status 8 (omega arith) promise in (there.0, there.1, bad_inputs there.0 there.2.0 there.2.1 there.2.2)

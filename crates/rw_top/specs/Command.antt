@@ -1,31 +1,43 @@
 -- The words of the command line, and the command that they ask for.
-use Rattle.std.specs.Prelude.{◌≡◌, ◌≢◌, ℕ, ◌≤◌, List, [], ◌∷◌, length, map, codes, slice_index, string_bytes, String}
+use Rattle.std.specs.Prelude.{◌≡◌, ◌≢◌, ℕ, ◌≤◌, List, [], ◌∷◌, length, map, codes, slice_index, string_bytes, String, Option, Some, None, IfSome, IsSome}
 use Rattle.std.specs.declared.alloc.Global.{Global}
 use Rattle.rw_top.specs.declared.refusal.File.{File}
-use Rattle.rw_top.specs.declared.refusal.File.TheVariants.{Model, Inputs}
+use Rattle.rw_top.specs.declared.refusal.File.TheVariants.{Model, Policy, Inputs}
 use Rattle.rw_top.specs.declared.command.Command.{Command as Named}
+use Rattle.rw_top.specs.declared.command.Command.TheVariants as Named
 
 -- the words, as bytes
 abbrev pub texts_of : List (String Global) → List (List ℕ)
 texts_of words = map string_bytes words
 
--- what words ask for
+-- what words ask for, with the paths of the files
 pub data Command : Type 0 where
   Simulate : List ℕ → List ℕ → Command
+  Check : List ℕ → List ℕ → Command
 
 -- the words that ask for it
 abbrev pub words_of : Command → List (List ℕ)
 words_of (Simulate model inputs) = codes "simulate" ∷ model ∷ inputs ∷ []
+words_of (Check model policy) = codes "check" ∷ model ∷ policy ∷ []
 
--- the path of a file that it reads
-abbrev pub path_of : Command → File → List ℕ
-path_of (Simulate model inputs) Model = model
-path_of (Simulate model inputs) Inputs = inputs
+-- the path of a file, where the command reads it
+abbrev pub path_of : Command → File → Option (List ℕ)
+path_of (Simulate model inputs) Model = Some model
+path_of (Simulate model inputs) Policy = None
+path_of (Simulate model inputs) Inputs = Some inputs
+path_of (Check model policy) Model = Some model
+path_of (Check model policy) Policy = Some policy
+path_of (Check model policy) Inputs = None
+
+-- the command reads the file
+abbrev pub Names : Command → File → Type 0
+Names command file = IsSome (path_of command file)
 
 -- the files are read in this order
 abbrev pub order : File → ℕ
 order Model = 0
-order Inputs = 1
+order Policy = 1
+order Inputs = 2
 
 -- a word that can name a file: it isn't empty, and isn't an option, which begins with `-`
 pub record IsPath (word : List ℕ) : Type 0 where
@@ -35,7 +47,7 @@ pub record IsPath (word : List ℕ) : Type 0 where
 -- the words ask for the command, and its paths can name files
 pub record Asks (words : List (List ℕ)) (command : Command) : Type 0 where
   pub are : words ≡ words_of command
-  pub paths : (file : File) → IsPath (path_of command file)
+  pub paths : (file : File) → IfSome (path_of command file) IsPath
 
 -- they ask for none
 abbrev pub AskNothing : List (List ℕ) → Type 0
@@ -47,4 +59,5 @@ AskFor words P = (command : Command) × Asks words command × P command
 
 -- the command that was read, in these terms
 abbrev pub command_of : Named → Command
-command_of named = Simulate named.model.now named.inputs.now
+command_of (Named.Simulate model inputs) = Simulate model.now inputs.now
+command_of (Named.Check model policy) = Check model.now policy.now

@@ -1,8 +1,10 @@
 pub mod Call
 pub mod Command
+pub mod Policy
 pub mod Reading
 pub mod Reason
 pub mod RunText
+pub mod Budgets
 pub mod Written
 pub mod Refusal
 pub mod Lines

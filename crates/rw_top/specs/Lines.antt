@@ -1,5 +1,5 @@
 -- The lines on the error stream.
-use Rattle.std.specs.Prelude.{ℕ, List, ◌++◌, codes, string_bytes}
+use Rattle.std.specs.Prelude.{ℕ, List, [], ◌++◌, codes, string_bytes, unwrap_or}
 use Rattle.std.specs.Fmt.{decimal}
 use Rattle.rw_calendar.specs.declared.fault.CalFault.{CalFault}
 use Rattle.rw_calendar.specs.declared.fault.CalFault.TheVariants.{BadStart, NotFirstOfMonth, BeyondYears, NoMemory as NoMemoryForStamps}
@@ -11,9 +11,14 @@ use Rattle.rw_model_toml.specs.declared.fault.ModelFault.{ModelFault}
 use Rattle.rw_model_toml.specs.declared.fault.ModelFault.TheVariants.{NotToml, Missing, WrongKind, UnknownKey, UnknownKind, Build, Table, Calendar, NoMemory as NoMemoryForModel}
 use Rattle.rw_inputs.specs.declared.fault.InputKind.{InputKind}
 use Rattle.rw_inputs.specs.declared.fault.InputKind.TheVariants.{Header, UnknownSlot, NotSettable, NotANumber, OutOfBounds, StepOutside, Twice, Ragged}
+use Rattle.rpl_parse.specs.declared.fault.ParseFault.{ParseFault}
+use Rattle.rpl_parse.specs.declared.fault.ParseFault.TheVariants.{BadToken, BadDeclaration, TooMany as TooManyDeclarations, NoMemory as NoMemoryToParse}
+use Rattle.rpl_types.specs.declared.type_kind.TypeKind.{TypeKind}
+use Rattle.rpl_types.specs.declared.type_kind.TypeKind.TheVariants as T
 use Rattle.rw_top.specs.Command.{Command, path_of}
+use Rattle.rw_top.specs.declared.refusal.File.{File}
 use Rattle.rw_top.specs.declared.refusal.Refusal.{Refusal}
-use Rattle.rw_top.specs.declared.refusal.Refusal.TheVariants.{Words, CannotRead, CannotWrite, NoMemory, Model, Inputs, TooLong}
+use Rattle.rw_top.specs.declared.refusal.Refusal.TheVariants.{Words, CannotRead, CannotWrite, NoMemory, Model, Grammar, Types, Inputs, TooLong}
 
 -- what is wrong with what the basin is built of
 abbrev pub build_words : BuildFault → List ℕ
@@ -53,6 +58,23 @@ input_words StepOutside = codes "step outside"
 input_words Twice = codes "twice"
 input_words Ragged = codes "ragged"
 
+-- with a node of a ruleset
+abbrev pub type_words : TypeKind → List ℕ
+type_words T.UnknownName = codes "unknown name"
+type_words T.UnknownSlot = codes "unknown slot"
+type_words T.UnknownUnit = codes "unknown unit"
+type_words T.NotSettable = codes "not settable"
+type_words T.WrongType = codes "wrong type"
+type_words T.WrongUnit = codes "wrong unit"
+type_words T.WrongCount = codes "wrong count"
+type_words T.NotEarlier = codes "not earlier"
+type_words T.DuplicateName = codes "duplicate name"
+type_words T.TargetStep = codes "target step"
+type_words T.ListTooLong = codes "list too long"
+type_words T.LiteralRange = codes "literal range"
+type_words T.NoTable = codes "no table"
+type_words T.TooCostly = codes "too costly"
+
 -- the line on a model that is refused
 abbrev pub model_line : ModelFault → List ℕ
 model_line NotToml = codes "basin: model: not TOML\n"
@@ -67,6 +89,22 @@ model_line (Table path fault) =
 model_line (Calendar fault) = (codes "basin: model: calendar: " ++ calendar_words fault) ++ codes "\n"
 model_line NoMemoryForModel = codes "basin: model: no memory\n"
 
+-- the line on a text that is no ruleset
+abbrev pub grammar_line : ParseFault → List ℕ
+grammar_line (BadToken line) = (codes "basin: rules: line " ++ decimal line) ++ ((codes ": " ++ codes "bad token") ++ codes "\n")
+grammar_line (BadDeclaration declaration line) =
+    (codes "basin: rules: declaration " ++ decimal declaration)
+    ++ ((codes " line " ++ decimal line) ++ ((codes ": " ++ codes "bad declaration") ++ codes "\n"))
+grammar_line (TooManyDeclarations declaration) =
+    (codes "basin: rules: declaration " ++ decimal declaration) ++ ((codes ": " ++ codes "too many") ++ codes "\n")
+grammar_line NoMemoryToParse = codes "basin: rules: no memory\n"
+
+-- the line on a node of a ruleset that is refused
+abbrev pub types_line : TypeKind → ℕ → ℕ → List ℕ
+types_line kind declaration node =
+    (codes "basin: rules: declaration " ++ decimal declaration)
+    ++ ((codes " node " ++ decimal node) ++ ((codes ": " ++ type_words kind) ++ codes "\n"))
+
 -- the line on inputs that are refused
 abbrev pub inputs_line : InputKind → ℕ → ℕ → List ℕ
 inputs_line kind row column =
@@ -77,14 +115,20 @@ inputs_line kind row column =
 abbrev pub words_line : List ℕ
 words_line = codes "basin: words refused\n"
 
+-- the path of a file as a line has it
+abbrev pub told_path : Command → File → List ℕ
+told_path command file = unwrap_or (path_of command file) []
+
 -- the line that says why a command isn't done
 abbrev pub line_of : Command → Refusal → List ℕ
 line_of command Words = words_line
 line_of command (CannotRead file) =
-    (codes "basin: cannot read " ++ path_of command file) ++ codes "\n"
+    (codes "basin: cannot read " ++ told_path command file) ++ codes "\n"
 line_of command CannotWrite = codes "basin: cannot write\n"
 line_of command NoMemory = codes "basin: want of memory\n"
 line_of command (Model fault) = model_line fault
+line_of command (Grammar fault) = grammar_line fault
+line_of command (Types kind declaration node) = types_line kind declaration node
 line_of command (Inputs kind row column) = inputs_line kind row column
 line_of command (TooLong file) =
-    (codes "basin: too long " ++ path_of command file) ++ codes "\n"
+    (codes "basin: too long " ++ told_path command file) ++ codes "\n"

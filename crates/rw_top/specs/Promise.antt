@@ -1,28 +1,23 @@
 -- What is promised of each call of the program.
 use Rattle.std.specs.Prelude.{◌≡◌, ◌⊎◌, ℕ, ◌≤◌, List}
 use Rattle.rw_io.specs.Causes.{Rose}
+use Rattle.rw_io.specs.Known.{GrowsBy}
 use Rattle.rw_run.specs.declared.run.RunEnd.{RunEnd}
-use Rattle.rw_run.specs.declared.run.RunEnd.TheVariants.{Settled, Fault}
 use Rattle.rw_top.specs.Call.{Call}
 use Rattle.rw_top.specs.Command.{AskNothing, Asks, Command}
 use Rattle.rw_top.specs.Reason.{Reason, IsFound, IsHonestFor, status_by}
 use Rattle.rw_top.specs.Lines.{line_of, words_line}
 use Rattle.rw_top.specs.Reading.{AcceptsAll, IsHonestOfAll}
 use Rattle.rw_top.specs.Refusal.{Cause, EndsWith, status_of}
-use Rattle.rw_top.specs.Written.{Tells, WritesAll}
+use Rattle.rw_top.specs.Written.{HasCheckText, HasRunText, Tells, WritesAll}
 use Rattle.rw_top.specs.declared.refusal.Refusal.{Refusal}
 use Rattle.rw_top.specs.declared.refusal.Refusal.TheVariants.{Words}
 
--- the status of a run that was written: 0 where it settled
-abbrev pub status_of_end : RunEnd → ℕ
-status_of_end Settled = 0
-status_of_end (Fault why) = 1
-
--- exactly the text of a run with this end was written, and nothing on the error stream
-pub record WroteRun (call : Call) (end : RunEnd) : Type 0 where
+-- exactly the text of the command was written, with this status, and nothing on the error stream
+pub record Wrote (call : Call) (status : ℕ) : Type 0 where
   pub command : Command
   pub asked : Asks call.words command
-  pub text : WritesAll command call.shelf.before.holds call.out end
+  pub text : WritesAll command call.shelf.before.holds call.out status
   pub silent : call.err.after ≡ call.err.before
 
 -- the words ask for nothing, and the line that says so is all that was written
@@ -50,8 +45,8 @@ pub record IsCalm (command : Command) (call : Call) : Type 0 where
 
 -- a call that answers this status
 pub record Promise (call : Call) (status : ℕ) : Type 0 where
-  -- 0 and 1 come only with the text of the run
-  pub done : status ≤ 1 → (end : RunEnd) × (status ≡ status_of_end end) × WroteRun call end
+  -- 0 and 1 come only with the text of the command
+  pub done : status ≤ 1 → Wrote call status
   -- and each other status only with a refusal
   pub refused : 2 ≤ status → (why : Refusal) × (status ≡ status_of why) × WasRefused call why
   -- words that ask for nothing are refused
@@ -66,3 +61,21 @@ pub record Promise (call : Call) (status : ℕ) : Type 0 where
       → (status ≤ 1) ⊎ (status ≡ 5)
   -- no file is changed
   pub held : (path : List ℕ) → call.shelf.after.holds path ≡ call.shelf.before.holds path
+
+-- ---- what a call wrote, by its command
+
+-- a run that ends so, and its text
+pub record WroteRun (call : Call) (end : RunEnd) : Type 0 where
+  pub command : Command
+  pub asked : Asks call.words command
+  pub text : List ℕ
+  pub is : HasRunText command call.shelf.before.holds end text
+  pub grew : GrowsBy call.out.before.contents call.out.after.contents text
+
+-- the budgets of a policy that is accepted
+pub record WroteCheck (call : Call) : Type 0 where
+  pub command : Command
+  pub asked : Asks call.words command
+  pub text : List ℕ
+  pub is : HasCheckText command call.shelf.before.holds text
+  pub grew : GrowsBy call.out.before.contents call.out.after.contents text

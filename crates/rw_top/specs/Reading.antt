@@ -1,5 +1,5 @@
 -- What the files that a command names are found to be.
-use Rattle.std.specs.Prelude.{◌≡◌, ℕ, ◌<◌, ◌≤◌, List, Ok, Err, length, IfSome, IsSome}
+use Rattle.std.specs.Prelude.{◌≡◌, ℕ, ◌<◌, ◌≤◌, List, Ok, Err, length, IfSome, IsSome, IsSomeAnd}
 use Rattle.rw_io.specs.Causes.{Rose}
 use Rattle.rw_io.specs.declared.whole_file.TheConstants.{FILE_MAX}
 use Rattle.rw_model.specs.Draft.{Draft}
@@ -9,14 +9,20 @@ use Rattle.rw_inputs.specs.declared.fault.InputFault.{InputFault}
 use Rattle.rw_inputs.specs.Inputs.{Inputs as Given}
 use Rattle.rw_inputs.specs.Reading.{Reads, Refuses}
 use Rattle.rw_io.specs.Outside.{Change, Holds, ShelfView}
-use Rattle.rw_top.specs.Command.{Command, order, path_of}
+use Rattle.rpl_tree.specs.Tree.{Declared}
+use Rattle.rw_top.specs.Command.{Command, Names, order, path_of}
+use Rattle.rw_top.specs.Policy.{IsRulesetOf, RefusesRules, RulesRefusal}
 use Rattle.rw_top.specs.declared.refusal.File.{File}
-use Rattle.rw_top.specs.declared.refusal.File.TheVariants.{Model, Inputs}
+use Rattle.rw_top.specs.declared.refusal.File.TheVariants.{Model, Policy, Inputs}
 
 -- the text is all that the path holds, where that is told, and no longer than a file may be
-pub record WasRead (holds : Holds) (path text : List ℕ) : Type 0 where
+pub record IsTextAt (holds : Holds) (text path : List ℕ) : Type 0 where
   pub told : IfSome (holds path) (λ file. text ≡ file)
   pub short : length text ≤ FILE_MAX
+
+-- the command reads the file, and this is its text
+abbrev pub WasRead : Command → Holds → File → List ℕ → Type 0
+WasRead command holds file text = IsSomeAnd (path_of command file) (IsTextAt holds text)
 
 -- the path holds more than a file may, where that is told
 abbrev pub IsTooLong : Holds → List ℕ → Type 0
@@ -25,49 +31,66 @@ IsTooLong holds path = IfSome (holds path) (λ file. FILE_MAX < length file)
 -- the command names a model of this basin
 pub record ReadsModel (command : Command) (holds : Holds) (basin : Draft) : Type 0 where
   pub text : List ℕ
-  pub read : WasRead holds (path_of command Model) text
+  pub read : WasRead command holds Model text
   pub is : model_of text ≡ Ok basin
+
+-- the command names a model of this basin, and a policy of these rules for it
+pub record ReadsRules (command : Command) (holds : Holds) (basin : Draft) (rules : List Declared) : Type 0 where
+  pub model : ReadsModel command holds basin
+  pub text : List ℕ
+  pub read : WasRead command holds Policy text
+  pub are : IsRulesetOf basin text rules
 
 -- the command names a model of this basin, and these inputs for it
 pub record ReadsBoth (command : Command) (holds : Holds) (basin : Draft) (inputs : Given) : Type 0 where
   pub model : ReadsModel command holds basin
   pub text : List ℕ
-  pub read : WasRead holds (path_of command Inputs) text
+  pub read : WasRead command holds Inputs text
   pub are : Reads basin text inputs
 
 -- the command names a model that is refused for this
 pub record RefusesModel (command : Command) (holds : Holds) (why : ModelRefusal) : Type 0 where
   pub text : List ℕ
-  pub read : WasRead holds (path_of command Model) text
+  pub read : WasRead command holds Model text
   pub is : model_of text ≡ Err why
+
+-- the command names a model, and a policy that is refused for this
+pub record RefusesPolicy (command : Command) (holds : Holds) (why : RulesRefusal) : Type 0 where
+  pub basin : Draft
+  pub model : ReadsModel command holds basin
+  pub text : List ℕ
+  pub read : WasRead command holds Policy text
+  pub are : RefusesRules basin text why
 
 -- the command names a model, and inputs that are refused for this
 pub record RefusesInputs (command : Command) (holds : Holds) (why : InputFault) : Type 0 where
   pub basin : Draft
   pub model : ReadsModel command holds basin
   pub text : List ℕ
-  pub read : WasRead holds (path_of command Inputs) text
+  pub read : WasRead command holds Inputs text
   pub are : Refuses basin text why
 
 -- the file is accepted
 abbrev pub Accepts : Command → Holds → File → Type 0
 Accepts command holds Model = (basin : Draft) × ReadsModel command holds basin
+Accepts command holds Policy =
+    (basin : Draft) × (rules : List Declared) × ReadsRules command holds basin rules
 Accepts command holds Inputs =
     (basin : Draft) × (inputs : Given) × ReadsBoth command holds basin inputs
 
--- every file is
+-- every file that the command reads is
 abbrev pub AcceptsAll : Command → Holds → Type 0
-AcceptsAll command holds = (file : File) → Accepts command holds file
+AcceptsAll command holds = (file : File) → Names command file → Accepts command holds file
 
 -- each file that is read before this one is accepted
 abbrev pub Reaches : Command → Holds → File → Type 0
 Reaches command holds file =
-    (earlier : File) → order earlier < order file → Accepts command holds earlier
+    (earlier : File) → Names command earlier → order earlier < order file → Accepts command holds earlier
 
 -- the file is reached, and holds more than a file may, where that is told
 pub record HoldsTooLong (command : Command) (holds : Holds) (file : File) : Type 0 where
   pub reached : Reaches command holds file
-  pub longer : IsTooLong holds (path_of command file)
+  pub longer : IsSomeAnd (path_of command file) (IsTooLong holds)
 
 -- the shelf tells what the path holds, and has had no fault of it in the call
 pub record IsHonest (shelf : Change ShelfView) (path : List ℕ) : Type 0 where
@@ -77,8 +100,8 @@ pub record IsHonest (shelf : Change ShelfView) (path : List ℕ) : Type 0 where
 -- it is honest of that file, and of each that is read before it
 abbrev pub IsHonestUpTo : Command → Change ShelfView → File → Type 0
 IsHonestUpTo command shelf file =
-    (it : File) → order it ≤ order file → IsHonest shelf (path_of command it)
+    (it : File) → order it ≤ order file → IfSome (path_of command it) (IsHonest shelf)
 
 -- it is honest of every file
 abbrev pub IsHonestOfAll : Command → Change ShelfView → Type 0
-IsHonestOfAll command shelf = (file : File) → IsHonest shelf (path_of command file)
+IsHonestOfAll command shelf = (file : File) → IfSome (path_of command file) (IsHonest shelf)

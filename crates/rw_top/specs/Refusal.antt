@@ -1,5 +1,5 @@
--- ModelRefusal a command isn't done, and with which status the call says so.
-use Rattle.std.specs.Prelude.{◌≡◌, ◌⊎◌, ℕ, ◌<◌, List, Option, option_map, None, Some, Err, ⊤}
+-- Why a command isn't done, and with which status the call says so.
+use Rattle.std.specs.Prelude.{◌≡◌, ◌⊎◌, ℕ, ◌<◌, List, Option, option_map, None, Some, IsSomeAnd, Err, ⊤}
 use Rattle.rw_io.specs.Causes.{Rose}
 use Rattle.rw_io.specs.Outside.{Change, ShelfView, SinkView}
 use Rattle.rw_io.specs.declared.whole_file.TheConstants.{FILE_MAX}
@@ -12,13 +12,17 @@ use Rattle.rw_model_toml.specs.Refusal.{ModelRefusal}
 use Rattle.rw_inputs.specs.Reading.{Refuses}
 use Rattle.rw_inputs.specs.declared.fault.InputFault.{InputFault}
 use Rattle.rw_inputs.specs.declared.fault.InputFault.TheVariants.{Refused}
+use Rattle.rpl_parse.specs.declared.fault.ParseFault.{ParseFault}
+use Rattle.rpl_parse.specs.declared.fault.ParseFault.TheVariants as P
+use Rattle.rpl_types.specs.Judged.{refusal}
 use Rattle.rw_top.specs.Command.{Command, path_of}
-use Rattle.rw_top.specs.Reason.{Reason, BadModel, BadInputs, LongFile, IsFound}
+use Rattle.rw_top.specs.Policy.{RulesRefusal, BadToken, BadDeclaration, TooMany, BadNode, RefusesRules}
+use Rattle.rw_top.specs.Reason.{Reason, BadModel, BadRules, BadInputs, LongFile, IsFound}
 use Rattle.rw_top.specs.Reading.{HoldsTooLong, Reaches}
 use Rattle.rw_top.specs.Written.{WritesFront}
 use Rattle.rw_top.specs.declared.refusal.File.{File}
 use Rattle.rw_top.specs.declared.refusal.Refusal.{Refusal}
-use Rattle.rw_top.specs.declared.refusal.Refusal.TheVariants.{Words, CannotRead, CannotWrite, NoMemory, Model, Inputs, TooLong}
+use Rattle.rw_top.specs.declared.refusal.Refusal.TheVariants.{Words, CannotRead, CannotWrite, NoMemory, Model, Grammar, Types, Inputs, TooLong}
 
 abbrev pub status_of : Refusal → ℕ
 status_of Words = 2
@@ -26,12 +30,23 @@ status_of (CannotRead file) = 3
 status_of CannotWrite = 4
 status_of NoMemory = 5
 status_of (Model fault) = 6
+status_of (Grammar fault) = 7
+status_of (Types kind declaration node) = 7
 status_of (Inputs kind row column) = 8
 status_of (TooLong file) = 10
+
+-- why a text is no ruleset. Want of memory tells nothing of it
+abbrev pub refusal_of_grammar : ParseFault → Option RulesRefusal
+refusal_of_grammar (P.BadToken line) = Some (BadToken line)
+refusal_of_grammar (P.BadDeclaration declaration line) = Some (BadDeclaration declaration line)
+refusal_of_grammar (P.TooMany declaration) = Some (TooMany declaration)
+refusal_of_grammar P.NoMemory = None
 
 -- the reason that a refusal tells, if it tells one
 abbrev pub reason_of : Refusal → Option Reason
 reason_of (Model fault) = option_map (λ why. BadModel why) (refusal_of fault)
+reason_of (Grammar fault) = option_map (λ why. BadRules why) (refusal_of_grammar fault)
+reason_of (Types kind declaration node) = Some (BadRules (BadNode (refusal kind declaration node)))
 reason_of (Inputs kind row column) = Some (BadInputs (Refused kind row column))
 reason_of (TooLong file) = Some (LongFile file)
 reason_of why = None
@@ -49,8 +64,8 @@ refusal_after EndNoMemory file = NoMemory
 -- the file was reached, and a fault of it was counted
 pub record FailsToRead (command : Command) (shelf : Change ShelfView) (file : File) : Type 0 where
   pub reached : Reaches command shelf.before.holds file
-  pub rose : Rose (shelf.before.faults (path_of command file))
-      (shelf.after.faults (path_of command file))
+  pub rose : IsSomeAnd (path_of command file)
+      (λ path. Rose (shelf.before.faults path) (shelf.after.faults path))
 
 -- the file was reached, and more bytes were given of it than a file may hold
 pub record FindsTooLong (command : Command) (shelf : Change ShelfView) (file : File) : Type 0 where
@@ -89,3 +104,8 @@ IsModelRefusal text why =
 abbrev pub IsInputRefusal : Draft → List ℕ → Refusal → Type 0
 IsInputRefusal basin text why =
     (why ≡ NoMemory) ⊎ ((bad : InputFault) × (reason_of why ≡ Some (BadInputs bad)) × Refuses basin text bad)
+
+-- why the bytes of a policy's file give no rules for the basin
+abbrev pub IsRulesRefusal : Draft → List ℕ → Refusal → Type 0
+IsRulesRefusal basin text why =
+    (why ≡ NoMemory) ⊎ ((bad : RulesRefusal) × (reason_of why ≡ Some (BadRules bad)) × RefusesRules basin text bad)

@@ -1,33 +1,54 @@
 -- What a call appends to a stream.
-use Rattle.std.specs.Prelude.{ℕ, ◌⊎◌, List}
+use Rattle.std.specs.Prelude.{◌≡◌, ℕ, ◌⊎◌, List}
+use Rattle.rpl_tree.specs.Tree.{Declared}
 use Rattle.rw_inputs.specs.Inputs.{Inputs as Given}
 use Rattle.rw_io.specs.Causes.{Rose}
 use Rattle.rw_io.specs.Known.{GrowsBy, PrefixGrew}
 use Rattle.rw_io.specs.Outside.{Change, Holds, SinkView}
 use Rattle.rw_run.specs.declared.run.RunEnd.{RunEnd}
+use Rattle.rw_run.specs.declared.run.RunEnd.TheVariants.{Settled, Fault}
 use Rattle.rw_model.specs.Draft.{Draft}
-use Rattle.rw_top.specs.Command.{Command}
-use Rattle.rw_top.specs.Reading.{ReadsBoth}
+use Rattle.rw_top.specs.Budgets.{check_text}
+use Rattle.rw_top.specs.Command.{Command, Simulate, Check}
+use Rattle.rw_top.specs.Reading.{ReadsBoth, ReadsRules}
 use Rattle.rw_top.specs.RunText.{IsRunText}
 
--- both files of the command are read, and this is the text of their run
-pub record HasText (command : Command) (holds : Holds) (end : RunEnd) (text : List ℕ) : Type 0 where
+-- the status of a run that was written: 0 where it settled
+abbrev pub status_of_end : RunEnd → ℕ
+status_of_end Settled = 0
+status_of_end (Fault why) = 1
+
+-- model and inputs are read, and this is the text of their run, which ends so
+pub record HasRunText (command : Command) (holds : Holds) (end : RunEnd) (text : List ℕ) : Type 0 where
   pub basin : Draft
   pub inputs : Given
   pub read : ReadsBoth command holds basin inputs
   pub run_text : IsRunText basin inputs end text
 
+-- model and policy are read, and this is the text of the policy's budgets
+pub record HasCheckText (command : Command) (holds : Holds) (text : List ℕ) : Type 0 where
+  pub basin : Draft
+  pub rules : List Declared
+  pub read : ReadsRules command holds basin rules
+  pub text_is : text ≡ check_text rules
+
+-- the files of the command are read, and this is what it writes, with this status
+abbrev pub HasText : Command → Holds → ℕ → List ℕ → Type 0
+HasText (Simulate model inputs) holds status text =
+    (end : RunEnd) × (status ≡ status_of_end end) × HasRunText (Simulate model inputs) holds end text
+HasText (Check model policy) holds status text = (status ≡ 0) × HasCheckText (Check model policy) holds text
+
 -- the whole text of the command was appended
-pub record WritesAll (command : Command) (holds : Holds) (out : Change SinkView) (end : RunEnd) : Type 0 where
+pub record WritesAll (command : Command) (holds : Holds) (out : Change SinkView) (status : ℕ) : Type 0 where
   pub text : List ℕ
-  pub is : HasText command holds end text
+  pub is : HasText command holds status text
   pub grew : GrowsBy out.before.contents out.after.contents text
 
 -- a front of it was appended
 pub record WritesFront (command : Command) (holds : Holds) (out : Change SinkView) : Type 0 where
-  pub end : RunEnd
+  pub status : ℕ
   pub text : List ℕ
-  pub is : HasText command holds end text
+  pub is : HasText command holds status text
   pub grew : PrefixGrew out.before.contents out.after.contents text
 
 -- a front of the line was appended, and all of it unless the sink's count rose

@@ -1,23 +1,31 @@
-ghost use Rattle.std.specs.Prelude.{◌≡◌, MatchBool, MatchOption};
+ghost use Rattle.std.specs.Prelude.{◌≡◌, MatchBool, MatchOption, option_map};
 ghost use Rattle.rw_top.specs.Command.{Asks, AskNothing, IsPath, command_of, path_of, texts_of};
 
 use crate::File;
 
-/// The paths that a command names.
+/// A command, and the paths that it names.
 #[derive(Clone, Copy)]
-pub(crate) struct Command<'w> {
-    pub(crate) model: &'w str,
-    pub(crate) inputs: &'w str,
+pub(crate) enum Command<'w> {
+    Simulate { model: &'w str, inputs: &'w str },
+    Check { model: &'w str, policy: &'w str },
 }
 
 impl<'w> Command<'w> {
-    /// The path of a file that it reads.
-    pub(crate) fn path(&self, file: File) -> &'w str
-        ensures { result.now ≡ path_of (command_of self.now) file }
+    /// The path of a file, where the command reads it.
+    pub(crate) fn path(&self, file: File) -> Option<&'w str>
+        ensures { option_map (λ path. path.now) result ≡ path_of (command_of self.now) file }
     {
-        match file {
-            File::Model => self.model,
-            File::Inputs => self.inputs,
+        match self {
+            Command::Simulate { model, inputs } => match file {
+                File::Model => Some(*model),
+                File::Policy => None,
+                File::Inputs => Some(*inputs),
+            },
+            Command::Check { model, policy } => match file {
+                File::Model => Some(*model),
+                File::Policy => Some(*policy),
+                File::Inputs => None,
+            },
         }
     }
 }
@@ -36,13 +44,25 @@ pub(crate) fn read_words(words: &[String]) -> Option<Command<'_>>
     ensures { MatchOption result (AskNothing (texts_of words.entry.now))
         (λ command. Asks (texts_of words.entry.now) (command_of command)) }
 {
-    let [command, model, inputs] = words else {
+    let [name, model, second] = words else {
         return None;
     };
     let model = model.as_str();
-    let inputs = inputs.as_str();
-    if command.as_str() != "simulate" || !is_path(model) || !is_path(inputs) {
+    let second = second.as_str();
+    if !is_path(model) || !is_path(second) {
         return None;
     }
-    Some(Command { model, inputs })
+    if name.as_str() == "simulate" {
+        Some(Command::Simulate {
+            model,
+            inputs: second,
+        })
+    } else if name.as_str() == "check" {
+        Some(Command::Check {
+            model,
+            policy: second,
+        })
+    } else {
+        None
+    }
 }

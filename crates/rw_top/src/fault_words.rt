@@ -1,6 +1,7 @@
 ghost use Rattle.std.specs.Prelude.{◌≡◌};
-ghost use Rattle.rw_top.specs.Lines.{build_words as words_of_build, table_words as words_of_table, calendar_words as words_of_calendar, input_words as words_of_input};
+ghost use Rattle.rw_top.specs.Lines.{build_words as words_of_build, table_words as words_of_table, calendar_words as words_of_calendar, input_words as words_of_input, type_words as words_of_type};
 
+use rpl_types::TypeKind;
 use rw_calendar::CalFault;
 use rw_inputs::InputKind;
 use rw_model::BuildFault;
@@ -57,5 +58,26 @@ pub(crate) fn input_words(kind: InputKind) -> &'static str
         InputKind::StepOutside => "step outside",
         InputKind::Twice => "twice",
         InputKind::Ragged => "ragged",
+    }
+}
+
+pub(crate) fn type_words(kind: TypeKind) -> &'static str
+    ensures { result.now ≡ words_of_type kind }
+{
+    match kind {
+        TypeKind::UnknownName => "unknown name",
+        TypeKind::UnknownSlot => "unknown slot",
+        TypeKind::UnknownUnit => "unknown unit",
+        TypeKind::NotSettable => "not settable",
+        TypeKind::WrongType => "wrong type",
+        TypeKind::WrongUnit => "wrong unit",
+        TypeKind::WrongCount => "wrong count",
+        TypeKind::NotEarlier => "not earlier",
+        TypeKind::DuplicateName => "duplicate name",
+        TypeKind::TargetStep => "target step",
+        TypeKind::ListTooLong => "list too long",
+        TypeKind::LiteralRange => "literal range",
+        TypeKind::NoTable => "no table",
+        TypeKind::TooCostly => "too costly",
     }
 }

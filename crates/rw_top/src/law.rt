@@ -1,5 +1,5 @@
 //! What the definitions of this crate speak of is one thing. Each law is the `ensures` of a function that does nothing.
-ghost use Rattle.std.specs.Prelude.{◌≡◌, ◌≢◌, ◌≤◌, ◌↔◌, ℕ, ℤ, List, Option, None};
+ghost use Rattle.std.specs.Prelude.{◌≡◌, ◌≢◌, ◌≤◌, ◌↔◌, ◌⊎◌, ℕ, ℤ, List, Option, None};
 ghost use Rattle.rw_plain_reservoir.specs.FirstForm.{FirstModel, IsFirstForm, IsFirstFlows};
 ghost use Rattle.rw_plain_reservoir.specs.Table.{IsFirstText};
 ghost use Rattle.rw_io.specs.Causes.{Rose};
@@ -16,8 +16,9 @@ ghost use Rattle.rw_model_toml.specs.Refusal.{ModelRefusal};
 ghost use Rattle.rw_top.specs.Call.{Call};
 ghost use Rattle.rw_top.specs.Command.{AskFor, AskNothing};
 ghost use Rattle.rw_top.specs.FirstCall.{IsFirstCall};
-ghost use Rattle.rw_top.specs.Promise.{Promise, WroteRun};
-ghost use Rattle.rw_top.specs.Reading.{RefusesInputs, RefusesModel};
+ghost use Rattle.rw_top.specs.Policy.{RulesRefusal};
+ghost use Rattle.rw_top.specs.Promise.{Promise, WroteCheck, WroteRun};
+ghost use Rattle.rw_top.specs.Reading.{RefusesInputs, RefusesModel, RefusesPolicy};
 ghost use Rattle.rw_top.specs.Refusal.{FailsToRead, FindsTooLong};
 ghost use Rattle.rw_top.specs.Written.{WritesFront};
 ghost use Rattle.rw_top.specs.RunText.{IsRunText};
@@ -74,7 +75,7 @@ pub fn first_call()
 
 /// What each status says of a call that keeps its promise. 5 says nothing: want of memory may always come.
 pub fn statuses()
-    ensures settled { (call : Call) → Promise call 0 → WroteRun call Settled }
+    ensures settled { (call : Call) → Promise call 0 → WroteRun call Settled ⊎ WroteCheck call }
     ensures faulted { (call : Call) → Promise call 1
         → (why : RunFault) × WroteRun call (Fault why) }
     ensures words { (call : Call) → Promise call 2 → AskNothing call.words }
@@ -86,6 +87,8 @@ pub fn statuses()
         → AskFor call.words (λ command. WritesFront command call.shelf.before.holds call.out) }
     ensures model { (call : Call) → Promise call 6 → AskFor call.words
         (λ command. (why : ModelRefusal) × RefusesModel command call.shelf.before.holds why) }
+    ensures rules { (call : Call) → Promise call 7 → AskFor call.words
+        (λ command. (why : RulesRefusal) × RefusesPolicy command call.shelf.before.holds why) }
     ensures inputs { (call : Call) → Promise call 8 → AskFor call.words
         (λ command. (fault : InputFault) × RefusesInputs command call.shelf.before.holds fault) }
     ensures too_long { (call : Call) → Promise call 10

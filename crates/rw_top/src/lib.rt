@@ -1,10 +1,14 @@
-//! The top call: the words, the files that they name, a run, and its table. With status 0 or 1 it has written exactly
-//! the text that the definitions give for these files; every other status has its cause, and one line that says so.
+//! The top call: the words, the files that they name, and the text of the command: the table of a run, or the budgets of a
+//! ruleset. With status 0 or 1 it has written exactly the text that the definitions give for these files; every other
+//! status has its cause, and one line that says so.
 #![tactic(auto)]
 
+mod check;
 mod command;
 mod fault_words;
+mod files;
 pub mod law;
+mod perform;
 mod refusal;
 mod simulate;
 mod tell;

@@ -1,5 +1,7 @@
 ghost use Rattle.std.specs.Prelude.{◌≡◌};
 
+use rpl_parse::ParseFault;
+use rpl_types::TypeKind;
 use rw_inputs::InputKind;
 use rw_io::ReadEnd;
 use rw_model_toml::ModelFault;
@@ -8,10 +10,11 @@ use rw_model_toml::ModelFault;
 #[derive(Clone, Copy, Debug, PartialEq, Eq)]
 pub enum File {
     Model,
+    Policy,
     Inputs,
 }
 
-/// Why the table isn't written, or not wholly.
+/// Why the text of a command isn't written, or not wholly.
 #[derive(Debug, Drop)]
 pub enum Refusal {
     /// The words are no command.
@@ -24,6 +27,10 @@ pub enum Refusal {
     NoMemory,
     /// The model is refused.
     Model(ModelFault),
+    /// The policy is no ruleset.
+    Grammar(ParseFault),
+    /// A ruleset is refused: what is wrong, in which declaration and node.
+    Types(TypeKind, u32, u32),
     /// The inputs are refused: what is wrong, in which row and column.
     Inputs(InputKind, u32, u8),
     /// More bytes were given of that file than a file may hold.
@@ -43,6 +50,8 @@ impl Refusal {
             Refusal::CannotWrite => 4,
             Refusal::NoMemory => 5,
             Refusal::Model(_) => 6,
+            Refusal::Grammar(_) => 7,
+            Refusal::Types(_, _, _) => 7,
             Refusal::Inputs(_, _, _) => 8,
             Refusal::TooLong(_) => 10,
         }

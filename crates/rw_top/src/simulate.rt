@@ -1,26 +1,23 @@
-ghost use Rattle.std.specs.Prelude.{◌≡◌, ℕ, List, Ok, map, IfErr, IfOk, MatchResult};
+ghost use Rattle.std.specs.Prelude.{◌≡◌, ℕ, List, map, IfOk, MatchResult};
 ghost use Rattle.rw_inputs.specs.Inputs.{IsInputsOf};
-ghost use Rattle.rw_inputs.specs.Reading.{Reads};
-ghost use Rattle.rw_io.specs.Causes.{NoneFell};
 ghost use Rattle.rw_io.specs.Outside.{change};
 ghost use Rattle.rw_method.specs.Catalogue.{AreInOrder};
-ghost use Rattle.rw_model_toml.specs.Fault.{IsWhy};
-ghost use Rattle.rw_model_toml.specs.Model.{model_of};
-ghost use Rattle.rw_top.specs.Command.{command_of, path_of};
-ghost use Rattle.rw_top.specs.Reading.{Reaches, ReadsBoth, ReadsModel, WasRead};
-ghost use Rattle.rw_top.specs.Refusal.{Cause, FileCause, IsModelRefusal, IsInputRefusal};
+ghost use Rattle.rw_top.specs.Command.{Names, command_of};
+ghost use Rattle.rw_top.specs.Reading.{ReadsBoth};
+ghost use Rattle.rw_top.specs.Refusal.{FileCause};
 ghost use Rattle.rw_top.specs.RunText.{IsRunText};
-ghost use Rattle.rw_top.specs.Written.{WritesAll};
+ghost use Rattle.rw_top.specs.Written.{HasRunText};
+ghost use Rattle.rw_top.specs.declared.refusal.File.TheVariants as F;
 
+use crate::Refusal;
 use crate::command::Command;
-use crate::{File, Refusal};
+use crate::files::{read_basin, read_given};
 use rw_base::NoMemory;
 use rw_engine::{Run, RunEnd, Trace, run_all};
-use rw_inputs::{InputFault, Inputs, read_inputs};
-use rw_io::{Shelf, Sink, WriteFault, read_all, write_all};
+use rw_inputs::Inputs;
+use rw_io::Shelf;
 use rw_method::Catalogue;
 use rw_model::Basin;
-use rw_model_toml::{ModelFault, read_model};
 use rw_report::section;
 use std::alloc::Global;
 
@@ -31,99 +28,14 @@ struct Files {
     inputs: Inputs,
 }
 
-fn refusal_of_model(_text: &[u8], fault: ModelFault) -> Refusal
-    requires { IsWhy (model_of _text.now) fault }
-    ensures { IsModelRefusal _text.now result }
-{
-    match fault {
-        ModelFault::NoMemory => Refusal::NoMemory,
-        _ => Refusal::Model(fault),
-    }
-}
-
-fn judge_model(alloc: Global, text: &[u8]) -> Result<Basin, Refusal>
-    ensures { MatchResult result (λ basin. model_of text.now ≡ Ok basin) (IsModelRefusal text.now) }
-{
-    match read_model(alloc, text) {
-        Ok(basin) => Ok(basin),
-        Err(fault) => Err(refusal_of_model(text, fault)),
-    }
-}
-
-fn judge_inputs(alloc: Global, basin: &Basin, text: &[u8]) -> Result<Inputs, Refusal>
-    ensures { MatchResult result (Reads basin.now text.now) (IsInputRefusal basin.now text.now) }
-{
-    match read_inputs(alloc, basin, text) {
-        Ok(inputs) => Ok(inputs),
-        Err(InputFault::NoMemory) => Err(Refusal::NoMemory),
-        Err(InputFault::Refused { kind, row, column }) => Err(Refusal::Inputs(kind, row, column)),
-    }
-}
-
-// The whole of a file that the command names, where each file before it is accepted.
-fn read_file<S: Shelf>(
-    alloc: Global,
-    command: &Command<'_>,
-    file: File,
-    shelf: &mut S,
-) -> Result<Vec<u8>, Refusal>
-    requires reached { Reaches (command_of command.now) (S.seen shelf.old).holds file }
-    ensures read { MatchResult result
-        (λ text. WasRead (S.seen shelf.old).holds
-        (path_of (command_of command.now) file) text.items)
-        (FileCause (command_of command.now) (change (S.seen shelf.old) (S.seen shelf.new))) }
-    ensures held { (p : List ℕ) → (S.seen shelf.new).holds p ≡ (S.seen shelf.old).holds p }
-    ensures later { NoneFell (S.seen shelf.old).faults (S.seen shelf.new).faults }
-{
-    match read_all(alloc, shelf, command.path(file)) {
-        Ok(text) => Ok(text),
-        Err(end) => Err(Refusal::after(end, file)),
-    }
-}
-
-// Reads and judges the model of the command.
-fn read_basin<S: Shelf>(
-    alloc: Global,
-    command: &Command<'_>,
-    shelf: &mut S,
-) -> Result<Basin, Refusal>
-    ensures read { MatchResult result
-        (ReadsModel (command_of command.now) (S.seen shelf.old).holds)
-        (FileCause (command_of command.now) (change (S.seen shelf.old) (S.seen shelf.new))) }
-    ensures held { (p : List ℕ) → (S.seen shelf.new).holds p ≡ (S.seen shelf.old).holds p }
-    ensures later { NoneFell (S.seen shelf.old).faults (S.seen shelf.new).faults }
-{
-    match read_file(alloc, command, File::Model, shelf) {
-        Ok(text) => judge_model(alloc, &text),
-        Err(refusal) => Err(refusal),
-    }
-}
-
-// Reads and judges the inputs of the command, for the basin that its model describes.
-fn read_given<S: Shelf>(
-    alloc: Global,
-    command: &Command<'_>,
-    basin: &Basin,
-    shelf: &mut S,
-) -> Result<Inputs, Refusal>
-    requires model { ReadsModel (command_of command.now) (S.seen shelf.old).holds basin.now }
-    ensures read { MatchResult result
-        (ReadsBoth (command_of command.now) (S.seen shelf.old).holds basin.now)
-        (FileCause (command_of command.now) (change (S.seen shelf.old) (S.seen shelf.new))) }
-    ensures held { (p : List ℕ) → (S.seen shelf.new).holds p ≡ (S.seen shelf.old).holds p }
-{
-    match read_file(alloc, command, File::Inputs, shelf) {
-        Ok(text) => judge_inputs(alloc, basin, &text),
-        Err(refusal) => Err(refusal),
-    }
-}
-
-// Reads and judges the files of the command, each before the next.
+// Reads and judges the model and the inputs of the command.
 fn read_files<S: Shelf>(
     alloc: Global,
     command: &Command<'_>,
     shelf: &mut S,
 ) -> Result<Files, Refusal>
+    requires named { Names (command_of command.now) F.Inputs }
+    requires policy { ¬ Names (command_of command.now) F.Policy }
     ensures read { MatchResult result
         (λ files. ReadsBoth (command_of command.now) (S.seen shelf.old).holds
         files.basin files.inputs)
@@ -169,31 +81,27 @@ fn run_text(
     Ok((text, run.end))
 }
 
-/// Writes the text of the run that the command asks for, and says how the run ended.
-pub(crate) fn simulate<S: Shelf, K: Sink>(
+/// The text of the run that the command asks for, and how the run ends.
+pub(crate) fn simulate<S: Shelf>(
     alloc: Global,
     command: &Command<'_>,
     shelf: &mut S,
-    out: &mut K,
     methods: &Catalogue,
-) -> Result<RunEnd, Refusal>
+) -> Result<(Vec<u8>, RunEnd), Refusal>
     requires order { AreInOrder (map (λ b. code (b.vtable, b.value)) methods.now.methods.items) }
-    ensures wrote { IfOk result (WritesAll (command_of command.now) (S.seen shelf.old).holds
-        (change (K.seen out.old) (K.seen out.new))) }
-    ensures cause { IfErr result (Cause (command_of command.now)
-        (change (S.seen shelf.old) (S.seen shelf.new)) (change (K.seen out.old) (K.seen out.new))) }
+    requires named { Names (command_of command.now) F.Inputs }
+    requires policy { ¬ Names (command_of command.now) F.Policy }
+    ensures text { MatchResult result (λ pair. HasRunText (command_of command.now)
+        (S.seen shelf.old).holds pair.1 pair.0.items)
+        (FileCause (command_of command.now) (change (S.seen shelf.old) (S.seen shelf.new))) }
     ensures held { (p : List ℕ) → (S.seen shelf.new).holds p ≡ (S.seen shelf.old).holds p }
 {
     let files = match read_files(alloc, command, shelf) {
         Ok(files) => files,
         Err(refusal) => return Err(refusal),
     };
-    let (text, end) = match run_text(alloc, &files, methods) {
-        Ok(pair) => pair,
-        Err(NoMemory) => return Err(Refusal::NoMemory),
-    };
-    match write_all(out, &text) {
-        Ok(()) => Ok(end),
-        Err(WriteFault) => Err(Refusal::CannotWrite),
+    match run_text(alloc, &files, methods) {
+        Ok(pair) => Ok(pair),
+        Err(NoMemory) => Err(Refusal::NoMemory),
     }
 }

@@ -1,15 +1,18 @@
 ghost use Rattle.std.specs.Prelude.{◌≡◌, ◌≤◌, ◌++◌, codes, MatchBool};
+ghost use Rattle.std.specs.Fmt.{decimal};
 ghost use Rattle.rw_io.specs.Causes.{Rose};
 ghost use Rattle.rw_io.specs.Known.{GrowsBy, PrefixGrew};
 ghost use Rattle.rw_top.specs.Command.{command_of};
 ghost use Rattle.rw_io.specs.Outside.{change};
 ghost use Rattle.rw_top.specs.Written.{Tells};
-ghost use Rattle.rw_top.specs.Lines.{inputs_line, line_of, model_line, words_line};
+ghost use Rattle.rw_top.specs.Lines.{grammar_line, inputs_line, line_of, model_line, told_path, types_line, words_line};
 
-use crate::Refusal;
 use crate::command::Command;
-use crate::fault_words::{build_words, calendar_words, input_words, table_words};
+use crate::fault_words::{build_words, calendar_words, input_words, table_words, type_words};
+use crate::{File, Refusal};
 use itoa::Buffer;
+use rpl_parse::ParseFault;
+use rpl_types::TypeKind;
 use rw_inputs::InputKind;
 use rw_io::{Sink, write_all};
 use rw_model_toml::ModelFault;
@@ -95,25 +98,85 @@ fn tell_model<E: Sink>(err: &mut E, fault: &ModelFault)
     }
 }
 
-// Writes a line of a row, a column and what is wrong there.
-fn tell_place<E: Sink>(err: &mut E, row: &str, column: &str, wrong: &str)
+// Writes a line of a number and what is wrong there.
+fn tell_number<E: Sink>(err: &mut E, first: &str, n: u32, wrong: &str)
     ensures { Tells (change (E.seen err.old) (E.seen err.new))
-        ((codes "basin: inputs: row " ++ row.now)
-        ++ ((codes " column " ++ column.now) ++ ((codes ": " ++ wrong.now) ++ codes "\n"))) }
+        ((first.now ++ decimal n) ++ ((codes ": " ++ wrong.now) ++ codes "\n")) }
 {
-    if tell_two(err, "basin: inputs: row ", row) {
-        tell_wrong(err, " column ", column, wrong);
+    let mut buffer = Buffer::new();
+    tell_wrong(err, first, buffer.format(n), wrong);
+}
+
+// Writes a line of two numbers and what is wrong there.
+fn tell_place<E: Sink>(err: &mut E, first: &str, n: u32, second: &str, m: u32, wrong: &str)
+    ensures { Tells (change (E.seen err.old) (E.seen err.new))
+        ((first.now ++ decimal n)
+        ++ ((second.now ++ decimal m) ++ ((codes ": " ++ wrong.now) ++ codes "\n"))) }
+{
+    let mut buffer = Buffer::new();
+    if tell_two(err, first, buffer.format(n)) {
+        tell_number(err, second, m, wrong);
     }
+}
+
+fn tell_grammar<E: Sink>(err: &mut E, fault: &ParseFault)
+    ensures { Tells (change (E.seen err.old) (E.seen err.new)) (grammar_line fault.now) }
+{
+    match fault {
+        ParseFault::BadToken(line) => {
+            tell_number(err, "basin: rules: line ", *line, "bad token");
+        }
+        ParseFault::BadDeclaration { declaration, line } => {
+            tell_place(
+                err,
+                "basin: rules: declaration ",
+                *declaration,
+                " line ",
+                *line,
+                "bad declaration",
+            );
+        }
+        ParseFault::TooMany(declaration) => {
+            tell_number(err, "basin: rules: declaration ", *declaration, "too many");
+        }
+        ParseFault::NoMemory => tell_line(err, "basin: rules: no memory", ""),
+    }
+}
+
+fn tell_types<E: Sink>(err: &mut E, kind: TypeKind, declaration: u32, node: u32)
+    ensures { Tells (change (E.seen err.old) (E.seen err.new)) (types_line kind declaration node) }
+{
+    tell_place(
+        err,
+        "basin: rules: declaration ",
+        declaration,
+        " node ",
+        node,
+        type_words(kind),
+    );
 }
 
 fn tell_inputs<E: Sink>(err: &mut E, kind: InputKind, row: u32, column: u8)
     ensures { Tells (change (E.seen err.old) (E.seen err.new)) (inputs_line kind row column) }
 {
-    let mut row_buffer = Buffer::new();
-    let mut column_buffer = Buffer::new();
-    let row = row_buffer.format(row);
-    let column = column_buffer.format(column);
-    tell_place(err, row, column, input_words(kind));
+    tell_place(
+        err,
+        "basin: inputs: row ",
+        row,
+        " column ",
+        u32::from(column),
+        input_words(kind),
+    );
+}
+
+// The path of a file as a line has it.
+fn told_path<'w>(command: &Command<'w>, file: File) -> &'w str
+    ensures { result.now ≡ told_path (command_of command.now) file }
+{
+    match command.path(file) {
+        Some(path) => path,
+        None => "",
+    }
 }
 
 /// Writes the line on words that ask for nothing, as far as the sink takes it. It takes no memory.
@@ -130,11 +193,17 @@ pub(crate) fn tell<E: Sink>(err: &mut E, command: &Command<'_>, refusal: &Refusa
 {
     match refusal {
         Refusal::Words => tell_words(err),
-        Refusal::CannotRead(file) => tell_line(err, "basin: cannot read ", command.path(*file)),
+        Refusal::CannotRead(file) => tell_line(
+            err,
+            "basin: cannot read ",
+            told_path(command, *file),
+        ),
         Refusal::CannotWrite => tell_line(err, "basin: cannot write", ""),
         Refusal::NoMemory => tell_line(err, "basin: want of memory", ""),
         Refusal::Model(fault) => tell_model(err, fault),
+        Refusal::Grammar(fault) => tell_grammar(err, fault),
+        Refusal::Types(kind, declaration, node) => tell_types(err, *kind, *declaration, *node),
         Refusal::Inputs(kind, row, column) => tell_inputs(err, *kind, *row, *column),
-        Refusal::TooLong(file) => tell_line(err, "basin: too long ", command.path(*file)),
+        Refusal::TooLong(file) => tell_line(err, "basin: too long ", told_path(command, *file)),
     }
 }

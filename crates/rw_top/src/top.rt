@@ -2,36 +2,28 @@ ghost use Rattle.std.specs.Prelude.{◌≡◌, ℕ, List, map};
 ghost use Rattle.rw_method.specs.Catalogue.{AreInOrder};
 ghost use Rattle.rw_top.specs.Command.{texts_of};
 ghost use Rattle.rw_io.specs.Outside.{change};
-ghost use Rattle.rw_top.specs.Promise.{Promise, status_of_end};
+ghost use Rattle.rw_top.specs.Promise.{Promise};
 
 use crate::Refusal;
 use crate::command::read_words;
-use crate::simulate::simulate;
+use crate::perform::perform;
 use crate::tell::{tell, tell_words};
 use rw_base::{Ledger, Steps};
-use rw_engine::RunEnd;
 use rw_io::{Shelf, Sink};
 use rw_method::Catalogue;
 use std::alloc::Global;
-
-// The status of a run that was written.
-fn status_of_run(end: &RunEnd) -> u8
-    ensures { result ≡ status_of_end end.now }
-{
-    match end {
-        RunEnd::Settled => 0,
-        RunEnd::Fault(_) => 1,
-    }
-}
 
 /// Does what the words ask for, and answers the status with which a program ends. The words don't include the
 /// program's own name.
 ///
 /// `simulate MODEL INPUTS` reads both files from the shelf, runs the basin that they describe, each object by the method
 /// of its kind, and writes the table to `out`. The methods are one for each kind, in the order of the kinds' numbers. The
-/// status is 0 where the run settled and 1 where it ended in a fault. With each other status one line on `err` says why:
-/// 2 the words, 3 a file that can't be read, 4 an output that can't be written, 5 want of memory, 6 the model, 8 the
-/// inputs, 10 a file of more than 16,777,216 bytes. A failure of `err` changes no status.
+/// status is 0 where the run settled and 1 where it ended in a fault. `check MODEL POLICY` reads both files, judges the
+/// ruleset with the basin, and writes what a firing of each rule comes to at most. The status is 0.
+///
+/// With each other status one line on `err` says why: 2 the words, 3 a file that can't be read, 4 an output that can't be
+/// written, 5 want of memory, 6 the model, 7 the ruleset, 8 the inputs, 10 a file of more than 16,777,216 bytes. A failure
+/// of `err` changes no status.
 pub fn basin_main<S: Shelf, K: Sink, E: Sink, L: Ledger>(
     alloc: Global,
     words: &[String],
@@ -53,8 +45,8 @@ pub fn basin_main<S: Shelf, K: Sink, E: Sink, L: Ledger>(
         tell_words(err);
         return Refusal::Words.status();
     };
-    match simulate(alloc, &command, shelf, out, methods) {
-        Ok(end) => status_of_run(&end),
+    match perform(alloc, &command, shelf, out, methods) {
+        Ok(status) => status,
         Err(refusal) => {
             tell(err, &command, &refusal);
             refusal.status()

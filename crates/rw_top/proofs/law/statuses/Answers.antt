@@ -16,6 +16,9 @@ returns-clause-read_fault c = λ call. status.read_fault call
 pub returns-clause-model : goal.returns-clause-model
 returns-clause-model c = λ call. status.model call
 
+pub returns-clause-rules : goal.returns-clause-rules
+returns-clause-rules c = λ call. status.rules call
+
 pub returns-clause-inputs : goal.returns-clause-inputs
 returns-clause-inputs c = λ call. status.inputs call
 

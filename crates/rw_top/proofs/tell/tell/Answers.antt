@@ -1,10 +1,10 @@
 use Rattle.rw_top.proofs.tell.tell.Goals as goal
 
 pub returns-in-CannotRead : goal.returns-in-CannotRead
-returns-in-CannotRead g c = rw c.in-CannotRead.is (rw c.path.ensures at c.tell_line.ensures)
+returns-in-CannotRead g c = rw c.in-CannotRead.is (rw c.told_path.ensures at c.tell_line.ensures)
 
 pub returns-in-TooLong : goal.returns-in-TooLong
-returns-in-TooLong g c = rw c.in-TooLong.is (rw c.path-in-TooLong.ensures at c.tell_line-in-TooLong.ensures)
+returns-in-TooLong g c = rw c.in-TooLong.is (rw c.told_path-in-TooLong.ensures at c.tell_line-in-TooLong.ensures)
 
 pub returns-in-CannotWrite : goal.returns-in-CannotWrite
 returns-in-CannotWrite g c = rw c.in-CannotWrite.is c.tell_line-in-CannotWrite.ensures
@@ -14,3 +14,6 @@ returns-in-NoMemory g c = rw c.in-NoMemory.is c.tell_line-in-NoMemory.ensures
 
 pub returns-in-Inputs : goal.returns-in-Inputs
 returns-in-Inputs g c = rw c.in-Inputs.is c.tell_inputs.ensures
+
+pub returns-in-Types : goal.returns-in-Types
+returns-in-Types g c = rw c.in-Types.is c.tell_types.ensures

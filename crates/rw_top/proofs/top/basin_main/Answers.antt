@@ -1,5 +1,5 @@
 use Rattle.std.proofs.Common.{refl, rules}
-use Rattle.rw_top.proofs.PromiseLemmas.{promised_refusal, promised_run, promised_words}
+use Rattle.rw_top.proofs.PromiseLemmas.{promised_refusal, promised_text, promised_words}
 use Rattle.rw_top.proofs.top.basin_main.Goals as goal
 
 pub returns-in_default : goal.returns-in_default
@@ -8,7 +8,7 @@ returns-in_default g c =
 
 pub returns-in-Ok : goal.returns-in-Ok
 returns-in-Ok g c =
-    promised_run _ c.in-Ok.ensures.held c.in-Ok.end _ (search rules)
+    promised_text _ c.in-Ok.ensures.held _
     (record { command = _; asked = c.in-Some.ensures; text = c.in-Ok.ensures.wrote; silent = refl })
 
 pub returns-in-Err : goal.returns-in-Err

@@ -1,9 +1,0 @@
-use Rattle.std.proofs.Common.{refl}
-use Rattle.rw_top.proofs.CauseLemmas.{read_cause}
-use Rattle.rw_top.proofs.simulate.read_file.Goals as goal
-
-pub returns-in-Err-clause-read : goal.returns-in-Err-clause-read
-returns-in-Err-clause-read g c =
-    rw c.after.ensures
-    (read_cause _ _ c.args.file c.in-Err.end _ refl c.requires.reached (rw c.path.ensures at c.in-Err.ensures.fault) c.in-Err.ensures.long
-    (rw c.path.ensures at c.in-Err.ensures.longer))

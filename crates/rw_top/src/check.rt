@@ -1,0 +1,78 @@
+ghost use Rattle.std.specs.Prelude.{◌≡◌, ℕ, ◌++◌, ◌<◌, ◌≤◌, Some, List, OnOk, IfOk, MatchResult, string_bytes};
+ghost use Rattle.rpl_tree.specs.Seen.{rules_of};
+ghost use Rattle.rpl_types.specs.Refused.{budget_seen};
+ghost use Rattle.rw_io.specs.Outside.{change};
+ghost use Rattle.rw_top.specs.Budgets.{budget_line, check_text, counts_line};
+ghost use Rattle.rw_top.specs.Command.{Names, command_of};
+ghost use Rattle.rw_top.specs.Refusal.{FileCause};
+ghost use Rattle.rw_top.specs.Written.{HasCheckText};
+ghost use Rattle.rw_top.specs.declared.refusal.File.TheVariants as F;
+
+use crate::Refusal;
+use crate::command::Command;
+use crate::files::{read_basin, read_policy};
+use rpl_types::{TreeCost, Typed};
+use rw_base::{NoMemory, RuleNo};
+use rw_io::Shelf;
+use std::alloc::Global;
+use std::fmt::Write;
+
+fn push_counts(text: &mut String, rules: u16, functions: u16) -> Result<(), NoMemory>
+    ensures { OnOk result
+        (string_bytes text.new ≡ string_bytes text.old ++ counts_line rules functions) }
+{
+    writeln!(text, "ok {rules} rules {functions} functions")?;
+    Ok(())
+}
+
+fn push_budget(text: &mut String, rule: u16, cost: TreeCost) -> Result<(), NoMemory>
+    ensures { OnOk result
+        (string_bytes text.new ≡ string_bytes text.old ++ budget_line rule (budget_seen cost)) }
+{
+    let (count, reads) = (cost.instructions, cost.reads);
+    let (puts, words) = (cost.puts, cost.words);
+    writeln!(
+        text,
+        "rule {rule} instructions {count} reads {reads} puts {puts} words {words}"
+    )?;
+    Ok(())
+}
+
+// The counts of rules and functions, and a line for each rule.
+fn budgets(alloc: Global, typed: &Typed) -> Result<String, NoMemory>
+    ensures { IfOk result (λ text. string_bytes text ≡ check_text (rules_of typed.now.rules)) }
+{
+    let mut text = String::new(alloc);
+    push_counts(&mut text, typed.rule_count(), typed.function_count())?;
+    for done in 0..typed.rule_count() {
+        let rule = done + 1;
+        push_budget(&mut text, rule, typed.cost(RuleNo(rule)))?;
+    }
+    Ok(text)
+}
+
+/// The text of the budgets of the policy that the command names, where that is accepted.
+pub(crate) fn check_policy<S: Shelf>(
+    alloc: Global,
+    command: &Command<'_>,
+    shelf: &mut S,
+) -> Result<Vec<u8>, Refusal>
+    requires named { Names (command_of command.now) F.Policy }
+    ensures text { MatchResult result (λ text. HasCheckText (command_of command.now)
+        (S.seen shelf.old).holds text.items)
+        (FileCause (command_of command.now) (change (S.seen shelf.old) (S.seen shelf.new))) }
+    ensures held { (p : List ℕ) → (S.seen shelf.new).holds p ≡ (S.seen shelf.old).holds p }
+{
+    let basin = match read_basin(alloc, command, shelf) {
+        Ok(basin) => basin,
+        Err(refusal) => return Err(refusal),
+    };
+    let typed = match read_policy(alloc, command, &basin, shelf) {
+        Ok(typed) => typed,
+        Err(refusal) => return Err(refusal),
+    };
+    match budgets(alloc, &typed) {
+        Ok(text) => Ok(text.into_bytes()),
+        Err(NoMemory) => Err(Refusal::NoMemory),
+    }
+}
