@@ -12,3 +12,4 @@ pub mod Operating
 pub mod KindFacts
 pub mod Rulings
 pub mod Endless
+pub mod StackFacts

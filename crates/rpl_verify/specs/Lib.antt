@@ -4,6 +4,7 @@ pub mod Places
 pub mod Names
 pub mod Fits
 pub mod Budget
+pub mod Stacks
 pub mod Operations
 pub mod Machine
 pub mod Safety

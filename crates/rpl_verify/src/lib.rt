@@ -5,6 +5,7 @@
 #![tactic(auto)]
 
 pub mod law;
+mod stacks;
 mod verify_kind;
 
 pub use verify_kind::VerifyKind;
