@@ -13,3 +13,4 @@ pub mod KindFacts
 pub mod Rulings
 pub mod Endless
 pub mod StackFacts
+pub mod WalkFacts

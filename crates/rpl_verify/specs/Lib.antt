@@ -5,6 +5,8 @@ pub mod Names
 pub mod Fits
 pub mod Budget
 pub mod Stacks
+pub mod Walked
+pub mod Walks
 pub mod Operations
 pub mod Machine
 pub mod Safety

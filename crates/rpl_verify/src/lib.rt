@@ -5,7 +5,9 @@
 #![tactic(auto)]
 
 pub mod law;
+mod place_fault;
 mod stacks;
 mod verify_kind;
+mod walk;
 
 pub use verify_kind::VerifyKind;
