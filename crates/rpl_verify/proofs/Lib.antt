@@ -14,3 +14,4 @@ pub mod Rulings
 pub mod Endless
 pub mod StackFacts
 pub mod WalkFacts
+pub mod TakeFacts

@@ -7,6 +7,7 @@ pub mod Budget
 pub mod Stacks
 pub mod Walked
 pub mod Walks
+pub mod Steps
 pub mod Operations
 pub mod Machine
 pub mod Safety

@@ -4,9 +4,11 @@
 //! code by them yet.
 #![tactic(auto)]
 
+mod kinds;
 pub mod law;
 mod place_fault;
 mod stacks;
+mod takes;
 mod verify_kind;
 mod walk;
 
