@@ -12,3 +12,6 @@ pub mod Operating
 pub mod KindFacts
 pub mod Rulings
 pub mod Endless
+pub mod StackFacts
+pub mod WalkFacts
+pub mod TakeFacts

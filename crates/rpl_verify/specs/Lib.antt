@@ -4,6 +4,10 @@ pub mod Places
 pub mod Names
 pub mod Fits
 pub mod Budget
+pub mod Stacks
+pub mod Walked
+pub mod Walks
+pub mod Steps
 pub mod Operations
 pub mod Machine
 pub mod Safety

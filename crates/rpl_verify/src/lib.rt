@@ -4,7 +4,12 @@
 //! code by them yet.
 #![tactic(auto)]
 
+mod kinds;
 pub mod law;
+mod place_fault;
+mod stacks;
+mod takes;
 mod verify_kind;
+mod walk;
 
 pub use verify_kind::VerifyKind;

@@ -1,0 +1,223 @@
+-- Lists by number.
+use Rattle.std.proofs.Common.{◌≡◌, ◌≢◌, ℕ, zero, suc, ◌≤◌, ◌<◌, Bool, true, false, cond, List, [], ◌∷◌, ◌++◌, length, Some, None, refl, sym, ap, ap₂, ◌∙◌, subst, arith, rules, length-append}
+use Rattle.std.specs.Prelude.{◌⊎◌, slice_get}
+use Rattle.std.specs.Map.{lookup}
+use Rattle.std.proofs.Common.{take, inl, inr, ◌-◌, get_or}
+use Rattle.std.specs.Cmp.{Equal-is}
+use Rattle.std.specs.Ordering.{nat_cmp}
+use Rattle.std.specs.BTreeMap.{BTreeMap, get, Updates, is_at}
+use Rattle.std.proofs.lemmas.Map.Lookups.{exact_unsigned}
+use Rattle.std.proofs.lemmas.Option.{slice_get_within, slice_get_read}
+use Rattle.rpl_code.specs.declared.kind.ValueKind.{ValueKind}
+use Rattle.rpl_code.specs.declared.kind.ValueKind.TheVariants as K
+use Rattle.rpl_verify.specs.declared.stacks.Node.{Node}
+use Rattle.rpl_tree.specs.Budget.{capped, limits}
+use Rattle.rpl_verify.specs.Kinds.{are_same_kinds, words_of_all}
+use Rattle.rpl_verify.specs.Stacks.{at, lists_after, lists, code_of, key_of, IsNode, IsKept, Grows, IsPushed}
+use Rattle.rpl_verify.proofs.KindFacts.{same_kinds_true}
+
+pub at-append : (ls ms : List (List ValueKind)) (n : ℕ) → n < length ls → at (ls ++ ms) n ≡ at ls n
+at-append [] ms n h = absurd (omega (arith, h))
+at-append (l ∷ ls) ms zero h = refl
+at-append (l ∷ ls) ms (suc n) h = at-append ls ms n (omega (arith, h))
+
+at-seam : (ls : List (List ValueKind)) (x : List ValueKind) (n : ℕ) → n ≡ length ls → at (ls ++ x ∷ []) n ≡ x
+at-seam [] x zero h = refl
+at-seam [] x (suc n) h = absurd (omega (arith, h))
+at-seam (l ∷ ls) x zero h = absurd (omega (arith, h))
+at-seam (l ∷ ls) x (suc n) h = at-seam ls x n (omega (arith, h))
+
+lists_after-push : (ls : List (List ValueKind)) (ns : List Node) (n : Node) → lists_after ls (ns ++ n ∷ []) ≡ lists_after ls ns ++ (n.kind ∷ at (lists_after ls ns) n.below) ∷ []
+lists_after-push ls [] n = refl
+lists_after-push ls (m ∷ ns) n = lists_after-push (ls ++ (m.kind ∷ at ls m.below) ∷ []) ns n
+
+pub lists-push : (ns : List Node) (n : Node) → lists (ns ++ n ∷ []) ≡ lists ns ++ (n.kind ∷ at (lists ns) n.below) ∷ []
+lists-push ns n = lists_after-push ([] ∷ []) ns n
+
+got_push : {A : Type 0} (xs : List A) (x y : A) (k : ℕ) → slice_get (xs ++ x ∷ []) k ≡ Some y → ((k < length xs) × (slice_get xs k ≡ Some y)) ⊎ ((k ≡ length xs) × (x ≡ y))
+got_push [] x y zero h = inr (refl, cc h)
+got_push [] x y (suc k) h = absurd (cc h)
+got_push (z ∷ xs) x y zero h = inl (omega arith, h)
+got_push (z ∷ xs) x y (suc k) h = elim (got_push xs x y k h) [ inl p ↦ inl (omega (arith, p.0), p.1) | inr p ↦ inr (omega (arith, p.0), p.1) ]
+
+got_old : {A : Type 0} (xs : List A) (x y : A) (k : ℕ) → slice_get xs k ≡ Some y → slice_get (xs ++ x ∷ []) k ≡ Some y
+got_old [] x y k h = absurd (cc h)
+got_old (z ∷ xs) x y zero h = h
+got_old (z ∷ xs) x y (suc k) h = got_old xs x y k h
+
+got_new : {A : Type 0} (xs : List A) (x : A) → slice_get (xs ++ x ∷ []) (length xs) ≡ Some x
+got_new [] x = refl
+got_new (z ∷ xs) x = got_new xs x
+
+-- lookups after an insertion
+finds_old : (m n : BTreeMap ℕ ℕ) (k v q x : ℕ) → get nat_cmp m k ≡ None → Updates nat_cmp m n k (Some v) → get nat_cmp m q ≡ Some x → get nat_cmp n q ≡ Some x
+finds_old m n k v q x absent u h = by (is_at (nat_cmp k) q) refl
+  where
+    by : (b : Bool) → is_at (nat_cmp k) q ≡ b → get nat_cmp n q ≡ Some x
+    by true e = let same : k ≡ q = exact_unsigned k q ((Equal-is (nat_cmp k q)).0 e) in absurd (let g = ap (get nat_cmp m) same in cc (g, absent, h))
+    by false e = u.0 q ∙ ap (λ b. cond b (Some v) (get nat_cmp m q)) e ∙ h
+
+found_in : (m n : BTreeMap ℕ ℕ) (k v q x : ℕ) → Updates nat_cmp m n k (Some v) → get nat_cmp n q ≡ Some x → ((k ≡ q) × (v ≡ x)) ⊎ (get nat_cmp m q ≡ Some x)
+found_in m n k v q x u h = by (is_at (nat_cmp k) q) refl
+  where
+    by : (b : Bool) → is_at (nat_cmp k) q ≡ b → ((k ≡ q) × (v ≡ x)) ⊎ (get nat_cmp m q ≡ Some x)
+    by true e = inl (exact_unsigned k q ((Equal-is (nat_cmp k q)).0 e), let g = sym (u.0 q ∙ ap (λ b. cond b (Some v) (get nat_cmp m q)) e) in cc (g, h))
+    by false e = inr (sym (u.0 q ∙ ap (λ b. cond b (Some v) (get nat_cmp m q)) e) ∙ h)
+
+node_kept : (ns : List Node) (n m : Node) (k : ℕ) → length (lists ns) ≡ suc (length ns) → k < length ns → IsNode ns k m → IsNode (ns ++ n ∷ []) k m
+node_kept ns n m k w lt h =
+    let e = lists-push ns n in
+    let new = (n.kind ∷ at (lists ns) n.below) ∷ [] in
+    let a : at (lists (ns ++ n ∷ [])) (suc k) ≡ at (lists ns) (suc k) = ap (λ l. at l (suc k)) e ∙ at-append (lists ns) new (suc k) (omega (arith, w, lt)) in
+    let b : at (lists (ns ++ n ∷ [])) m.below ≡ at (lists ns) m.below = ap (λ l. at l m.below) e ∙ at-append (lists ns) new m.below (omega (arith, w, lt, h.low)) in
+    record { low = h.low; made = a ∙ h.made ∙ ap (λ l. m.kind ∷ l) (sym b); high = h.high ∙ ap (λ l. suc (length l)) (sym b); flat = h.flat; heavy = h.heavy ∙ ap (λ l. capped limits.words (words_of_all (m.kind ∷ l))) (sym b); small = h.small }
+
+node_new : (ns : List Node) (n : Node) → length (lists ns) ≡ suc (length ns) → n.below ≤ length ns → n.height ≡ suc (length (at (lists ns) n.below)) → n.height ≤ suc (length ns) → n.words ≡ capped limits.words (words_of_all (n.kind ∷ at (lists ns) n.below)) → code_of n.kind < 262144 → IsNode (ns ++ n ∷ []) (length ns) n
+node_new ns n w lt hi fl he sm =
+    let e = lists-push ns n in
+    let new = n.kind ∷ at (lists ns) n.below in
+    let a : at (lists (ns ++ n ∷ [])) (suc (length ns)) ≡ new = ap (λ l. at l (suc (length ns))) e ∙ at-seam (lists ns) new (suc (length ns)) (sym w) in
+    let b : at (lists (ns ++ n ∷ [])) n.below ≡ at (lists ns) n.below = ap (λ l. at l n.below) e ∙ at-append (lists ns) (new ∷ []) n.below (omega (arith, w, lt)) in
+    record { low = lt; made = a ∙ ap (λ l. n.kind ∷ l) (sym b); high = hi ∙ ap (λ l. suc (length l)) (sym b); flat = fl; heavy = he ∙ ap (λ l. capped limits.words (words_of_all (n.kind ∷ l))) (sym b); small = sm }
+
+pub kept_push : (ns : List Node) (n : Node) (m m2 : BTreeMap ℕ ℕ) → IsKept ns m → n.below ≤ length ns → n.height ≡ suc (length (at (lists ns) n.below)) → n.height ≤ suc (length ns)
+    → n.words ≡ capped limits.words (words_of_all (n.kind ∷ at (lists ns) n.below)) → code_of n.kind < 262144 → get nat_cmp m (key_of n.below n.kind) ≡ None → Updates nat_cmp m m2 (key_of n.below n.kind) (Some (suc (length ns))) → IsKept (ns ++ n ∷ []) m2
+kept_push ns n m m2 h lt hi fl he sm absent u =
+    let e = lists-push ns n in
+    let key = key_of n.below n.kind in
+    record {
+      wide = ap length e ∙ length-append (lists ns) _ ∙ (let z = h.wide in let y = length-append ns (n ∷ []) in omega (arith, z, y));
+      empty = ap (λ l. at l 0) e ∙ at-append (lists ns) _ 0 (let z = h.wide in omega (arith, z)) ∙ h.empty;
+      nodes = λ k x g. elim (got_push ns n x k g) [
+        | inl p ↦ node_kept ns n x k h.wide p.0 (h.nodes k x p.1)
+        | inr p ↦ subst (λ y. IsNode (ns ++ n ∷ []) k y) p.1 (subst (λ j. IsNode (ns ++ n ∷ []) j n) (sym p.0) (node_new ns n h.wide lt hi fl he sm))
+      ];
+      told = λ k x g. elim (got_push ns n x k g) [
+        | inl p ↦ finds_old m m2 key (suc (length ns)) (key_of x.below x.kind) (suc k) absent u (h.told k x p.1)
+        | inr p ↦ subst (λ y. get nat_cmp m2 (key_of y.below y.kind) ≡ Some (suc k)) p.1 (u.1 ∙ ap (λ j. Some (suc j)) (sym p.0))
+      ];
+      known = λ q v g. elim (found_in m m2 key (suc (length ns)) q v u g) [
+        | inl p ↦ record { place = length ns; node = n; is = sym p.1; here = got_new ns n; key_is = p.0 }
+        | inr p ↦ let w = h.known q v p in record { place = w.place; node = w.node; is = w.is; here = got_old ns n w.node w.place w.here; key_is = w.key_is }
+      ];
+    }
+
+pub made_push : (ns : List Node) (n : Node) (v : ℕ) → length (lists ns) ≡ suc (length ns) → v ≡ suc (length ns) → IsPushed (lists ns) (lists (ns ++ n ∷ [])) n.kind n.below v
+made_push ns n v w e =
+    let l = lists-push ns n in
+    record {
+      within = subst (λ ls. v < length ls) (sym l) (let z = length-append (lists ns) ((n.kind ∷ at (lists ns) n.below) ∷ []) in omega (arith, z, w, e));
+      made = ap (λ ls. at ls v) l ∙ at-seam (lists ns) _ v (omega (arith, w, e));
+    }
+
+pub grows_push : (ns : List Node) (n : Node) → Grows (lists ns) (lists (ns ++ n ∷ []))
+grows_push ns n = record { more = (n.kind ∷ at (lists ns) n.below) ∷ []; is = lists-push ns n }
+
+pub grows_none : (ls : List (List ValueKind)) → Grows ls ls
+grows_none ls = record { more = []; is = search rules }
+
+same_key : (a b : ℕ) (j k : ValueKind) → key_of a j ≡ key_of b k → code_of j < 262144 → code_of k < 262144 → (a ≡ b) × (code_of j ≡ code_of k)
+same_key a b j k h s t = (omega (arith, h, s, t), omega (arith, h, s, t))
+
+code_is : (j k : ValueKind) → code_of j ≡ code_of k → j ≡ k
+code_is K.N K.N h = refl
+code_is K.B K.B h = refl
+code_is K.D K.D h = refl
+code_is K.S K.S h = refl
+code_is (K.NList m) (K.NList n) h = ap K.NList (omega (arith, h))
+code_is (K.SList m) (K.SList n) h = ap K.SList (omega (arith, h))
+code_is _ _ h = absurd (omega (arith, h))
+
+-- a list that was looked up
+pub made_known : (ns : List Node) (m : BTreeMap ℕ ℕ) (b v : ℕ) (k : ValueKind) → IsKept ns m → code_of k < 262144 → get nat_cmp m (key_of b k) ≡ Some v → IsPushed (lists ns) (lists ns) k b v
+made_known ns m b v k h sm g =
+    let w = h.known (key_of b k) v g in
+    let n = h.nodes w.place w.node w.here in
+    let i = same_key w.node.below b w.node.kind k w.key_is n.small sm in
+    let kd : w.node.kind ≡ k = code_is w.node.kind k i.1 in
+    let lt = slice_get_within ns w.place w.node w.here in
+    record {
+      within = let z = h.wide in let y = w.is in omega (arith, z, y, lt);
+      made = ap (at (lists ns)) w.is ∙ n.made ∙ ap₂ (λ x y. x ∷ at (lists ns) y) kd i.0;
+    }
+
+-- what stands at a number
+pub node_at : (ns : List Node) (m : BTreeMap ℕ ℕ) (k : ℕ) (n : Node) → IsKept ns m → slice_get ns k ≡ Some n → IsNode ns k n
+node_at ns m k n h g = h.nodes k n g
+
+nodes_at : (ns : List Node) (k : ℕ) → k < length ns → (n : Node) × (slice_get ns k ≡ Some n)
+nodes_at [] k h = absurd (omega (arith, h))
+nodes_at (n ∷ ns) zero h = (n, refl)
+nodes_at (n ∷ ns) (suc k) h = nodes_at ns k (omega (arith, h))
+
+one : (ns : List Node) (m : BTreeMap ℕ ℕ) → IsKept ns m → (ks : List ValueKind) (a b : ℕ) → a < suc (length ns) → b < suc (length ns) → at (lists ns) a ≡ ks → at (lists ns) b ≡ ks → a ≡ b
+one ns m h ks zero zero la lb ea eb = refl
+one ns m h [] zero (suc b) la lb ea eb = let q = nodes_at ns b (omega (arith, lb)) in absurd (let z = (h.nodes b q.0 q.1).made in cc (z, eb))
+one ns m h [] (suc a) b la lb ea eb = let q = nodes_at ns a (omega (arith, la)) in absurd (let z = (h.nodes a q.0 q.1).made in cc (z, ea))
+one ns m h (k ∷ ks) zero (suc b) la lb ea eb = absurd (let z = h.empty in cc (z, ea))
+one ns m h (k ∷ ks) (suc a) zero la lb ea eb = absurd (let z = h.empty in cc (z, eb))
+one ns m h (k ∷ ks) (suc a) (suc b) la lb ea eb =
+    let p = nodes_at ns a (omega (arith, la)) in
+    let q = nodes_at ns b (omega (arith, lb)) in
+    let x = h.nodes a p.0 p.1 in
+    let y = h.nodes b q.0 q.1 in
+    let xm = x.made in
+    let ym = y.made in
+    let ka : p.0.kind ≡ k = cc (xm, ea) in
+    let kb : q.0.kind ≡ k = cc (ym, eb) in
+    let ta : at (lists ns) p.0.below ≡ ks = cc (xm, ea) in
+    let tb : at (lists ns) q.0.below ≡ ks = cc (ym, eb) in
+    let low : p.0.below ≡ q.0.below = one ns m h ks p.0.below q.0.below (let z = x.low in omega (arith, z, la)) (let z = y.low in omega (arith, z, lb)) ta tb in
+    let t : get nat_cmp m (key_of p.0.below p.0.kind) ≡ get nat_cmp m (key_of q.0.below q.0.kind) = ap₂ (λ u v. get nat_cmp m (key_of u v)) low (ka ∙ sym kb) in
+    let u = h.told a p.0 p.1 in
+    let v = h.told b q.0 q.1 in
+    cc (t, u, v)
+
+pub same_is : (ns : List Node) (m : BTreeMap ℕ ℕ) (a b : ℕ) → IsKept ns m → a < length (lists ns) → b < length (lists ns) → are_same_kinds (at (lists ns) a) (at (lists ns) b) ≡ true → a ≡ b
+same_is ns m a b h la lb e = let w = h.wide in one ns m h (at (lists ns) a) a b (omega (arith, w, la)) (omega (arith, w, lb)) refl (sym (same_kinds_true _ _ e))
+
+pub differ : (ns : List Node) (m : BTreeMap ℕ ℕ) (a b : ℕ) → IsKept ns m → a < length (lists ns) → b < length (lists ns) → a ≢ b → are_same_kinds (at (lists ns) a) (at (lists ns) b) ≡ false
+differ ns m a b h la lb ne = by (are_same_kinds (at (lists ns) a) (at (lists ns) b)) refl
+  where
+    by : (t : Bool) → are_same_kinds (at (lists ns) a) (at (lists ns) b) ≡ t → t ≡ false
+    by true e = absurd (ne (same_is ns m a b h la lb e))
+    by false e = refl
+
+-- what stands at a number that isn't 0
+pub record IsAt (ls : List (List ValueKind)) (n : ℕ) (x : Node) : Type 0 where
+  pub made : at ls n ≡ x.kind ∷ at ls x.below
+  pub low : x.below < length ls
+  pub high : x.height ≡ length (at ls n)
+  pub flat : x.height ≤ n
+  pub heavy : x.words ≡ capped limits.words (words_of_all (at ls n))
+
+pub node_of : (ns : List Node) (m : BTreeMap ℕ ℕ) (ls : List (List ValueKind)) (n : ℕ) (x : Node) → lists ns ≡ ls → IsKept ns m → n ≢ 0 → n < length ls → x ≡ get_or ns (n - 1) x → IsAt ls n x
+node_of ns m ls zero x v h nz lt e = absurd (nz refl)
+node_of ns m ls (suc k) x v h nz lt e =
+    let w = h.wide in
+    let l = ap length v in
+    let z : suc k - 1 ≡ k = omega arith in
+    let y : x ≡ get_or ns k x = subst (λ j. x ≡ get_or ns j x) z e in
+    let g = slice_get_read ns (length ns) k x refl (omega (arith, w, l, lt)) y in
+    let i = h.nodes k x g in
+    let lo = i.low in
+    subst (λ ls. IsAt ls (suc k) x) v (record { made = i.made; low = omega (arith, w, l, lt, lo); high = i.high ∙ sym (ap length i.made); flat = i.flat; heavy = i.heavy ∙ sym (ap (λ l. capped limits.words (words_of_all l)) i.made) })
+
+pub flat_at : (ns : List Node) (m : BTreeMap ℕ ℕ) (n : ℕ) → IsKept ns m → n < length (lists ns) → length (at (lists ns) n) ≤ n
+flat_at ns m zero h lt = let e = ap length h.empty in omega (arith, e)
+flat_at ns m (suc k) h lt =
+    let w = h.wide in
+    let q = nodes_at ns k (omega (arith, w, lt)) in
+    let i = h.nodes k q.0 q.1 in
+    let a = i.flat in let b = i.high in let c = ap length i.made in omega (arith, a, b, c)
+
+pub kept_cut : (ns : List Node) (n : Node) (k : ℕ) → k ≡ length ns → take k (ns ++ n ∷ []) ≡ ns
+kept_cut [] n zero h = refl
+kept_cut [] n (suc k) h = absurd (omega (arith, h))
+kept_cut (m ∷ ns) n zero h = absurd (omega (arith, h))
+kept_cut (m ∷ ns) n (suc k) h = ap (λ l. m ∷ l) (kept_cut ns n k (omega (arith, h)))
+
+pub kept_same : (ns : List Node) (m m2 : BTreeMap ℕ ℕ) → m2.entries ≡ m.entries → IsKept ns m → IsKept ns m2
+kept_same ns m m2 e h =
+    let same : (q : ℕ) → get nat_cmp m2 q ≡ get nat_cmp m q = λ q. ap (λ es. lookup (is_at (nat_cmp q)) es) e in
+    record { wide = h.wide; empty = h.empty; nodes = h.nodes; told = λ k n g. same (key_of n.below n.kind) ∙ h.told k n g; known = λ q v g. h.known q v (sym (same q) ∙ g) }

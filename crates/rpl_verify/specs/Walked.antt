@@ -1,0 +1,79 @@
+-- A walk through a block, and what its steps answer.
+use Rattle.std.specs.Prelude.{◌≡◌, ℕ, Bool, true, false, List, [], ◌∷◌, slice_get, Option, Some, None, MatchOption, Result, Ok, Err}
+use Rattle.rpl_code.specs.declared.kind.ValueKind.{ValueKind}
+use Rattle.rpl_verify.specs.declared.verify_kind.VerifyKind.{VerifyKind}
+use Rattle.rpl_verify.specs.declared.place_fault.PlaceFault.{PlaceFault}
+use Rattle.rpl_verify.specs.declared.place_fault.PlaceFault.TheVariants.{Misfit, NoMemory}
+use Rattle.rpl_verify.specs.Kinds.{are_same_kinds}
+use Rattle.rpl_verify.specs.Places.{Loop, visiting, mapping, Spot, rest_of}
+use Rattle.rpl_verify.specs.Fits.{Before, Open, before, behind_loop, declared_at, shut}
+
+-- what is before the place, and what jumps have to know of each place
+pub record Walked : Type 0 where
+  pub before : Before
+  pub spots : List Spot
+
+-- before another place, or with other operands
+abbrev pub at_before : Walked → Before → Walked
+at_before w b = record { before = b; spots = w.spots }
+
+abbrev pub with_kinds : Walked → List ValueKind → Walked
+with_kinds w kinds = at_before w (before kinds w.before.loops)
+
+abbrev pub without_top : Walked → Walked
+without_top w = with_kinds w (rest_of w.before.kinds)
+
+-- a loop begins at a place, over a list with room for so many
+abbrev pub with_loop : ℕ → Loop → ℕ → Walked → Walked
+with_loop place loop room w =
+    let o : Open = record { start = place; loop = loop; room = room; under = w.before.kinds } in
+    at_before w (before w.before.kinds (o ∷ w.before.loops))
+
+abbrev pub loop_of : Bool → Loop
+loop_of true = mapping
+loop_of false = visiting
+
+abbrev pub declares : List Spot → ℕ → Option (List ValueKind)
+declares spots place = declared_at (slice_get spots place)
+
+-- these kinds are declared there
+abbrev pub is_declared : Option (List ValueKind) → List ValueKind → Bool
+is_declared None kinds = false
+is_declared (Some declared) kinds = are_same_kinds declared kinds
+
+-- with the operands that are declared there, if any are
+abbrev pub landed : Option (List ValueKind) → Walked → Walked
+landed None w = w
+landed (Some kinds) w = with_kinds w kinds
+
+abbrev pub are_shut : List Open → Bool
+are_shut [] = true
+are_shut (o ∷ os) = false
+
+-- ---- answers
+
+-- the answer is what is given, seen in the definition's terms, unless memory was wanting
+abbrev pub Gives : {A B : Type 0} → Result A VerifyKind → (B → A) → Result B PlaceFault → Type 0
+Gives given seen (Ok x) = given ≡ Ok (seen x)
+Gives given seen (Err (Misfit misfit)) = given ≡ Err misfit
+Gives given seen (Err NoMemory) = Unit {0}
+
+-- the walk goes on to what is given to be before the next place
+abbrev pub Goes : {B : Type 0} → Result Before VerifyKind → Walked → Walked → Result B PlaceFault → Type 0
+Goes given old new (Ok x) = (given ≡ Ok new.before) × (new.spots ≡ old.spots)
+Goes given old new (Err (Misfit misfit)) = given ≡ Err misfit
+Goes given old new (Err NoMemory) = Unit {0}
+
+-- a jump lands where these kinds are declared
+abbrev pub Lands : {B : Type 0} → Result (List ValueKind) VerifyKind → Option (List ValueKind) → Result B PlaceFault → Type 0
+Lands given kinds (Ok x) = MatchOption kinds ⊥ (λ declared. given ≡ Ok declared)
+Lands given kinds (Err (Misfit misfit)) = given ≡ Err misfit
+Lands given kinds (Err NoMemory) = ⊥
+
+-- a loop ends, but for the list that a mapping leaves
+abbrev pub Closes : Loop → Walked → Walked → Result ℕ PlaceFault → Type 0
+Closes loop old new (Ok room) =
+    (shut loop old.before.kinds old.before.loops ≡ Ok (before (behind_loop loop room new.before.kinds) new.before.loops))
+    × (new.spots ≡ old.spots)
+Closes loop old new (Err (Misfit misfit)) = shut loop old.before.kinds old.before.loops ≡ Err misfit
+Closes loop old new (Err NoMemory) = Unit {0}

@@ -1,0 +1,103 @@
+// Which kinds are the same, and what instructions on lists make of kinds.
+ghost use Rattle.std.specs.Prelude.{◌≡◌, [], ◌∷◌, option_map};
+ghost use Rattle.rpl_verify.specs.Kinds.{is_same_kind, is_kind, element_of, list_kind, room_of};
+ghost use Rattle.rpl_verify.specs.Table.{appended, picked, widened};
+
+use rpl_code::ValueKind;
+
+/// The most elements for which a list has room.
+const ROOM_MAX: u16 = 4096;
+
+/// Whether two kinds are the same.
+pub(crate) fn is_same_kind(a: ValueKind, b: ValueKind) -> bool
+    ensures { result ≡ is_same_kind a b }
+{
+    match (a, b) {
+        (ValueKind::N, ValueKind::N) => true,
+        (ValueKind::B, ValueKind::B) => true,
+        (ValueKind::D, ValueKind::D) => true,
+        (ValueKind::S, ValueKind::S) => true,
+        (ValueKind::NList(m), ValueKind::NList(n)) => m == n,
+        (ValueKind::SList(m), ValueKind::SList(n)) => m == n,
+        _ => false,
+    }
+}
+
+/// Whether both are there, and the same.
+pub(crate) fn is_kind(a: Option<ValueKind>, b: Option<ValueKind>) -> bool
+    ensures { result ≡ is_kind a b }
+{
+    match (a, b) {
+        (Some(x), Some(y)) => is_same_kind(x, y),
+        _ => false,
+    }
+}
+
+/// The kind of a list's elements.
+pub(crate) fn element_of(kind: ValueKind) -> Option<ValueKind>
+    ensures { result ≡ element_of kind }
+{
+    match kind {
+        ValueKind::NList(_) => Some(ValueKind::N),
+        ValueKind::SList(_) => Some(ValueKind::S),
+        _ => None,
+    }
+}
+
+/// For how many elements a list has room.
+pub(crate) fn room_of(kind: ValueKind) -> u16
+    ensures { result ≡ room_of kind }
+{
+    match kind {
+        ValueKind::NList(room) | ValueKind::SList(room) => room,
+        _ => 0,
+    }
+}
+
+/// The kind of a list of so many elements, if there are such lists.
+pub(crate) fn list_kind(room: u16, element: ValueKind) -> Option<ValueKind>
+    ensures { result ≡ list_kind room element }
+{
+    match element {
+        ValueKind::N => Some(ValueKind::NList(room)),
+        ValueKind::S => Some(ValueKind::SList(room)),
+        _ => None,
+    }
+}
+
+/// The list with one element more, if that goes into it.
+pub(crate) fn appended(element: ValueKind, list: ValueKind) -> Option<ValueKind>
+    ensures { option_map (λ kind. kind ∷ []) result ≡ appended (element ∷ list ∷ []) }
+{
+    match (element, list) {
+        (ValueKind::N, ValueKind::NList(room)) if room < ROOM_MAX => {
+            Some(ValueKind::NList(room + 1))
+        }
+        (ValueKind::S, ValueKind::SList(room)) if room < ROOM_MAX => {
+            Some(ValueKind::SList(room + 1))
+        }
+        _ => None,
+    }
+}
+
+/// The list with room for so many, if it has room for no more.
+pub(crate) fn widened(room: u16, list: ValueKind) -> Option<ValueKind>
+    ensures { option_map (λ kind. kind ∷ []) result ≡ widened room (list ∷ []) }
+{
+    match list {
+        ValueKind::NList(most) if most <= room => Some(ValueKind::NList(room)),
+        ValueKind::SList(most) if most <= room => Some(ValueKind::SList(room)),
+        _ => None,
+    }
+}
+
+/// What is picked from a list by a place.
+pub(crate) fn picked(place: ValueKind, list: ValueKind) -> Option<ValueKind>
+    ensures { option_map (λ kind. kind ∷ []) result ≡ picked (place ∷ list ∷ []) }
+{
+    match (place, list) {
+        (ValueKind::N, ValueKind::NList(_)) => Some(ValueKind::N),
+        (ValueKind::N, ValueKind::SList(_)) => Some(ValueKind::S),
+        _ => None,
+    }
+}

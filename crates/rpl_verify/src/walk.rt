@@ -1,0 +1,331 @@
+// A walk through a block, place by place.
+ghost use Rattle.std.specs.Prelude.{◌≡◌, ◌<◌, ◌+◌, ◌^◌, ℕ, [], ◌∷◌, length, map, reverse, IfOk, is_some, slice_get};
+ghost use Rattle.rpl_tree.specs.Budget.{capped, limits};
+ghost use Rattle.rpl_verify.specs.Kinds.{are_same_kinds, top_of, words_of_all};
+ghost use Rattle.rpl_verify.specs.Places.{Opener, bracket, closed, declared_by, is_same_loop, openers_behind, spots, start_of};
+ghost use Rattle.rpl_verify.specs.Fits.{before, innermost, is_same_place, landing};
+ghost use Rattle.rpl_verify.specs.Budget.{words_of_loop, words_of_loops};
+ghost use Rattle.rpl_verify.specs.Stacks.{Grows};
+ghost use Rattle.rpl_verify.specs.Walks.{IsRooted, IsNumber, IsDeclared, opener_of, openers_of};
+ghost use Rattle.rpl_verify.specs.Walked.{Closes, Lands, are_shut, declares, is_declared, landed, loop_of, with_kinds, with_loop, without_top};
+
+use crate::VerifyKind;
+use crate::place_fault::PlaceFault;
+use crate::stacks::{Stacks, WORDS_CAP};
+use rpl_code::{Instruction, ValueKind};
+use rw_base::NoMemory;
+use std::alloc::Global;
+use std::marker::Model;
+
+/// A loop that is open: the place where it begins, whether it is a mapping, for how many elements its list has room, and
+/// the number of the operands under that list.
+#[derive(Clone, Copy)]
+pub(crate) struct OpenLoop {
+    start: u32,
+    maps: bool,
+    room: u16,
+    under: u32,
+}
+
+/// What jumps have to know of a place: where the innermost loop begins, and the number of the kinds that are declared.
+#[derive(Clone, Copy)]
+pub(crate) struct Landing {
+    innermost: Option<u32>,
+    declares: Option<u32>,
+}
+
+/// Where a loop begins, and whether it is a mapping.
+#[derive(Clone, Copy)]
+pub(crate) struct Beginning {
+    start: u32,
+    maps: bool,
+}
+
+/// What is before a place of a block, and what jumps have to know of each place.
+#[derive(Drop)]
+pub(crate) struct Walk {
+    stacks: Stacks,
+    kinds: u32,
+    opens: Vec<OpenLoop>,
+    landings: Vec<Landing>,
+    loop_words: u64,
+}
+
+impl Model for Walk {
+    ghost use Rattle.rpl_verify.specs.Walked.{Walked};
+    ghost use Rattle.rpl_verify.specs.Walks.{walked, IsSound};
+
+    ghost Value = { Walked };
+
+    ghost view = { λ w. walked w.stacks w.kinds w.opens.items w.landings.items };
+
+    ghost invariant = { λ w. IsSound w.stacks w.kinds w.opens.items w.landings.items w.loop_words };
+}
+
+// Whether two loops are the same.
+fn is_same_place(a: Option<u32>, b: Option<u32>) -> bool
+    ensures { result ≡ is_same_place a b }
+{
+    match (a, b) {
+        (None, None) => true,
+        (Some(x), Some(y)) => x == y,
+        _ => false,
+    }
+}
+
+// The words that an open loop takes.
+fn loop_words(maps: bool, room: u16) -> u64
+    ensures words { result ≡ words_of_loop (loop_of maps) room }
+    ensures few { result < 2 ^ 18 }
+{
+    if maps {
+        2 * u64::from(room) + 4
+    } else {
+        u64::from(room) + 3
+    }
+}
+
+// The number of these kinds, the last on top.
+fn number_of(stacks: &mut Stacks, kinds: &[ValueKind]) -> Result<u32, NoMemory>
+    requires { IsRooted stacks.old }
+    ensures grows { Grows stacks.old stacks.new }
+    ensures made { IfOk result (λ n. IsNumber stacks.new n (reverse kinds.now)) }
+{
+    let mut number = 0;
+    for kind in kinds {
+        number = stacks.push(number, *kind)?;
+    }
+    Ok(number)
+}
+
+// The number of the kinds that an instruction declares.
+fn declare(stacks: &mut Stacks, instruction: &Instruction) -> Result<Option<u32>, NoMemory>
+    requires { IsRooted stacks.old }
+    ensures grows { Grows stacks.old stacks.new }
+    ensures made { IfOk result (λ n. IsDeclared stacks.new n (declared_by instruction.now)) }
+{
+    match instruction {
+        Instruction::Target(kinds) => {
+            let number = number_of(stacks, kinds.as_slice())?;
+            Ok(Some(number))
+        }
+        _ => Ok(None),
+    }
+}
+
+// Closes the innermost loop, if it is of this sort.
+fn leave(openers: &mut Vec<Beginning>, maps: bool)
+    ensures { openers_of openers.new.items ≡ closed (loop_of maps) (openers_of openers.old.items) }
+{
+    match openers.last().copied() {
+        None => {}
+        Some(last) => {
+            if last.maps == maps {
+                let _ = openers.pop();
+            }
+        }
+    }
+}
+
+// Follows the loops that are open.
+fn follow(
+    openers: &mut Vec<Beginning>,
+    place: u32,
+    instruction: &Instruction,
+) -> Result<(), NoMemory>
+    ensures { IfOk result (λ _. openers_of openers.new.items
+        ≡ openers_behind (bracket instruction.now) place (openers_of openers.old.items)) }
+{
+    match instruction {
+        Instruction::Foreach(_) => openers.push(Beginning {
+            start: place,
+            maps: false,
+        })?,
+        Instruction::Map(_) => openers.push(Beginning {
+            start: place,
+            maps: true,
+        })?,
+        Instruction::Next => leave(openers, false),
+        Instruction::Yield => leave(openers, true),
+        _ => {}
+    }
+    Ok(())
+}
+
+// Where the innermost loop begins.
+fn start_of(openers: &[Beginning]) -> Option<u32>
+    ensures { result ≡ start_of (top_of (openers_of openers.now)) }
+{
+    match openers.last() {
+        None => None,
+        Some(last) => Some(last.start),
+    }
+}
+
+impl Walk {
+    /// A walk before the first place of a block.
+    pub(crate) fn of(alloc: Global, lines: &[Instruction]) -> Result<Walk, NoMemory>
+        requires { length lines.now < 2 ^ 32 }
+        ensures { IfOk result (λ w. w ≡ record { before = before [] []; spots = spots lines.now }) }
+    {
+        let mut stacks = Stacks::new(alloc);
+        let mut openers = Vec::new(alloc);
+        let mut landings = Vec::new(alloc);
+        for place in 0..lines.len() {
+            let innermost = start_of(&openers);
+            let line = &lines[place];
+            let declares = declare(&mut stacks, line)?;
+            landings.push(Landing {
+                innermost,
+                declares,
+            })?;
+            follow(&mut openers, place as u32, line)?;
+        }
+        Ok(Walk {
+            stacks,
+            kinds: 0,
+            opens: Vec::new(alloc),
+            landings,
+            loop_words: 0,
+        })
+    }
+
+    /// How many operands there are.
+    pub(crate) fn height(&self) -> u32
+        ensures { result ≡ length self.now.before.kinds }
+    {
+        self.stacks.height(self.kinds)
+    }
+
+    /// The words of the operands and the open loops, up to the first number above the limit.
+    pub(crate) fn words(&self) -> u32
+        ensures { result ≡ capped limits.words
+            (words_of_all self.now.before.kinds + words_of_loops self.now.before.loops) }
+    {
+        let words = u64::from(self.stacks.words(self.kinds)).saturating_add(self.loop_words);
+        words.min(u64::from(WORDS_CAP)) as u32
+    }
+
+    /// The kind on top.
+    pub(crate) fn top(&self) -> Option<ValueKind>
+        ensures { result ≡ top_of self.now.before.kinds }
+    {
+        self.stacks.top(self.kinds)
+    }
+
+    /// Lets the top go.
+    pub(crate) fn pop(&mut self)
+        ensures { self.new ≡ without_top self.old }
+    {
+        self.kinds = self.stacks.below(self.kinds);
+    }
+
+    /// Puts a kind on top.
+    pub(crate) fn push(&mut self, kind: ValueKind) -> Result<(), NoMemory>
+        ensures { IfOk result (λ _. self.new ≡ with_kinds self.old (kind ∷ self.old.before.kinds)) }
+    {
+        let kinds = self.stacks.push(self.kinds, kind)?;
+        self.kinds = kinds;
+        Ok(())
+    }
+
+    /// Begins a loop at a place, over a list that isn't among the operands any more.
+    pub(crate) fn open(&mut self, start: u32, maps: bool, room: u16) -> Result<(), NoMemory>
+        ensures { IfOk result (λ _. self.new ≡ with_loop start (loop_of maps) room self.old) }
+    {
+        let Some(words) = self.loop_words.checked_add(loop_words(maps, room)) else {
+            return Err(NoMemory);
+        };
+        self.opens.push(OpenLoop {
+            start,
+            maps,
+            room,
+            under: self.kinds,
+        })?;
+        self.loop_words = words;
+        Ok(())
+    }
+
+    /// Ends the innermost loop, where the operands are those under its list, and answers for how many elements that has room.
+    pub(crate) fn close(&mut self, maps: bool) -> Result<u16, PlaceFault>
+        ensures { Closes (loop_of maps) self.old self.new result }
+    {
+        let Some(last) = self.opens.pop() else {
+            return Err(PlaceFault::Misfit(VerifyKind::WrongShape));
+        };
+        self.loop_words -= loop_words(last.maps, last.room);
+        if last.maps != maps {
+            return Err(PlaceFault::Misfit(VerifyKind::WrongShape));
+        }
+        if !self.stacks.same(last.under, self.kinds) {
+            return Err(PlaceFault::Misfit(VerifyKind::WrongShape));
+        }
+        Ok(last.room)
+    }
+
+    /// Where the innermost loop begins.
+    pub(crate) fn innermost(&self) -> Option<u32>
+        ensures { result ≡ innermost self.now.before.loops }
+    {
+        match self.opens.last() {
+            None => None,
+            Some(last) => Some(last.start),
+        }
+    }
+
+    /// Refuses a jump to a place that is no target, or lies in another loop.
+    pub(crate) fn find(&self, to: u32) -> Result<(), PlaceFault>
+        ensures { Lands (landing (innermost self.now.before.loops) (slice_get self.now.spots to))
+            (declares self.now.spots to) result }
+    {
+        let here = self.innermost();
+        let Some(landing) = self.landings.get(to as usize) else {
+            return Err(PlaceFault::Misfit(VerifyKind::JumpOutside));
+        };
+        if landing.declares.is_none() {
+            return Err(PlaceFault::Misfit(VerifyKind::JumpOutside));
+        }
+        if !is_same_place(here, landing.innermost) {
+            return Err(PlaceFault::Misfit(VerifyKind::JumpOutside));
+        }
+        Ok(())
+    }
+
+    /// Whether the operands are those that are declared at a place.
+    pub(crate) fn carries(&self, to: u32) -> bool
+        ensures { result ≡ is_declared (declares self.now.spots to) self.now.before.kinds }
+    {
+        match self.landings.get(to as usize) {
+            None => false,
+            Some(landing) => match landing.declares {
+                None => false,
+                Some(kinds) => self.stacks.same(kinds, self.kinds),
+            },
+        }
+    }
+
+    /// Takes the operands that are declared at a place, if any are.
+    pub(crate) fn land(&mut self, to: u32) -> bool
+        ensures landed { self.new ≡ landed (declares self.old.spots to) self.old }
+        ensures told { result ≡ is_some (declares self.old.spots to) }
+    {
+        let kinds = match self.landings.get(to as usize) {
+            None => None,
+            Some(landing) => landing.declares,
+        };
+        match kinds {
+            None => false,
+            Some(number) => {
+                self.kinds = number;
+                true
+            }
+        }
+    }
+
+    /// Whether no loop is open.
+    pub(crate) fn is_shut(&self) -> bool
+        ensures { result ≡ are_shut self.now.before.loops }
+    {
+        self.opens.is_empty()
+    }
+}
