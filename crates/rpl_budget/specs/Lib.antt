@@ -1,2 +1,4 @@
 pub mod Budgets
+pub mod Loads
+pub mod Pass
 pub mod Seen

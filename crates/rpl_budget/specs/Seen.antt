@@ -1,6 +1,50 @@
 -- What the crate's own types hold, as the definitions see it.
+use Rattle.std.specs.Prelude.{ℕ, List, map, Option, None, Some, reverse}
 use Rattle.rpl_tree.specs.Budget.{Budget, budget}
+use Rattle.rpl_tree.specs.Kinds.{Names}
+use Rattle.rpl_tree.specs.Value.{Kind, number_kind, truth_kind, date_kind, slot_kind, numbers_kind, slots_kind}
 use Rattle.rpl_budget.specs.declared.cost.TreeCost.{TreeCost}
+use Rattle.rpl_budget.specs.declared.kind.TreeKind.{TreeKind}
+use Rattle.rpl_budget.specs.declared.kind.TreeKind.TheVariants.{Number, Truth, Date, Slot, Numbers, Slots}
+use Rattle.rpl_budget.specs.declared.known.Known.{Known}
+use Rattle.rpl_budget.specs.declared.named.Named.{Named}
+use Rattle.rpl_budget.specs.declared.work.Work.{Work}
+use Rattle.rpl_budget.specs.Pass.{Measured, Priced, measured, no_function}
 
 abbrev pub budget_seen : TreeCost → Budget
 budget_seen cost = budget cost.instructions cost.reads cost.puts cost.words
+
+abbrev pub kind_seen : TreeKind → Kind
+kind_seen Number = number_kind
+kind_seen Truth = truth_kind
+kind_seen Date = date_kind
+kind_seen Slot = slot_kind
+kind_seen (Numbers m) = numbers_kind m
+kind_seen (Slots m) = slots_kind m
+
+abbrev pub kinds_seen : List TreeKind → List Kind
+kinds_seen kinds = map kind_seen kinds
+
+abbrev pub measured_seen : Work → Measured
+measured_seen work = measured (kind_seen work.kind) work.load
+
+abbrev pub named_seen : Named → List ℕ × Kind
+named_seen n = (n.name.now, kind_seen n.kind)
+
+-- the innermost of the names stands last
+abbrev pub names_of : List Named → Names
+names_of names = reverse (map named_seen names)
+
+abbrev pub priced_seen : Known → Priced
+priced_seen f = record {
+  head = record { name = f.name.now; takes = kinds_seen f.takes.items; result = kind_seen f.result };
+  most = budget_seen f.most;
+}
+
+abbrev pub priced_or_none : Option Known → Priced
+priced_or_none None = no_function
+priced_or_none (Some f) = priced_seen f
+
+-- and so does the function that was declared last
+abbrev pub functions_of : List Known → List Priced
+functions_of known = reverse (map priced_seen known)

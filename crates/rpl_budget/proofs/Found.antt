@@ -1,0 +1,53 @@
+-- Of the entries that pass a test, the last of a list is the first of the list in reverse.
+use Rattle.std.proofs.Common.{◌≡◌, ℕ, Bool, true, false, List, [], ◌∷◌, ◌++◌, map, reverse, bytes_eq, refl, sym, ap, ◌∙◌}
+use Rattle.std.specs.Prelude.{if◌then◌else◌}
+use Rattle.std.proofs.lemmas.List.{reverse-append}
+use Rattle.rpl_tree.specs.Kinds.{Names, kind_named}
+use Rattle.rpl_tree.specs.Value.{Kind, number_kind}
+use Rattle.rpl_budget.specs.Pass.{Priced, function_named, no_function}
+
+module _ {A B : Type 0} (passes : A → Bool) (value : A → B) where
+  abbrev pub first_of_all : B → List A → B
+  first_of_all otherwise [] = otherwise
+  first_of_all otherwise (a ∷ xs) = if passes a then value a else first_of_all otherwise xs
+
+  abbrev pub last_of_all : B → List A → B
+  last_of_all otherwise [] = otherwise
+  last_of_all otherwise (a ∷ xs) = last_of_all (if passes a then value a else otherwise) xs
+
+  one_behind : (otherwise : B) (xs : List A) (a : A)
+      → first_of_all (if passes a then value a else otherwise) xs ≡ first_of_all otherwise (xs ++ a ∷ [])
+  one_behind otherwise [] a = refl
+  one_behind otherwise (b ∷ bs) a = ap (λ found. if passes b then value b else found) (one_behind otherwise bs a)
+
+  pub last_is_first : (otherwise : B) (xs : List A) → last_of_all otherwise xs ≡ first_of_all otherwise (reverse xs)
+  last_is_first otherwise [] = refl
+  last_is_first otherwise (a ∷ xs) =
+      last_is_first (if passes a then value a else otherwise) xs ∙ one_behind otherwise (reverse xs) a
+      ∙ ap (first_of_all otherwise) (sym (reverse-append (a ∷ []) xs))
+
+-- ---- names
+
+abbrev pub last_kind : List ℕ → Kind → Names → Kind
+last_kind x = last_of_all (λ (entry : List ℕ × Kind). bytes_eq entry.0 x) (λ (entry : List ℕ × Kind). entry.1)
+
+innermost : (x : List ℕ) (names : Names)
+    → first_of_all (λ (entry : List ℕ × Kind). bytes_eq entry.0 x) (λ (entry : List ℕ × Kind). entry.1) number_kind names ≡ kind_named names x
+innermost x [] = refl
+innermost x (entry ∷ names) = ap (λ found. if bytes_eq entry.0 x then entry.1 else found) (innermost x names)
+
+pub kind_found : (x : List ℕ) (names : Names) → last_kind x number_kind names ≡ kind_named (reverse names) x
+kind_found x names = last_is_first (λ (entry : List ℕ × Kind). bytes_eq entry.0 x) (λ (entry : List ℕ × Kind). entry.1) number_kind names ∙ innermost x (reverse names)
+
+-- ---- functions
+
+abbrev pub last_function : List ℕ → Priced → List Priced → Priced
+last_function x = last_of_all (λ (f : Priced). bytes_eq f.head.name x) (λ (f : Priced). f)
+
+latest : (x : List ℕ) (functions : List Priced)
+    → first_of_all (λ (f : Priced). bytes_eq f.head.name x) (λ (f : Priced). f) no_function functions ≡ function_named functions x
+latest x [] = refl
+latest x (f ∷ functions) = ap (λ found. if bytes_eq f.head.name x then f else found) (latest x functions)
+
+pub function_found : (x : List ℕ) (functions : List Priced) → last_function x no_function functions ≡ function_named (reverse functions) x
+function_found x functions = last_is_first (λ (f : Priced). bytes_eq f.head.name x) (λ (f : Priced). f) no_function functions ∙ latest x (reverse functions)

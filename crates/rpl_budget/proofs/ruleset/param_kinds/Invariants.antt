@@ -1,0 +1,9 @@
+use Rattle.std.proofs.Common.{◌≡◌, ◌++◌, drop, map}
+use Rattle.rpl_tree.specs.Mean.{param_kinds}
+use Rattle.rpl_tree.specs.Seen.{parameter_of}
+use Rattle.rpl_budget.specs.Seen.{kinds_seen}
+use Rattle.rpl_budget.proofs.ruleset.param_kinds.Given as goal
+
+abbrev pub invariant-loop-param : goal.invariant-loop-param
+invariant-loop-param l =
+    kinds_seen l.kinds.items ++ param_kinds (map parameter_of (drop l.param-index l.params)) ≡ param_kinds (map parameter_of l.params)

@@ -1,0 +1,74 @@
+ghost use Rattle.std.specs.Prelude.{◌≡◌, bytes_eq, option_map, if◌then◌else◌};
+ghost use Rattle.rpl_tree.specs.Budget.{capped, limits};
+ghost use Rattle.rpl_tree.specs.Value as Value;
+ghost use Rattle.rpl_budget.specs.Pass as Pass;
+ghost use Rattle.rpl_budget.specs.Seen.{functions_of, kind_seen, kinds_seen, priced_or_none, priced_seen};
+
+use crate::TreeCost;
+use crate::kind::{TreeKind, weight};
+use crate::load::{Load, WORDS, nothing, plus, standing, stopped};
+use crate::named::is_same_name;
+
+/// A function that can be called, and what a call comes to, its arguments apart.
+#[derive(Drop)]
+pub struct Known<'a> {
+    pub name: &'a [u8],
+    pub takes: Vec<TreeKind>,
+    pub result: TreeKind,
+    pub most: TreeCost,
+}
+
+/// The words of values of these kinds.
+pub fn weights(kinds: &[TreeKind]) -> u64
+    ensures { result ≡ capped limits.words (Value.weights (kinds_seen kinds.now)) }
+{
+    let mut sum = 0;
+    for kind in kinds {
+        sum = plus(sum, stopped(weight(*kind), WORDS), WORDS);
+    }
+    sum
+}
+
+// This function, if it has the name.
+fn known_or<'a, 'b>(
+    f: &'a Known<'b>,
+    name: &[u8],
+    otherwise: Option<&'a Known<'b>>,
+) -> Option<&'a Known<'b>>
+    ensures { priced_or_none (option_map (λ g. g.now) result)
+        ≡ if bytes_eq f.entry.now.name.now name.now then priced_seen f.entry.now
+        else priced_or_none (option_map (λ g. g.now) otherwise.entry) }
+{
+    if is_same_name(f.name, name) {
+        Some(f)
+    } else {
+        otherwise
+    }
+}
+
+/// The function of a name that was declared last.
+pub fn function_named<'a, 'b>(known: &'a [Known<'b>], name: &[u8]) -> Option<&'a Known<'b>>
+    ensures { priced_or_none (option_map (λ f. f.now) result)
+        ≡ Pass.function_named (functions_of known.now) name.now }
+{
+    let mut found = None;
+    for entry in known {
+        found = known_or(entry, name, found);
+    }
+    found
+}
+
+/// A call of a function whose arguments are there.
+pub fn called(f: &Known) -> Load
+    ensures { result ≡ Pass.called (priced_seen f.now) }
+{
+    let words = plus(weights(&f.takes), f.most.words, WORDS);
+    let result = stopped(weight(f.result), WORDS);
+    Load {
+        count: f.most.instructions,
+        looks: f.most.reads,
+        puts: f.most.puts,
+        height: words.max(result),
+        locals: 0,
+    }
+}

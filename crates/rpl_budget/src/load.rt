@@ -1,0 +1,225 @@
+// What a part of a tree adds to the budgets. Each number stops at the first above its limit.
+ghost use Rattle.std.specs.Prelude.{◌≡◌, ◌<◌, ◌+◌, ◌*◌, ◌^◌};
+ghost use Rattle.rpl_tree.specs.Budget.{capped};
+ghost use Rattle.rpl_budget.specs.Loads as Loads;
+ghost use Rattle.rpl_budget.specs.Seen.{kind_seen};
+
+use crate::kind::{TreeKind, is_same_kind, weight};
+
+/// What evaluating an expression, or executing statements, comes to at most.
+#[derive(Clone, Copy, Debug, PartialEq, Eq)]
+pub struct Load {
+    /// How much it counts.
+    pub count: u64,
+    /// How often it looks.
+    pub looks: u64,
+    /// How often it puts.
+    pub puts: u64,
+    /// How many words of operands and open loops stand at a time.
+    pub height: u64,
+    /// How many words its locals take.
+    pub locals: u64,
+}
+
+pub const COUNT: u64 = 1_000_000;
+
+pub const LOOKS: u64 = 20_000;
+
+pub const PUTS: u64 = 2_000;
+
+pub const WORDS: u64 = 1_000_000;
+
+pub fn stopped(n: u128, limit: u64) -> u64
+    requires { limit < 2 ^ 32 }
+    ensures { result ≡ capped limit n }
+{
+    n.min(u128::from(limit) + 1) as u64
+}
+
+pub fn plus(a: u64, b: u64, limit: u64) -> u64
+    requires { limit < 2 ^ 32 }
+    ensures { result ≡ capped limit (a + b) }
+{
+    a.saturating_add(b).min(limit + 1)
+}
+
+fn product(m: u64, n: u64, limit: u64) -> u64
+    requires { limit < 2 ^ 32 }
+    ensures { result ≡ capped limit (m * n) }
+{
+    m.saturating_mul(n).min(limit + 1)
+}
+
+pub fn nothing() -> Load
+    ensures { result ≡ Loads.nothing }
+{
+    Load {
+        count: 0,
+        looks: 0,
+        puts: 0,
+        height: 0,
+        locals: 0,
+    }
+}
+
+pub fn steps(n: u128) -> Load
+    ensures { result ≡ Loads.steps n }
+{
+    Load {
+        count: stopped(n, COUNT),
+        ..nothing()
+    }
+}
+
+fn one_look() -> Load
+    ensures { result ≡ Loads.one_look }
+{
+    Load {
+        count: 1,
+        looks: 1,
+        ..nothing()
+    }
+}
+
+pub fn one_put() -> Load
+    ensures { result ≡ Loads.one_put }
+{
+    Load {
+        count: 1,
+        puts: 1,
+        ..nothing()
+    }
+}
+
+/// Of a value that is made, or fetched from a local.
+pub fn fetched(kind: TreeKind) -> Load
+    ensures { result ≡ Loads.fetched (kind_seen kind) }
+{
+    let words = weight(kind);
+    Load {
+        count: stopped(words, COUNT),
+        height: stopped(words, WORDS),
+        ..nothing()
+    }
+}
+
+/// Of a value that is kept in a local.
+pub fn kept(kind: TreeKind) -> Load
+    ensures { result ≡ Loads.kept (kind_seen kind) }
+{
+    let words = weight(kind);
+    Load {
+        count: stopped(words, COUNT),
+        locals: stopped(words, WORDS),
+        ..nothing()
+    }
+}
+
+/// Of a local that is there for a value of the kind.
+pub fn local(kind: TreeKind) -> Load
+    ensures { result ≡ Loads.local (kind_seen kind) }
+{
+    Load {
+        locals: stopped(weight(kind), WORDS),
+        ..nothing()
+    }
+}
+
+/// Of so many words that stand at once.
+pub fn standing(words: u128) -> Load
+    ensures { result ≡ Loads.standing words }
+{
+    Load {
+        height: stopped(words, WORDS),
+        ..nothing()
+    }
+}
+
+/// One, and behind it another.
+pub fn both(a: Load, b: Load) -> Load
+    ensures { result ≡ Loads.both a b }
+{
+    Load {
+        count: plus(a.count, b.count, COUNT),
+        looks: plus(a.looks, b.looks, LOOKS),
+        puts: plus(a.puts, b.puts, PUTS),
+        height: a.height.max(b.height),
+        locals: plus(a.locals, b.locals, WORDS),
+    }
+}
+
+/// One of the two.
+pub fn either(a: Load, b: Load) -> Load
+    ensures { result ≡ Loads.either a b }
+{
+    Load {
+        count: a.count.max(b.count),
+        looks: a.looks.max(b.looks),
+        puts: a.puts.max(b.puts),
+        height: a.height.max(b.height),
+        locals: plus(a.locals, b.locals, WORDS),
+    }
+}
+
+/// So often.
+pub fn times(m: u64, a: Load) -> Load
+    ensures { result ≡ Loads.times m a }
+{
+    Load {
+        count: product(m, a.count, COUNT),
+        looks: product(m, a.looks, LOOKS),
+        puts: product(m, a.puts, PUTS),
+        height: a.height,
+        locals: a.locals,
+    }
+}
+
+/// Where so many words wait below it.
+pub fn above(words: u128, a: Load) -> Load
+    ensures { result ≡ Loads.above words a }
+{
+    Load {
+        height: stopped(words.saturating_add(u128::from(a.height)), WORDS),
+        ..a
+    }
+}
+
+/// Its locals alone.
+pub fn locals_alone(a: Load) -> Load
+    ensures { result ≡ Loads.locals_alone a }
+{
+    Load {
+        locals: a.locals,
+        ..nothing()
+    }
+}
+
+/// What nobody evaluates, as it stands in the code.
+pub fn unspent(a: Load) -> Load
+    ensures { result ≡ Loads.unspent a }
+{
+    Load {
+        height: a.height,
+        locals: a.locals,
+        ..nothing()
+    }
+}
+
+/// A value of a kind that is given the room of its place.
+pub fn fitted(place: TreeKind, kind: TreeKind, a: Load) -> Load
+    ensures { result ≡ Loads.fitted (kind_seen place) (kind_seen kind) a }
+{
+    let widening = if is_same_kind(place, kind) {
+        0
+    } else {
+        weight(place)
+    };
+    both(a, both(steps(widening), standing(weight(place))))
+}
+
+/// A look at a slot at a date.
+pub fn looked(slot: Load, date: Load) -> Load
+    ensures { result ≡ Loads.looked slot date }
+{
+    both(slot, both(above(1, date), one_look()))
+}

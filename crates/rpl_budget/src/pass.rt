@@ -1,0 +1,255 @@
+// One pass over an expression, from the leaves on.
+ghost use Rattle.std.specs.Prelude.{◌≡◌, ◌∷◌, [], IfOk, OnOk, drop};
+ghost use Rattle.rpl_tree.specs.Seen.{tree_of, trees_in};
+ghost use Rattle.rpl_tree.specs.Tree.{call, list};
+ghost use Rattle.rpl_budget.specs.Pass as Pass;
+ghost use Rattle.rpl_budget.specs.Seen.{functions_of, kind_seen, kinds_seen, measured_seen, named_seen, names_of};
+
+use crate::kind::{TreeKind, element_of, one_kind, room_of, two_kind, weight};
+use crate::known::{Known, called, function_named};
+use crate::load::{Load, above, both, fitted, locals_alone, looked, nothing, standing, steps};
+use crate::named::{Named, kind_named};
+use crate::work::{
+    Work, bound, chosen, element, leaf, listed, made, mapped, one_load, turned, two_load,
+};
+use rpl_tree::Expr;
+use rw_base::NoMemory;
+
+/// What an expression comes to, where these functions and names can be used. The names stay as they are.
+#[cycle(pass)]
+#[tactic(auto, using(rpl_tree::proofs::Viewed::tree_of_list))]
+pub fn pass<'a>(known: &[Known], names: &mut Vec<Named<'a>>, e: &'a Expr) -> Result<Work, NoMemory>
+    ensures found { IfOk result (λ work. measured_seen work
+        ≡ Pass.pass (functions_of known.now) (names_of names.old.items) (tree_of e.now)) }
+    ensures names { OnOk result (names.new.items ≡ names.old.items) }
+{
+    match e {
+        Expr::Number { .. } => Ok(leaf(TreeKind::Number)),
+        Expr::Truth(_) => Ok(leaf(TreeKind::Truth)),
+        Expr::Now => Ok(leaf(TreeKind::Date)),
+        Expr::Slot(_) => Ok(leaf(TreeKind::Slot)),
+        Expr::Name(name) => Ok(made(kind_named(names, name))),
+        Expr::Call { name, args } => call(known, names, name, args),
+        Expr::Brackets(inner) => pass(known, names, inner),
+        Expr::List(items) => list(known, names, items),
+        Expr::If { condition, yes, no } => {
+            let test = pass(known, names, condition)?;
+            let first = pass(known, names, yes)?;
+            let second = pass(known, names, no)?;
+            Ok(chosen(test, first, second))
+        }
+        Expr::Let { name, value, body } => {
+            let value = pass(known, names, value)?;
+            let body = inside(known, names, name, value.kind, body)?;
+            Ok(Work {
+                kind: body.kind,
+                load: bound(value, body.load),
+            })
+        }
+        Expr::For {
+            name,
+            list,
+            total,
+            first,
+            body,
+        } => {
+            let all = pass(known, names, list)?;
+            let first = pass(known, names, first)?;
+            let item = Named {
+                name,
+                kind: element_of(all.kind),
+            };
+            let body = inside_turn(known, names, item, total, first.kind, body)?;
+            Ok(Work {
+                kind: first.kind,
+                load: turned(all, first, body),
+            })
+        }
+        Expr::Map { name, list, body } => {
+            let all = pass(known, names, list)?;
+            let body = inside(known, names, name, element_of(all.kind), body)?;
+            Ok(Work {
+                kind: TreeKind::Numbers(room_of(all.kind)),
+                load: mapped(all, body),
+            })
+        }
+        Expr::One { word, arg } => {
+            let part = pass(known, names, arg)?;
+            Ok(Work {
+                kind: one_kind(*word),
+                load: one_load(*word, arg, part.load),
+            })
+        }
+        Expr::Two { word, left, right } => {
+            let left = pass(known, names, left)?;
+            let right = pass(known, names, right)?;
+            Ok(Work {
+                kind: two_kind(*word, left.kind, right.kind)?,
+                load: two_load(*word, left, right.load),
+            })
+        }
+        Expr::Convert { arg, .. } => {
+            let part = pass(known, names, arg)?;
+            Ok(Work {
+                kind: TreeKind::Number,
+                load: both(part.load, steps(1)),
+            })
+        }
+        Expr::At { slot, step } => {
+            let place = pass(known, names, slot)?;
+            let date = pass(known, names, step)?;
+            Ok(Work {
+                kind: TreeKind::Number,
+                load: looked(place.load, date.load),
+            })
+        }
+    }
+}
+
+// What is done with a name.
+#[cycle(pass)]
+fn inside<'a>(
+    known: &[Known],
+    names: &mut Vec<Named<'a>>,
+    name: &'a [u8],
+    kind: TreeKind,
+    body: &'a Expr,
+) -> Result<Work, NoMemory>
+    ensures found { IfOk result (λ work. measured_seen work
+        ≡ Pass.pass (functions_of known.now) ((name.now, kind_seen kind) ∷ names_of names.old.items)
+        (tree_of body.now)) }
+    ensures names { OnOk result (names.new.items ≡ names.old.items) }
+{
+    names.push(Named { name, kind })?;
+    let work = pass(known, names, body)?;
+    let _ = names.pop();
+    Ok(work)
+}
+
+// What is done in a turn, with an element and a total.
+#[cycle(pass)]
+fn inside_turn<'a>(
+    known: &[Known],
+    names: &mut Vec<Named<'a>>,
+    item: Named<'a>,
+    total: &'a [u8],
+    kind: TreeKind,
+    body: &'a Expr,
+) -> Result<Work, NoMemory>
+    ensures found { IfOk result (λ work. measured_seen work ≡ Pass.pass (functions_of known.now)
+        ((total.now, kind_seen kind) ∷ named_seen item.entry ∷ names_of names.old.items) (tree_of body.now)) }
+    ensures names { OnOk result (names.new.items ≡ names.old.items) }
+{
+    names.push(item)?;
+    let work = inside(known, names, total, kind, body)?;
+    let _ = names.pop();
+    Ok(work)
+}
+
+// Each element, from the last on.
+#[cycle(pass)]
+fn elements<'a>(
+    known: &[Known],
+    names: &mut Vec<Named<'a>>,
+    items: &'a [Expr],
+) -> Result<Work, NoMemory>
+    ensures found { IfOk result (λ work. measured_seen work
+        ≡ Pass.pass_all (functions_of known.now) (names_of names.old.items) (trees_in items.now)) }
+    ensures names { OnOk result (names.new.items ≡ names.old.items) }
+{
+    let mut others = Work {
+        kind: TreeKind::Number,
+        load: nothing(),
+    };
+    let mut k = items.len();
+    while k > 0 {
+        k -= 1;
+        let value = pass(known, names, &items[k])?;
+        others = element(value, others);
+    }
+    Ok(others)
+}
+
+#[cycle(pass)]
+#[tactic(auto, using(crate::proofs::Viewed::count_is))]
+fn list<'a>(
+    known: &[Known],
+    names: &mut Vec<Named<'a>>,
+    items: &'a [Expr],
+) -> Result<Work, NoMemory>
+    ensures found { IfOk result (λ work. measured_seen work
+        ≡ Pass.pass (functions_of known.now) (names_of names.old.items) (list (trees_in items.now))) }
+    ensures names { OnOk result (names.new.items ≡ names.old.items) }
+{
+    let all = elements(known, names, items)?;
+    Ok(listed(items.len() as u64, all))
+}
+
+// The parameters from a place on.
+fn from_place(takes: &[TreeKind], k: usize) -> &[TreeKind]
+    ensures { result.now ≡ drop k takes.entry.now }
+{
+    if k < takes.len() { &takes[k..] } else { &[] }
+}
+
+// An argument and those behind it, for parameters of these kinds.
+fn argument(takes: &[TreeKind], value: Work, others: Load) -> Load
+    ensures { result ≡ Pass.argument (kinds_seen takes.now) (measured_seen value) others }
+{
+    let [kind, ..] = takes else {
+        return both(locals_alone(value.load), others);
+    };
+    let own = fitted(*kind, value.kind, value.load);
+    both(own, above(weight(*kind), others))
+}
+
+// Each argument, from the last on.
+#[cycle(pass)]
+fn arguments<'a>(
+    known: &[Known],
+    names: &mut Vec<Named<'a>>,
+    takes: &[TreeKind],
+    args: &'a [Expr],
+) -> Result<Load, NoMemory>
+    ensures found { IfOk result (λ load. load ≡ Pass.pass_arguments (functions_of known.now)
+        (names_of names.old.items) (kinds_seen takes.now) (trees_in args.now)) }
+    ensures names { OnOk result (names.new.items ≡ names.old.items) }
+{
+    let mut others = nothing();
+    let mut k = args.len();
+    while k > 0 {
+        k -= 1;
+        let value = pass(known, names, &args[k])?;
+        others = argument(from_place(takes, k), value, others);
+    }
+    Ok(others)
+}
+
+#[cycle(pass)]
+fn call<'a>(
+    known: &[Known],
+    names: &mut Vec<Named<'a>>,
+    name: &[u8],
+    args: &'a [Expr],
+) -> Result<Work, NoMemory>
+    ensures found { IfOk result (λ work. measured_seen work
+        ≡ Pass.pass (functions_of known.now) (names_of names.old.items) (call name.now (trees_in args.now))) }
+    ensures names { OnOk result (names.new.items ≡ names.old.items) }
+{
+    match function_named(known, name) {
+        None => {
+            let load = arguments(known, names, &[], args)?;
+            Ok(Work {
+                kind: TreeKind::Number,
+                load: both(load, standing(1)),
+            })
+        }
+        Some(f) => {
+            let load = arguments(known, names, &f.takes, args)?;
+            Ok(Work {
+                kind: f.result,
+                load: both(load, called(f)),
+            })
+        }
+    }
+}

@@ -1,0 +1,171 @@
+// The budgets of declarations, in order.
+ghost use Rattle.std.specs.Prelude.{◌≡◌, [], IfOk, OnOk, codes, map};
+ghost use Rattle.rpl_tree.specs.Cost as Cost;
+ghost use Rattle.rpl_tree.specs.Mean as Mean;
+ghost use Rattle.rpl_tree.specs.Seen.{declared_of, parameter_of, rules_of};
+ghost use Rattle.rpl_budget.specs.Budgets.{budgets_of};
+ghost use Rattle.rpl_budget.specs.Pass as Pass;
+ghost use Rattle.rpl_budget.specs.Seen.{budget_seen, functions_of, kind_seen, kinds_seen, measured_seen, names_of, priced_seen};
+
+use crate::TreeCost;
+use crate::acts::acts;
+use crate::kind::{TreeKind, kind_of_type};
+use crate::known::{Known, weights};
+use crate::load::{COUNT, Load, WORDS, fitted, plus};
+use crate::named::Named;
+use crate::pass::pass;
+use crate::work::Work;
+use rpl_tree::{Declaration, Param, ParsedRules};
+use rw_base::NoMemory;
+use std::alloc::Global;
+
+fn rule_cost(all: Load) -> TreeCost
+    ensures { budget_seen result ≡ Pass.rule_budget all }
+{
+    TreeCost {
+        instructions: all.count,
+        reads: all.looks,
+        puts: all.puts,
+        words: plus(all.locals, all.height, WORDS),
+    }
+}
+
+fn function_cost(takes: &[TreeKind], answers: TreeKind, body: Work) -> TreeCost
+    ensures { budget_seen result
+        ≡ Pass.function_budget (kinds_seen takes.now) (kind_seen answers) (measured_seen body) }
+{
+    let all = fitted(answers, body.kind, body.load);
+    let own = plus(all.locals, all.height, WORDS);
+    TreeCost {
+        instructions: all.count,
+        reads: all.looks,
+        puts: all.puts,
+        words: plus(weights(takes), own, WORDS),
+    }
+}
+
+// What a call comes to.
+fn call_cost(takes: &[TreeKind], inside: TreeCost) -> TreeCost
+    ensures { budget_seen result ≡ Pass.call_budget (kinds_seen takes.now) (budget_seen inside) }
+{
+    let start = plus(weights(takes), 1, COUNT);
+    TreeCost {
+        instructions: plus(start, inside.instructions, COUNT),
+        ..inside
+    }
+}
+
+// The kinds of parameters, in order.
+fn param_kinds(alloc: Global, params: &[Param]) -> Result<Vec<TreeKind>, NoMemory>
+    ensures { IfOk result (λ kinds. kinds_seen kinds.items
+        ≡ Mean.param_kinds (map parameter_of params.now)) }
+{
+    let mut kinds = Vec::new(alloc);
+    for param in params {
+        kinds.push(kind_of_type(&param.kind))?;
+    }
+    Ok(kinds)
+}
+
+// The parameters as names, the first of them innermost.
+fn param_names<'a>(alloc: Global, params: &'a [Param]) -> Result<Vec<Named<'a>>, NoMemory>
+    ensures { IfOk result (λ names. names_of names.items
+        ≡ Cost.param_names (map parameter_of params.now)) }
+{
+    let mut names = Vec::new(alloc);
+    let mut k = params.len();
+    while k > 0 {
+        k -= 1;
+        let param = &params[k];
+        names.push(Named {
+            name: &param.name,
+            kind: kind_of_type(&param.kind),
+        })?;
+    }
+    Ok(names)
+}
+
+// The budgets of a declaration. A function can be called by those that follow.
+fn declared<'a>(
+    alloc: Global,
+    known: &mut Vec<Known<'a>>,
+    declaration: &'a Declaration,
+) -> Result<TreeCost, NoMemory>
+    ensures cost { IfOk result (λ cost. budget_seen cost
+        ≡ Pass.declared_budget (functions_of known.old.items) (declared_of declaration.now)) }
+    ensures known { OnOk result (functions_of known.new.items
+        ≡ Pass.and_function (functions_of known.old.items) (declared_of declaration.now)) }
+{
+    match declaration {
+        Declaration::Rule { body, .. } => {
+            let mut names = Vec::new(alloc);
+            Ok(rule_cost(acts(known, &mut names, body)?))
+        }
+        Declaration::Function {
+            name,
+            params,
+            result,
+            body,
+        } => {
+            let takes = param_kinds(alloc, params)?;
+            let result = kind_of_type(result);
+            let mut names = param_names(alloc, params)?;
+            let cost = function_cost(&takes, result, pass(known, &mut names, body)?);
+            let most = call_cost(&takes, cost);
+            known.push(Known {
+                name,
+                takes,
+                result,
+                most,
+            })?;
+            Ok(cost)
+        }
+    }
+}
+
+// A function of numbers that there is in each ruleset.
+fn of_numbers(name: &'static [u8], takes: Vec<TreeKind>) -> Known<'static>
+    ensures { priced_seen result ≡ Pass.of_numbers name.now (kinds_seen takes.items) }
+{
+    let most = TreeCost {
+        instructions: 1,
+        reads: 0,
+        puts: 0,
+        words: 0,
+    };
+    Known {
+        name,
+        takes,
+        result: TreeKind::Number,
+        most,
+    }
+}
+
+// The functions that there are in each ruleset, the last of them first.
+fn predefined(alloc: Global) -> Result<Vec<Known<'static>>, NoMemory>
+    ensures { IfOk result (λ known. functions_of known.items ≡ Pass.predefined_priced) }
+{
+    let one = TreeKind::Number;
+    let mut known = Vec::new(alloc);
+    known.push(of_numbers(b"Sign", vec![in alloc; one]?))?;
+    known.push(of_numbers(b"RoundDown", vec![in alloc; one, one]?))?;
+    known.push(of_numbers(b"Clamp", vec![in alloc; one, one, one]?))?;
+    known.push(of_numbers(b"Abs", vec![in alloc; one]?))?;
+    known.push(of_numbers(b"Max", vec![in alloc; one, one]?))?;
+    known.push(of_numbers(b"Min", vec![in alloc; one, one]?))?;
+    Ok(known)
+}
+
+/// The budgets of each declaration of a ruleset, in order. `NoMemory` tells nothing of the ruleset.
+pub fn budgets(alloc: Global, rules: &ParsedRules) -> Result<Vec<TreeCost>, NoMemory>
+    ensures of_rules { IfOk result (λ costs. map budget_seen costs.items
+        ≡ budgets_of (rules_of rules.now)) }
+{
+    let mut known = predefined(alloc)?;
+    let mut costs = Vec::new(alloc);
+    for declaration in &rules.declarations {
+        let cost = declared(alloc, &mut known, declaration)?;
+        costs.push(cost)?;
+    }
+    Ok(costs)
+}

@@ -1,0 +1,164 @@
+// What a pass finds of an expression, by what it finds of its parts.
+ghost use Rattle.std.specs.Prelude.{◌≡◌, ◌+◌};
+ghost use Rattle.rpl_budget.specs.Pass as Pass;
+ghost use Rattle.rpl_budget.specs.Seen.{kind_seen, measured_seen};
+ghost use Rattle.rpl_tree.specs.Seen.{tree_of};
+
+use crate::kind::{TreeKind, element_of, join, list_kind, room_of, weight};
+use crate::load::{
+    Load, above, both, either, fetched, fitted, kept, local, standing, steps, times, unspent,
+};
+use rpl_tree::{Expr, OneWord, TwoWord};
+
+/// An expression's kind, and what it adds to the budgets.
+#[derive(Clone, Copy, Debug)]
+pub struct Work {
+    pub kind: TreeKind,
+    pub load: Load,
+}
+
+/// A value of a kind that is made, or fetched from a local.
+pub fn made(kind: TreeKind) -> Work
+    ensures { measured_seen result ≡ Pass.made (kind_seen kind) }
+{
+    Work {
+        kind,
+        load: fetched(kind),
+    }
+}
+
+pub fn leaf(kind: TreeKind) -> Work
+    ensures { measured_seen result ≡ Pass.leaf (kind_seen kind) }
+{
+    Work {
+        kind,
+        load: fetched(TreeKind::Number),
+    }
+}
+
+/// An element and those behind it.
+pub fn element(value: Work, others: Work) -> Work
+    ensures { measured_seen result ≡ Pass.element (measured_seen value) (measured_seen others) }
+{
+    Work {
+        kind: value.kind,
+        load: both(value.load, above(1, others.load)),
+    }
+}
+
+/// A list of so many elements.
+pub fn listed(count: u64, all: Work) -> Work
+    ensures { measured_seen result ≡ Pass.listed count (measured_seen all) }
+{
+    let words = u128::from(count) + 1;
+    Work {
+        kind: list_kind(count, all.kind),
+        load: both(all.load, both(steps(words), standing(words))),
+    }
+}
+
+// One of two values, each given the room of their kind.
+fn one_of(kind: TreeKind, first: Work, second: Work) -> Load
+    ensures { result ≡ Pass.one_of (kind_seen kind) (measured_seen first) (measured_seen second) }
+{
+    let a = fitted(kind, first.kind, first.load);
+    let b = fitted(kind, second.kind, second.load);
+    either(a, b)
+}
+
+/// An IF of a test and two values.
+pub fn chosen(test: Work, first: Work, second: Work) -> Work
+    ensures { measured_seen result
+        ≡ Pass.chosen (measured_seen test) (measured_seen first) (measured_seen second) }
+{
+    let kind = join(first.kind, second.kind);
+    Work {
+        kind,
+        load: both(test.load, both(one_of(kind, first, second), steps(3))),
+    }
+}
+
+/// A value under a name, and what is done with it.
+pub fn bound(value: Work, body: Load) -> Load
+    ensures { result ≡ Pass.bound (measured_seen value) body }
+{
+    both(value.load, both(kept(value.kind), body))
+}
+
+// The turns of a loop over a list.
+fn turns(all: TreeKind, total: TreeKind, body: Work) -> Load
+    ensures { result ≡ Pass.turns (kind_seen all) (kind_seen total) (measured_seen body) }
+{
+    let turn = both(
+        fitted(total, body.kind, body.load),
+        steps(weight(total) + 1),
+    );
+    above(u128::from(room_of(all)) + 3, times(room_of(all), turn))
+}
+
+/// A loop over a list, with an accumulator.
+pub fn turned(all: Work, first: Work, body: Work) -> Load
+    ensures { result ≡ Pass.turned (measured_seen all) (measured_seen first) (measured_seen body) }
+{
+    let total = first.kind;
+    let before = both(all.load, above(weight(all.kind), first.load));
+    let locals = both(local(element_of(all.kind)), local(total));
+    let start = both(steps(2 * weight(total) + 1), locals);
+    both(before, both(start, turns(all.kind, total, body)))
+}
+
+/// A list of what comes of each element of another.
+pub fn mapped(all: Work, body: Work) -> Load
+    ensures { result ≡ Pass.mapped_over (measured_seen all) (measured_seen body) }
+{
+    let room = room_of(all.kind);
+    let turns = times(room, both(body.load, steps(1)));
+    let start = both(steps(1), local(element_of(all.kind)));
+    both(
+        all.load,
+        both(start, above(2 * u128::from(room) + 4, turns)),
+    )
+}
+
+// What KNOWN does with an expression.
+fn known_load(e: &Expr, load: Load) -> Load
+    ensures { result ≡ Pass.known_load (tree_of e.now) load }
+{
+    match e {
+        Expr::At { .. } => load,
+        _ => unspent(load),
+    }
+}
+
+/// A word before an expression.
+pub fn one_load(word: OneWord, e: &Expr, load: Load) -> Load
+    ensures { result ≡ Pass.one_load word (tree_of e.now) load }
+{
+    match word {
+        OneWord::Known => known_load(e, load),
+        _ => both(load, steps(1)),
+    }
+}
+
+fn operation(word: TwoWord, kind: TreeKind) -> u128
+    ensures { result ≡ Pass.operation word (kind_seen kind) }
+{
+    match word {
+        TwoWord::Unequal | TwoWord::Greater | TwoWord::GreaterEqual => 2,
+        TwoWord::Append => u128::from(room_of(kind)) + 2,
+        _ => 1,
+    }
+}
+
+/// A word between two expressions.
+pub fn two_load(word: TwoWord, left: Work, right: Load) -> Load
+    ensures { result ≡ Pass.two_load word (measured_seen left) right }
+{
+    match word {
+        TwoWord::Or | TwoWord::And => { both(left.load, both(either(steps(1), right), steps(3))) }
+        _ => {
+            let second = above(weight(left.kind), right);
+            both(left.load, both(second, steps(operation(word, left.kind))))
+        }
+    }
+}
