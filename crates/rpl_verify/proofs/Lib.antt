@@ -15,3 +15,4 @@ pub mod Endless
 pub mod StackFacts
 pub mod WalkFacts
 pub mod TakeFacts
+pub mod NameFacts

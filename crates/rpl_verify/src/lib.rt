@@ -6,6 +6,7 @@
 
 mod kinds;
 pub mod law;
+mod names;
 mod place_fault;
 mod stacks;
 mod takes;
