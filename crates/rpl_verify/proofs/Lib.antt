@@ -16,3 +16,4 @@ pub mod StackFacts
 pub mod WalkFacts
 pub mod TakeFacts
 pub mod NameFacts
+pub mod JudgeFacts

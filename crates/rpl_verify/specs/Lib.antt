@@ -8,6 +8,7 @@ pub mod Stacks
 pub mod Walked
 pub mod Walks
 pub mod Steps
+pub mod Answered
 pub mod Operations
 pub mod Machine
 pub mod Safety

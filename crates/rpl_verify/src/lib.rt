@@ -4,6 +4,8 @@
 //! code by them yet.
 #![tactic(auto)]
 
+mod block_fault;
+mod judge;
 mod kinds;
 pub mod law;
 mod names;
