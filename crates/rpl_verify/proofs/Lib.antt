@@ -17,3 +17,4 @@ pub mod WalkFacts
 pub mod TakeFacts
 pub mod NameFacts
 pub mod JudgeFacts
+pub mod Caps

@@ -9,6 +9,7 @@ pub mod Walked
 pub mod Walks
 pub mod Steps
 pub mod Answered
+pub mod Notes
 pub mod Operations
 pub mod Machine
 pub mod Safety

@@ -5,14 +5,18 @@
 #![tactic(auto)]
 
 mod block_fault;
+mod budget;
 mod judge;
 mod kinds;
 pub mod law;
 mod names;
+mod notes;
 mod place_fault;
 mod stacks;
+mod table;
 mod takes;
 mod verify_kind;
 mod walk;
 
+pub use budget::Budget;
 pub use verify_kind::VerifyKind;
