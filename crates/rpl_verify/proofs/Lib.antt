@@ -18,3 +18,4 @@ pub mod TakeFacts
 pub mod NameFacts
 pub mod JudgeFacts
 pub mod Caps
+pub mod BlockFacts

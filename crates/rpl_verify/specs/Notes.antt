@@ -1,5 +1,5 @@
 -- What a table has to know of each place, and the table by that alone. All numbers stop at the first one above their limit.
-use Rattle.std.specs.Prelude.{ℕ, suc, ◌+◌, ◌-◌, ◌*◌, max, List, [], ◌∷◌, slice_index}
+use Rattle.std.specs.Prelude.{ℕ, suc, ◌+◌, ◌-◌, ◌*◌, max, List, [], ◌∷◌, slice_index, Result, Ok}
 use Rattle.rpl_code.specs.declared.instruction.Instruction.{Instruction}
 use Rattle.rpl_tree.specs.Budget.{Budget, budget, capped, limits}
 use Rattle.rpl_verify.specs.declared.budget.Budget.{Budget as Numbers}
@@ -8,7 +8,7 @@ use Rattle.rpl_verify.specs.declared.notes.Part.{Part}
 use Rattle.rpl_verify.specs.declared.notes.Part.TheVariants.{Count, Looks, Puts, Words}
 use Rattle.rpl_verify.specs.Places.{rest_of}
 use Rattle.rpl_verify.specs.Names.{Scope}
-use Rattle.rpl_verify.specs.Fits.{Before, room_on_top}
+use Rattle.rpl_verify.specs.Fits.{Before, Misplaced, before, befores, room_on_top, then_do}
 use Rattle.rpl_verify.specs.Budget.{Measure, at_a_time, count_of, first_of, looks_of, most_from, puts_of, summed, way_of, words_at, words_before}
 
 abbrev pub budget_seen : Numbers → Budget
@@ -41,6 +41,11 @@ module _ (scope : Scope) (budgets : List Budget) where
   measure_of Looks = summed scope budgets (looks_of scope budgets)
   measure_of Puts = summed scope budgets (puts_of scope budgets)
   measure_of Words = at_a_time scope budgets
+
+-- the notes of a block of this scope, or its first misfit
+abbrev pub noted_block : Scope → List Budget → List Instruction → Result (List Note) Misplaced
+noted_block scope budgets lines =
+    then_do (befores scope 0 (before [] []) lines) (λ bs. Ok (notes_of scope budgets bs lines))
 
 -- ---- the table by notes
 
@@ -87,3 +92,12 @@ noted part place ns [] = first_price part ns ∷ []
 noted part place ns (i ∷ is) =
     let behind : List ℕ = noted part (suc place) (rest_of ns) is in
     most_from (stopping part) place (way_of i) (first_price part ns) (first_room ns) is (λ to. slice_index behind (to - suc place)) ∷ behind
+
+-- the budget by notes
+abbrev pub budget_noted : List Note → List Instruction → Budget
+budget_noted notes lines =
+    budget
+    (slice_index (noted Count 0 notes lines) 0)
+    (slice_index (noted Looks 0 notes lines) 0)
+    (slice_index (noted Puts 0 notes lines) 0)
+    (slice_index (noted Words 0 notes lines) 0)

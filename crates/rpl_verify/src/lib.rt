@@ -4,6 +4,7 @@
 //! code by them yet.
 #![tactic(auto)]
 
+mod block;
 mod block_fault;
 mod budget;
 mod judge;
