@@ -19,3 +19,4 @@ pub mod NameFacts
 pub mod JudgeFacts
 pub mod Caps
 pub mod BlockFacts
+pub mod BlockRuled
