@@ -5,12 +5,18 @@ use Rattle.rpl_verify.specs.declared.place_fault.PlaceFault.{PlaceFault}
 use Rattle.rpl_verify.specs.declared.place_fault.PlaceFault.TheVariants.{Misfit, NoMemory}
 use Rattle.rpl_verify.specs.declared.block_fault.BlockFault.{BlockFault}
 use Rattle.rpl_verify.specs.declared.block_fault.BlockFault.TheVariants.{Misplaced as At, NoMemory as Exhausted}
+use Rattle.rpl_verify.specs.declared.verify_fault.VerifyFault.{VerifyFault}
+use Rattle.rpl_verify.specs.declared.verify_fault.VerifyFault.TheVariants.{Refused, NoMemory as Spent}
 use Rattle.rpl_verify.specs.Fits.{Before, Misplaced}
 use Rattle.rpl_verify.specs.Walked.{Walked}
 
 abbrev pub placed_at : ℕ → PlaceFault → BlockFault
 placed_at place (Misfit kind) = At kind place
 placed_at place NoMemory = Exhausted
+
+abbrev pub fault_in : ℕ → BlockFault → VerifyFault
+fault_in block (At kind place) = Refused kind block place
+fault_in block Exhausted = Spent
 
 -- the answer is what is given, seen in the definition's terms, unless memory was wanting
 abbrev pub GivesAt : {A B : Type 0} → Result A Misplaced → (B → A) → Result B BlockFault → Type 0

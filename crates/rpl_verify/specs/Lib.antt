@@ -10,6 +10,7 @@ pub mod Walks
 pub mod Steps
 pub mod Answered
 pub mod Notes
+pub mod Verified
 pub mod Operations
 pub mod Machine
 pub mod Safety

@@ -16,8 +16,11 @@ mod place_fault;
 mod stacks;
 mod table;
 mod takes;
+mod verifier;
+mod verify_fault;
 mod verify_kind;
 mod walk;
 
 pub use budget::Budget;
+pub use verify_fault::VerifyFault;
 pub use verify_kind::VerifyKind;
