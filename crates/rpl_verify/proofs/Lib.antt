@@ -15,3 +15,8 @@ pub mod Endless
 pub mod StackFacts
 pub mod WalkFacts
 pub mod TakeFacts
+pub mod NameFacts
+pub mod JudgeFacts
+pub mod Caps
+pub mod BlockFacts
+pub mod BlockRuled

@@ -8,6 +8,9 @@ pub mod Stacks
 pub mod Walked
 pub mod Walks
 pub mod Steps
+pub mod Answered
+pub mod Notes
+pub mod Verified
 pub mod Operations
 pub mod Machine
 pub mod Safety

@@ -6,6 +6,7 @@ use Rattle.rpl_code.specs.declared.kind.ValueKind.{ValueKind}
 use Rattle.rpl_code.specs.declared.kind.ValueKind.TheVariants as K
 use Rattle.rpl_code.specs.declared.block.BlockHead.{BlockHead}
 use Rattle.rpl_code.specs.declared.block.Block.{Block}
+use Rattle.rpl_tree.specs.Mean.{Function as Predefined}
 use Rattle.rpl_verify.specs.declared.verify_kind.VerifyKind.{VerifyKind}
 use Rattle.rpl_verify.specs.declared.verify_kind.VerifyKind.TheVariants.{BackwardJump, MissingOperand, WrongOperand, WrongShape}
 use Rattle.rpl_verify.specs.declared.place_fault.PlaceFault.{PlaceFault}
@@ -21,6 +22,10 @@ use Rattle.rpl_verify.specs.Walked.{Walked, declares, with_kinds}
 abbrev pub scope_in : Draft → List Block → ℕ → BlockHead → List ValueKind → List Spot → Scope
 scope_in basin blocks number head locals spots =
     record { basin = basin; heads = heads_of blocks; number = number; head = head; locals = locals; spots = spots }
+
+-- how many numbers a predefined function takes
+abbrev pub takes_count : Predefined → ℕ
+takes_count known = length known.head.takes
 
 -- an instruction of this row takes its operands, and leaves others in their place
 abbrev pub taken_by : Row → Before → Result Before VerifyKind

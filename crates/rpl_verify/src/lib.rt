@@ -4,12 +4,23 @@
 //! code by them yet.
 #![tactic(auto)]
 
+mod block;
+mod block_fault;
+mod budget;
+mod judge;
 mod kinds;
 pub mod law;
+mod names;
+mod notes;
 mod place_fault;
 mod stacks;
+mod table;
 mod takes;
+mod verifier;
+mod verify_fault;
 mod verify_kind;
 mod walk;
 
+pub use budget::Budget;
+pub use verify_fault::VerifyFault;
 pub use verify_kind::VerifyKind;

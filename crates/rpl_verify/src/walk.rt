@@ -2,14 +2,15 @@
 ghost use Rattle.std.specs.Prelude.{◌≡◌, ◌<◌, ◌+◌, ◌^◌, ℕ, [], ◌∷◌, length, map, reverse, IfOk, is_some, slice_get};
 ghost use Rattle.rpl_tree.specs.Budget.{capped, limits};
 ghost use Rattle.rpl_verify.specs.Kinds.{are_same_kinds, top_of, words_of_all};
-ghost use Rattle.rpl_verify.specs.Places.{Opener, bracket, closed, declared_by, is_same_loop, openers_behind, spots, start_of};
-ghost use Rattle.rpl_verify.specs.Fits.{before, innermost, is_same_place, landing};
+ghost use Rattle.rpl_verify.specs.Places.{Opener, bracket, closed, declared_by, is_same_loop, openers_behind, rest_of, spots, start_of};
+ghost use Rattle.rpl_verify.specs.Fits.{before, innermost, is_same_place, landing, room_on_top};
 ghost use Rattle.rpl_verify.specs.Budget.{words_of_loop, words_of_loops};
 ghost use Rattle.rpl_verify.specs.Stacks.{Grows};
 ghost use Rattle.rpl_verify.specs.Walks.{IsRooted, IsNumber, IsDeclared, opener_of, openers_of};
 ghost use Rattle.rpl_verify.specs.Walked.{Closes, Lands, are_shut, declares, is_declared, landed, loop_of, with_kinds, with_loop, without_top};
 
 use crate::VerifyKind;
+use crate::kinds::room_of;
 use crate::place_fault::PlaceFault;
 use crate::stacks::{Stacks, WORDS_CAP};
 use rpl_code::{Instruction, ValueKind};
@@ -211,6 +212,26 @@ impl Walk {
         ensures { result ≡ top_of self.now.before.kinds }
     {
         self.stacks.top(self.kinds)
+    }
+
+    /// For how many elements the list on top has room.
+    pub(crate) fn room(&self) -> u16
+        ensures { result ≡ room_on_top self.now.before.kinds }
+    {
+        match self.top() {
+            None => 0,
+            Some(kind) => room_of(kind),
+        }
+    }
+
+    /// For how many elements the list below the top has room.
+    pub(crate) fn room_below(&self) -> u16
+        ensures { result ≡ room_on_top (rest_of self.now.before.kinds) }
+    {
+        match self.stacks.top(self.stacks.below(self.kinds)) {
+            None => 0,
+            Some(kind) => room_of(kind),
+        }
     }
 
     /// Lets the top go.

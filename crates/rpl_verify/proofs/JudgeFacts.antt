@@ -1,0 +1,29 @@
+-- Steps of the code's judgement.
+use Rattle.std.proofs.Common.{◌≡◌, ℕ, [], ◌∷◌, replicate, Option, Some, None, option_map, Result, Err, refl, sym, ap, subst}
+use Rattle.rpl_code.specs.declared.kind.ValueKind.TheVariants as K
+use Rattle.rpl_code.specs.declared.instruction.Instruction.{Instruction}
+use Rattle.rpl_tree.specs.Mean.{Function as Predefined}
+use Rattle.rpl_verify.specs.declared.verify_kind.VerifyKind.{VerifyKind}
+use Rattle.rpl_verify.specs.declared.place_fault.PlaceFault.{PlaceFault}
+use Rattle.rpl_verify.specs.declared.place_fault.PlaceFault.TheVariants.{Misfit, NoMemory}
+use Rattle.rpl_verify.specs.declared.block_fault.BlockFault.{BlockFault}
+use Rattle.rpl_verify.specs.Table.{call_row, takes}
+use Rattle.rpl_verify.specs.Names.{Scope, name_misfit}
+use Rattle.rpl_verify.specs.Fits.{Before, behind, judged, unless_misfit}
+use Rattle.rpl_verify.specs.Walked.{Goes, Walked}
+use Rattle.rpl_verify.specs.Steps.{takes_count}
+use Rattle.rpl_verify.specs.Answered.{GoesAt, placed_at}
+
+-- the row of a predefined function of so many numbers
+pub counted : (known : Option Predefined) (n : ℕ) → option_map takes_count known ≡ Some n → call_row known ≡ takes (replicate n K.N) (K.N ∷ [])
+counted None n h = absurd (cc h)
+counted (Some known) n h = let e : takes_count known ≡ n = cc h in ap (λ k. takes (replicate k K.N) (K.N ∷ [])) e
+
+-- a fault at its place
+pub goes_at : (A B : Type 0) (place : ℕ) (given : Result Before VerifyKind) (old new : Walked) (fault : PlaceFault) (result : BlockFault) → result ≡ placed_at place fault → Goes {B = A} given old new (Err fault) → GoesAt {B = B} place given old new (Err result)
+goes_at A B place given old new (Misfit misfit) result e h = subst (λ r. GoesAt {B = B} place given old new (Err r)) (sym e) (h, refl)
+goes_at A B place given old new NoMemory result e h = subst (λ r. GoesAt {B = B} place given old new (Err r)) (sym e) tt
+
+-- an instruction whose names are there
+pub named : (scope : Scope) (place : ℕ) (b : Before) (i : Instruction) → name_misfit scope i ≡ None → judged scope place b i ≡ behind scope place b i
+named scope place b i h = ap (λ misfit. unless_misfit misfit (behind scope place b i)) h

@@ -1,0 +1,5 @@
+use Rattle.rpl_verify.proofs.NameFacts.{IsLeft}
+use Rattle.rpl_verify.proofs.names.table_misfit.Given as goal
+
+abbrev pub invariant-loop-place : goal.invariant-loop-place
+invariant-loop-place l = IsLeft l.basin.objects l.name l.place

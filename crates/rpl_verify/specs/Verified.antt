@@ -1,0 +1,33 @@
+-- Code that is accepted.
+use Rattle.std.specs.Prelude.{ℕ, suc, List, [], ◌∷◌, Option, Some, None, Result, Ok, Err, if◌then◌else◌}
+use Rattle.rw_model.specs.Draft.{Draft}
+use Rattle.rpl_code.specs.declared.block.Block.{Block}
+use Rattle.rpl_code.specs.declared.block.BlockHead.TheVariants.{Rule}
+use Rattle.rpl_tree.specs.Budget.{Budget}
+use Rattle.rpl_verify.specs.declared.verify_fault.VerifyFault.{VerifyFault}
+use Rattle.rpl_verify.specs.declared.verify_fault.VerifyFault.TheVariants.{Refused, NoMemory}
+use Rattle.rpl_verify.specs.Fits.{Refusal, is_alike, refusal}
+use Rattle.rpl_verify.specs.Budget.{ruling}
+
+-- the blocks, and the budget of each
+pub record Accepted : Type 0 where
+  pub blocks : List Block
+  pub budgets : List Budget
+
+abbrev pub with_budgets : List Block → Result (List Budget) Refusal → Result Accepted Refusal
+with_budgets blocks (Ok budgets) = Ok (record { blocks = blocks; budgets = budgets })
+with_budgets blocks (Err why) = Err why
+
+-- the code with the budget of each block, or its first refusal
+abbrev pub verified : Draft → List Block → Result Accepted Refusal
+verified basin blocks = with_budgets blocks (ruling basin blocks)
+
+-- the refusal that a fault tells
+abbrev pub refusal_of : VerifyFault → Option Refusal
+refusal_of (Refused kind block place) = Some (refusal kind block place)
+refusal_of NoMemory = None
+
+-- the numbers of the blocks that are rules, where the first block has this number
+abbrev pub rules_from : ℕ → List Block → List ℕ
+rules_from n [] = []
+rules_from n (x ∷ xs) = if is_alike Rule x.head then n ∷ rules_from (suc n) xs else rules_from (suc n) xs

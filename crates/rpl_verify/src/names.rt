@@ -1,0 +1,182 @@
+// Names that instructions use, looked up in the basin, the predefined functions and the blocks.
+ghost use Rattle.std.specs.Prelude.{◌≡◌, ℕ, List, bytes_eq, option_map};
+ghost use Rattle.rw_model.specs.Objects.{numbered, slot_named};
+ghost use Rattle.rpl_code.specs.declared.kind.ValueKind.{ValueKind};
+ghost use Rattle.rpl_tree.specs.Mean.{predefined_functions};
+ghost use Rattle.rpl_tree.specs.World.{table_in, table_named};
+ghost use Rattle.rpl_verify.specs.Fits.{heads_of};
+ghost use Rattle.rpl_verify.specs.Names.{call_misfit, name_misfit, put_misfit, put_step_misfit, unless_there};
+ghost use Rattle.rpl_verify.specs.Places.{Spot};
+ghost use Rattle.rpl_verify.specs.Steps.{scope_in, takes_count};
+ghost use Rattle.rpl_verify.specs.Table.{function_named};
+
+use crate::VerifyKind;
+use rpl_code::{Block, BlockHead, Instruction};
+use rw_base::ObjectNo;
+use rw_model::{Basin, Kind, Name};
+
+// Whether a name is this text.
+fn is_called(name: &Name, text: &str) -> bool
+    ensures { result ≡ bytes_eq text.now name.now }
+{
+    text == name.as_str()
+}
+
+/// How many numbers a predefined function takes, if there is one of this name.
+pub(crate) fn predefined_count(name: &Name) -> Option<u8>
+    ensures { result ≡ option_map takes_count (function_named predefined_functions name.now) }
+{
+    if is_called(name, "Min") {
+        Some(2)
+    } else if is_called(name, "Max") {
+        Some(2)
+    } else if is_called(name, "Abs") {
+        Some(1)
+    } else if is_called(name, "Clamp") {
+        Some(3)
+    } else if is_called(name, "RoundDown") {
+        Some(2)
+    } else if is_called(name, "Sign") {
+        Some(1)
+    } else {
+        None
+    }
+}
+
+/// The block of a number, counted from 1.
+pub(crate) fn block_numbered(blocks: &[Block], number: u32) -> Option<&Block>
+    ensures { option_map (λ block. block.now) result ≡ numbered blocks.now number }
+{
+    if number == 0 {
+        return None;
+    }
+    blocks.get(number as usize - 1)
+}
+
+// A reservoir of this name has to be there, with a table.
+fn table_misfit(basin: &Basin, name: &Name) -> Option<VerifyKind>
+    ensures { result ≡ unless_there (table_named basin.now name.now) }
+{
+    for place in 0..basin.object_count() {
+        let object = ObjectNo(place + 1);
+        if name.as_str() == basin.object_name(object) {
+            return unless_tabled(basin.kind(object));
+        }
+    }
+    Some(VerifyKind::NoSuchName)
+}
+
+// An object of this kind has to have a table.
+fn unless_tabled(kind: &Kind) -> Option<VerifyKind>
+    ensures { result ≡ unless_there (table_in kind.now) }
+{
+    match kind {
+        Kind::Reservoir { table: Some(_), .. } => None,
+        _ => Some(VerifyKind::NoSuchName),
+    }
+}
+
+// A slot of these names has to be there.
+fn slot_misfit(basin: &Basin, object: &Name, slot: &Name) -> Option<VerifyKind>
+    ensures { result ≡ unless_there (slot_named basin.now.objects object.now slot.now) }
+{
+    match basin.find_slot(object.as_str(), slot.as_str()) {
+        None => Some(VerifyKind::NoSuchName),
+        Some(_) => None,
+    }
+}
+
+// A predefined function of this name has to be there.
+fn predefined_misfit(name: &Name) -> Option<VerifyKind>
+    ensures { result ≡ unless_there (function_named predefined_functions name.now) }
+{
+    match predefined_count(name) {
+        None => Some(VerifyKind::NoSuchName),
+        Some(_) => None,
+    }
+}
+
+// A rule puts at the timestep in which it fires, and a function never.
+fn put_step_misfit(head: &BlockHead, ahead: u8) -> Option<VerifyKind>
+    ensures { result ≡ put_step_misfit head.now ahead }
+{
+    match head {
+        BlockHead::Function { .. } => Some(VerifyKind::PutInFunction),
+        BlockHead::Rule => {
+            if ahead == 0 {
+                None
+            } else {
+                Some(VerifyKind::TargetStep)
+            }
+        }
+    }
+}
+
+// A put of a slot, in a block with this head.
+fn put_misfit(
+    basin: &Basin,
+    head: &BlockHead,
+    object: &Name,
+    slot: &Name,
+    ahead: u8,
+) -> Option<VerifyKind>
+    ensures { (blocks : List Block) (number : ℕ) (locals : List ValueKind) (spots : List Spot)
+        → result ≡ put_misfit (scope_in basin.now blocks number head.now locals spots)
+        (slot_named basin.now.objects object.now slot.now) ahead }
+{
+    match basin.find_slot(object.as_str(), slot.as_str()) {
+        None => Some(VerifyKind::NoSuchName),
+        Some(number) => {
+            if basin.settable(number) {
+                put_step_misfit(head, ahead)
+            } else {
+                Some(VerifyKind::NotSettable)
+            }
+        }
+    }
+}
+
+// A call of a block, from the block of a number.
+fn call_misfit(blocks: &[Block], here: u32, called: u32) -> Option<VerifyKind>
+    ensures { result ≡ call_misfit here called (numbered (heads_of blocks.now) called) }
+{
+    match block_numbered(blocks, called) {
+        None => Some(VerifyKind::NoSuchName),
+        Some(block) => match block.head {
+            BlockHead::Rule => Some(VerifyKind::NoSuchName),
+            BlockHead::Function { .. } => {
+                if called < here {
+                    None
+                } else {
+                    Some(VerifyKind::LaterCall)
+                }
+            }
+        },
+    }
+}
+
+/// What is refused of the names that an instruction uses, in a block of this number and head.
+pub(crate) fn name_misfit(
+    basin: &Basin,
+    blocks: &[Block],
+    number: u32,
+    head: &BlockHead,
+    instruction: &Instruction,
+) -> Option<VerifyKind>
+    ensures { (locals : List ValueKind) (spots : List Spot) → result
+        ≡ name_misfit (scope_in basin.now blocks.now number head.now locals spots) instruction.now }
+{
+    match instruction {
+        Instruction::Slot { object, slot } => slot_misfit(basin, object, slot),
+        Instruction::ToElevation(object) => table_misfit(basin, object),
+        Instruction::ToStorage(object) => table_misfit(basin, object),
+        Instruction::Call(name) => predefined_misfit(name),
+        Instruction::Invoke(called) => call_misfit(blocks, number, *called),
+        Instruction::Put {
+            object,
+            slot,
+            ahead,
+        } => put_misfit(basin, head, object, slot, *ahead),
+        _ => None,
+    }
+}
