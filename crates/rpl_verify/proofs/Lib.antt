@@ -20,3 +20,4 @@ pub mod JudgeFacts
 pub mod Caps
 pub mod BlockFacts
 pub mod BlockRuled
+pub mod VerifiedFacts

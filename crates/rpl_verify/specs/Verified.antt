@@ -1,12 +1,14 @@
 -- Code that is accepted.
-use Rattle.std.specs.Prelude.{ℕ, suc, List, [], ◌∷◌, Option, Some, None, Result, Ok, Err, if◌then◌else◌}
+use Rattle.std.specs.Prelude.{◌≡◌, ◌≤◌, ℕ, suc, List, [], ◌∷◌, length, Option, Some, None, Result, Ok, Err, if◌then◌else◌}
 use Rattle.rw_model.specs.Draft.{Draft}
 use Rattle.rpl_code.specs.declared.block.Block.{Block}
-use Rattle.rpl_code.specs.declared.block.BlockHead.TheVariants.{Rule}
+use Rattle.rpl_code.specs.declared.kind.ValueKind.TheVariants as K
+use Rattle.rpl_code.specs.declared.block.BlockHead.{BlockHead}
+use Rattle.rpl_code.specs.declared.block.BlockHead.TheVariants.{Rule, Function}
 use Rattle.rpl_tree.specs.Budget.{Budget}
 use Rattle.rpl_verify.specs.declared.verify_fault.VerifyFault.{VerifyFault}
 use Rattle.rpl_verify.specs.declared.verify_fault.VerifyFault.TheVariants.{Refused, NoMemory}
-use Rattle.rpl_verify.specs.Fits.{Refusal, is_alike, refusal}
+use Rattle.rpl_verify.specs.Fits.{Refusal, count_alike, is_alike, refusal}
 use Rattle.rpl_verify.specs.Budget.{ruling}
 
 -- the blocks, and the budget of each
@@ -31,3 +33,14 @@ refusal_of NoMemory = None
 abbrev pub rules_from : ℕ → List Block → List ℕ
 rules_from n [] = []
 rules_from n (x ∷ xs) = if is_alike Rule x.head then n ∷ rules_from (suc n) xs else rules_from (suc n) xs
+
+-- any function's
+abbrev pub function_head : BlockHead
+function_head = Function K.N []
+
+-- a budget for each block, the numbers of the rules, and no more of either than there may be
+pub record KeepsVerified (blocks : List Block) (budgets : List Budget) (rules : List ℕ) : Type 0 where
+  pub each : length budgets ≡ length blocks
+  pub rules_are : rules ≡ rules_from 1 blocks
+  pub few_rules : count_alike Rule blocks ≤ 200
+  pub few_functions : count_alike function_head blocks ≤ 200

@@ -16,11 +16,13 @@ mod place_fault;
 mod stacks;
 mod table;
 mod takes;
+mod verified;
 mod verifier;
 mod verify_fault;
 mod verify_kind;
 mod walk;
 
 pub use budget::Budget;
+pub use verified::{Verified, verify};
 pub use verify_fault::VerifyFault;
 pub use verify_kind::VerifyKind;
