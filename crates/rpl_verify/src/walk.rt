@@ -18,8 +18,8 @@ use rw_base::NoMemory;
 use std::alloc::Global;
 use std::marker::Model;
 
-/// A loop that is open: the place where it begins, whether it is a mapping, for how many elements its list has room, and
-/// the number of the operands under that list.
+/// A loop that is open: the place where it begins, whether it is a mapping, for how many elements
+/// its list has room, and the number of the operands under that list.
 #[derive(Clone, Copy)]
 pub(crate) struct OpenLoop {
     start: u32,
@@ -28,7 +28,8 @@ pub(crate) struct OpenLoop {
     under: u32,
 }
 
-/// What jumps have to know of a place: where the innermost loop begins, and the number of the kinds that are declared.
+/// What jumps have to know of a place: where the innermost loop begins, and the number of the kinds
+/// that are declared.
 #[derive(Clone, Copy)]
 pub(crate) struct Landing {
     innermost: Option<u32>,
@@ -116,7 +117,8 @@ fn declare(stacks: &mut Stacks, instruction: &Instruction) -> Result<Option<u32>
 
 // Closes the innermost loop, if it is of this sort.
 fn leave(openers: &mut Vec<Beginning>, maps: bool)
-    ensures { openers_of openers.new.items ≡ closed (loop_of maps) (openers_of openers.old.items) }
+    ensures { openers_of openers.new.items
+        ≡ closed (loop_of maps) (openers_of openers.old.items) }
 {
     match openers.last().copied() {
         None => {}
@@ -167,7 +169,8 @@ impl Walk {
     /// A walk before the first place of a block.
     pub(crate) fn of(alloc: Global, lines: &[Instruction]) -> Result<Walk, NoMemory>
         requires { length lines.now < 2 ^ 32 }
-        ensures { IfOk result (λ w. w ≡ record { before = before [] []; spots = spots lines.now }) }
+        ensures { IfOk result (λ walk. walk
+            ≡ record { before = before [] []; spots = spots lines.now }) }
     {
         let mut stacks = Stacks::new(alloc);
         let mut openers = Vec::new(alloc);
@@ -243,7 +246,8 @@ impl Walk {
 
     /// Puts a kind on top.
     pub(crate) fn push(&mut self, kind: ValueKind) -> Result<(), NoMemory>
-        ensures { IfOk result (λ _. self.new ≡ with_kinds self.old (kind ∷ self.old.before.kinds)) }
+        ensures { IfOk result (λ _. self.new
+            ≡ with_kinds self.old (kind ∷ self.old.before.kinds)) }
     {
         let kinds = self.stacks.push(self.kinds, kind)?;
         self.kinds = kinds;
@@ -267,7 +271,8 @@ impl Walk {
         Ok(())
     }
 
-    /// Ends the innermost loop, where the operands are those under its list, and answers for how many elements that has room.
+    /// Ends the innermost loop, where the operands are those under its list, and answers for how
+    /// many elements that has room.
     pub(crate) fn close(&mut self, maps: bool) -> Result<u16, PlaceFault>
         ensures { Closes (loop_of maps) self.old self.new result }
     {
