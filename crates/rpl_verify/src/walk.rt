@@ -1,11 +1,11 @@
 // A walk through a block, place by place.
-ghost use Rattle.std.specs.Prelude.{◌≡◌, ◌<◌, ◌+◌, ◌^◌, ℕ, [], ◌∷◌, length, map, reverse, IfOk, is_some, slice_get};
+ghost use Rattle.std.specs.Prelude.{◌≡◌, ◌<◌, ◌+◌, ◌^◌, ◌&&◌, ℕ, [], ◌∷◌, length, map, reverse, IfOk, is_some, slice_get};
 ghost use Rattle.rpl_tree.specs.Budget.{capped, limits};
 ghost use Rattle.rpl_verify.specs.Kinds.{are_same_kinds, top_of, words_of_all};
 ghost use Rattle.rpl_verify.specs.Places.{Opener, bracket, closed, declared_by, is_same_loop, openers_behind, rest_of, spots, start_of};
 ghost use Rattle.rpl_verify.specs.Fits.{before, innermost, is_same_place, landing, room_on_top};
 ghost use Rattle.rpl_verify.specs.Budget.{words_of_loop, words_of_loops};
-ghost use Rattle.rpl_verify.specs.Stacks.{Grows};
+ghost use Rattle.rpl_verify.specs.Stacks.{at, Grows};
 ghost use Rattle.rpl_verify.specs.Walks.{IsRooted, IsNumber, IsDeclared, opener_of, openers_of};
 ghost use Rattle.rpl_verify.specs.Walked.{Closes, Lands, are_shut, declares, is_declared, landed, loop_of, with_kinds, with_loop, without_top};
 
@@ -155,6 +155,23 @@ fn follow(
     Ok(())
 }
 
+// Whether a loop is of this sort, and these are the operands under its list.
+fn ends_here(stacks: &Stacks, last: &OpenLoop, maps: bool, kinds: u32) -> bool
+    requires under_in { last.now.under < length stacks.now }
+    requires kinds_in { kinds < length stacks.now }
+    ensures { result ≡ (is_same_loop (loop_of maps) (loop_of last.now.maps)
+        && are_same_kinds (at stacks.now last.now.under) (at stacks.now kinds)) }
+{
+    is_same_sort(last.maps, maps) && stacks.same(last.under, kinds)
+}
+
+// Whether two loops are of one sort.
+fn is_same_sort(a: bool, b: bool) -> bool
+    ensures { result ≡ is_same_loop (loop_of b) (loop_of a) }
+{
+    if a { b } else { !b }
+}
+
 // Where the innermost loop begins.
 fn start_of(openers: &[Beginning]) -> Option<u32>
     ensures { result ≡ start_of (top_of (openers_of openers.now)) }
@@ -280,10 +297,7 @@ impl Walk {
             return Err(PlaceFault::Misfit(VerifyKind::WrongShape));
         };
         self.loop_words -= loop_words(last.maps, last.room);
-        if last.maps != maps {
-            return Err(PlaceFault::Misfit(VerifyKind::WrongShape));
-        }
-        if !self.stacks.same(last.under, self.kinds) {
+        if !ends_here(&self.stacks, &last, maps, self.kinds) {
             return Err(PlaceFault::Misfit(VerifyKind::WrongShape));
         }
         Ok(last.room)
