@@ -1,7 +1,6 @@
 -- A walk's fields.
-use Rattle.std.proofs.Common.{◌≡◌, ℕ, zero, suc, ◌+◌, ◌≤◌, ◌<◌, Bool, true, false, ◌&&◌, List, [], ◌∷◌, ◌++◌, length, map, reverse, get_or, Option, Some, None, Ok, drop, append_assoc, refl, sym, ap, ap₂, ◌∙◌, arith, length-append}
-use mathlib.Core.Bool.{beq}
-use Rattle.std.specs.Prelude.{All, not}
+use Rattle.std.proofs.Common.{◌≡◌, ℕ, zero, suc, ◌+◌, ◌≤◌, ◌<◌, Bool, true, ◌&&◌, List, [], ◌∷◌, ◌++◌, length, map, reverse, get_or, Option, Some, None, Ok, drop, append_assoc, refl, sym, ap, ap₂, ◌∙◌, arith, length-append}
+use Rattle.std.specs.Prelude.{All}
 use Rattle.std.proofs.lemmas.List.{drop_more, map-append, reverse-append}
 use Rattle.std.proofs.lemmas.List.Elements.{All-get_or, All-push}
 use Rattle.rpl_code.specs.declared.kind.ValueKind.{ValueKind}
@@ -15,8 +14,8 @@ use Rattle.rpl_verify.specs.Budget.{words_of_loops}
 use Rattle.rpl_verify.specs.Walked.{Walked, declares, loop_of, with_kinds}
 use Rattle.rpl_verify.specs.Stacks.{at, Grows, IsPushed}
 use Rattle.rpl_verify.specs.Walks.{open_of, opens_of, kinds_at, spot_of, spots_of, walked, IsBelowIt, IsSound, IsRooted, IsDeclared}
-use Rattle.rpl_verify.proofs.KindFacts.{same_kinds_true}
-use Rattle.rpl_verify.proofs.Judged.{same_loop_true, same_loop_refl}
+use Rattle.rpl_verify.proofs.KindFacts.{and_true, same_kinds_true}
+use Rattle.rpl_verify.proofs.Judged.{same_loop_true}
 use Rattle.rpl_verify.proofs.StackFacts.{at-append}
 
 -- ---- lists that grow
@@ -76,12 +75,6 @@ sound_grown ls ls2 n n2 os xs words s g lt =
 
 -- ---- the end of a loop
 
-pub same_truth : (a b : Bool) → not (beq a b) ≡ false → a ≡ b
-same_truth true true h = refl
-same_truth false false h = refl
-same_truth true false h = absurd (cc h)
-same_truth false true h = absurd (cc h)
-
 pub shut_is : (loop : Loop) (kinds : List ValueKind) (o : Open) (os : List Open) → is_same_loop loop o.loop ≡ true → are_same_kinds o.under kinds ≡ true → shut loop kinds (o ∷ os) ≡ Ok (before (behind_loop loop o.room kinds) os)
 shut_is loop kinds o os l k =
     let a : loop ≡ o.loop = same_loop_true loop o.loop l in
@@ -92,12 +85,12 @@ opens_push : (ls : List (List ValueKind)) (os : List OpenLoop) (o : OpenLoop) �
 opens_push ls os o = ap reverse (map-append (open_of ls) os (o ∷ [])) ∙ reverse-append (map (open_of ls) os) (open_of ls o ∷ [])
 
 -- the last loop that was begun ends
-pub closes : (ls : List (List ValueKind)) (n : ℕ) (os os2 : List OpenLoop) (o : OpenLoop) (xs : List Landing) (w : Walked) (maps : Bool) → walked ls n os xs ≡ w → os ≡ os2 ++ o ∷ [] → o.maps ≡ maps → are_same_kinds (at ls o.under) (at ls n) ≡ true
+pub closes : (ls : List (List ValueKind)) (n : ℕ) (os os2 : List OpenLoop) (o : OpenLoop) (xs : List Landing) (w : Walked) (maps : Bool) → walked ls n os xs ≡ w → os ≡ os2 ++ o ∷ [] → (is_same_loop (loop_of maps) (loop_of o.maps) && are_same_kinds (at ls o.under) (at ls n)) ≡ true
     → (shut (loop_of maps) w.before.kinds w.before.loops ≡ Ok (before (behind_loop (loop_of maps) o.room (at ls n)) (opens_of ls os2))) × (spots_of ls xs ≡ w.spots)
-closes ls n os os2 o xs w maps v e m k =
-    let l : is_same_loop (loop_of maps) (loop_of o.maps) ≡ true = ap (λ b. is_same_loop (loop_of maps) (loop_of b)) m ∙ same_loop_refl (loop_of maps) in
+closes ls n os os2 o xs w maps v e t =
+    let both = and_true (is_same_loop (loop_of maps) (loop_of o.maps)) (are_same_kinds (at ls o.under) (at ls n)) t in
     let a : opens_of ls os ≡ open_of ls o ∷ opens_of ls os2 = ap (opens_of ls) e ∙ opens_push ls os2 o in (
-      ap (λ (w : Walked). shut (loop_of maps) w.before.kinds w.before.loops) (sym v) ∙ ap (shut (loop_of maps) (at ls n)) a ∙ shut_is (loop_of maps) (at ls n) (open_of ls o) (opens_of ls os2) l k,
+      ap (λ (w : Walked). shut (loop_of maps) w.before.kinds w.before.loops) (sym v) ∙ ap (shut (loop_of maps) (at ls n)) a ∙ shut_is (loop_of maps) (at ls n) (open_of ls o) (opens_of ls os2) both.0 both.1,
       ap (λ (w : Walked). w.spots) v,
     )
 

@@ -6,15 +6,21 @@ use Rattle.rpl_verify.specs.declared.budget.Budget.{Budget as Numbers}
 use Rattle.rpl_verify.specs.declared.notes.Note.{Note}
 use Rattle.rpl_verify.specs.declared.notes.Part.{Part}
 use Rattle.rpl_verify.specs.declared.notes.Part.TheVariants.{Count, Looks, Puts, Words}
+use Rattle.rpl_code.specs.declared.kind.ValueKind.{ValueKind}
+use Rattle.rpl_verify.specs.Kinds.{words_of_all}
 use Rattle.rpl_verify.specs.Places.{rest_of}
 use Rattle.rpl_verify.specs.Names.{Scope}
 use Rattle.rpl_verify.specs.Fits.{Before, Misplaced, before, befores, room_on_top, then_do}
-use Rattle.rpl_verify.specs.Budget.{Measure, at_a_time, count_of, first_of, looks_of, most_from, puts_of, summed, way_of, words_at, words_before}
+use Rattle.rpl_verify.specs.Budget.{Measure, at_a_time, count_of, first_of, looks_of, most_from, puts_of, summed, way_of, words_at, words_before, words_of_loops}
 
 abbrev pub budget_seen : Numbers → Budget
 budget_seen b = budget b.instructions b.reads b.puts b.words
 
 -- ---- notes
+
+-- the words that are kept before a place, in a block with these locals
+abbrev pub words_kept : List ValueKind → Before → ℕ
+words_kept locals b = words_of_all locals + (words_of_all b.kinds + words_of_loops b.loops)
 
 module _ (scope : Scope) (budgets : List Budget) where
   abbrev pub note_of : Before → Instruction → Note

@@ -24,7 +24,8 @@ use rw_model::{Basin, Name};
 
 // Refuses a jump that goes back, or to a place that is no target or lies in another loop.
 fn find(walk: &Walk, place: u32, to: u32) -> Result<(), PlaceFault>
-    ensures { Lands (found_in walk.now.spots place to walk.now.before) (declares walk.now.spots to) result }
+    ensures { Lands (found_in walk.now.spots place to walk.now.before)
+        (declares walk.now.spots to) result }
 {
     if to <= place {
         return Err(PlaceFault::Misfit(VerifyKind::BackwardJump));
@@ -34,7 +35,8 @@ fn find(walk: &Walk, place: u32, to: u32) -> Result<(), PlaceFault>
 
 // Refuses operands that aren't those that are declared at a place.
 fn carry(walk: &Walk, to: u32) -> Result<(), PlaceFault>
-    ensures { Gives (carried_to (declares walk.now.spots to) walk.now.before) (λ _. walk.now.before) result }
+    ensures { Gives (carried_to (declares walk.now.spots to) walk.now.before)
+        (λ _. walk.now.before) result }
 {
     if walk.carries(to) {
         Ok(())
@@ -89,7 +91,8 @@ fn store(walk: &mut Walk, local: Option<ValueKind>) -> Result<(), PlaceFault>
 
 // A predefined function of so many numbers, if there is one.
 fn call(walk: &mut Walk, name: &Name) -> Result<(), PlaceFault>
-    ensures { Goes (taken_by (call_row (function_named predefined_functions name.now)) walk.old.before)
+    ensures { Goes
+        (taken_by (call_row (function_named predefined_functions name.now)) walk.old.before)
         walk.old walk.new result }
 {
     match predefined_count(name) {
@@ -149,7 +152,8 @@ fn act(
     requires last { place < 4294967295 }
     requires here { declares walk.old.spots place ≡ declared_by instruction.now }
     ensures { (basin : Draft) (number : ℕ) (head : BlockHead) → Goes
-        (behind (scope_in basin blocks.now number head locals.now walk.old.spots) place walk.old.before instruction.now)
+        (behind (scope_in basin blocks.now number head locals.now walk.old.spots)
+        place walk.old.before instruction.now)
         walk.old walk.new result }
 {
     match instruction {
@@ -201,7 +205,8 @@ fn act(
 
 // The operands and loops at the end of a block with this head.
 fn end(walk: &Walk, head: &BlockHead) -> Result<(), PlaceFault>
-    ensures { Gives (ended head.now walk.now.before walk.now.before.loops) (λ _. walk.now.before) result }
+    ensures { Gives (ended head.now walk.now.before walk.now.before.loops)
+        (λ _. walk.now.before) result }
 {
     if !walk.is_shut() {
         return Err(PlaceFault::Misfit(VerifyKind::WrongShape));
@@ -236,7 +241,8 @@ fn act_at(
     requires last { place < 4294967295 }
     requires here { declares walk.old.spots place ≡ declared_by instruction.now }
     ensures { (basin : Draft) (number : ℕ) (head : BlockHead) → GoesAt place
-        (behind (scope_in basin blocks.now number head locals.now walk.old.spots) place walk.old.before instruction.now)
+        (behind (scope_in basin blocks.now number head locals.now walk.old.spots)
+        place walk.old.before instruction.now)
         walk.old walk.new result }
 {
     match act(blocks, locals, walk, place, instruction) {
@@ -258,8 +264,10 @@ pub(crate) fn judge(
 ) -> Result<(), BlockFault>
     requires last { place < 4294967295 }
     requires here { declares walk.old.spots place ≡ declared_by instruction.now }
-    ensures { GoesAt place (judged (scope_in basin.now blocks.now number head.now locals.now walk.old.spots)
-        place walk.old.before instruction.now) walk.old walk.new result }
+    ensures { GoesAt place
+        (judged (scope_in basin.now blocks.now number head.now locals.now walk.old.spots)
+        place walk.old.before instruction.now)
+        walk.old walk.new result }
 {
     match name_misfit(basin, blocks, number, head, instruction) {
         Some(kind) => Err(BlockFault::Misplaced(kind, place)),
@@ -269,7 +277,8 @@ pub(crate) fn judge(
 
 /// Judges the end of a block with this head.
 pub(crate) fn judge_end(walk: &Walk, head: &BlockHead, place: u32) -> Result<(), BlockFault>
-    ensures { EndsAt place (ended head.now walk.now.before walk.now.before.loops) walk.now.before result }
+    ensures { EndsAt place (ended head.now walk.now.before walk.now.before.loops)
+        walk.now.before result }
 {
     match end(walk, head) {
         Ok(()) => Ok(()),

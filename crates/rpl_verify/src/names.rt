@@ -163,8 +163,8 @@ pub(crate) fn name_misfit(
     head: &BlockHead,
     instruction: &Instruction,
 ) -> Option<VerifyKind>
-    ensures { (locals : List ValueKind) (spots : List Spot) → result
-        ≡ name_misfit (scope_in basin.now blocks.now number head.now locals spots) instruction.now }
+    ensures { (locals : List ValueKind) (spots : List Spot) → result ≡ name_misfit
+        (scope_in basin.now blocks.now number head.now locals spots) instruction.now }
 {
     match instruction {
         Instruction::Slot { object, slot } => slot_misfit(basin, object, slot),

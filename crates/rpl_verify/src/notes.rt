@@ -10,8 +10,8 @@ ghost use Rattle.rpl_verify.specs.Kinds.{words_of_all};
 ghost use Rattle.rpl_verify.specs.Places.{Spot};
 ghost use Rattle.rpl_verify.specs.Names.{Scope};
 ghost use Rattle.rpl_verify.specs.Fits.{Before, heads_of};
-ghost use Rattle.rpl_verify.specs.Budget.{count_of, looks_of, part_of, puts_of, words_at, words_of_kind, words_of_loops, words_of_parameters};
-ghost use Rattle.rpl_verify.specs.Notes.{budget_seen, end_note, limit_of, note_of};
+ghost use Rattle.rpl_verify.specs.Budget.{count_of, looks_of, part_of, puts_of, words_at, words_of_kind, words_of_parameters};
+ghost use Rattle.rpl_verify.specs.Notes.{budget_seen, end_note, limit_of, note_of, words_kept};
 ghost use Rattle.rpl_verify.specs.Steps.{scope_in};
 
 use crate::Budget;
@@ -32,8 +32,9 @@ pub(crate) enum Part {
     Words,
 }
 
-/// What a table has to know of a place: for how many elements the list on top has room, and how much the instruction there
-/// counts, looks, puts and keeps, each up to the first number above its limit.
+/// What a table has to know of a place: for how many elements the list on top has room, and how
+/// much the instruction there counts, looks, puts and keeps, each up to the first number above its
+/// limit.
 #[derive(Clone, Copy)]
 pub(crate) struct Note {
     pub(crate) room: u16,
@@ -75,7 +76,8 @@ pub(crate) fn words_of_all(kinds: &[ValueKind]) -> u32
 
 // The words that the parameters of a function take, up to the first number above the limit.
 fn parameter_words(blocks: &[Block], number: u32) -> u32
-    ensures { result ≡ capped limits.words (words_of_parameters (numbered (heads_of blocks.now) number)) }
+    ensures { result ≡ capped limits.words
+        (words_of_parameters (numbered (heads_of blocks.now) number)) }
 {
     match block_numbered(blocks, number) {
         None => 0,
@@ -130,9 +132,10 @@ fn count(
     walk: &Walk,
     instruction: &Instruction,
 ) -> u32
-    ensures { (basin : Draft) (number : ℕ) (head : BlockHead) (spots : List Spot) → result ≡ capped limits.count
-        (count_of (scope_in basin blocks.now number head locals.now spots) (map budget_seen budgets.now)
-        walk.now.before instruction.now) }
+    ensures { (basin : Draft) (number : ℕ) (head : BlockHead) (spots : List Spot) → result
+        ≡ capped limits.count (count_of
+        (scope_in basin blocks.now number head locals.now spots)
+        (map budget_seen budgets.now) walk.now.before instruction.now) }
 {
     match instruction {
         Instruction::Load(n) => local_words(locals, *n).min(cap_of(Part::Count)),
@@ -175,17 +178,16 @@ fn puts(budgets: &[Budget], instruction: &Instruction) -> u32
 
 // The words that are kept before a place, where the locals take so many.
 fn words_before(locals: u32, walk: &Walk) -> u32
-    ensures { (kinds : List ValueKind) → locals ≡ capped limits.words (words_of_all kinds) → result
-        ≡ capped limits.words (words_of_all kinds + (words_of_all walk.now.before.kinds + words_of_loops walk.now.before.loops)) }
+    ensures { (kinds : List ValueKind) → locals ≡ capped limits.words (words_of_all kinds)
+        → result ≡ capped limits.words (words_kept kinds walk.now.before) }
 {
     plus(Part::Words, u64::from(locals), u64::from(walk.words()))
 }
 
 // The words that are kept while an instruction is gone through.
 fn words(locals: u32, budgets: &[Budget], walk: &Walk, instruction: &Instruction) -> u32
-    ensures { (kinds : List ValueKind) → locals ≡ capped limits.words (words_of_all kinds)
-        → (basin : Draft) (blocks : List Block) (number : ℕ) (head : BlockHead) (spots : List Spot) → result
-        ≡ capped limits.words (words_at (scope_in basin blocks number head kinds spots)
+    ensures { (scope : Scope) → locals ≡ capped limits.words (words_of_all scope.locals)
+        → result ≡ capped limits.words (words_at scope
         (map budget_seen budgets.now) walk.now.before instruction.now) }
 {
     let before = words_before(locals, walk);
@@ -206,8 +208,8 @@ pub(crate) fn place_note(
 ) -> Note
     requires { local_words ≡ capped limits.words (words_of_all locals.now) }
     ensures { (basin : Draft) (number : ℕ) (head : BlockHead) (spots : List Spot) → result
-        ≡ note_of (scope_in basin blocks.now number head locals.now spots) (map budget_seen budgets.now)
-        walk.now.before instruction.now }
+        ≡ note_of (scope_in basin blocks.now number head locals.now spots)
+        (map budget_seen budgets.now) walk.now.before instruction.now }
 {
     Note {
         room: walk.room(),
@@ -220,7 +222,8 @@ pub(crate) fn place_note(
 
 /// The note of the end of a block, where the locals take so many words.
 pub(crate) fn end_note(local_words: u32, walk: &Walk) -> Note
-    ensures { (scope : Scope) (budgets : List Numbers) → local_words ≡ capped limits.words (words_of_all scope.locals)
+    ensures { (scope : Scope) (budgets : List Numbers)
+        → local_words ≡ capped limits.words (words_of_all scope.locals)
         → result ≡ end_note scope budgets walk.now.before }
 {
     Note {

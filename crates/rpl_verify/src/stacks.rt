@@ -14,8 +14,8 @@ use std::marker::Model;
 /// The most words that are told apart: one above the limit of words.
 pub(crate) const WORDS_CAP: u32 = 1_000_001;
 
-/// A list that isn't empty: the kind on top, the number of the list below, how many kinds the list has, and how many words
-/// these take, up to the first number above the limit.
+/// A list that isn't empty: the kind on top, the number of the list below, how many kinds the list
+/// has, and how many words these take, up to the first number above the limit.
 #[derive(Clone, Copy)]
 pub(crate) struct Node {
     kind: ValueKind,

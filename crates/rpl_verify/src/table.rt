@@ -70,7 +70,8 @@ fn look(most: &[u32], place: usize, to: usize) -> u32
     }
 }
 
-// The most from a place on, where the list of a loop that begins here has room for so many, and the loop ends before that place.
+// The most from a place on, where the list of a loop that begins here has room for so many, and
+// the loop ends before that place.
 fn most_from(
     part: Part,
     most: &[u32],
@@ -133,7 +134,8 @@ fn follow_back(
     Ok(())
 }
 
-/// The most of all ways through a block, by the notes of its places and of its end, up to the first number above the limit.
+/// The most of all ways through a block, by the notes of its places and of its end, up to the first
+/// number above the limit.
 pub(crate) fn most(
     alloc: Global,
     part: Part,

@@ -17,7 +17,8 @@ use rpl_code::ValueKind;
 
 /// Takes operands of these kinds, the last one first.
 pub(crate) fn take(walk: &mut Walk, needs: &[ValueKind]) -> Result<(), PlaceFault>
-    ensures { Goes (taken_by (takes (reverse needs.now) []) walk.old.before) walk.old walk.new result }
+    ensures { Goes (taken_by (takes (reverse needs.now) []) walk.old.before)
+        walk.old walk.new result }
 {
     if (walk.height() as usize) < needs.len() {
         return Err(PlaceFault::Misfit(VerifyKind::MissingOperand));
@@ -75,7 +76,8 @@ fn take_run(walk: &mut Walk, kind: ValueKind, count: u16) -> Result<(), PlaceFau
 
 /// Makes a list of so many operands.
 pub(crate) fn gather(walk: &mut Walk, count: u16) -> Result<(), PlaceFault>
-    ensures { Goes (taken_by (goes_by count (listed count)) walk.old.before) walk.old walk.new result }
+    ensures { Goes (taken_by (goes_by count (listed count)) walk.old.before)
+        walk.old walk.new result }
 {
     if walk.height() < u32::from(count) {
         return Err(PlaceFault::Misfit(VerifyKind::MissingOperand));
@@ -184,7 +186,8 @@ pub(crate) fn measure(walk: &mut Walk) -> Result<(), PlaceFault>
     }
 }
 
-/// Begins a loop over the list on top, whose elements become those of a local of this kind, if there is one.
+/// Begins a loop over the list on top, whose elements become those of a local of this kind, if there
+/// is one.
 pub(crate) fn open(
     walk: &mut Walk,
     place: u32,

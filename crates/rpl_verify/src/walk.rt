@@ -1,11 +1,11 @@
 // A walk through a block, place by place.
-ghost use Rattle.std.specs.Prelude.{◌≡◌, ◌<◌, ◌+◌, ◌^◌, ℕ, [], ◌∷◌, length, map, reverse, IfOk, is_some, slice_get};
+ghost use Rattle.std.specs.Prelude.{◌≡◌, ◌<◌, ◌+◌, ◌^◌, ◌&&◌, ℕ, [], ◌∷◌, length, map, reverse, IfOk, is_some, slice_get};
 ghost use Rattle.rpl_tree.specs.Budget.{capped, limits};
 ghost use Rattle.rpl_verify.specs.Kinds.{are_same_kinds, top_of, words_of_all};
 ghost use Rattle.rpl_verify.specs.Places.{Opener, bracket, closed, declared_by, is_same_loop, openers_behind, rest_of, spots, start_of};
 ghost use Rattle.rpl_verify.specs.Fits.{before, innermost, is_same_place, landing, room_on_top};
 ghost use Rattle.rpl_verify.specs.Budget.{words_of_loop, words_of_loops};
-ghost use Rattle.rpl_verify.specs.Stacks.{Grows};
+ghost use Rattle.rpl_verify.specs.Stacks.{at, Grows};
 ghost use Rattle.rpl_verify.specs.Walks.{IsRooted, IsNumber, IsDeclared, opener_of, openers_of};
 ghost use Rattle.rpl_verify.specs.Walked.{Closes, Lands, are_shut, declares, is_declared, landed, loop_of, with_kinds, with_loop, without_top};
 
@@ -18,8 +18,8 @@ use rw_base::NoMemory;
 use std::alloc::Global;
 use std::marker::Model;
 
-/// A loop that is open: the place where it begins, whether it is a mapping, for how many elements its list has room, and
-/// the number of the operands under that list.
+/// A loop that is open: the place where it begins, whether it is a mapping, for how many elements
+/// its list has room, and the number of the operands under that list.
 #[derive(Clone, Copy)]
 pub(crate) struct OpenLoop {
     start: u32,
@@ -28,7 +28,8 @@ pub(crate) struct OpenLoop {
     under: u32,
 }
 
-/// What jumps have to know of a place: where the innermost loop begins, and the number of the kinds that are declared.
+/// What jumps have to know of a place: where the innermost loop begins, and the number of the kinds
+/// that are declared.
 #[derive(Clone, Copy)]
 pub(crate) struct Landing {
     innermost: Option<u32>,
@@ -116,7 +117,8 @@ fn declare(stacks: &mut Stacks, instruction: &Instruction) -> Result<Option<u32>
 
 // Closes the innermost loop, if it is of this sort.
 fn leave(openers: &mut Vec<Beginning>, maps: bool)
-    ensures { openers_of openers.new.items ≡ closed (loop_of maps) (openers_of openers.old.items) }
+    ensures { openers_of openers.new.items
+        ≡ closed (loop_of maps) (openers_of openers.old.items) }
 {
     match openers.last().copied() {
         None => {}
@@ -153,6 +155,23 @@ fn follow(
     Ok(())
 }
 
+// Whether a loop is of this sort, and these are the operands under its list.
+fn ends_here(stacks: &Stacks, last: &OpenLoop, maps: bool, kinds: u32) -> bool
+    requires under_in { last.now.under < length stacks.now }
+    requires kinds_in { kinds < length stacks.now }
+    ensures { result ≡ (is_same_loop (loop_of maps) (loop_of last.now.maps)
+        && are_same_kinds (at stacks.now last.now.under) (at stacks.now kinds)) }
+{
+    is_same_sort(last.maps, maps) && stacks.same(last.under, kinds)
+}
+
+// Whether two loops are of one sort.
+fn is_same_sort(a: bool, b: bool) -> bool
+    ensures { result ≡ is_same_loop (loop_of b) (loop_of a) }
+{
+    if a { b } else { !b }
+}
+
 // Where the innermost loop begins.
 fn start_of(openers: &[Beginning]) -> Option<u32>
     ensures { result ≡ start_of (top_of (openers_of openers.now)) }
@@ -167,7 +186,8 @@ impl Walk {
     /// A walk before the first place of a block.
     pub(crate) fn of(alloc: Global, lines: &[Instruction]) -> Result<Walk, NoMemory>
         requires { length lines.now < 2 ^ 32 }
-        ensures { IfOk result (λ w. w ≡ record { before = before [] []; spots = spots lines.now }) }
+        ensures { IfOk result (λ walk. walk
+            ≡ record { before = before [] []; spots = spots lines.now }) }
     {
         let mut stacks = Stacks::new(alloc);
         let mut openers = Vec::new(alloc);
@@ -243,7 +263,8 @@ impl Walk {
 
     /// Puts a kind on top.
     pub(crate) fn push(&mut self, kind: ValueKind) -> Result<(), NoMemory>
-        ensures { IfOk result (λ _. self.new ≡ with_kinds self.old (kind ∷ self.old.before.kinds)) }
+        ensures { IfOk result (λ _. self.new
+            ≡ with_kinds self.old (kind ∷ self.old.before.kinds)) }
     {
         let kinds = self.stacks.push(self.kinds, kind)?;
         self.kinds = kinds;
@@ -267,7 +288,8 @@ impl Walk {
         Ok(())
     }
 
-    /// Ends the innermost loop, where the operands are those under its list, and answers for how many elements that has room.
+    /// Ends the innermost loop, where the operands are those under its list, and answers for how
+    /// many elements that has room.
     pub(crate) fn close(&mut self, maps: bool) -> Result<u16, PlaceFault>
         ensures { Closes (loop_of maps) self.old self.new result }
     {
@@ -275,10 +297,7 @@ impl Walk {
             return Err(PlaceFault::Misfit(VerifyKind::WrongShape));
         };
         self.loop_words -= loop_words(last.maps, last.room);
-        if last.maps != maps {
-            return Err(PlaceFault::Misfit(VerifyKind::WrongShape));
-        }
-        if !self.stacks.same(last.under, self.kinds) {
+        if !ends_here(&self.stacks, &last, maps, self.kinds) {
             return Err(PlaceFault::Misfit(VerifyKind::WrongShape));
         }
         Ok(last.room)
