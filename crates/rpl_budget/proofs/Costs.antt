@@ -1,5 +1,5 @@
 -- What each form costs at one price, by what its parts cost, where each number stops above the limit.
-use Rattle.std.proofs.Common.{◌≡◌, ℕ, ◌+◌, ◌*◌, max, Bool, true, false, List, [], ◌∷◌, refl, sym, ap, ◌∙◌, subst, arith}
+use Rattle.std.proofs.Common.{◌≡◌, ℕ, ◌+◌, ◌*◌, max, Bool, true, false, List, ◌∷◌, refl, ap, ◌∙◌, subst}
 use Rattle.std.specs.Prelude.{if◌then◌else◌}
 use Rattle.rpl_tree.specs.declared.words.TwoWord.TheVariants as W
 use Rattle.rpl_tree.specs.Budget.{Budget, capped, limits}

@@ -3,7 +3,7 @@ use Rattle.std.proofs.Common.{◌≡◌, ℕ, zero, suc, ◌+◌, ◌-◌, ◌<�
 use Rattle.std.specs.Prelude.{slice_get, slice_index}
 use Rattle.rpl_tree.specs.Tree.{Declared, rule, function}
 use Rattle.rpl_tree.specs.Budget.{Budget, budget, budget_of, capped, limits}
-use Rattle.rpl_tree.specs.Cost.{Costed, Price, costs, costs_from, predefined_costs, price_of_looks, price_of_puts, price_of_steps}
+use Rattle.rpl_tree.specs.Cost.{Costed, Price, costs, costs_from, price_of_looks, price_of_puts, price_of_steps}
 use Rattle.rpl_tree.specs.Words.{words, words_from}
 use Rattle.rpl_budget.specs.Budgets.{budgets_of, side_by_side}
 

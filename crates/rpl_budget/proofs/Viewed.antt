@@ -1,5 +1,5 @@
 -- The plain trees of statements, by the elements of their vectors, and how many elements a list of trees has.
-use Rattle.std.proofs.Common.{◌≡◌, ℕ, ◌+◌, List, [], ◌∷◌, length, refl, ap, ap₂, ◌∙◌, Vec, Global, arith}
+use Rattle.std.proofs.Common.{◌≡◌, ℕ, List, [], ◌∷◌, length, refl, ap, ap₂, ◌∙◌, Vec, Global, arith}
 use mathlib.Core.Former.{Count}
 use Rattle.rpl_tree.specs.declared.expression.Expr.{Expr}
 use Rattle.rpl_tree.specs.declared.statement.Statement.{Statement, Row_of-Statement, end_of-Statement, more_of-Statement, items-the_row-Statement, items_hidden-the_row-Statement-0}

@@ -8,7 +8,7 @@ use Rattle.rpl_tree.specs.Budget.{Budget, budget, capped, limits}
 use Rattle.rpl_tree.specs.Kinds.{Head, Names, count_of, join, kind_named, kind_of_type, one_kind, two_kind}
 use Rattle.rpl_tree.specs.Cost.{param_names}
 use Rattle.rpl_tree.specs.Mean.{Function, param_kinds, predefined_functions}
-use Rattle.rpl_tree.specs.Tree.{Tree, Trees, literal, truth, now, slot, name, call, brackets, list, choice, bind, each, mapped, one, two, convert, at, no_trees, tree, Act, Acts, assign, branch, with_name, no_acts, act, Parameter, TypeName, Declared, rule, function}
+use Rattle.rpl_tree.specs.Tree.{Tree, Trees, literal, truth, now, slot, name, call, brackets, list, choice, bind, each, mapped, one, two, convert, at, no_trees, tree, Act, Acts, assign, branch, with_name, no_acts, act, Declared, rule, function}
 use Rattle.rpl_tree.specs.Value.{Kind, date_kind, element_of, list_kind, number_kind, numbers_kind, room_of, slot_kind, truth_kind, weight, weights}
 use Rattle.rpl_budget.specs.declared.load.Load.{Load}
 use Rattle.rpl_budget.specs.Loads.{above, both, either, fetched, fitted, kept, load, local, locals_alone, looked, nothing, one_put, standing, steps, times, unspent}

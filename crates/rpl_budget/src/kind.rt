@@ -111,7 +111,8 @@ fn longer(a: TreeKind, b: TreeKind) -> Result<TreeKind, NoMemory>
 }
 
 pub fn two_kind(word: TwoWord, a: TreeKind, b: TreeKind) -> Result<TreeKind, NoMemory>
-    ensures { IfOk result (λ kind. kind_seen kind ≡ Kinds.two_kind word (kind_seen a) (kind_seen b)) }
+    ensures { IfOk result (λ kind. kind_seen kind
+        ≡ Kinds.two_kind word (kind_seen a) (kind_seen b)) }
 {
     match word {
         TwoWord::Plus => Ok(a),

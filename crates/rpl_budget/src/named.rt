@@ -20,8 +20,8 @@ pub fn is_same_name(a: &[u8], b: &[u8]) -> bool
 
 // The kind of this one, if it has the name.
 fn kind_or(entry: &Named, name: &[u8], otherwise: TreeKind) -> TreeKind
-    ensures { kind_seen result ≡ if bytes_eq entry.now.name.now name.now then kind_seen entry.now.kind
-        else kind_seen otherwise }
+    ensures { kind_seen result ≡ if bytes_eq entry.now.name.now name.now
+        then kind_seen entry.now.kind else kind_seen otherwise }
 {
     if is_same_name(entry.name, name) {
         entry.kind

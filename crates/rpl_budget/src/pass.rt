@@ -137,7 +137,8 @@ fn inside_turn<'a>(
     body: &'a Expr,
 ) -> Result<Work, NoMemory>
     ensures found { IfOk result (λ work. measured_seen work ≡ Pass.pass (functions_of known.now)
-        ((total.now, kind_seen kind) ∷ named_seen item.entry ∷ names_of names.old.items) (tree_of body.now)) }
+        ((total.now, kind_seen kind) ∷ named_seen item.entry ∷ names_of names.old.items)
+        (tree_of body.now)) }
     ensures names { OnOk result (names.new.items ≡ names.old.items) }
 {
     names.push(item)?;
@@ -178,7 +179,8 @@ fn list<'a>(
     items: &'a [Expr],
 ) -> Result<Work, NoMemory>
     ensures found { IfOk result (λ work. measured_seen work
-        ≡ Pass.pass (functions_of known.now) (names_of names.old.items) (list (trees_in items.now))) }
+        ≡ Pass.pass (functions_of known.now) (names_of names.old.items)
+        (list (trees_in items.now))) }
     ensures names { OnOk result (names.new.items ≡ names.old.items) }
 {
     let all = elements(known, names, items)?;
@@ -233,7 +235,8 @@ fn call<'a>(
     args: &'a [Expr],
 ) -> Result<Work, NoMemory>
     ensures found { IfOk result (λ work. measured_seen work
-        ≡ Pass.pass (functions_of known.now) (names_of names.old.items) (call name.now (trees_in args.now))) }
+        ≡ Pass.pass (functions_of known.now) (names_of names.old.items)
+        (call name.now (trees_in args.now))) }
     ensures names { OnOk result (names.new.items ≡ names.old.items) }
 {
     match function_named(known, name) {
