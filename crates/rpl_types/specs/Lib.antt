@@ -2,6 +2,9 @@ pub mod Fits
 pub mod Forms
 pub mod Functions
 pub mod Nodes
+pub mod Visited
+pub mod Stopped
+pub mod Gives
 pub mod Judged
 pub mod Seen
 pub mod Worked

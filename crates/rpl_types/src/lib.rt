@@ -1,13 +1,21 @@
 //! The judge of rulesets: which type each expression of a ruleset has with a basin, or the first thing that is wrong. The
 //! definitions say which type each form has by those of its parts (`specs/Forms.antt`, `specs/Functions.antt`), go over a
 //! declaration's nodes (`specs/Nodes.antt`) and over all declarations (`specs/Judged.antt`). The laws have worked rulesets.
-//! The code answers, for now, the type of a form by those of its parts; nothing goes over a tree yet.
+//! The code goes over an expression once, and finds the types of its nodes as `specs/Visited.antt` says, which comes to what
+//! `specs/Nodes.antt` says.
 #![tactic(auto)]
 
 mod calls;
+mod fault;
 mod fits;
 mod forms;
+mod known;
 pub mod law;
+mod names;
+mod progress;
+mod stop;
 mod type_kind;
+mod visit;
 
+pub use fault::TypeFault;
 pub use type_kind::TypeKind;
