@@ -32,7 +32,7 @@ then_same : {A B C : Type 0} (j : Judged A) (f : A → Judged C) (g : A → Judg
 then_same (Ok x) f g k same = same x
 then_same (Err r) f g k same = refl
 
-seen_then_same : {A B C D : Type 0} (j : Judged A) (seen : A → B) (f : B → Judged D) (g : A → Judged C) (k : C → Judged D)
+pub seen_then_same : {A B C D : Type 0} (j : Judged A) (seen : A → B) (f : B → Judged D) (g : A → Judged C) (k : C → Judged D)
     → ((x : A) → f (seen x) ≡ (g x >>= k)) → ((j >>= λ x. Ok (seen x)) >>= f) ≡ ((j >>= g) >>= k)
 seen_then_same (Ok x) seen f g k same = same x
 seen_then_same (Err r) seen f g k same = refl
@@ -53,24 +53,24 @@ ended p q below (Ok t) scope types = ap (λ (v : Visit). Ok v) (filled_is p q be
 ended p q below (Err kind) scope types = refl
 
 -- a node, and the nodes of one, two or three parts
-one_more : (all a : Types) → (all ++ None ∷ []) ++ a ≡ all ++ None ∷ a
+pub one_more : (all a : Types) → (all ++ None ∷ []) ++ a ≡ all ++ None ∷ a
 one_more all a = append_assoc all (None ∷ []) a
 
-two_more : (all a b : Types) → ((all ++ None ∷ []) ++ a) ++ b ≡ all ++ None ∷ (a ++ b)
+pub two_more : (all a b : Types) → ((all ++ None ∷ []) ++ a) ++ b ≡ all ++ None ∷ (a ++ b)
 two_more all a b = append_assoc (all ++ None ∷ []) a b ∙ one_more all (a ++ b)
 
-three_more : (all a b c : Types) → (((all ++ None ∷ []) ++ a) ++ b) ++ c ≡ all ++ None ∷ ((a ++ b) ++ c)
+pub three_more : (all a b c : Types) → (((all ++ None ∷ []) ++ a) ++ b) ++ c ≡ all ++ None ∷ ((a ++ b) ++ c)
 three_more all a b c =
     append_assoc ((all ++ None ∷ []) ++ a) b c ∙ two_more all a (b ++ c) ∙ ap (λ (z : Types). all ++ None ∷ z) (sym (append_assoc a b c))
 
 -- the numbers of the first node of a first, a second and a third part
-first_number : (all : Types) → length (all ++ None ∷ []) + 1 ≡ length all + 1 + 1
+pub first_number : (all : Types) → length (all ++ None ∷ []) + 1 ≡ length all + 1 + 1
 first_number all = simp length-append (omega arith)
 
-second_number : (all a : Types) → length ((all ++ None ∷ []) ++ a) + 1 ≡ length all + 1 + 1 + length a
+pub second_number : (all a : Types) → length ((all ++ None ∷ []) ++ a) + 1 ≡ length all + 1 + 1 + length a
 second_number all a = simp length-append (omega arith)
 
-third_number : (all a b : Types) → length (((all ++ None ∷ []) ++ a) ++ b) + 1 ≡ length all + 1 + 1 + length (a ++ b)
+pub third_number : (all a b : Types) → length (((all ++ None ∷ []) ++ a) ++ b) + 1 ≡ length all + 1 + 1 + length (a ++ b)
 third_number all a b = simp length-append (omega arith)
 
 module _ (basin : Draft) (callable : Callable) where
@@ -81,7 +81,7 @@ module _ (basin : Draft) (callable : Callable) where
   ClaimAll ts = (found : List RplType) (p : Progress) → visited_all basin callable found p ts
       ≡ (types_of_all basin callable p.scope (next p) ts >>= λ row. Ok (answered_all found p row))
 
-  part : {B : Type 0} (t : Tree) → Claim t → (q : Progress) (n : ℕ) (f : Visit → Judged Visit) (g : Expression → Judged B) (k : B → Judged Visit)
+  pub part : {B C : Type 0} (t : Tree) → Claim t → (q : Progress) (n : ℕ) (f : Visit → Judged C) (g : Expression → Judged B) (k : B → Judged C)
       → length q.types + 1 ≡ n → ((e : Expression) → f (answered q e) ≡ (g e >>= k))
       → (visited basin callable q t >>= f) ≡ ((types_of basin callable q.scope n t >>= g) >>= k)
   part t claim q n f g k number same =

@@ -5,6 +5,7 @@ pub mod Nodes
 pub mod Visited
 pub mod Stopped
 pub mod Gives
+pub mod Bodies
 pub mod Judged
 pub mod Seen
 pub mod Worked

@@ -1,14 +1,15 @@
 -- How the types of nodes are found on one way over a tree: a node's place in the table is kept free before its parts, and filled
 -- after them.
-use Rattle.std.specs.Prelude.{ℕ, ◌+◌, ◌-◌, List, [], ◌∷◌, ◌++◌, length, Some, None, is_some, slice_set, Ok}
+use Rattle.std.specs.Prelude.{ℕ, ◌+◌, ◌-◌, List, [], ◌∷◌, ◌++◌, length, Option, Some, None, is_some, slice_set, Ok, Err}
 use Rattle.rw_model.specs.Draft.{Draft}
 use Rattle.rw_model.specs.Objects.{object_named}
 use Rattle.rpl_tree.specs.World.{table_named}
-use Rattle.rpl_tree.specs.Tree.{Tree, Trees, literal, truth, now, slot, name, call, brackets, list, choice, bind, each, mapped, one, two, convert, at, no_trees, tree}
+use Rattle.rpl_tree.specs.Tree.{Tree, Trees, literal, truth, now, slot, name, call, brackets, list, choice, bind, each, mapped, one, two, convert, at, no_trees, tree, Act, Acts, assign, branch, with_name, no_acts, act}
 use Rattle.rpl_tree.specs.declared.rpl_type.RplType.{RplType}
 use Rattle.rpl_tree.specs.declared.rpl_type.RplType.TheVariants.{Boolean, Datetime}
+use Rattle.rpl_types.specs.declared.type_kind.TypeKind.{TypeKind}
 use Rattle.rpl_types.specs.Fits.{Typed}
-use Rattle.rpl_types.specs.Forms.{Scope, choice_type, convert_type, element_type, is_look, list_type, literal_type, look_type, mapped_type, name_type, one_type, slot_type, total_type, two_type}
+use Rattle.rpl_types.specs.Forms.{Scope, choice_type, condition_misfit, convert_type, element_type, is_look, list_type, literal_type, look_type, mapped_type, name_type, one_type, slot_type, target_misfit, total_type, two_type}
 use Rattle.rpl_types.specs.Functions.{Callable, call_type}
 use Rattle.rpl_types.specs.Nodes.{Judged, Types, at_node, ◌>>=◌}
 
@@ -115,3 +116,28 @@ module _ (basin : Draft) (callable : Callable) where
     visited_all found p no_trees = Ok (row_visit found p)
     visited_all found p (tree t ts) =
         visited p t >>= λ first. visited_all (found ++ first.own ∷ []) first.progress ts
+
+-- the statement stands, unless something is wrong
+abbrev pub stands : ℕ → Progress → Option TypeKind → Judged Progress
+stands node p None = Ok p
+stands node p (Some kind) = Err (record { kind = kind; node = node })
+
+module _ (basin : Draft) (callable : Callable) where
+  abbrev mutual
+    pub visited_act : Progress → Act → Judged Progress
+    visited_act p (assign o s ahead e) =
+        visited basin callable (reserved p) e >>= λ value.
+        stands (next p) value.progress (target_misfit basin o s ahead value.own)
+    visited_act p (branch c first second) =
+        visited basin callable (reserved p) c >>= λ test.
+        visited_acts test.progress first >>= λ yes.
+        visited_acts yes second >>= λ no.
+        stands (next p) no (condition_misfit test.own)
+    visited_act p (with_name x e body) =
+        visited basin callable (reserved p) e >>= λ value.
+        visited_acts (with_variable x value.own value.progress) body >>= λ inside.
+        Ok (without_variable inside)
+
+    pub visited_acts : Progress → Acts → Judged Progress
+    visited_acts p no_acts = Ok p
+    visited_acts p (act a rest) = visited_act p a >>= λ first. visited_acts first rest

@@ -1,10 +1,11 @@
 //! The judge of rulesets: which type each expression of a ruleset has with a basin, or the first thing that is wrong. The
 //! definitions say which type each form has by those of its parts (`specs/Forms.antt`, `specs/Functions.antt`), go over a
 //! declaration's nodes (`specs/Nodes.antt`) and over all declarations (`specs/Judged.antt`). The laws have worked rulesets.
-//! The code goes over an expression once, and finds the types of its nodes as `specs/Visited.antt` says, which comes to what
+//! The code goes over a body once, and finds the types of its nodes as `specs/Visited.antt` says, which comes to what
 //! `specs/Nodes.antt` says.
 #![tactic(auto)]
 
+mod bodies;
 mod calls;
 mod fault;
 mod fits;
@@ -13,6 +14,7 @@ mod known;
 pub mod law;
 mod names;
 mod progress;
+mod statements;
 mod stop;
 mod type_kind;
 mod visit;
