@@ -6,3 +6,6 @@ pub mod Texts
 pub mod Viewed
 pub mod Visiting
 pub mod VisitingActs
+pub mod Heading
+pub mod InTurn
+pub mod Counting

@@ -7,5 +7,8 @@ pub mod Stopped
 pub mod Gives
 pub mod Bodies
 pub mod Judged
+pub mod Declarations
+pub mod Checked
+pub mod Refused
 pub mod Seen
 pub mod Worked

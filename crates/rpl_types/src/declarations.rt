@@ -96,11 +96,7 @@ fn cost_refusal(cost: &TreeCost) -> Option<TypeKind>
 }
 
 /// The same, where each of its budgets is within its limit.
-fn with_budget(
-    known: &Known,
-    declaration: &Declaration,
-    cost: &TreeCost,
-) -> Result<NodeTypes, Stop>
+fn with_budget(known: &Known, declaration: &Declaration, cost: &TreeCost) -> Result<NodeTypes, Stop>
     ensures { Answers Stop.NoMemory stop_refusal (λ types. types.items) result
         (with_budget known.now.basin.now (callable_in known.now) (budget_seen cost.now)
         (declared_of declaration.now)) }

@@ -1,17 +1,20 @@
 use crate::TypeKind;
+use thiserror::Error;
 
-/// Why no types are given.
-#[derive(Clone, Copy, Debug, PartialEq, Eq, Drop)]
+/// Why a ruleset isn't accepted.
+#[derive(Clone, Copy, Debug, PartialEq, Eq, Error)]
 pub enum TypeFault {
-    /// The ruleset is refused.
+    /// The first refusal, in the order of the text.
+    #[error("declaration {declaration} node {node}")]
     Refused {
         /// What is wrong.
         kind: TypeKind,
-        /// In which declaration. They are numbered from 1.
+        /// In which declaration, counted from 1, rules and functions together.
         declaration: u32,
-        /// At which node of the declaration. They are numbered from 1, and 0 is the declaration as a whole.
+        /// At which of its nodes, counted from 1, each before its parts; 0 is the declaration as a whole.
         node: u32,
     },
-    /// Memory ran out.
+    /// There was no memory. Nothing is said of the ruleset.
+    #[error("out of memory")]
     NoMemory,
 }

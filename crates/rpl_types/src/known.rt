@@ -4,6 +4,7 @@ use rw_model::Basin;
 use std::alloc::Global;
 
 /// What a declaration is judged with.
+#[derive(Drop)]
 pub struct Known<'a, 'b> {
     /// Where memory is taken from.
     pub alloc: Global,
