@@ -2,6 +2,13 @@ pub mod Fits
 pub mod Forms
 pub mod Functions
 pub mod Nodes
+pub mod Visited
+pub mod Stopped
+pub mod Gives
+pub mod Bodies
 pub mod Judged
+pub mod Declarations
+pub mod Checked
+pub mod Refused
 pub mod Seen
 pub mod Worked

@@ -1,13 +1,30 @@
-//! The judge of rulesets: which type each expression of a ruleset has with a basin, or the first thing that is wrong. The
-//! definitions say which type each form has by those of its parts (`specs/Forms.antt`, `specs/Functions.antt`), go over a
-//! declaration's nodes (`specs/Nodes.antt`) and over all declarations (`specs/Judged.antt`). The laws have worked rulesets.
-//! The code answers, for now, the type of a form by those of its parts; nothing goes over a tree yet.
+//! The judge of rulesets. `check` answers which type each expression of a ruleset has with a basin, or the first thing that
+//! is wrong: `specs/Forms.antt` and `specs/Functions.antt` say which type each form has by those of its parts,
+//! `specs/Nodes.antt` goes over a declaration's nodes, and `specs/Judged.antt` over all declarations. `Typed` tells the types
+//! and the budgets. The code goes over a body once, and finds the types of its nodes as `specs/Visited.antt` says, which
+//! comes to what `specs/Nodes.antt` says. The laws have worked rulesets.
 #![tactic(auto)]
 
+mod bodies;
 mod calls;
+mod checking;
+mod declarations;
+mod fault;
 mod fits;
 mod forms;
+mod heads;
+mod known;
 pub mod law;
+mod names;
+mod progress;
+mod statements;
+mod stop;
 mod type_kind;
+mod typed;
+mod visit;
 
+pub use checking::check;
+pub use fault::TypeFault;
+pub use rpl_budget::TreeCost;
 pub use type_kind::TypeKind;
+pub use typed::Typed;

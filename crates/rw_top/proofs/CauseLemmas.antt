@@ -17,7 +17,7 @@ use Rattle.rpl_tree.specs.Tree.{Declared}
 use Rattle.rpl_parse.specs.declared.fault.ParseFault.TheVariants as P
 use Rattle.rpl_parse.specs.Parsing.{Answers as Parses}
 use Rattle.rpl_parse.specs.Declarations.{IsReading, spelt}
-use Rattle.rpl_types.specs.Checked.{checked, with_types}
+use Rattle.rpl_types.specs.Checked.{Checked, checked, with_types}
 use Rattle.rpl_types.specs.Judged.{Refusal as NodeRefusal, judged, refusal}
 use Rattle.rpl_types.specs.Nodes.{Types as NodeTypes}
 use Rattle.rw_top.specs.Command.{Command, path_of}
@@ -136,6 +136,25 @@ pub refused_rules : (basin : Draft) (text : List ℕ) (rules : List Declared) (w
     → checked basin rules ≡ Err why → RefusesNode basin text why
 refused_rules basin text rules why spells is = record { rules = rules; spells = spells; refused = judged_err rules (judged basin rules) why is }
 
+-- and what is accepted
+abbrev rules_with : List Declared → List NodeTypes → Checked
+rules_with rules types = record { rules = rules; types = types }
+
+judged_ok : (rules : List Declared) (result : Result (List NodeTypes) NodeRefusal) (all : Checked) → with_types rules result ≡ Ok all
+    → (rules ≡ all.rules) × (result ≡ Ok all.types)
+judged_ok rules (Ok types) all is = let same : rules_with rules types ≡ all = cc in (ap (λ (c : Checked). c.rules) same, ap (λ (c : Checked). Ok c.types) same)
+judged_ok rules (Err refused) all is = absurd cc
+
+pub accepted_rules : (basin : Draft) (text : List ℕ) (rules : List Declared) (all : Checked) → IsReading text (spelt rules)
+    → checked basin rules ≡ Ok all → IsRulesetOf basin text all.rules
+accepted_rules basin text rules all spells is =
+    let same = judged_ok rules (judged basin rules) all is in
+    record {
+      spells = subst (λ rs. IsReading text (spelt rs)) same.0 spells;
+      types = all.types;
+      typed = subst (λ rs. judged basin rs ≡ Ok all.types) same.0 same.1;
+    }
+
 -- why a policy isn't accepted
 rules_cause : (command : Command) (shelf : Change ShelfView) (basin : Draft) (text : List ℕ) (why : Refusal)
     → ReadsModel command shelf.before.holds basin → WasRead command shelf.before.holds PolicyFile text
@@ -182,6 +201,16 @@ cause_earlier command first later now why same fell cause =
     let one : later.holds ≡ first.holds = λ i path. same path i in
     let P : Holds → Type 0 = λ holds. FileCause command (change (record later { holds = holds }) now) why in
     since command first later now why fell (subst P one cause)
+
+-- a policy that is read later on
+pub read_later : {A : Type 0} (seen : A → List Declared) (command : Command) (first later now : ShelfView) (basin : Draft) (result : Result A Refusal)
+    → ((path : List ℕ) → later.holds path ≡ first.holds path) → NoneFell first.faults later.faults
+    → MatchResult result (λ x. ReadsRules command later.holds basin (seen x)) (FileCause command (change later now))
+    → MatchResult result (λ x. (b : Draft) × ReadsRules command first.holds b (seen x)) (FileCause command (change first now))
+read_later seen command first later now basin (Ok x) same fell read =
+    let one : later.holds ≡ first.holds = λ i path. same path i in
+    (basin, subst (λ holds. ReadsRules command holds basin (seen x)) one read)
+read_later seen command first later now basin (Err why) same fell cause = cause_earlier command first later now why same fell cause
 
 -- a cause before anything was written is a cause of the refusal
 pub unwritten : (command : Command) (shelf : Change ShelfView) (out : Change SinkView) (why : Refusal)

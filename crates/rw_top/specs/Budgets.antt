@@ -4,7 +4,8 @@ use Rattle.std.specs.Fmt.{decimal}
 use Rattle.rpl_tree.specs.Budget.{Budget}
 use Rattle.rpl_tree.specs.Tree.{Declared}
 use Rattle.rw_report.specs.Section.{for_each}
-use Rattle.rpl_types.specs.Checked.{function_count_of, rule_budget, rule_count_of}
+use Rattle.rpl_parse.specs.Bounds.{function_count, rule_count}
+use Rattle.rpl_types.specs.Checked.{rule_budget}
 
 -- how many rules and functions there are
 abbrev pub counts_line : ℕ → ℕ → List ℕ
@@ -26,4 +27,4 @@ rule_line rules rule = line_if rule (rule_budget rules rule)
 
 abbrev pub check_text : List Declared → List ℕ
 check_text rules =
-    counts_line (rule_count_of rules) (function_count_of rules) ++ for_each (rule_line rules) (rule_count_of rules)
+    counts_line (rule_count rules) (function_count rules) ++ for_each (rule_line rules) (rule_count rules)

@@ -1,9 +1,11 @@
 ghost use Rattle.std.specs.Prelude.{◌≡◌, ℕ, ◌++◌, ◌<◌, ◌≤◌, Some, List, OnOk, IfOk, MatchResult, string_bytes};
 ghost use Rattle.rpl_tree.specs.Seen.{rules_of};
-ghost use Rattle.rpl_types.specs.Refused.{budget_seen};
+ghost use Rattle.rpl_budget.specs.Seen.{budget_seen};
 ghost use Rattle.rw_io.specs.Outside.{change};
 ghost use Rattle.rw_top.specs.Budgets.{budget_line, check_text, counts_line};
 ghost use Rattle.rw_top.specs.Command.{Names, command_of};
+ghost use Rattle.rw_model.specs.Draft.{Draft};
+ghost use Rattle.rw_top.specs.Reading.{ReadsRules};
 ghost use Rattle.rw_top.specs.Refusal.{FileCause};
 ghost use Rattle.rw_top.specs.Written.{HasCheckText};
 ghost use Rattle.rw_top.specs.declared.refusal.File.TheVariants as F;
@@ -51,6 +53,26 @@ fn budgets(alloc: Global, typed: &Typed) -> Result<String, NoMemory>
     Ok(text)
 }
 
+// Reads and judges the model and the policy of the command.
+fn read_rules<S: Shelf>(
+    alloc: Global,
+    command: &Command<'_>,
+    shelf: &mut S,
+) -> Result<Typed, Refusal>
+    requires named { Names (command_of command.now) F.Policy }
+    ensures read { MatchResult result
+        (λ typed. (basin : Draft) × ReadsRules (command_of command.now)
+        (S.seen shelf.old).holds basin (rules_of typed.rules))
+        (FileCause (command_of command.now) (change (S.seen shelf.old) (S.seen shelf.new))) }
+    ensures held { (p : List ℕ) → (S.seen shelf.new).holds p ≡ (S.seen shelf.old).holds p }
+{
+    let basin = match read_basin(alloc, command, shelf) {
+        Ok(basin) => basin,
+        Err(refusal) => return Err(refusal),
+    };
+    read_policy(alloc, command, &basin, shelf)
+}
+
 /// The text of the budgets of the policy that the command names, where that is accepted.
 pub(crate) fn check_policy<S: Shelf>(
     alloc: Global,
@@ -63,11 +85,7 @@ pub(crate) fn check_policy<S: Shelf>(
         (FileCause (command_of command.now) (change (S.seen shelf.old) (S.seen shelf.new))) }
     ensures held { (p : List ℕ) → (S.seen shelf.new).holds p ≡ (S.seen shelf.old).holds p }
 {
-    let basin = match read_basin(alloc, command, shelf) {
-        Ok(basin) => basin,
-        Err(refusal) => return Err(refusal),
-    };
-    let typed = match read_policy(alloc, command, &basin, shelf) {
+    let typed = match read_rules(alloc, command, shelf) {
         Ok(typed) => typed,
         Err(refusal) => return Err(refusal),
     };

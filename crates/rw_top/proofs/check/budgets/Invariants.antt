@@ -1,6 +1,6 @@
 use Rattle.std.proofs.Common.{◌≡◌, ◌++◌, string_bytes}
 use Rattle.rpl_tree.specs.Seen.{rules_of}
-use Rattle.rpl_types.specs.Checked.{function_count_of, rule_count_of}
+use Rattle.rpl_parse.specs.Bounds.{function_count, rule_count}
 use Rattle.rw_report.specs.Section.{for_each}
 use Rattle.rw_top.specs.Budgets.{counts_line, rule_line}
 use Rattle.rw_top.proofs.check.budgets.Given as goal
@@ -9,4 +9,4 @@ use Rattle.rw_top.proofs.check.budgets.Given as goal
 abbrev pub invariant-loop-done : goal.invariant-loop-done
 invariant-loop-done l =
     let rules = rules_of l.typed.rules in
-    string_bytes l.text ≡ counts_line (rule_count_of rules) (function_count_of rules) ++ for_each (rule_line rules) l.done
+    string_bytes l.text ≡ counts_line (rule_count rules) (function_count rules) ++ for_each (rule_line rules) l.done

@@ -1,4 +1,4 @@
-use Rattle.rw_top.proofs.CauseLemmas.{refused_rules}
+use Rattle.rw_top.proofs.CauseLemmas.{accepted_rules, refused_rules}
 use Rattle.rw_top.proofs.files.judge_rules.Goals as goal
 
 pub refusal_of_types-requires : goal.refusal_of_types-requires
@@ -6,3 +6,6 @@ refusal_of_types-requires c = λ why tells. refused_rules _ _ _ why c.in-Ok.ensu
 
 pub returns-in-Err : goal.returns-in-Err
 returns-in-Err c = c.in-Err.ensures.read c.args.basin.now
+
+pub returns-in-Ok-check : goal.returns-in-Ok-check
+returns-in-Ok-check c = accepted_rules _ _ _ _ c.in-Ok.ensures.read c.in-Ok-check.ensures.answers

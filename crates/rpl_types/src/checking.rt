@@ -1,0 +1,35 @@
+ghost use Rattle.rw_base.specs.Answers.{Answers};
+ghost use Rattle.rpl_parse.specs.Declarations.{IsRuleset};
+ghost use Rattle.rpl_tree.specs.Seen.{rules_of};
+ghost use Rattle.rpl_types.specs.Checked.{checked, checked_of};
+ghost use Rattle.rpl_types.specs.Refused.{refusal_of};
+ghost use Rattle.rpl_types.specs.declared.fault.TypeFault.TheVariants as Fault;
+
+use crate::declarations::types_of_all;
+use crate::{TypeFault, Typed};
+use rpl_budget::budgets;
+use rpl_tree::ParsedRules;
+use rw_base::NoMemory;
+use rw_model::Basin;
+use std::alloc::Global;
+
+/// Judges a ruleset with a basin: names, types, units and costs, declaration by declaration. docs/LANGUAGE.md says under
+/// "Refusals" what is wrong where, and in which order.
+pub fn check(alloc: Global, rules: ParsedRules, basin: &Basin) -> Result<Typed, TypeFault>
+    requires ruleset { IsRuleset rules }
+    ensures answers { Answers Fault.NoMemory refusal_of checked_of result
+        (checked basin.now (rules_of rules)) }
+{
+    let costs = match budgets(alloc, &rules) {
+        Ok(costs) => costs,
+        Err(NoMemory) => return Err(TypeFault::NoMemory),
+    };
+    match types_of_all(alloc, basin, &rules.declarations, &costs) {
+        Ok(types) => Ok(Typed {
+            rules,
+            types,
+            costs,
+        }),
+        Err(fault) => Err(fault),
+    }
+}

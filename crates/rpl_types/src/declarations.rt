@@ -1,0 +1,190 @@
+// Declarations, judged one after the other.
+ghost use Rattle.std.specs.Prelude.{◌≡◌, ◌+◌, IfErr, None, OnOk, Some, map};
+ghost use Rattle.std.specs.Option.{ForSome};
+ghost use Rattle.rw_base.specs.Answers.{Answers};
+ghost use Rattle.rpl_budget.specs.Budgets.{budgets_of};
+ghost use Rattle.rpl_budget.specs.Seen.{budget_seen};
+ghost use Rattle.rpl_tree.specs.Seen.{declared_of, parameter_of, type_of, tree_of};
+ghost use Rattle.rpl_tree.specs.Tree.{function};
+ghost use Rattle.rpl_types.specs.Gives.{callable_in};
+ghost use Rattle.rpl_types.specs.Judged.{and_function, cost_refusal, declared_types, is_affordable, judged, refused_as_whole, with_budget};
+ghost use Rattle.rpl_types.specs.Declarations.{node_refusal};
+ghost use Rattle.rpl_types.specs.Refused.{refusal_of};
+ghost use Rattle.rpl_types.specs.Seen.{signatures_of};
+ghost use Rattle.rpl_types.specs.Stopped.{stop_refusal};
+ghost use Rattle.rpl_types.specs.declared.fault.TypeFault.TheVariants as TypeFault;
+ghost use Rattle.rpl_types.specs.declared.stop.Stop.TheVariants as Stop;
+
+use crate::bodies::{acts_types, body_types};
+use crate::calls::Signature;
+use crate::fits::misfit;
+use crate::heads::{head_refusal, param_scope, signature, type_here};
+use crate::known::Known;
+use crate::stop::Stop;
+use crate::{TypeFault, TypeKind};
+use rpl_budget::TreeCost;
+use rpl_tree::{Declaration, Expr, Param, RplType, TypeText};
+use rw_model::Basin;
+use std::alloc::Global;
+
+/// The types of the nodes of a declaration.
+pub type NodeTypes = Vec<Option<RplType>>;
+
+/// The types, unless the declaration is refused as a whole.
+fn unless_as_whole(refusal: Option<TypeKind>, types: NodeTypes) -> Result<NodeTypes, Stop>
+    ensures { Answers Stop.NoMemory stop_refusal (λ types. types.items) result
+        (refused_as_whole refusal types.items) }
+{
+    match refusal {
+        None => Ok(types),
+        Some(kind) => Err(Stop::Refused { kind, node: 0 }),
+    }
+}
+
+fn function_types(
+    known: &Known,
+    name: &[u8],
+    params: &[Param],
+    answers: &TypeText,
+    body: &Expr,
+) -> Result<NodeTypes, Stop>
+    ensures { Answers Stop.NoMemory stop_refusal (λ types. types.items) result
+        (declared_types known.now.basin.now (callable_in known.now)
+        (function name.now (map parameter_of params.now) (type_of answers.now) (tree_of body.now))) }
+{
+    if let Some(kind) = head_refusal(known.earlier, name, params, answers) {
+        return Err(Stop::Refused { kind, node: 0 });
+    }
+    let scope = param_scope(known.alloc, params)?;
+    let (own, types) = body_types(known, scope, body)?;
+    unless_as_whole(misfit(&own, &type_here(answers)), types)
+}
+
+/// The types of the nodes of a declaration, its budgets apart.
+fn declared_types(known: &Known, declaration: &Declaration) -> Result<NodeTypes, Stop>
+    ensures { Answers Stop.NoMemory stop_refusal (λ types. types.items) result
+        (declared_types known.now.basin.now (callable_in known.now) (declared_of declaration.now)) }
+{
+    match declaration {
+        Declaration::Rule { body, .. } => acts_types(known, body),
+        Declaration::Function {
+            name,
+            params,
+            result,
+            body,
+        } => function_types(known, name, params, result, body),
+    }
+}
+
+fn is_affordable(cost: &TreeCost) -> bool
+    ensures { result ≡ is_affordable (budget_seen cost.now) }
+{
+    cost.instructions <= 1_000_000
+        && cost.reads <= 20_000
+        && cost.puts <= 2_000
+        && cost.words <= 1_000_000
+}
+
+fn cost_refusal(cost: &TreeCost) -> Option<TypeKind>
+    ensures { result ≡ cost_refusal (budget_seen cost.now) }
+{
+    if is_affordable(cost) {
+        None
+    } else {
+        Some(TypeKind::TooCostly)
+    }
+}
+
+/// The same, where each of its budgets is within its limit.
+fn with_budget(known: &Known, declaration: &Declaration, cost: &TreeCost) -> Result<NodeTypes, Stop>
+    ensures { Answers Stop.NoMemory stop_refusal (λ types. types.items) result
+        (with_budget known.now.basin.now (callable_in known.now) (budget_seen cost.now)
+        (declared_of declaration.now)) }
+{
+    let types = declared_types(known, declaration)?;
+    unless_as_whole(cost_refusal(cost), types)
+}
+
+/// Adds what later declarations can call.
+fn add_function<'a>(
+    alloc: Global,
+    earlier: &mut Vec<Signature<'a>>,
+    declaration: &'a Declaration,
+) -> Result<(), Stop>
+    ensures ok { OnOk result (signatures_of earlier.new.items
+        ≡ and_function (declared_of declaration.now) (signatures_of earlier.old.items)) }
+    ensures err { IfErr result (λ stop. stop ≡ Stop.NoMemory) }
+{
+    match declaration {
+        Declaration::Rule { .. } => Ok(()),
+        Declaration::Function {
+            name,
+            params,
+            result,
+            ..
+        } => {
+            let made = signature(alloc, name, params, result)?;
+            match earlier.push(made) {
+                Ok(()) => Ok(()),
+                Err(_) => Err(Stop::NoMemory),
+            }
+        }
+    }
+}
+
+/// The fault that tells what is wrong in the declaration of a number.
+fn fault_at(number: usize, stop: Stop) -> TypeFault
+    ensures told { ForSome (refusal_of result) (λ why. (why.declaration ≡ number)
+        × (stop_refusal stop ≡ Some (node_refusal why.kind why.node))) }
+    ensures memory { refusal_of result ≡ None → result ≡ TypeFault.NoMemory }
+{
+    let Stop::Refused { kind, node } = stop else {
+        return TypeFault::NoMemory;
+    };
+    match (u32::try_from(number), u32::try_from(node)) {
+        (Ok(declaration), Ok(node)) => TypeFault::Refused {
+            kind,
+            declaration,
+            node,
+        },
+        _ => TypeFault::NoMemory,
+    }
+}
+
+/// The types of the nodes of all declarations, or the first refusal.
+pub fn types_of_all(
+    alloc: Global,
+    basin: &Basin,
+    declarations: &[Declaration],
+    costs: &[TreeCost],
+) -> Result<Vec<NodeTypes>, TypeFault>
+    requires costs { map budget_seen costs.now ≡ budgets_of (map declared_of declarations.now) }
+    ensures { Answers TypeFault.NoMemory refusal_of (λ all. map (λ types. types.items) all.items)
+        result (judged basin.now (map declared_of declarations.now)) }
+{
+    let mut all = Vec::new(alloc);
+    let mut earlier = Vec::new(alloc);
+    for place in 0..declarations.len() {
+        let declaration = &declarations[place];
+        let cost = &costs[place];
+        let known = Known {
+            alloc,
+            basin,
+            earlier: &earlier,
+            later: &declarations[place..],
+        };
+        let types = match with_budget(&known, declaration, cost) {
+            Ok(types) => types,
+            Err(stop) => return Err(fault_at(place + 1, stop)),
+        };
+        match all.push(types) {
+            Ok(()) => {}
+            Err(_) => return Err(TypeFault::NoMemory),
+        }
+        match add_function(alloc, &mut earlier, declaration) {
+            Ok(()) => {}
+            Err(_) => return Err(TypeFault::NoMemory),
+        }
+    }
+    Ok(all)
+}

@@ -1,0 +1,206 @@
+// What the head of a declaration says of its types.
+ghost use Rattle.std.specs.Prelude.{◌≡◌, ◌&&◌, None, Some, IfErr, IfOk, if◌then◌else◌, int_le, map, pos, unsigned_abs};
+ghost use Rattle.std.specs.List.{list_any};
+ghost use Rattle.rpl_tree.specs.Seen.{parameter_of, type_of};
+ghost use Rattle.rpl_tree.specs.declared.rpl_type.RplType.TheVariants as RplType;
+ghost use Rattle.rpl_types.specs.Fits.{longest};
+ghost use Rattle.rpl_types.specs.Functions.{head_misfit, is_duplicate, is_named_as, param_scope, refusal_in, repeats_name, signature, type_here, with_room, written_type};
+ghost use Rattle.rpl_types.specs.Judged.{head_refusal};
+ghost use Rattle.rpl_types.specs.Seen.{signature_of, signatures_of};
+ghost use Rattle.rpl_types.specs.Stopped.{scope_of};
+ghost use Rattle.rpl_types.specs.declared.stop.Stop.TheVariants as Stop;
+
+use crate::TypeKind;
+use crate::calls::{Signature, is_same_name, predefined_count, signature_named};
+use crate::fits::sooner;
+use crate::forms::plain;
+use crate::names::unit_named;
+use crate::progress::Variable;
+use crate::stop::Stop;
+use rpl_tree::{Param, RplType, TypeText};
+use rw_base::Dim;
+use std::alloc::Global;
+
+/// The room of a list, where there may be so much.
+fn room(m: i64) -> Option<u16>
+    ensures { result ≡ (if int_le (pos 1) m && int_le m (pos longest) then Some (unsigned_abs m) else None) }
+{
+    if 1 <= m && m <= 4096 {
+        Some(m.unsigned_abs() as u16)
+    } else {
+        None
+    }
+}
+
+fn numeric_list(m: i64, dim: Dim) -> Result<RplType, TypeKind>
+    ensures { result ≡ with_room m (λ n. RplType.NumericList n dim) }
+{
+    match room(m) {
+        Some(n) => Ok(RplType::NumericList(n, dim)),
+        None => Err(TypeKind::ListTooLong),
+    }
+}
+
+fn slot_list(m: i64, dim: Dim) -> Result<RplType, TypeKind>
+    ensures { result ≡ with_room m (λ n. RplType.SlotList n dim) }
+{
+    match room(m) {
+        Some(n) => Ok(RplType::SlotList(n, dim)),
+        None => Err(TypeKind::ListTooLong),
+    }
+}
+
+/// The type that is written, or what is wrong with it.
+fn written_type(text: &TypeText) -> Result<RplType, TypeKind>
+    ensures { result ≡ written_type (type_of text.now) }
+{
+    match text {
+        TypeText::Numeric(unit) => match unit_named(unit) {
+            Some((dim, _)) => Ok(RplType::Numeric(dim)),
+            None => Err(TypeKind::UnknownUnit),
+        },
+        TypeText::Boolean => Ok(RplType::Boolean),
+        TypeText::Datetime => Ok(RplType::Datetime),
+        TypeText::Slot(unit) => match unit_named(unit) {
+            Some((dim, _)) => Ok(RplType::Slot(dim)),
+            None => Err(TypeKind::UnknownUnit),
+        },
+        TypeText::NumericList(m, unit) => match unit_named(unit) {
+            Some((dim, _)) => numeric_list(*m, dim),
+            None => Err(TypeKind::UnknownUnit),
+        },
+        TypeText::SlotList(m, unit) => match unit_named(unit) {
+            Some((dim, _)) => slot_list(*m, dim),
+            None => Err(TypeKind::UnknownUnit),
+        },
+    }
+}
+
+fn type_misfit(text: &TypeText) -> Option<TypeKind>
+    ensures { result ≡ refusal_in (written_type (type_of text.now)) }
+{
+    match written_type(text) {
+        Ok(_) => None,
+        Err(kind) => Some(kind),
+    }
+}
+
+/// The type that is written, and a plain number where that is none.
+pub fn type_here(text: &TypeText) -> RplType
+    ensures { result ≡ type_here (type_of text.now) }
+{
+    match written_type(text) {
+        Ok(found) => found,
+        Err(_) => plain(),
+    }
+}
+
+/// Why the types of parameters and a result aren't fine.
+fn head_misfit(params: &[Param], answers: &TypeText) -> Option<TypeKind>
+    ensures { result ≡ head_misfit (map parameter_of params.now) (type_of answers.now) }
+{
+    let mut found = None;
+    for param in params {
+        found = sooner(found, type_misfit(&param.kind));
+    }
+    sooner(found, type_misfit(answers))
+}
+
+fn is_named_in(name: &[u8], params: &[Param]) -> bool
+    ensures { result ≡ list_any (is_named_as name.now) (map parameter_of params.now) }
+{
+    for param in params {
+        if is_same_name(name, &param.name) {
+            return true;
+        }
+    }
+    false
+}
+
+/// Whether two parameters have one name.
+fn repeats_name(params: &[Param]) -> bool
+    ensures { result ≡ repeats_name (map parameter_of params.now) }
+{
+    let mut rest = params;
+    for _turn in 0..params.len() {
+        let [param, later @ ..] = rest else {
+            return false;
+        };
+        if is_named_in(&param.name, later) {
+            return true;
+        }
+        rest = later;
+    }
+    false
+}
+
+fn is_duplicate(earlier: &[Signature], name: &[u8], params: &[Param]) -> bool
+    ensures { result ≡ is_duplicate (signatures_of earlier.now) name.now (map parameter_of params.now) }
+{
+    predefined_count(name).is_some()
+        || signature_named(earlier, name).is_some()
+        || repeats_name(params)
+}
+
+/// What is wrong with a function before its body is judged.
+pub fn head_refusal(
+    earlier: &[Signature],
+    name: &[u8],
+    params: &[Param],
+    answers: &TypeText,
+) -> Option<TypeKind>
+    ensures { result ≡ head_refusal (signatures_of earlier.now) name.now
+        (map parameter_of params.now) (type_of answers.now) }
+{
+    if is_duplicate(earlier, name, params) {
+        Some(TypeKind::DuplicateName)
+    } else {
+        head_misfit(params, answers)
+    }
+}
+
+/// The parameters as variables, the first of them the innermost.
+pub fn param_scope<'a>(alloc: Global, params: &'a [Param]) -> Result<Vec<Variable<'a>>, Stop>
+    ensures ok { IfOk result (λ scope. scope_of scope.items
+        ≡ param_scope (map parameter_of params.now)) }
+    ensures err { IfErr result (λ stop. stop ≡ Stop.NoMemory) }
+{
+    let mut scope = Vec::new(alloc);
+    for behind in 0..params.len() {
+        let param = &params[params.len() - 1 - behind];
+        let variable = Variable {
+            name: &param.name,
+            of_type: type_here(&param.kind),
+        };
+        match scope.push(variable) {
+            Ok(()) => {}
+            Err(_) => return Err(Stop::NoMemory),
+        }
+    }
+    Ok(scope)
+}
+
+/// The function as later declarations see it.
+pub fn signature<'a>(
+    alloc: Global,
+    name: &'a [u8],
+    params: &[Param],
+    answers: &TypeText,
+) -> Result<Signature<'a>, Stop>
+    ensures ok { IfOk result (λ made. signature_of made
+        ≡ signature name.now (map parameter_of params.now) (type_of answers.now)) }
+    ensures err { IfErr result (λ stop. stop ≡ Stop.NoMemory) }
+{
+    let mut takes = Vec::new(alloc);
+    for param in params {
+        match takes.push(type_here(&param.kind)) {
+            Ok(()) => {}
+            Err(_) => return Err(Stop::NoMemory),
+        }
+    }
+    Ok(Signature {
+        name,
+        takes,
+        result: type_here(answers),
+    })
+}

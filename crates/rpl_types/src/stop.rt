@@ -1,0 +1,16 @@
+use crate::TypeKind;
+use std::alloc::AllocFailed;
+
+/// Why no types are given of a declaration.
+#[derive(Clone, Copy, Debug, PartialEq, Eq, Drop)]
+pub enum Stop {
+    /// Something is wrong at a node.
+    Refused {
+        /// What is wrong.
+        kind: TypeKind,
+        /// The node's number, from 1, or 0 for the declaration as a whole.
+        node: usize,
+    },
+    /// Memory ran out.
+    NoMemory,
+}
