@@ -3,10 +3,9 @@ use Rattle.std.proofs.Common.{◌≡◌, ℕ, suc, ◌+◌, List, [], ◌∷◌,
 use Rattle.rpl_code.specs.declared.instruction.Instruction.{Instruction}
 use Rattle.rpl_tree.specs.Budget.{Budget}
 use Rattle.rpl_verify.specs.declared.notes.Note.{Note}
-use Rattle.rpl_verify.specs.declared.verify_kind.VerifyKind.{VerifyKind}
 use Rattle.rpl_verify.specs.Places.{Spot, spots}
 use Rattle.rpl_verify.specs.Names.{Scope}
-use Rattle.rpl_verify.specs.Fits.{Before, Misplaced, at_place, before, befores, ended, judged, then_do}
+use Rattle.rpl_verify.specs.Fits.{Before, Misplaced, at_place, befores, ended, judged, then_do}
 use Rattle.rpl_verify.specs.Notes.{end_note, note_of, noted_block, notes_of}
 use Rattle.rpl_verify.specs.Walked.{Walked}
 
@@ -30,9 +29,6 @@ module _ (scope : Scope) (budgets : List Budget) (all : List Instruction) where
     pub placed : w.spots ≡ scope.spots
     pub left : noted_block scope budgets all ≡ left_of p w.before done is
 
-  pub left_first : (w : Walked) → w ≡ record { before = before [] []; spots = scope.spots } → IsLeft 0 w [] all
-  left_first w e = record { placed = ap (λ (w : Walked). w.spots) e; left = ap (λ (w : Walked). left_of 0 w.before [] all) (sym e) }
-
   joins : (b : Before) (i : Instruction) (is : List Instruction) (done : List Note) (v : Result (List Before) Misplaced)
       → then_do (then_do v (λ cs. Ok (b ∷ cs))) (λ bs. Ok (done ++ notes_of scope budgets bs (i ∷ is)))
       ≡ then_do v (λ bs. Ok ((done ++ note_of scope budgets b i ∷ []) ++ notes_of scope budgets bs is))
@@ -52,19 +48,7 @@ module _ (scope : Scope) (budgets : List Budget) (all : List Instruction) where
             ∙ ap₂ (λ n ds. left_of n w2.before ds is) z (sym d);
       }
 
-  pub left_refused : (p : ℕ) (w : Walked) (done : List Note) (i : Instruction) (is left : List Instruction) (kind : VerifyKind) → IsLeft p w done left → left ≡ i ∷ is → judged (at_spots scope w.spots) p w.before i ≡ Err kind
-      → noted_block scope budgets all ≡ Err (record { misfit = kind; place = p })
-  left_refused p w done i is left kind h l j =
-      let j2 : judged scope p w.before i ≡ Err kind = subst (λ ss. judged (at_spots scope ss) p w.before i ≡ Err kind) h.placed j in
-      h.left ∙ ap (left_of p w.before done) l
-      ∙ ap (λ v. then_do (at_place p v (λ c. then_do (befores scope (suc p) c is) (λ bs. Ok (w.before ∷ bs)))) (λ bs. Ok (done ++ notes_of scope budgets bs (i ∷ is)))) j2
-
   pub left_ended : (p : ℕ) (w : Walked) (done done2 : List Note) (left : List Instruction) → IsLeft p w done left → left ≡ [] → done2 ≡ done ++ end_note scope budgets w.before ∷ [] → ended scope.head w.before w.before.loops ≡ Ok w.before
       → noted_block scope budgets all ≡ Ok done2
   left_ended p w done done2 left h l d e =
       h.left ∙ ap (left_of p w.before done) l ∙ ap (λ v. then_do (at_place p v (λ c. Ok (c ∷ []))) (λ bs. Ok (done ++ notes_of scope budgets bs []))) e ∙ ap Ok (sym d)
-
-  pub left_end_refused : (p : ℕ) (w : Walked) (done : List Note) (left : List Instruction) (kind : VerifyKind) → IsLeft p w done left → left ≡ [] → ended scope.head w.before w.before.loops ≡ Err kind
-      → noted_block scope budgets all ≡ Err (record { misfit = kind; place = p })
-  left_end_refused p w done left kind h l e =
-      h.left ∙ ap (left_of p w.before done) l ∙ ap (λ v. then_do (at_place p v (λ c. Ok (c ∷ []))) (λ bs. Ok (done ++ notes_of scope budgets bs []))) e

@@ -1,5 +1,5 @@
 -- The code's two passes over a block are its ruling.
-use Rattle.std.proofs.Common.{◌≡◌, ◌≤◌, ◌<◌, ◌+◌, ℕ, suc, Bool, true, false, nat_lt, List, [], ◌∷◌, length, Result, Ok, Err, refl, sym, ap, ◌∙◌, arith, if◌then◌else◌}
+use Rattle.std.proofs.Common.{◌≡◌, ◌<◌, ◌+◌, ℕ, suc, Bool, true, nat_lt, List, [], ◌∷◌, length, Result, Ok, Err, refl, sym, ap, ◌∙◌, arith, if◌then◌else◌}
 use Rattle.std.proofs.lemmas.Bool.Decides.{nat_tests}
 use Rattle.rw_model.specs.Draft.{Draft}
 use Rattle.rpl_code.specs.declared.block.Block.{Block}
@@ -46,17 +46,6 @@ module _ (basin : Draft) (blocks earlier : List Block) (budgets : List Budget) (
   few : count_alike block.head earlier < 200 → block_befores basin blocks earlier block ≡ befores here 0 (before [] []) block.lines
   few h = let e : nat_lt (count_alike block.head earlier) 200 ≡ true = grind (arith, nat_tests) in
       ap (λ (t : Bool). if t then befores here 0 (before [] []) block.lines else Err (record { misfit = TooMany; place = 0 })) e
-
-  pub too_many : 200 ≤ count_alike block.head earlier → block_ruling basin blocks earlier budgets block ≡ Err (record { misfit = TooMany; place = 0 })
-  too_many h = let e : nat_lt (count_alike block.head earlier) 200 ≡ false = grind (arith, nat_tests) in
-      ap (λ (t : Bool). measured (if t then befores here 0 (before [] []) block.lines else Err (record { misfit = TooMany; place = 0 }))) e
-
-  pub ruled_refused : count_alike block.head earlier < 200 → (wrong : Misplaced) → noted_block here budgets block.lines ≡ Err wrong → block_ruling basin blocks earlier budgets block ≡ Err wrong
-  ruled_refused h wrong e = ap measured (few h) ∙ by (befores here 0 (before [] []) block.lines) e
-    where
-      by : (found : Result (List Before) Misplaced) → then_do found (λ bs. Ok (notes_of here budgets bs block.lines)) ≡ Err wrong → measured found ≡ Err wrong
-      by (Ok bs) e = absurd (cc e)
-      by (Err other) e = let o : other ≡ wrong = cc e in ap Err o
 
   pub ruled : count_alike block.head earlier < 200 → (ns : List Note) → noted_block here budgets block.lines ≡ Ok ns
       → block_ruling basin blocks earlier budgets block ≡ at_place (length block.lines) (within_limits (budget_noted ns block.lines)) (λ b. Ok b)

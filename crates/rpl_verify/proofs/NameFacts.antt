@@ -1,8 +1,7 @@
 -- Names that are looked up.
-use Rattle.std.proofs.Common.{◌≡◌, ℕ, zero, suc, ◌+◌, ◌≤◌, ◌<◌, true, false, nat_le, ◌-◌, List, [], ◌∷◌, length, drop, Some, None, option_map, option_and_then, bytes_eq, refl, sym, ap, ◌∙◌, arith, if◌then◌else◌}
+use Rattle.std.proofs.Common.{◌≡◌, ℕ, zero, suc, ◌+◌, ◌<◌, true, false, nat_le, ◌-◌, List, [], ◌∷◌, length, drop, Some, None, option_map, option_and_then, bytes_eq, refl, sym, ap, ◌∙◌, arith, if◌then◌else◌}
 use Rattle.std.specs.Prelude.{slice_get}
 use Rattle.std.proofs.lemmas.Bool.Decides.{nat_tests}
-use Rattle.std.proofs.lemmas.List.{drop_all}
 use Rattle.rw_model.specs.Objects.{Object, object_at, object_from, object_named}
 use Rattle.rw_model.specs.Draft.{Draft}
 use Rattle.rw_model.specs.declared.kind.Kind.{Kind}
@@ -57,8 +56,3 @@ found_here basin name text place kind l lt e y k =
     let kd : h.object.kind ≡ kind = let a = ap (option_map (λ (o : Object). o.kind)) (sym o) ∙ k in cc a in
     ap (λ n. option_and_then (λ (object : Object). table_in object.kind) (option_and_then (λ number. object_at objects number) n)) found
     ∙ ap (option_and_then (λ (object : Object). table_in object.kind)) o ∙ ap table_in kd
-
-pub left_none : (basin : Draft) (name : List ℕ) (place : ℕ) → IsLeft basin.objects name place → length basin.objects ≤ place → table_named basin name ≡ None
-left_none basin name place l h =
-    let none : object_named basin.objects name ≡ None = sym l ∙ ap (λ os. object_from (place + 1) os name) (drop_all place basin.objects h) in
-    ap (λ n. option_and_then (λ (object : Object). table_in object.kind) (option_and_then (λ number. object_at basin.objects number) n)) none

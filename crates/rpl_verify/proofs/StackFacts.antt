@@ -1,5 +1,5 @@
 -- Lists by number.
-use Rattle.std.proofs.Common.{◌≡◌, ◌≢◌, ℕ, zero, suc, ◌≤◌, ◌<◌, Bool, true, false, cond, List, [], ◌∷◌, ◌++◌, length, Some, None, refl, sym, ap, ap₂, ◌∙◌, subst, arith, rules, length-append}
+use Rattle.std.proofs.Common.{◌≡◌, ◌≢◌, ℕ, zero, suc, ◌≤◌, ◌<◌, Bool, true, false, cond, List, [], ◌∷◌, ◌++◌, length, Some, None, refl, sym, ap, ap₂, ◌∙◌, subst, arith, length-append}
 use Rattle.std.specs.Prelude.{◌⊎◌, slice_get}
 use Rattle.std.specs.Map.{lookup}
 use Rattle.std.proofs.Common.{take, inl, inr, ◌-◌, get_or}
@@ -113,9 +113,6 @@ made_push ns n v w e =
 pub grows_push : (ns : List Node) (n : Node) → Grows (lists ns) (lists (ns ++ n ∷ []))
 grows_push ns n = record { more = (n.kind ∷ at (lists ns) n.below) ∷ []; is = lists-push ns n }
 
-pub grows_none : (ls : List (List ValueKind)) → Grows ls ls
-grows_none ls = record { more = []; is = search rules }
-
 same_key : (a b : ℕ) (j k : ValueKind) → key_of a j ≡ key_of b k → code_of j < 262144 → code_of k < 262144 → (a ≡ b) × (code_of j ≡ code_of k)
 same_key a b j k h s t = (omega (arith, h, s, t), omega (arith, h, s, t))
 
@@ -140,10 +137,6 @@ made_known ns m b v k h sm g =
       within = let z = h.wide in let y = w.is in omega (arith, z, y, lt);
       made = ap (at (lists ns)) w.is ∙ n.made ∙ ap₂ (λ x y. x ∷ at (lists ns) y) kd i.0;
     }
-
--- what stands at a number
-pub node_at : (ns : List Node) (m : BTreeMap ℕ ℕ) (k : ℕ) (n : Node) → IsKept ns m → slice_get ns k ≡ Some n → IsNode ns k n
-node_at ns m k n h g = h.nodes k n g
 
 nodes_at : (ns : List Node) (k : ℕ) → k < length ns → (n : Node) × (slice_get ns k ≡ Some n)
 nodes_at [] k h = absurd (omega (arith, h))

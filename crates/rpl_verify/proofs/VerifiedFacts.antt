@@ -1,5 +1,5 @@
 -- How many rules and functions accepted code has, and where its rules stand.
-use Rattle.std.proofs.Common.{◌≡◌, ◌≤◌, ◌<◌, ◌+◌, ◌-◌, ◌==◌, ℕ, zero, suc, Bool, true, false, nat_lt, List, [], ◌∷◌, ◌++◌, length, Some, Ok, Err, refl, sym, ap, ap₂, ◌∙◌, subst, arith, append_assoc, length-append, if◌then◌else◌}
+use Rattle.std.proofs.Common.{◌≡◌, ◌≤◌, ◌<◌, ◌+◌, ◌-◌, ◌==◌, ℕ, zero, suc, Bool, true, false, nat_lt, List, [], ◌∷◌, ◌++◌, length, Some, Result, Ok, Err, refl, sym, ap, ap₂, ◌∙◌, subst, arith, append_assoc, length-append, if◌then◌else◌}
 use Rattle.std.specs.Prelude.{slice_get}
 use Rattle.std.proofs.lemmas.List.{append-nil}
 use Rattle.std.proofs.lemmas.Bool.Decides.{nat_tests}
@@ -9,10 +9,10 @@ use Rattle.rpl_code.specs.declared.block.BlockHead.TheVariants.{Rule, Function}
 use Rattle.rpl_code.specs.declared.block.Block.{Block}
 use Rattle.rpl_tree.specs.Budget.{Budget}
 use Rattle.rpl_verify.specs.declared.verify_kind.VerifyKind.TheVariants.{TooMany}
-use Rattle.rpl_verify.specs.Fits.{Before, before, befores, block_befores, count_alike, each_block, is_alike, scope_of}
-use Rattle.rpl_verify.specs.Budget.{block_ruling, ruling}
+use Rattle.rpl_verify.specs.Fits.{Before, Refusal, before, befores, block_befores, count_alike, each_block, is_alike, scope_of}
+use Rattle.rpl_verify.specs.Budget.{AreAccepted, block_ruling, ruling}
 use Rattle.rpl_verify.specs.Machine.{rule_from}
-use Rattle.rpl_verify.specs.Verified.{function_head, rules_from}
+use Rattle.rpl_verify.specs.Verified.{Accepted, function_head, rules_from, verified, with_budgets}
 use Rattle.rpl_verify.proofs.KindFacts.{same_ok, then_do_ok}
 use Rattle.rpl_verify.proofs.Rulings.{in_block_ok}
 
@@ -107,3 +107,15 @@ module _ (basin : Draft) (blocks : List Block) where
 
   pub each : (all : List Budget) → ruling basin blocks ≡ Ok all → length all ≡ length blocks
   each all e = let r = each_from [] blocks [] all e in omega (arith, r)
+
+-- ---- what is answered
+
+pub answered : (basin : Draft) (blocks : List Block) (a : Accepted) → verified basin blocks ≡ Ok a → AreAccepted basin a.blocks a.budgets
+answered basin blocks a h = by (ruling basin blocks) refl h
+  where
+    by : (r : Result (List Budget) Refusal) → ruling basin blocks ≡ r → with_budgets blocks r ≡ Ok a → AreAccepted basin a.blocks a.budgets
+    by (Ok budgets) e h =
+        let b : Accepted = record { blocks = blocks; budgets = budgets } in
+        let s : b ≡ a = same_ok b a h in
+        subst (λ (a : Accepted). AreAccepted basin a.blocks a.budgets) s e
+    by (Err why) e h = absurd (cc h)

@@ -14,6 +14,7 @@ ghost use Rattle.rpl_verify.specs.declared.verify_kind.VerifyKind.TheVariants.{B
 ghost use Rattle.rpl_verify.specs.Budget.{AreAccepted, IsWithinLimits};
 ghost use Rattle.rpl_verify.specs.Machine.{fire_of_code};
 ghost use Rattle.rpl_verify.specs.Safety.{AreSafe};
+ghost use Rattle.rpl_verify.specs.Verified.{Accepted, verified};
 ghost use Rattle.rpl_verify.specs.Fits.{AreFit, first_misfit, refusal};
 ghost use Rattle.rpl_verify.specs.Worked.{cap_and_base_code, code_does, dam_and_flow, doubled_items, earlier_code, endless, hundredth_code, long_locals, many_puts, misfit_at, misfit_in, function_with, misfit_of, nested, number, number_function, numbers_basin, looks_of_firing, one_dam, one_or_sum, one_or_two, over_a_list, pair_then, put_before_look, put_outflow, put_spill, puts_of_firing, raise_and_reset_code, rule_with, ruled, second_slot, seen_before, skipped, sum_of_slots, spilling_dam, sum_ahead_code, sum_or_two, three_counted, tower, words_of_firing, x_by_truth, x_of, x_of_pool, x_slot, y_slot};
 
@@ -291,6 +292,14 @@ pub fn accepted_code()
 pub fn verified_code_is_safe()
     ensures { (basin : Draft) (blocks : List Block) (budgets : List Budget)
         → AreAccepted basin blocks budgets → AreSafe basin blocks budgets }
+{}
+
+/// What `verify` answers is accepted code, and so it is safe.
+pub fn answered_code_is_safe()
+    ensures accepted { (basin : Draft) (blocks : List Block) (a : Accepted)
+        → verified basin blocks ≡ Ok a → AreAccepted basin a.blocks a.budgets }
+    ensures safe { (basin : Draft) (blocks : List Block) (a : Accepted)
+        → verified basin blocks ≡ Ok a → AreSafe basin a.blocks a.budgets }
 {}
 
 /// What firings pass: each look counts, also one outside the run, which looks at no cell; a put counts that is executed before

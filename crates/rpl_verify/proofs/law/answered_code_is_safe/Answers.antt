@@ -1,0 +1,9 @@
+use Rattle.rpl_verify.proofs.Accepted.{safe}
+use Rattle.rpl_verify.proofs.VerifiedFacts.{answered}
+use Rattle.rpl_verify.proofs.law.answered_code_is_safe.Goals as goal
+
+pub returns-clause-accepted : goal.returns-clause-accepted
+returns-clause-accepted c = answered
+
+pub returns-clause-safe : goal.returns-clause-safe
+returns-clause-safe c = λ basin blocks a h. safe basin a.blocks a.budgets (answered basin blocks a h)
