@@ -1,5 +1,5 @@
 -- Causes as the code comes to them, step by step.
-use Rattle.std.proofs.Common.{◌≡◌, ◌≢◌, inl, inr, ℕ, ◌<◌, List, refl, sym, ap, arith, subst, Some, None, Option, option_map, Result, Ok, Err, IsErrOf, MatchResult, IsSomeAnd}
+use Rattle.std.proofs.Common.{◌≡◌, ◌≢◌, inl, inr, ℕ, ◌<◌, List, refl, sym, ap, arith, subst, Some, None, true, false, Option, option_map, Result, Ok, Err, IsErrOf, MatchResult, IsSomeAnd}
 use Rattle.rw_inputs.specs.declared.fault.InputFault.TheVariants.{Refused}
 use Rattle.rw_inputs.specs.Inputs.{Inputs as Given}
 use Rattle.rw_inputs.specs.Reading.{Reads}
@@ -19,16 +19,21 @@ use Rattle.rpl_parse.specs.Parsing.{Answers as Parses}
 use Rattle.rpl_parse.specs.Declarations.{IsReading, spelt}
 use Rattle.rpl_types.specs.Checked.{Checked, checked, with_types}
 use Rattle.rpl_types.specs.Judged.{Refusal as NodeRefusal, judged, refusal}
+use Rattle.rpl_code.specs.Answers.{Answers as AnswersCode}
+use Rattle.rpl_code.specs.Reading.{CodeRefusal, bad_line, truncated, read}
+use Rattle.rpl_code.specs.declared.fault.CodeFault.{CodeFault}
+use Rattle.rpl_code.specs.declared.fault.CodeFault.TheVariants as C
+use Rattle.rpl_verify.specs.Fits.{refusal as block_refusal}
 use Rattle.rpl_types.specs.Nodes.{Types as NodeTypes}
 use Rattle.rw_top.specs.Command.{Command, path_of}
-use Rattle.rw_top.specs.Policy.{RulesRefusal, BadToken, BadDeclaration, TooMany, BadNode, IsRulesetOf, RefusesNode}
-use Rattle.rw_top.specs.Reason.{Reason, BadModel, BadRules, BadInputs, LongFile, status_by}
-use Rattle.rw_top.specs.Reading.{IsTooLong, Reaches, ReadsBoth, ReadsModel, ReadsRules, WasRead}
-use Rattle.rw_top.specs.Refusal.{Cause, FileCause, IsInputRefusal, IsModelRefusal, IsRulesRefusal, TellsReason, WasFound, reason_of, refusal_after, refusal_of_grammar, status_of}
+use Rattle.rw_top.specs.Policy.{Unread, Misfit, Policy, PolicyRefusal, BadRules, BadBlocks, RulesRefusal, BadToken, BadDeclaration, TooMany, BadNode, IsPolicyOf, IsRulesetOf, RefusesNode, is_code}
+use Rattle.rw_top.specs.Reason.{Reason, BadModel, BadPolicy, BadInputs, LongFile, status_by}
+use Rattle.rw_top.specs.Reading.{IsTooLong, Reaches, ReadsBoth, ReadsModel, ReadsPolicy, WasRead}
+use Rattle.rw_top.specs.Refusal.{Cause, FileCause, IsInputRefusal, IsModelRefusal, IsPolicyRefusal, TellsReason, WasFound, reason_of, refusal_after, refusal_of_code, refusal_of_grammar, status_of}
 use Rattle.rw_top.specs.declared.refusal.File.{File}
 use Rattle.rw_top.specs.declared.refusal.File.TheVariants.{Model as ModelFile, Policy as PolicyFile, Inputs as InputsFile}
 use Rattle.rw_top.specs.declared.refusal.Refusal.{Refusal}
-use Rattle.rw_top.specs.declared.refusal.Refusal.TheVariants.{CannotRead, CannotWrite, NoMemory, Model, Grammar, Types, Inputs, TooLong}
+use Rattle.rw_top.specs.declared.refusal.Refusal.TheVariants.{CannotRead, CannotWrite, NoMemory, Model, Grammar, Types, Code, Block as BlockAt, Inputs, TooLong}
 
 -- a fault that doesn't tell nothing tells why
 pub tells_why : (told : Option ModelRefusal) → ¬ (told ≡ None) → (why : ModelRefusal) × (told ≡ Some why)
@@ -40,15 +45,22 @@ told_model : (why : Option ModelRefusal) (reason : Reason) → option_map (λ ba
 told_model None reason tells = absurd cc
 told_model (Some why) reason tells = let same : BadModel why ≡ reason = cc in ap status_by same
 
-told_rules : (why : Option RulesRefusal) (reason : Reason) → option_map (λ bad. BadRules bad) why ≡ Some reason → 7 ≡ status_by reason
+told_rules : (why : Option RulesRefusal) (reason : Reason) → option_map (λ bad. BadPolicy (BadRules bad)) why ≡ Some reason → 7 ≡ status_by reason
 told_rules None reason tells = absurd cc
-told_rules (Some why) reason tells = let same : BadRules why ≡ reason = cc in ap status_by same
+told_rules (Some why) reason tells = let same : BadPolicy (BadRules why) ≡ reason = cc in ap status_by same
+
+told_code : (why : Option CodeRefusal) (reason : Reason) → option_map (λ bad. BadPolicy (BadBlocks (Unread bad))) why ≡ Some reason → 9 ≡ status_by reason
+told_code None reason tells = absurd cc
+told_code (Some why) reason tells = let same : BadPolicy (BadBlocks (Unread why)) ≡ reason = cc in ap status_by same
 
 pub told_status : (why : Refusal) (reason : Reason) → reason_of why ≡ Some reason → status_of why ≡ status_by reason
 told_status (Model fault) reason tells = told_model (refusal_of fault) reason tells
 told_status (Grammar fault) reason tells = told_rules (refusal_of_grammar fault) reason tells
 told_status (Types kind declaration node) reason tells =
-    let same : BadRules (BadNode (refusal kind declaration node)) ≡ reason = cc in ap status_by same
+    let same : BadPolicy (BadRules (BadNode (refusal kind declaration node))) ≡ reason = cc in ap status_by same
+told_status (Code fault) reason tells = told_code (refusal_of_code fault) reason tells
+told_status (BlockAt kind block place) reason tells =
+    let same : BadPolicy (BadBlocks (Misfit (block_refusal kind block place))) ≡ reason = cc in ap status_by same
 told_status (Inputs kind row column) reason tells = let same : BadInputs (Refused kind row column) ≡ reason = cc in ap status_by same
 told_status (TooLong file) reason tells = let same : LongFile file ≡ reason = cc in ap status_by same
 told_status why reason tells = absurd cc
@@ -120,12 +132,19 @@ judged_inputs command shelf basin text (Ok inputs) model read are = record { mod
 judged_inputs command shelf basin text (Err why) model read bad = inputs_cause command shelf basin text why model read bad
 
 -- why a text is no ruleset
-pub grammar_refusal : (basin : Draft) (text : List ℕ) (fault : ParseFault) → ¬ (fault ≡ P.NoMemory) → Parses (Err fault) text
-    → IsRulesRefusal basin text (Grammar fault)
-grammar_refusal basin text (P.BadToken line) some is = inr (BadToken line, refl, is)
-grammar_refusal basin text (P.BadDeclaration declaration line) some is = inr (BadDeclaration declaration line, refl, is)
-grammar_refusal basin text (P.TooMany declaration) some is = inr (TooMany declaration, refl, is)
-grammar_refusal basin text P.NoMemory some is = absurd (some refl)
+pub grammar_refusal : (basin : Draft) (text : List ℕ) (fault : ParseFault) → is_code text ≡ false → ¬ (fault ≡ P.NoMemory)
+    → Parses (Err fault) text → IsPolicyRefusal basin text (Grammar fault)
+grammar_refusal basin text (P.BadToken line) rules some is = inr (BadRules (BadToken line), refl, (rules, is))
+grammar_refusal basin text (P.BadDeclaration declaration line) rules some is = inr (BadRules (BadDeclaration declaration line), refl, (rules, is))
+grammar_refusal basin text (P.TooMany declaration) rules some is = inr (BadRules (TooMany declaration), refl, (rules, is))
+grammar_refusal basin text P.NoMemory rules some is = absurd (some refl)
+
+-- or no code
+pub code_refusal : (basin : Draft) (text : List ℕ) (fault : CodeFault) → is_code text ≡ true → ¬ (fault ≡ C.NoMemory)
+    → AnswersCode (read text) (Err fault) → IsPolicyRefusal basin text (Code fault)
+code_refusal basin text (C.BadLine line) code some is = inr (BadBlocks (Unread (bad_line line)), refl, (code, is))
+code_refusal basin text C.Truncated code some is = inr (BadBlocks (Unread truncated), refl, (code, is))
+code_refusal basin text C.NoMemory code some is = absurd (some refl)
 
 -- and why a ruleset is refused
 judged_err : (rules : List Declared) (result : Result (List NodeTypes) NodeRefusal) (why : NodeRefusal) → with_types rules result ≡ Err why → result ≡ Err why
@@ -158,20 +177,20 @@ accepted_rules basin text rules all spells is =
 -- why a policy isn't accepted
 rules_cause : (command : Command) (shelf : Change ShelfView) (basin : Draft) (text : List ℕ) (why : Refusal)
     → ReadsModel command shelf.before.holds basin → WasRead command shelf.before.holds PolicyFile text
-    → IsRulesRefusal basin text why → FileCause command shelf why
+    → IsPolicyRefusal basin text why → FileCause command shelf why
 rules_cause command shelf basin text why model read (inl is) = no_memory command shelf why is
 rules_cause command shelf basin text why model read (inr bad) = tells_cause command shelf why (record {
-  reason = BadRules bad.0;
+  reason = BadPolicy bad.0;
   tells = bad.1;
-  found = record { basin = basin; model = model; text = text; read = read; are = bad.2 };
+  found = record { basin = basin; model = model; text = text; read = read; is = bad.2 };
 })
 
-pub judged_rules : {A : Type 0} (seen : A → List Declared) (command : Command) (shelf : Change ShelfView) (basin : Draft) (text : List ℕ)
+pub judged_policy : {A : Type 0} (seen : A → Policy) (command : Command) (shelf : Change ShelfView) (basin : Draft) (text : List ℕ)
     (result : Result A Refusal) → ReadsModel command shelf.before.holds basin → WasRead command shelf.before.holds PolicyFile text
-    → MatchResult result (λ x. IsRulesetOf basin text (seen x)) (IsRulesRefusal basin text)
-    → MatchResult result (λ x. ReadsRules command shelf.before.holds basin (seen x)) (FileCause command shelf)
-judged_rules seen command shelf basin text (Ok x) model read are = record { model = model; text = text; read = read; are = are }
-judged_rules seen command shelf basin text (Err why) model read bad = rules_cause command shelf basin text why model read bad
+    → MatchResult result (λ x. IsPolicyOf basin text (seen x)) (IsPolicyRefusal basin text)
+    → MatchResult result (λ x. ReadsPolicy command shelf.before.holds basin (seen x)) (FileCause command shelf)
+judged_policy seen command shelf basin text (Ok x) model read is = record { model = model; text = text; read = read; is = is }
+judged_policy seen command shelf basin text (Err why) model read bad = rules_cause command shelf basin text why model read bad
 
 -- faults that are counted from earlier on
 rose_since : (first later now : ShelfView) (o : Option (List ℕ)) → NoneFell first.faults later.faults
@@ -203,13 +222,13 @@ cause_earlier command first later now why same fell cause =
     since command first later now why fell (subst P one cause)
 
 -- a policy that is read later on
-pub read_later : {A : Type 0} (seen : A → List Declared) (command : Command) (first later now : ShelfView) (basin : Draft) (result : Result A Refusal)
+pub read_later : {A : Type 0} (seen : A → Policy) (command : Command) (first later now : ShelfView) (basin : Draft) (result : Result A Refusal)
     → ((path : List ℕ) → later.holds path ≡ first.holds path) → NoneFell first.faults later.faults
-    → MatchResult result (λ x. ReadsRules command later.holds basin (seen x)) (FileCause command (change later now))
-    → MatchResult result (λ x. (b : Draft) × ReadsRules command first.holds b (seen x)) (FileCause command (change first now))
+    → MatchResult result (λ x. ReadsPolicy command later.holds basin (seen x)) (FileCause command (change later now))
+    → MatchResult result (λ x. (b : Draft) × ReadsPolicy command first.holds b (seen x)) (FileCause command (change first now))
 read_later seen command first later now basin (Ok x) same fell read =
     let one : later.holds ≡ first.holds = λ i path. same path i in
-    (basin, subst (λ holds. ReadsRules command holds basin (seen x)) one read)
+    (basin, subst (λ holds. ReadsPolicy command holds basin (seen x)) one read)
 read_later seen command first later now basin (Err why) same fell cause = cause_earlier command first later now why same fell cause
 
 -- a cause before anything was written is a cause of the refusal

@@ -21,7 +21,7 @@ accepts_all (Simulate model inputs) holds status text is ModelFile named = (is.2
 accepts_all (Simulate model inputs) holds status text is PolicyFile named = absurd cc
 accepts_all (Simulate model inputs) holds status text is InputsFile named = (is.2.basin, is.2.inputs, is.2.read)
 accepts_all (Check model policy) holds status text is ModelFile named = (is.1.basin, is.1.read.model)
-accepts_all (Check model policy) holds status text is PolicyFile named = (is.1.basin, is.1.rules, is.1.read)
+accepts_all (Check model policy) holds status text is PolicyFile named = (is.1.basin, is.1.policy, is.1.read)
 accepts_all (Check model policy) holds status text is InputsFile named = absurd cc
 
 -- a path of which the shelf is honest is told, and had no fault

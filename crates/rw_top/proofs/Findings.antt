@@ -10,15 +10,14 @@ use Rattle.rw_inputs.specs.Inputs.{Inputs as Given}
 use Rattle.rw_inputs.specs.Reading.{Refuses}
 use Rattle.rw_io.specs.Outside.{Holds}
 use Rattle.rw_io.specs.declared.whole_file.TheConstants.{FILE_MAX}
-use Rattle.rpl_tree.specs.Tree.{Declared}
 use Rattle.rw_top.specs.Command.{Command, Names, order, path_of}
-use Rattle.rw_top.specs.Policy.{RulesRefusal, RefusesRules}
-use Rattle.rw_top.specs.Reason.{Reason, BadModel, BadRules, BadInputs, LongFile, IsFound, file_of, status_by}
-use Rattle.rw_top.specs.Reading.{Accepts, HoldsTooLong, IsTextAt, IsTooLong, Reaches, ReadsBoth, ReadsModel, ReadsRules, RefusesInputs, RefusesModel, RefusesPolicy, WasRead}
+use Rattle.rw_top.specs.Policy.{Policy as Rules, PolicyRefusal, RefusesText}
+use Rattle.rw_top.specs.Reason.{Reason, BadModel, BadPolicy, BadInputs, LongFile, IsFound, file_of, policy_status, status_by}
+use Rattle.rw_top.specs.Reading.{Accepts, HoldsTooLong, IsTextAt, IsTooLong, Reaches, ReadsBoth, ReadsModel, ReadsPolicy, RefusesInputs, RefusesModel, RefusesPolicy, WasRead}
 use Rattle.rw_top.specs.declared.refusal.File.{File}
 use Rattle.rw_top.specs.declared.refusal.File.TheVariants.{Model, Policy, Inputs}
 use Rattle.rw_top.proofs.CommandLemmas.{inputs_alone, is_there}
-use Rattle.rw_top.proofs.OneReading.{refuses_clash, rules_clash}
+use Rattle.rw_top.proofs.OneReading.{one_policy_status, policy_clash, refuses_clash}
 
 -- what was read of a path that is told is one text
 one_told : (o : Option (List ℕ)) (a b : List ℕ) → IsSome o → IfSome o (λ f. a ≡ f) → IfSome o (λ f. b ≡ f) → a ≡ b
@@ -87,19 +86,19 @@ module _ (command : Command) (holds : Holds) where
       refuses_clash b h.text i why h.are there
 
   -- nor is a policy
-  policy_clash : (why : RulesRefusal) (b : Draft) (rules : List Declared)
+  refused_policy : (why : PolicyRefusal) (b : Draft) (rules : Rules)
       → IsTold command holds Model → IsTold command holds Policy
-      → RefusesPolicy command holds why → ReadsRules command holds b rules → ⊥
-  policy_clash why b rules model policy r h =
+      → RefusesPolicy command holds why → ReadsPolicy command holds b rules → ⊥
+  refused_policy why b rules model policy r h =
       let basin = one_basin r.basin b model r.model h.model in
       let text = same_text command holds Policy r.text h.text policy r.read h.read in
-      let there : RefusesRules b h.text why = subst (λ t. RefusesRules b t why) text (subst (λ d. RefusesRules d r.text why) basin r.are) in
-      rules_clash b h.text rules why h.are there
+      let there : RefusesText b h.text why = subst (λ t. RefusesText b t why) text (subst (λ d. RefusesText d r.text why) basin r.is) in
+      policy_clash b h.text rules why h.is there
 
   -- the file is refused, with this status
   abbrev IsBad : File → ℕ → Type 0
   IsBad Model status = (status ≡ 6) × ((why : ModelRefusal) × RefusesModel command holds why)
-  IsBad Policy status = (status ≡ 7) × ((why : RulesRefusal) × RefusesPolicy command holds why)
+  IsBad Policy status = (why : PolicyRefusal) × (status ≡ policy_status why) × RefusesPolicy command holds why
   IsBad Inputs status = (status ≡ 8) × ((why : InputFault) × RefusesInputs command holds why)
 
   accepted_text : (file : File) → Accepts command holds file
@@ -111,12 +110,15 @@ module _ (command : Command) (holds : Holds) where
   bad_text : (file : File) (status : ℕ) → IsBad file status
       → (text : List ℕ) × WasRead command holds file text
   bad_text Model status bad = (bad.1.1.text, bad.1.1.read)
-  bad_text Policy status bad = (bad.1.1.text, bad.1.1.read)
+  bad_text Policy status bad = (bad.2.text, bad.2.read)
   bad_text Inputs status bad = (bad.1.1.text, bad.1.1.read)
 
   one_status : (file : File) (a b : ℕ) → IsToldUpTo command holds file → IsBad file a → IsBad file b → a ≡ b
   one_status Model a b told bad other = bad.0 ∙ sym other.0
-  one_status Policy a b told bad other = bad.0 ∙ sym other.0
+  one_status Policy a b told bad other =
+      let text = same_text command holds Policy bad.2.text other.2.text (told Policy (omega arith)) bad.2.read other.2.read in
+      bad.1 ∙ one_policy_status bad.2.basin other.2.basin other.2.text bad.0 other.0
+      (subst (λ t. RefusesText bad.2.basin t bad.0) text bad.2.is) other.2.is ∙ sym other.1
   one_status Inputs a b told bad other = bad.0 ∙ sym other.0
 
   bad_clash : (file : File) (status : ℕ) → IsToldUpTo command holds file
@@ -124,7 +126,7 @@ module _ (command : Command) (holds : Holds) where
   bad_clash Model status told accepted bad =
       model_clash bad.1.0 accepted.0 (told Model (omega arith)) bad.1.1 accepted.1
   bad_clash Policy status told accepted bad =
-      policy_clash bad.1.0 accepted.0 accepted.1 (told Model (omega arith)) (told Policy (omega arith)) bad.1.1 accepted.2
+      refused_policy bad.0 accepted.0 accepted.1 (told Model (omega arith)) (told Policy (omega arith)) bad.2 accepted.2
   bad_clash Inputs status told accepted bad =
       inputs_clash bad.1.0 accepted.0 accepted.1 (told Model (omega arith)) (told Inputs (omega arith)) bad.1.1 accepted.2
 
@@ -151,7 +153,7 @@ module _ (command : Command) (holds : Holds) where
   -- each reason is a finding of its file
   finding : (reason : Reason) → IsFound command holds reason → Finding (file_of reason) (status_by reason)
   finding (BadModel why) found = inl (refl, (why, found))
-  finding (BadRules why) found = inl (refl, (why, found))
+  finding (BadPolicy why) found = inl (why, refl, found)
   finding (BadInputs why) found = inl (refl, (why, found))
   finding (LongFile file) found = inr (found, refl)
 
@@ -172,13 +174,13 @@ module _ (command : Command) (holds : Holds) where
   -- the file of a reason is read
   pub names : (reason : Reason) → IsFound command holds reason → Names command (file_of reason)
   names (BadModel why) found = is_there (path_of command Model) (IsTextAt holds found.text) found.read
-  names (BadRules why) found = is_there (path_of command Policy) (IsTextAt holds found.text) found.read
+  names (BadPolicy why) found = is_there (path_of command Policy) (IsTextAt holds found.text) found.read
   names (BadInputs why) found = is_there (path_of command Inputs) (IsTextAt holds found.text) found.read
   names (LongFile file) found = is_there (path_of command file) (IsTooLong holds) found.longer
 
   reached : (reason : Reason) → IsFound command holds reason → Reaches command holds (file_of reason)
   reached (BadModel why) found = reaches_model
-  reached (BadRules why) found = reaches_policy found.basin found.model
+  reached (BadPolicy why) found = reaches_policy found.basin found.model
   reached (BadInputs why) found = reaches_inputs found.basin (names (BadInputs why) found) found.model
   reached (LongFile file) found = found.reached
 

@@ -1,5 +1,5 @@
 -- What is read of a text is one thing.
-use Rattle.std.proofs.Common.{◌≡◌, ℕ, List, Ok, Err, sym, ap, ◌∙◌}
+use Rattle.std.proofs.Common.{◌≡◌, ℕ, List, Ok, Err, true, false, refl, sym, ap, ◌∙◌}
 use Rattle.rpl_parse.specs.Declarations.{IsReading, spelt, bad_token, bad_declaration, too_many}
 use Rattle.rpl_parse.proofs.CutFacts.{one_reading_holds}
 use Rattle.rpl_tree.specs.Tree.{Declared}
@@ -9,7 +9,9 @@ use Rattle.rw_model.specs.Draft.{Draft}
 use Rattle.rw_inputs.specs.declared.fault.InputFault.{InputFault}
 use Rattle.rw_inputs.specs.Inputs.{Inputs, value_at, given_at}
 use Rattle.rw_inputs.specs.Reading.{Reads, Refuses, read_records}
-use Rattle.rw_top.specs.Policy.{RulesRefusal, BadToken, BadDeclaration, TooMany, BadNode, IsRulesetOf, RefusesRules}
+use Rattle.rpl_verify.specs.Verified.{Accepted, verified}
+use Rattle.rw_top.specs.Policy.{BadCode, Unread, Misfit, Policy, Ruleset, Code, PolicyRefusal, BadRules, BadBlocks, RulesRefusal, BadToken, BadDeclaration, TooMany, BadNode, IsCodeOf, IsPolicyOf, IsRulesetOf, RefusesCode, RefusesRules, RefusesText, is_code}
+use Rattle.rw_top.specs.Reason.{policy_status}
 
 -- inputs that are refused aren't read
 pub refuses_clash : (basin : Draft) (text : List ℕ) (inputs : Inputs) (fault : InputFault)
@@ -34,7 +36,7 @@ one_ruleset text rules others h k =
     let same : spelt rules ≡ spelt others = one_reading_holds text (spelt rules) (spelt others) h k in cc
 
 -- rules that are refused aren't accepted
-pub rules_clash : (basin : Draft) (text : List ℕ) (rules : List Declared) (why : RulesRefusal)
+rules_clash : (basin : Draft) (text : List ℕ) (rules : List Declared) (why : RulesRefusal)
     → IsRulesetOf basin text rules → RefusesRules basin text why → ⊥
 rules_clash basin text rules (BadToken line) h k =
     let same : spelt rules ≡ bad_token line = one_reading_holds text (spelt rules) (bad_token line) h.spells k in cc
@@ -46,3 +48,31 @@ rules_clash basin text rules (TooMany declaration) h k =
 rules_clash basin text rules (BadNode why) h k =
     let same = one_ruleset text rules k.rules h.spells k.spells in
     let both : Ok h.types ≡ Err why = sym h.typed ∙ ap (judged basin) same ∙ k.refused in cc
+
+-- nor is code
+code_clash : (basin : Draft) (text : List ℕ) (code : Accepted) (why : BadCode)
+    → IsCodeOf basin text code → RefusesCode basin text why → ⊥
+code_clash basin text code (Unread why) h k = let both : Ok h.blocks ≡ Err why = sym h.spells ∙ k in cc
+code_clash basin text code (Misfit why) h k =
+    let blocks : Ok h.blocks ≡ Ok k.blocks = sym h.spells ∙ k.spells in
+    let same : h.blocks ≡ k.blocks = cc in
+    let both : Ok code ≡ Err why = sym h.fits ∙ ap (verified basin) same ∙ k.refused in cc
+
+-- a text is a ruleset's or code's
+pub one_kind : (text : List ℕ) → is_code text ≡ true → is_code text ≡ false → ⊥
+one_kind text h k = let both : true ≡ false = sym h ∙ k in cc
+
+pub policy_clash : (basin : Draft) (text : List ℕ) (policy : Policy) (why : PolicyRefusal)
+    → IsPolicyOf basin text policy → RefusesText basin text why → ⊥
+policy_clash basin text (Ruleset rules) (BadRules why) h k = rules_clash basin text rules why h.1 k.1
+policy_clash basin text (Ruleset rules) (BadBlocks why) h k = one_kind text k.0 h.0
+policy_clash basin text (Code code) (BadRules why) h k = one_kind text h.0 k.0
+policy_clash basin text (Code code) (BadBlocks why) h k = code_clash basin text code why h.1 k.1
+
+-- what is refused of it brings one status
+pub one_policy_status : (basin others : Draft) (text : List ℕ) (a b : PolicyRefusal) → RefusesText basin text a → RefusesText others text b
+    → policy_status a ≡ policy_status b
+one_policy_status basin others text (BadRules why) (BadRules other) h k = refl
+one_policy_status basin others text (BadRules why) (BadBlocks other) h k = absurd (one_kind text k.0 h.0)
+one_policy_status basin others text (BadBlocks why) (BadRules other) h k = absurd (one_kind text h.0 k.0)
+one_policy_status basin others text (BadBlocks why) (BadBlocks other) h k = refl

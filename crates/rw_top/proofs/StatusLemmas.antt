@@ -9,9 +9,9 @@ use Rattle.rw_run.specs.declared.run.RunEnd.TheVariants.{Settled, Fault}
 use Rattle.rw_model_toml.specs.Refusal.{ModelRefusal}
 use Rattle.rw_top.specs.Call.{Call}
 use Rattle.rw_top.specs.Command.{AskFor, AskNothing, Asks, Command, Simulate, Check}
-use Rattle.rw_top.specs.Reason.{Reason, BadModel, BadRules, BadInputs, LongFile, status_by}
+use Rattle.rw_top.specs.Reason.{Reason, BadModel, BadPolicy, BadInputs, LongFile, status_by}
 use Rattle.rw_top.specs.Promise.{Promise, RefusedCommand, WasRefused, WroteCheck, WroteRun}
-use Rattle.rw_top.specs.Policy.{RulesRefusal}
+use Rattle.rw_top.specs.Policy.{BadCode, RulesRefusal, BadRules, BadBlocks}
 use Rattle.rw_top.specs.Reading.{RefusesInputs, RefusesModel, RefusesPolicy}
 use Rattle.rw_top.specs.Refusal.{FailsToRead, FindsTooLong, WasFound, status_of}
 use Rattle.rw_top.specs.Written.{HasText, WritesFront, status_of_end}
@@ -114,28 +114,42 @@ module _ (call : Call) where
   bad_model : (command : Command) (reason : Reason) → 6 ≡ status_by reason → WasFound command call.shelf reason
       → (why : ModelRefusal) × RefusesModel command call.shelf.before.holds why
   bad_model command (BadModel why) is found = (why, found)
+  bad_model command (BadPolicy (BadRules why)) is found = absurd (omega (arith, is))
+  bad_model command (BadPolicy (BadBlocks why)) is found = absurd (omega (arith, is))
   bad_model command reason is found = absurd (omega (arith, is))
 
   bad_rules : (command : Command) (reason : Reason) → 7 ≡ status_by reason → WasFound command call.shelf reason
-      → (why : RulesRefusal) × RefusesPolicy command call.shelf.before.holds why
-  bad_rules command (BadRules why) is found = (why, found)
+      → (why : RulesRefusal) × RefusesPolicy command call.shelf.before.holds (BadRules why)
+  bad_rules command (BadPolicy (BadRules why)) is found = (why, found)
   bad_rules command reason is found = absurd (omega (arith, is))
+
+  bad_code : (command : Command) (reason : Reason) → 9 ≡ status_by reason → WasFound command call.shelf reason
+      → (why : BadCode) × RefusesPolicy command call.shelf.before.holds (BadBlocks why)
+  bad_code command (BadPolicy (BadBlocks why)) is found = (why, found)
+  bad_code command reason is found = absurd (omega (arith, is))
 
   bad_inputs : (command : Command) (reason : Reason) → 8 ≡ status_by reason → WasFound command call.shelf reason
       → (fault : InputFault) × RefusesInputs command call.shelf.before.holds fault
   bad_inputs command (BadInputs fault) is found = (fault, found)
+  bad_inputs command (BadPolicy (BadRules why)) is found = absurd (omega (arith, is))
+  bad_inputs command (BadPolicy (BadBlocks why)) is found = absurd (omega (arith, is))
   bad_inputs command reason is found = absurd (omega (arith, is))
 
   long_file : (command : Command) (reason : Reason) → 10 ≡ status_by reason → WasFound command call.shelf reason
       → (file : File) × FindsTooLong command call.shelf file
   long_file command (LongFile file) is found = (file, found)
+  long_file command (BadPolicy (BadRules why)) is found = absurd (omega (arith, is))
+  long_file command (BadPolicy (BadBlocks why)) is found = absurd (omega (arith, is))
   long_file command reason is found = absurd (omega (arith, is))
 
   pub model : Promise call 6 → AskFor call.words (λ command. (why : ModelRefusal) × RefusesModel command call.shelf.before.holds why)
   model promise = let there = reason_of_status 6 (omega arith) promise in (there.0, there.1, bad_model there.0 there.2.0 there.2.1 there.2.2)
 
-  pub rules : Promise call 7 → AskFor call.words (λ command. (why : RulesRefusal) × RefusesPolicy command call.shelf.before.holds why)
+  pub rules : Promise call 7 → AskFor call.words (λ command. (why : RulesRefusal) × RefusesPolicy command call.shelf.before.holds (BadRules why))
   rules promise = let there = reason_of_status 7 (omega arith) promise in (there.0, there.1, bad_rules there.0 there.2.0 there.2.1 there.2.2)
+
+  pub code : Promise call 9 → AskFor call.words (λ command. (why : BadCode) × RefusesPolicy command call.shelf.before.holds (BadBlocks why))
+  code promise = let there = reason_of_status 9 (omega arith) promise in (there.0, there.1, bad_code there.0 there.2.0 there.2.1 there.2.2)
 
   pub inputs : Promise call 8 → AskFor call.words (λ command. (fault : InputFault) × RefusesInputs command call.shelf.before.holds fault)
   inputs promise = let there = reason_of_status 8 (omega arith) promise in (there.0, there.1, bad_inputs there.0 there.2.0 there.2.1 there.2.2)

@@ -1,11 +1,30 @@
 -- The text of `check`.
-use Rattle.std.specs.Prelude.{ℕ, List, [], ◌++◌, codes, Option, Some, None}
+use Rattle.std.specs.Prelude.{ℕ, List, [], ◌++◌, codes, Option, Some, None, option_and_then}
 use Rattle.std.specs.Fmt.{decimal}
+use Rattle.rw_model.specs.Objects.{numbered}
 use Rattle.rpl_tree.specs.Budget.{Budget}
-use Rattle.rpl_tree.specs.Tree.{Declared}
-use Rattle.rw_report.specs.Section.{for_each}
 use Rattle.rpl_parse.specs.Bounds.{function_count, rule_count}
+use Rattle.rw_report.specs.Section.{for_each}
 use Rattle.rpl_types.specs.Checked.{rule_budget}
+use Rattle.rpl_code.specs.declared.block.BlockHead.TheVariants as Head
+use Rattle.rpl_verify.specs.Fits.{count_alike}
+use Rattle.rpl_verify.specs.Machine.{rule_from}
+use Rattle.rpl_verify.specs.Verified.{function_head}
+use Rattle.rw_top.specs.Policy.{Policy, Ruleset, Code}
+
+-- how many rules and functions a policy has
+abbrev pub rules_in : Policy → ℕ
+rules_in (Ruleset rules) = rule_count rules
+rules_in (Code code) = count_alike Head.Rule code.blocks
+
+abbrev pub functions_in : Policy → ℕ
+functions_in (Ruleset rules) = function_count rules
+functions_in (Code code) = count_alike function_head code.blocks
+
+-- the budgets of its rule of this number
+abbrev pub budget_in : Policy → ℕ → Option Budget
+budget_in (Ruleset rules) rule = rule_budget rules rule
+budget_in (Code code) rule = option_and_then (numbered code.budgets) (rule_from 1 code.blocks rule)
 
 -- how many rules and functions there are
 abbrev pub counts_line : ℕ → ℕ → List ℕ
@@ -22,9 +41,8 @@ abbrev pub line_if : ℕ → Option Budget → List ℕ
 line_if rule None = []
 line_if rule (Some b) = budget_line rule b
 
-abbrev pub rule_line : List Declared → ℕ → List ℕ
-rule_line rules rule = line_if rule (rule_budget rules rule)
+abbrev pub rule_line : Policy → ℕ → List ℕ
+rule_line policy rule = line_if rule (budget_in policy rule)
 
-abbrev pub check_text : List Declared → List ℕ
-check_text rules =
-    counts_line (rule_count rules) (function_count rules) ++ for_each (rule_line rules) (rule_count rules)
+abbrev pub check_text : Policy → List ℕ
+check_text policy = counts_line (rules_in policy) (functions_in policy) ++ for_each (rule_line policy) (rules_in policy)

@@ -5,6 +5,7 @@ pub mod Reading
 pub mod Reason
 pub mod RunText
 pub mod Budgets
+pub mod Seen
 pub mod Written
 pub mod Refusal
 pub mod Lines

@@ -15,10 +15,14 @@ use Rattle.rpl_parse.specs.declared.fault.ParseFault.{ParseFault}
 use Rattle.rpl_parse.specs.declared.fault.ParseFault.TheVariants.{BadToken, BadDeclaration, TooMany as TooManyDeclarations, NoMemory as NoMemoryToParse}
 use Rattle.rpl_types.specs.declared.type_kind.TypeKind.{TypeKind}
 use Rattle.rpl_types.specs.declared.type_kind.TypeKind.TheVariants as T
+use Rattle.rpl_code.specs.declared.fault.CodeFault.{CodeFault}
+use Rattle.rpl_code.specs.declared.fault.CodeFault.TheVariants as C
+use Rattle.rpl_verify.specs.declared.verify_kind.VerifyKind.{VerifyKind}
+use Rattle.rpl_verify.specs.declared.verify_kind.VerifyKind.TheVariants as V
 use Rattle.rw_top.specs.Command.{Command, path_of}
 use Rattle.rw_top.specs.declared.refusal.File.{File}
 use Rattle.rw_top.specs.declared.refusal.Refusal.{Refusal}
-use Rattle.rw_top.specs.declared.refusal.Refusal.TheVariants.{Words, CannotRead, CannotWrite, NoMemory, Model, Grammar, Types, Inputs, TooLong}
+use Rattle.rw_top.specs.declared.refusal.Refusal.TheVariants.{Words, CannotRead, CannotWrite, NoMemory, Model, Grammar, Types, Code, Block, Inputs, TooLong}
 
 -- what is wrong with what the basin is built of
 abbrev pub build_words : BuildFault → List ℕ
@@ -75,6 +79,24 @@ type_words T.LiteralRange = codes "literal range"
 type_words T.NoTable = codes "no table"
 type_words T.TooCostly = codes "too costly"
 
+-- with a place of a block of code
+abbrev pub verify_words : VerifyKind → List ℕ
+verify_words V.TooMany = codes "too many"
+verify_words V.NoSuchName = codes "no such name"
+verify_words V.NotSettable = codes "not settable"
+verify_words V.PutInFunction = codes "put in function"
+verify_words V.TargetStep = codes "target step"
+verify_words V.BackwardJump = codes "backward jump"
+verify_words V.JumpOutside = codes "jump outside"
+verify_words V.LaterCall = codes "later call"
+verify_words V.MissingOperand = codes "missing operand"
+verify_words V.WrongOperand = codes "wrong operand"
+verify_words V.WrongShape = codes "wrong shape"
+verify_words V.TooCostly = codes "too costly"
+verify_words V.TooManyReads = codes "too many reads"
+verify_words V.TooManyPuts = codes "too many puts"
+verify_words V.TooDeep = codes "too deep"
+
 -- the line on a model that is refused
 abbrev pub model_line : ModelFault → List ℕ
 model_line NotToml = codes "basin: model: not TOML\n"
@@ -105,6 +127,18 @@ types_line kind declaration node =
     (codes "basin: rules: declaration " ++ decimal declaration)
     ++ ((codes " node " ++ decimal node) ++ ((codes ": " ++ type_words kind) ++ codes "\n"))
 
+-- the line on a text that is no code
+abbrev pub code_line : CodeFault → List ℕ
+code_line (C.BadLine line) = (codes "basin: code: line " ++ decimal line) ++ ((codes ": " ++ codes "bad line") ++ codes "\n")
+code_line C.Truncated = codes "basin: code: truncated\n"
+code_line C.NoMemory = codes "basin: code: no memory\n"
+
+-- the line on a place of a block that is refused
+abbrev pub block_line : VerifyKind → ℕ → ℕ → List ℕ
+block_line kind block place =
+    (codes "basin: code: block " ++ decimal block)
+    ++ ((codes " place " ++ decimal place) ++ ((codes ": " ++ verify_words kind) ++ codes "\n"))
+
 -- the line on inputs that are refused
 abbrev pub inputs_line : InputKind → ℕ → ℕ → List ℕ
 inputs_line kind row column =
@@ -129,6 +163,8 @@ line_of command NoMemory = codes "basin: want of memory\n"
 line_of command (Model fault) = model_line fault
 line_of command (Grammar fault) = grammar_line fault
 line_of command (Types kind declaration node) = types_line kind declaration node
+line_of command (Code fault) = code_line fault
+line_of command (Block kind block place) = block_line kind block place
 line_of command (Inputs kind row column) = inputs_line kind row column
 line_of command (TooLong file) =
     (codes "basin: too long " ++ told_path command file) ++ codes "\n"

@@ -1,10 +1,21 @@
 -- What the text of a policy is found to be, with a basin.
-use Rattle.std.specs.Prelude.{◌≡◌, ℕ, List, Ok, Err}
+use Rattle.std.specs.Prelude.{◌≡◌, ℕ, ◌==◌, Bool, true, false, ◌||◌, bytes_eq, codes, List, Ok, Err}
+use Rattle.std.specs.List.{starts_with}
 use Rattle.rw_model.specs.Draft.{Draft}
 use Rattle.rpl_tree.specs.Tree.{Declared}
 use Rattle.rpl_parse.specs.Declarations.{IsReading, spelt, bad_token, bad_declaration, too_many}
 use Rattle.rpl_types.specs.Judged.{Refusal, judged}
 use Rattle.rpl_types.specs.Nodes.{Types}
+use Rattle.rpl_code.specs.declared.block.Block.{Block}
+use Rattle.rpl_code.specs.Reading.{CodeRefusal, read}
+use Rattle.rpl_verify.specs.Fits.{Refusal as BlockRefusal}
+use Rattle.rpl_verify.specs.Verified.{Accepted, verified}
+
+-- its first line is `CODE 1`
+abbrev pub is_code : List ℕ → Bool
+is_code text = bytes_eq text (codes "CODE 1") || starts_with (λ a b. a == b) text (codes "CODE 1\n")
+
+-- ---- rulesets
 
 -- why it is no ruleset for the basin: the line of a bad token; a declaration that isn't one, and its line; one too many; what
 -- is wrong at which node of a declaration
@@ -32,3 +43,46 @@ RefusesRules basin text (BadToken line) = IsReading text (bad_token line)
 RefusesRules basin text (BadDeclaration declaration line) = IsReading text (bad_declaration declaration line)
 RefusesRules basin text (TooMany declaration) = IsReading text (too_many declaration)
 RefusesRules basin text (BadNode why) = RefusesNode basin text why
+
+-- ---- code
+
+-- why it is no code for the basin: it can't be read, or what is wrong at which place of a block
+pub data BadCode : Type 0 where
+  Unread : CodeRefusal → BadCode
+  Misfit : BlockRefusal → BadCode
+
+-- the text is that of this code, which is accepted
+pub record IsCodeOf (basin : Draft) (text : List ℕ) (code : Accepted) : Type 0 where
+  pub blocks : List Block
+  pub spells : read text ≡ Ok blocks
+  pub fits : verified basin blocks ≡ Ok code
+
+-- the text is that of code that is refused
+pub record RefusesBlock (basin : Draft) (text : List ℕ) (why : BlockRefusal) : Type 0 where
+  pub blocks : List Block
+  pub spells : read text ≡ Ok blocks
+  pub refused : verified basin blocks ≡ Err why
+
+abbrev pub RefusesCode : Draft → List ℕ → BadCode → Type 0
+RefusesCode basin text (Unread why) = read text ≡ Err why
+RefusesCode basin text (Misfit why) = RefusesBlock basin text why
+
+-- ---- policies
+
+pub data Policy : Type 0 where
+  Ruleset : List Declared → Policy
+  Code : Accepted → Policy
+
+pub data PolicyRefusal : Type 0 where
+  BadRules : RulesRefusal → PolicyRefusal
+  BadBlocks : BadCode → PolicyRefusal
+
+-- the text is that of this policy, which is accepted
+abbrev pub IsPolicyOf : Draft → List ℕ → Policy → Type 0
+IsPolicyOf basin text (Ruleset rules) = (is_code text ≡ false) × IsRulesetOf basin text rules
+IsPolicyOf basin text (Code code) = (is_code text ≡ true) × IsCodeOf basin text code
+
+-- the text is refused for this
+abbrev pub RefusesText : Draft → List ℕ → PolicyRefusal → Type 0
+RefusesText basin text (BadRules why) = (is_code text ≡ false) × RefusesRules basin text why
+RefusesText basin text (BadBlocks why) = (is_code text ≡ true) × RefusesCode basin text why

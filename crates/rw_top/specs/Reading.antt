@@ -9,9 +9,8 @@ use Rattle.rw_inputs.specs.declared.fault.InputFault.{InputFault}
 use Rattle.rw_inputs.specs.Inputs.{Inputs as Given}
 use Rattle.rw_inputs.specs.Reading.{Reads, Refuses}
 use Rattle.rw_io.specs.Outside.{Change, Holds, ShelfView}
-use Rattle.rpl_tree.specs.Tree.{Declared}
 use Rattle.rw_top.specs.Command.{Command, Names, order, path_of}
-use Rattle.rw_top.specs.Policy.{IsRulesetOf, RefusesRules, RulesRefusal}
+use Rattle.rw_top.specs.Policy.{IsPolicyOf, Policy as Rules, PolicyRefusal, RefusesText}
 use Rattle.rw_top.specs.declared.refusal.File.{File}
 use Rattle.rw_top.specs.declared.refusal.File.TheVariants.{Model, Policy, Inputs}
 
@@ -34,12 +33,12 @@ pub record ReadsModel (command : Command) (holds : Holds) (basin : Draft) : Type
   pub read : WasRead command holds Model text
   pub is : model_of text ≡ Ok basin
 
--- the command names a model of this basin, and a policy of these rules for it
-pub record ReadsRules (command : Command) (holds : Holds) (basin : Draft) (rules : List Declared) : Type 0 where
+-- the command names a model of this basin, and this policy for it
+pub record ReadsPolicy (command : Command) (holds : Holds) (basin : Draft) (policy : Rules) : Type 0 where
   pub model : ReadsModel command holds basin
   pub text : List ℕ
   pub read : WasRead command holds Policy text
-  pub are : IsRulesetOf basin text rules
+  pub is : IsPolicyOf basin text policy
 
 -- the command names a model of this basin, and these inputs for it
 pub record ReadsBoth (command : Command) (holds : Holds) (basin : Draft) (inputs : Given) : Type 0 where
@@ -55,12 +54,12 @@ pub record RefusesModel (command : Command) (holds : Holds) (why : ModelRefusal)
   pub is : model_of text ≡ Err why
 
 -- the command names a model, and a policy that is refused for this
-pub record RefusesPolicy (command : Command) (holds : Holds) (why : RulesRefusal) : Type 0 where
+pub record RefusesPolicy (command : Command) (holds : Holds) (why : PolicyRefusal) : Type 0 where
   pub basin : Draft
   pub model : ReadsModel command holds basin
   pub text : List ℕ
   pub read : WasRead command holds Policy text
-  pub are : RefusesRules basin text why
+  pub is : RefusesText basin text why
 
 -- the command names a model, and inputs that are refused for this
 pub record RefusesInputs (command : Command) (holds : Holds) (why : InputFault) : Type 0 where
@@ -74,7 +73,7 @@ pub record RefusesInputs (command : Command) (holds : Holds) (why : InputFault) 
 abbrev pub Accepts : Command → Holds → File → Type 0
 Accepts command holds Model = (basin : Draft) × ReadsModel command holds basin
 Accepts command holds Policy =
-    (basin : Draft) × (rules : List Declared) × ReadsRules command holds basin rules
+    (basin : Draft) × (policy : Rules) × ReadsPolicy command holds basin policy
 Accepts command holds Inputs =
     (basin : Draft) × (inputs : Given) × ReadsBoth command holds basin inputs
 

@@ -4,7 +4,7 @@ use Rattle.rw_inputs.specs.declared.fault.InputFault.{InputFault}
 use Rattle.rw_model_toml.specs.Refusal.{ModelRefusal}
 use Rattle.rw_io.specs.Outside.{Change, Holds, ShelfView}
 use Rattle.rw_top.specs.Command.{Command}
-use Rattle.rw_top.specs.Policy.{RulesRefusal}
+use Rattle.rw_top.specs.Policy.{PolicyRefusal, BadRules, BadBlocks}
 use Rattle.rw_top.specs.Reading.{HoldsTooLong, IsHonestUpTo, RefusesInputs, RefusesModel, RefusesPolicy}
 use Rattle.rw_top.specs.declared.refusal.File.{File}
 use Rattle.rw_top.specs.declared.refusal.File.TheVariants.{Model, Policy, Inputs}
@@ -12,28 +12,33 @@ use Rattle.rw_top.specs.declared.refusal.File.TheVariants.{Model, Policy, Inputs
 -- its model, its policy, its inputs, or a file that is too long
 pub data Reason : Type 0 where
   BadModel : ModelRefusal → Reason
-  BadRules : RulesRefusal → Reason
+  BadPolicy : PolicyRefusal → Reason
   BadInputs : InputFault → Reason
   LongFile : File → Reason
+
+-- the status of a call whose policy is refused for this
+abbrev pub policy_status : PolicyRefusal → ℕ
+policy_status (BadRules why) = 7
+policy_status (BadBlocks why) = 9
 
 -- the status of a call that is refused on that reason
 abbrev pub status_by : Reason → ℕ
 status_by (BadModel why) = 6
-status_by (BadRules why) = 7
+status_by (BadPolicy why) = policy_status why
 status_by (BadInputs fault) = 8
 status_by (LongFile file) = 10
 
 -- the file of which it is found
 abbrev pub file_of : Reason → File
 file_of (BadModel why) = Model
-file_of (BadRules why) = Policy
+file_of (BadPolicy why) = Policy
 file_of (BadInputs fault) = Inputs
 file_of (LongFile file) = file
 
 -- it is found, of a command and what the shelf holds
 abbrev pub IsFound : Command → Holds → Reason → Type 0
 IsFound command holds (BadModel why) = RefusesModel command holds why
-IsFound command holds (BadRules why) = RefusesPolicy command holds why
+IsFound command holds (BadPolicy why) = RefusesPolicy command holds why
 IsFound command holds (BadInputs fault) = RefusesInputs command holds fault
 IsFound command holds (LongFile file) = HoldsTooLong command holds file
 

@@ -15,14 +15,18 @@ use Rattle.rw_inputs.specs.declared.fault.InputFault.TheVariants.{Refused}
 use Rattle.rpl_parse.specs.declared.fault.ParseFault.{ParseFault}
 use Rattle.rpl_parse.specs.declared.fault.ParseFault.TheVariants as P
 use Rattle.rpl_types.specs.Judged.{refusal}
+use Rattle.rpl_code.specs.Reading.{CodeRefusal, bad_line, truncated}
+use Rattle.rpl_code.specs.declared.fault.CodeFault.{CodeFault}
+use Rattle.rpl_code.specs.declared.fault.CodeFault.TheVariants as C
+use Rattle.rpl_verify.specs.Fits.{refusal as block_refusal}
 use Rattle.rw_top.specs.Command.{Command, path_of}
-use Rattle.rw_top.specs.Policy.{RulesRefusal, BadToken, BadDeclaration, TooMany, BadNode, RefusesRules}
-use Rattle.rw_top.specs.Reason.{Reason, BadModel, BadRules, BadInputs, LongFile, IsFound}
+use Rattle.rw_top.specs.Policy.{Unread, Misfit, PolicyRefusal, BadRules, BadBlocks, RefusesText, RulesRefusal, BadToken, BadDeclaration, TooMany, BadNode}
+use Rattle.rw_top.specs.Reason.{Reason, BadModel, BadPolicy, BadInputs, LongFile, IsFound}
 use Rattle.rw_top.specs.Reading.{HoldsTooLong, Reaches}
 use Rattle.rw_top.specs.Written.{WritesFront}
 use Rattle.rw_top.specs.declared.refusal.File.{File}
 use Rattle.rw_top.specs.declared.refusal.Refusal.{Refusal}
-use Rattle.rw_top.specs.declared.refusal.Refusal.TheVariants.{Words, CannotRead, CannotWrite, NoMemory, Model, Grammar, Types, Inputs, TooLong}
+use Rattle.rw_top.specs.declared.refusal.Refusal.TheVariants.{Words, CannotRead, CannotWrite, NoMemory, Model, Grammar, Types, Code, Block, Inputs, TooLong}
 
 abbrev pub status_of : Refusal → ℕ
 status_of Words = 2
@@ -32,6 +36,8 @@ status_of NoMemory = 5
 status_of (Model fault) = 6
 status_of (Grammar fault) = 7
 status_of (Types kind declaration node) = 7
+status_of (Code fault) = 9
+status_of (Block kind block place) = 9
 status_of (Inputs kind row column) = 8
 status_of (TooLong file) = 10
 
@@ -42,11 +48,19 @@ refusal_of_grammar (P.BadDeclaration declaration line) = Some (BadDeclaration de
 refusal_of_grammar (P.TooMany declaration) = Some (TooMany declaration)
 refusal_of_grammar P.NoMemory = None
 
+-- why a text is no code. Want of memory tells nothing of it
+abbrev pub refusal_of_code : CodeFault → Option CodeRefusal
+refusal_of_code (C.BadLine line) = Some (bad_line line)
+refusal_of_code C.Truncated = Some truncated
+refusal_of_code C.NoMemory = None
+
 -- the reason that a refusal tells, if it tells one
 abbrev pub reason_of : Refusal → Option Reason
 reason_of (Model fault) = option_map (λ why. BadModel why) (refusal_of fault)
-reason_of (Grammar fault) = option_map (λ why. BadRules why) (refusal_of_grammar fault)
-reason_of (Types kind declaration node) = Some (BadRules (BadNode (refusal kind declaration node)))
+reason_of (Grammar fault) = option_map (λ why. BadPolicy (BadRules why)) (refusal_of_grammar fault)
+reason_of (Types kind declaration node) = Some (BadPolicy (BadRules (BadNode (refusal kind declaration node))))
+reason_of (Code fault) = option_map (λ why. BadPolicy (BadBlocks (Unread why))) (refusal_of_code fault)
+reason_of (Block kind block place) = Some (BadPolicy (BadBlocks (Misfit (block_refusal kind block place))))
 reason_of (Inputs kind row column) = Some (BadInputs (Refused kind row column))
 reason_of (TooLong file) = Some (LongFile file)
 reason_of why = None
@@ -105,7 +119,7 @@ abbrev pub IsInputRefusal : Draft → List ℕ → Refusal → Type 0
 IsInputRefusal basin text why =
     (why ≡ NoMemory) ⊎ ((bad : InputFault) × (reason_of why ≡ Some (BadInputs bad)) × Refuses basin text bad)
 
--- why the bytes of a policy's file give no rules for the basin
-abbrev pub IsRulesRefusal : Draft → List ℕ → Refusal → Type 0
-IsRulesRefusal basin text why =
-    (why ≡ NoMemory) ⊎ ((bad : RulesRefusal) × (reason_of why ≡ Some (BadRules bad)) × RefusesRules basin text bad)
+-- why the bytes of a policy's file give no policy for the basin
+abbrev pub IsPolicyRefusal : Draft → List ℕ → Refusal → Type 0
+IsPolicyRefusal basin text why =
+    (why ≡ NoMemory) ⊎ ((bad : PolicyRefusal) × (reason_of why ≡ Some (BadPolicy bad)) × RefusesText basin text bad)

@@ -1,6 +1,5 @@
 -- What a call appends to a stream.
 use Rattle.std.specs.Prelude.{◌≡◌, ℕ, ◌⊎◌, List}
-use Rattle.rpl_tree.specs.Tree.{Declared}
 use Rattle.rw_inputs.specs.Inputs.{Inputs as Given}
 use Rattle.rw_io.specs.Causes.{Rose}
 use Rattle.rw_io.specs.Known.{GrowsBy, PrefixGrew}
@@ -10,7 +9,8 @@ use Rattle.rw_run.specs.declared.run.RunEnd.TheVariants.{Settled, Fault}
 use Rattle.rw_model.specs.Draft.{Draft}
 use Rattle.rw_top.specs.Budgets.{check_text}
 use Rattle.rw_top.specs.Command.{Command, Simulate, Check}
-use Rattle.rw_top.specs.Reading.{ReadsBoth, ReadsRules}
+use Rattle.rw_top.specs.Policy.{Policy}
+use Rattle.rw_top.specs.Reading.{ReadsBoth, ReadsPolicy}
 use Rattle.rw_top.specs.RunText.{IsRunText}
 
 -- the status of a run that was written: 0 where it settled
@@ -28,9 +28,9 @@ pub record HasRunText (command : Command) (holds : Holds) (end : RunEnd) (text :
 -- model and policy are read, and this is the text of the policy's budgets
 pub record HasCheckText (command : Command) (holds : Holds) (text : List ℕ) : Type 0 where
   pub basin : Draft
-  pub rules : List Declared
-  pub read : ReadsRules command holds basin rules
-  pub text_is : text ≡ check_text rules
+  pub policy : Policy
+  pub read : ReadsPolicy command holds basin policy
+  pub text_is : text ≡ check_text policy
 
 -- the files of the command are read, and this is what it writes, with this status
 abbrev pub HasText : Command → Holds → ℕ → List ℕ → Type 0

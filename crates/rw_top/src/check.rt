@@ -1,20 +1,21 @@
 ghost use Rattle.std.specs.Prelude.{◌≡◌, ℕ, ◌++◌, ◌<◌, ◌≤◌, Some, List, OnOk, IfOk, MatchResult, string_bytes};
-ghost use Rattle.rpl_tree.specs.Seen.{rules_of};
 ghost use Rattle.rpl_budget.specs.Seen.{budget_seen};
 ghost use Rattle.rw_io.specs.Outside.{change};
 ghost use Rattle.rw_top.specs.Budgets.{budget_line, check_text, counts_line};
 ghost use Rattle.rw_top.specs.Command.{Names, command_of};
 ghost use Rattle.rw_model.specs.Draft.{Draft};
-ghost use Rattle.rw_top.specs.Reading.{ReadsRules};
+ghost use Rattle.rw_top.specs.Reading.{ReadsPolicy};
 ghost use Rattle.rw_top.specs.Refusal.{FileCause};
+ghost use Rattle.rw_top.specs.Seen.{policy_of};
 ghost use Rattle.rw_top.specs.Written.{HasCheckText};
 ghost use Rattle.rw_top.specs.declared.refusal.File.TheVariants as F;
 
 use crate::Refusal;
 use crate::command::Command;
 use crate::files::{read_basin, read_policy};
-use rpl_types::{TreeCost, Typed};
-use rw_base::{NoMemory, RuleNo};
+use crate::policy::Policy;
+use rpl_types::TreeCost;
+use rw_base::NoMemory;
 use rw_io::Shelf;
 use std::alloc::Global;
 use std::fmt::Write;
@@ -41,28 +42,28 @@ fn push_budget(text: &mut String, rule: u16, cost: TreeCost) -> Result<(), NoMem
 }
 
 // The counts of rules and functions, and a line for each rule.
-fn budgets(alloc: Global, typed: &Typed) -> Result<String, NoMemory>
-    ensures { IfOk result (λ text. string_bytes text ≡ check_text (rules_of typed.now.rules)) }
+fn budgets(alloc: Global, policy: &Policy) -> Result<String, NoMemory>
+    ensures { IfOk result (λ text. string_bytes text ≡ check_text (policy_of policy.now)) }
 {
     let mut text = String::new(alloc);
-    push_counts(&mut text, typed.rule_count(), typed.function_count())?;
-    for done in 0..typed.rule_count() {
+    push_counts(&mut text, policy.rule_count(), policy.function_count())?;
+    for done in 0..policy.rule_count() {
         let rule = done + 1;
-        push_budget(&mut text, rule, typed.cost(RuleNo(rule)))?;
+        push_budget(&mut text, rule, policy.cost(rule))?;
     }
     Ok(text)
 }
 
 // Reads and judges the model and the policy of the command.
-fn read_rules<S: Shelf>(
+fn read_files<S: Shelf>(
     alloc: Global,
     command: &Command<'_>,
     shelf: &mut S,
-) -> Result<Typed, Refusal>
+) -> Result<Policy, Refusal>
     requires named { Names (command_of command.now) F.Policy }
     ensures read { MatchResult result
-        (λ typed. (basin : Draft) × ReadsRules (command_of command.now)
-        (S.seen shelf.old).holds basin (rules_of typed.rules))
+        (λ policy. (basin : Draft) × ReadsPolicy (command_of command.now)
+        (S.seen shelf.old).holds basin (policy_of policy))
         (FileCause (command_of command.now) (change (S.seen shelf.old) (S.seen shelf.new))) }
     ensures held { (p : List ℕ) → (S.seen shelf.new).holds p ≡ (S.seen shelf.old).holds p }
 {
@@ -85,11 +86,11 @@ pub(crate) fn check_policy<S: Shelf>(
         (FileCause (command_of command.now) (change (S.seen shelf.old) (S.seen shelf.new))) }
     ensures held { (p : List ℕ) → (S.seen shelf.new).holds p ≡ (S.seen shelf.old).holds p }
 {
-    let typed = match read_rules(alloc, command, shelf) {
-        Ok(typed) => typed,
+    let policy = match read_files(alloc, command, shelf) {
+        Ok(policy) => policy,
         Err(refusal) => return Err(refusal),
     };
-    match budgets(alloc, &typed) {
+    match budgets(alloc, &policy) {
         Ok(text) => Ok(text.into_bytes()),
         Err(NoMemory) => Err(Refusal::NoMemory),
     }

@@ -1,7 +1,8 @@
 ghost use Rattle.std.specs.Prelude.{◌≡◌};
-ghost use Rattle.rw_top.specs.Lines.{build_words as words_of_build, table_words as words_of_table, calendar_words as words_of_calendar, input_words as words_of_input, type_words as words_of_type};
+ghost use Rattle.rw_top.specs.Lines.{build_words as words_of_build, table_words as words_of_table, calendar_words as words_of_calendar, input_words as words_of_input, type_words as words_of_type, verify_words as words_of_verify};
 
 use rpl_types::TypeKind;
+use rpl_verify::VerifyKind;
 use rw_calendar::CalFault;
 use rw_inputs::InputKind;
 use rw_model::BuildFault;
@@ -79,5 +80,27 @@ pub(crate) fn type_words(kind: TypeKind) -> &'static str
         TypeKind::LiteralRange => "literal range",
         TypeKind::NoTable => "no table",
         TypeKind::TooCostly => "too costly",
+    }
+}
+
+pub(crate) fn verify_words(kind: VerifyKind) -> &'static str
+    ensures { result.now ≡ words_of_verify kind }
+{
+    match kind {
+        VerifyKind::TooMany => "too many",
+        VerifyKind::NoSuchName => "no such name",
+        VerifyKind::NotSettable => "not settable",
+        VerifyKind::PutInFunction => "put in function",
+        VerifyKind::TargetStep => "target step",
+        VerifyKind::BackwardJump => "backward jump",
+        VerifyKind::JumpOutside => "jump outside",
+        VerifyKind::LaterCall => "later call",
+        VerifyKind::MissingOperand => "missing operand",
+        VerifyKind::WrongOperand => "wrong operand",
+        VerifyKind::WrongShape => "wrong shape",
+        VerifyKind::TooCostly => "too costly",
+        VerifyKind::TooManyReads => "too many reads",
+        VerifyKind::TooManyPuts => "too many puts",
+        VerifyKind::TooDeep => "too deep",
     }
 }

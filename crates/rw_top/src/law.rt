@@ -16,7 +16,7 @@ ghost use Rattle.rw_model_toml.specs.Refusal.{ModelRefusal};
 ghost use Rattle.rw_top.specs.Call.{Call};
 ghost use Rattle.rw_top.specs.Command.{AskFor, AskNothing};
 ghost use Rattle.rw_top.specs.FirstCall.{IsFirstCall};
-ghost use Rattle.rw_top.specs.Policy.{RulesRefusal};
+ghost use Rattle.rw_top.specs.Policy.{BadCode, RulesRefusal, BadRules, BadBlocks};
 ghost use Rattle.rw_top.specs.Promise.{Promise, WroteCheck, WroteRun};
 ghost use Rattle.rw_top.specs.Reading.{RefusesInputs, RefusesModel, RefusesPolicy};
 ghost use Rattle.rw_top.specs.Refusal.{FailsToRead, FindsTooLong};
@@ -88,7 +88,10 @@ pub fn statuses()
     ensures model { (call : Call) → Promise call 6 → AskFor call.words
         (λ command. (why : ModelRefusal) × RefusesModel command call.shelf.before.holds why) }
     ensures rules { (call : Call) → Promise call 7 → AskFor call.words
-        (λ command. (why : RulesRefusal) × RefusesPolicy command call.shelf.before.holds why) }
+        (λ command. (why : RulesRefusal)
+        × RefusesPolicy command call.shelf.before.holds (BadRules why)) }
+    ensures code { (call : Call) → Promise call 9 → AskFor call.words (λ command. (why : BadCode)
+        × RefusesPolicy command call.shelf.before.holds (BadBlocks why)) }
     ensures inputs { (call : Call) → Promise call 8 → AskFor call.words
         (λ command. (fault : InputFault) × RefusesInputs command call.shelf.before.holds fault) }
     ensures too_long { (call : Call) → Promise call 10

@@ -1,7 +1,9 @@
 ghost use Rattle.std.specs.Prelude.{◌≡◌};
 
+use rpl_code::CodeFault;
 use rpl_parse::ParseFault;
 use rpl_types::TypeKind;
+use rpl_verify::VerifyKind;
 use rw_inputs::InputKind;
 use rw_io::ReadEnd;
 use rw_model_toml::ModelFault;
@@ -31,6 +33,10 @@ pub enum Refusal {
     Grammar(ParseFault),
     /// A ruleset is refused: what is wrong, in which declaration and node.
     Types(TypeKind, u32, u32),
+    /// The policy is no code.
+    Code(CodeFault),
+    /// Code is refused: what is wrong, in which block and at which place.
+    Block(VerifyKind, u32, u32),
     /// The inputs are refused: what is wrong, in which row and column.
     Inputs(InputKind, u32, u8),
     /// More bytes were given of that file than a file may hold.
@@ -52,6 +58,8 @@ impl Refusal {
             Refusal::Model(_) => 6,
             Refusal::Grammar(_) => 7,
             Refusal::Types(_, _, _) => 7,
+            Refusal::Code(_) => 9,
+            Refusal::Block(_, _, _) => 9,
             Refusal::Inputs(_, _, _) => 8,
             Refusal::TooLong(_) => 10,
         }

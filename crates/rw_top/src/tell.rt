@@ -5,14 +5,18 @@ ghost use Rattle.rw_io.specs.Known.{GrowsBy, PrefixGrew};
 ghost use Rattle.rw_top.specs.Command.{command_of};
 ghost use Rattle.rw_io.specs.Outside.{change};
 ghost use Rattle.rw_top.specs.Written.{Tells};
-ghost use Rattle.rw_top.specs.Lines.{grammar_line, inputs_line, line_of, model_line, told_path, types_line, words_line};
+ghost use Rattle.rw_top.specs.Lines.{block_line, code_line, grammar_line, inputs_line, line_of, model_line, told_path, types_line, words_line};
 
 use crate::command::Command;
-use crate::fault_words::{build_words, calendar_words, input_words, table_words, type_words};
+use crate::fault_words::{
+    build_words, calendar_words, input_words, table_words, type_words, verify_words,
+};
 use crate::{File, Refusal};
 use itoa::Buffer;
+use rpl_code::CodeFault;
 use rpl_parse::ParseFault;
 use rpl_types::TypeKind;
+use rpl_verify::VerifyKind;
 use rw_inputs::InputKind;
 use rw_io::{Sink, write_all};
 use rw_model_toml::ModelFault;
@@ -156,6 +160,29 @@ fn tell_types<E: Sink>(err: &mut E, kind: TypeKind, declaration: u32, node: u32)
     );
 }
 
+fn tell_code<E: Sink>(err: &mut E, fault: &CodeFault)
+    ensures { Tells (change (E.seen err.old) (E.seen err.new)) (code_line fault.now) }
+{
+    match fault {
+        CodeFault::BadLine(line) => tell_number(err, "basin: code: line ", *line, "bad line"),
+        CodeFault::Truncated => tell_line(err, "basin: code: truncated", ""),
+        CodeFault::NoMemory => tell_line(err, "basin: code: no memory", ""),
+    }
+}
+
+fn tell_block<E: Sink>(err: &mut E, kind: VerifyKind, block: u32, place: u32)
+    ensures { Tells (change (E.seen err.old) (E.seen err.new)) (block_line kind block place) }
+{
+    tell_place(
+        err,
+        "basin: code: block ",
+        block,
+        " place ",
+        place,
+        verify_words(kind),
+    );
+}
+
 fn tell_inputs<E: Sink>(err: &mut E, kind: InputKind, row: u32, column: u8)
     ensures { Tells (change (E.seen err.old) (E.seen err.new)) (inputs_line kind row column) }
 {
@@ -203,6 +230,8 @@ pub(crate) fn tell<E: Sink>(err: &mut E, command: &Command<'_>, refusal: &Refusa
         Refusal::Model(fault) => tell_model(err, fault),
         Refusal::Grammar(fault) => tell_grammar(err, fault),
         Refusal::Types(kind, declaration, node) => tell_types(err, *kind, *declaration, *node),
+        Refusal::Code(fault) => tell_code(err, fault),
+        Refusal::Block(kind, block, place) => tell_block(err, *kind, *block, *place),
         Refusal::Inputs(kind, row, column) => tell_inputs(err, *kind, *row, *column),
         Refusal::TooLong(file) => tell_line(err, "basin: too long ", told_path(command, *file)),
     }

@@ -19,6 +19,9 @@ returns-clause-model c = λ call. status.model call
 pub returns-clause-rules : goal.returns-clause-rules
 returns-clause-rules c = λ call. status.rules call
 
+pub returns-clause-code : goal.returns-clause-code
+returns-clause-code c = λ call. status.code call
+
 pub returns-clause-inputs : goal.returns-clause-inputs
 returns-clause-inputs c = λ call. status.inputs call
 

@@ -17,3 +17,6 @@ returns-in-Inputs g c = rw c.in-Inputs.is c.tell_inputs.ensures
 
 pub returns-in-Types : goal.returns-in-Types
 returns-in-Types g c = rw c.in-Types.is c.tell_types.ensures
+
+pub returns-in-Block : goal.returns-in-Block
+returns-in-Block g c = rw c.in-Block.is c.tell_block.ensures

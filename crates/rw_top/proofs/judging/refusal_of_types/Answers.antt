@@ -1,0 +1,9 @@
+use Rattle.std.proofs.Common.{inr, refl, ap}
+use Rattle.rpl_types.specs.Refused.{refusal_of}
+use Rattle.rpl_types.specs.Judged.{refusal}
+use Rattle.rw_top.specs.Policy.{BadNode, BadRules}
+use Rattle.rw_top.proofs.judging.refusal_of_types.Goals as goal
+
+pub returns-in-Refused : goal.returns-in-Refused
+returns-in-Refused c =
+    let why = refusal c.in-Refused.kind c.in-Refused.declaration c.in-Refused.node in inr (BadRules (BadNode why), refl, (c.requires.rules, c.requires.why why (ap refusal_of c.in-Refused.is)))

@@ -1,0 +1,190 @@
+// What the texts of files are.
+ghost use Rattle.std.specs.Prelude.{◌≡◌, ◌≤◌, Ok, Err, MatchResult, IfOk, length, false, true};
+ghost use Rattle.std.specs.Option.{ForSome};
+ghost use Rattle.rpl_code.specs.Answers.{Answers as AnswersCode};
+ghost use Rattle.rpl_code.specs.Reading.{read};
+ghost use Rattle.rpl_parse.specs.Declarations.{IsReading, IsRuleset, spelt};
+ghost use Rattle.rpl_parse.specs.Parsing.{Answers as Parses};
+ghost use Rattle.rpl_tree.specs.Seen.{rules_of};
+ghost use Rattle.rpl_types.specs.Refused.{refusal_of};
+ghost use Rattle.rpl_verify.specs.Verified.{refusal_of as refusal_of_verify};
+ghost use Rattle.rw_inputs.specs.Reading.{Reads};
+ghost use Rattle.rw_model.specs.Draft.{Draft};
+ghost use Rattle.rw_model_toml.specs.Fault.{IsWhy};
+ghost use Rattle.rw_model_toml.specs.Model.{model_of};
+ghost use Rattle.rw_top.specs.Policy.{IsCodeOf, IsPolicyOf, IsRulesetOf, RefusesBlock, RefusesNode, is_code};
+ghost use Rattle.rw_top.specs.Refusal.{IsInputRefusal, IsModelRefusal, IsPolicyRefusal};
+ghost use Rattle.rw_top.specs.Seen.{policy_of};
+
+use crate::Refusal;
+use crate::policy::Policy;
+use rpl_code::{Code, CodeFault, read_code};
+use rpl_parse::{ParseFault, parse};
+use rpl_tree::ParsedRules;
+use rpl_types::{TypeFault, Typed, check};
+use rpl_verify::{Verified, VerifyFault, verify};
+use rw_inputs::{InputFault, Inputs, read_inputs};
+use rw_model::Basin;
+use rw_model_toml::{ModelFault, read_model};
+use std::alloc::Global;
+
+fn refusal_of_model(_text: &[u8], fault: ModelFault) -> Refusal
+    requires { IsWhy (model_of _text.now) fault }
+    ensures { IsModelRefusal _text.now result }
+{
+    match fault {
+        ModelFault::NoMemory => Refusal::NoMemory,
+        _ => Refusal::Model(fault),
+    }
+}
+
+/// The basin of a model's text.
+pub(crate) fn judge_model(alloc: Global, text: &[u8]) -> Result<Basin, Refusal>
+    ensures { MatchResult result (λ basin. model_of text.now ≡ Ok basin) (IsModelRefusal text.now) }
+{
+    match read_model(alloc, text) {
+        Ok(basin) => Ok(basin),
+        Err(fault) => Err(refusal_of_model(text, fault)),
+    }
+}
+
+/// The inputs of a text, for the basin.
+pub(crate) fn judge_inputs(alloc: Global, basin: &Basin, text: &[u8]) -> Result<Inputs, Refusal>
+    ensures { MatchResult result (Reads basin.now text.now) (IsInputRefusal basin.now text.now) }
+{
+    match read_inputs(alloc, basin, text) {
+        Ok(inputs) => Ok(inputs),
+        Err(InputFault::NoMemory) => Err(Refusal::NoMemory),
+        Err(InputFault::Refused { kind, row, column }) => Err(Refusal::Inputs(kind, row, column)),
+    }
+}
+
+// Whether the first line is `CODE 1`.
+fn is_code(text: &[u8]) -> bool
+    ensures { result ≡ is_code text.now }
+{
+    text == b"CODE 1".as_slice() || text.starts_with(b"CODE 1\n")
+}
+
+fn refusal_of_grammar(_text: &[u8], fault: ParseFault) -> Refusal
+    requires rules { is_code _text.now ≡ false }
+    requires why { Parses (Err fault) _text.now }
+    ensures { (basin : Draft) → IsPolicyRefusal basin _text.now result }
+{
+    match fault {
+        ParseFault::NoMemory => Refusal::NoMemory,
+        _ => Refusal::Grammar(fault),
+    }
+}
+
+fn parse_rules(alloc: Global, text: &[u8]) -> Result<ParsedRules, Refusal>
+    requires short { length text.now ≤ 16_777_216 }
+    requires rules { is_code text.now ≡ false }
+    ensures read { MatchResult result (λ rules. IsReading text.now (spelt (rules_of rules)))
+        (λ why. (basin : Draft) → IsPolicyRefusal basin text.now why) }
+    ensures ruleset { IfOk result (λ rules. IsRuleset rules) }
+{
+    match parse(alloc, text) {
+        Ok(rules) => Ok(rules),
+        Err(fault) => Err(refusal_of_grammar(text, fault)),
+    }
+}
+
+fn refusal_of_types(_basin: &Basin, _text: &[u8], fault: TypeFault) -> Refusal
+    requires rules { is_code _text.now ≡ false }
+    requires why { ForSome (refusal_of fault) (RefusesNode _basin.now _text.now) }
+    ensures { IsPolicyRefusal _basin.now _text.now result }
+{
+    match fault {
+        TypeFault::NoMemory => Refusal::NoMemory,
+        TypeFault::Refused {
+            kind,
+            declaration,
+            node,
+        } => Refusal::Types(kind, declaration, node),
+    }
+}
+
+fn judge_rules(alloc: Global, basin: &Basin, text: &[u8]) -> Result<Typed, Refusal>
+    requires short { length text.now ≤ 16_777_216 }
+    requires rules { is_code text.now ≡ false }
+    ensures { MatchResult result (λ typed. IsRulesetOf basin.now text.now (rules_of typed.rules))
+        (IsPolicyRefusal basin.now text.now) }
+{
+    let rules = match parse_rules(alloc, text) {
+        Ok(rules) => rules,
+        Err(refusal) => return Err(refusal),
+    };
+    match check(alloc, rules, basin) {
+        Ok(typed) => Ok(typed),
+        Err(fault) => Err(refusal_of_types(basin, text, fault)),
+    }
+}
+
+fn refusal_of_code(_text: &[u8], fault: CodeFault) -> Refusal
+    requires code { is_code _text.now ≡ true }
+    requires why { AnswersCode (read _text.now) (Err fault) }
+    ensures { (basin : Draft) → IsPolicyRefusal basin _text.now result }
+{
+    match fault {
+        CodeFault::NoMemory => Refusal::NoMemory,
+        _ => Refusal::Code(fault),
+    }
+}
+
+fn read_blocks(alloc: Global, text: &[u8]) -> Result<Code, Refusal>
+    requires short { length text.now ≤ 16_777_216 }
+    requires code { is_code text.now ≡ true }
+    ensures { MatchResult result (λ code. read text.now ≡ Ok code)
+        (λ why. (basin : Draft) → IsPolicyRefusal basin text.now why) }
+{
+    match read_code(alloc, text) {
+        Ok(code) => Ok(code),
+        Err(fault) => Err(refusal_of_code(text, fault)),
+    }
+}
+
+fn refusal_of_block(_basin: &Basin, _text: &[u8], fault: VerifyFault) -> Refusal
+    requires code { is_code _text.now ≡ true }
+    requires why { ForSome (refusal_of_verify fault) (RefusesBlock _basin.now _text.now) }
+    ensures { IsPolicyRefusal _basin.now _text.now result }
+{
+    match fault {
+        VerifyFault::NoMemory => Refusal::NoMemory,
+        VerifyFault::Refused { kind, block, place } => Refusal::Block(kind, block, place),
+    }
+}
+
+fn judge_code(alloc: Global, basin: &Basin, text: &[u8]) -> Result<Verified, Refusal>
+    requires short { length text.now ≤ 16_777_216 }
+    requires code { is_code text.now ≡ true }
+    ensures { MatchResult result (IsCodeOf basin.now text.now) (IsPolicyRefusal basin.now text.now) }
+{
+    let code = match read_blocks(alloc, text) {
+        Ok(code) => code,
+        Err(refusal) => return Err(refusal),
+    };
+    match verify(alloc, code, basin) {
+        Ok(code) => Ok(code),
+        Err(fault) => Err(refusal_of_block(basin, text, fault)),
+    }
+}
+
+/// The policy of a text, for the basin.
+pub(crate) fn judge_policy(alloc: Global, basin: &Basin, text: &[u8]) -> Result<Policy, Refusal>
+    requires short { length text.now ≤ 16_777_216 }
+    ensures { MatchResult result (λ policy. IsPolicyOf basin.now text.now (policy_of policy))
+        (IsPolicyRefusal basin.now text.now) }
+{
+    if is_code(text) {
+        match judge_code(alloc, basin, text) {
+            Ok(code) => Ok(Policy::Code(code)),
+            Err(refusal) => Err(refusal),
+        }
+    } else {
+        match judge_rules(alloc, basin, text) {
+            Ok(typed) => Ok(Policy::Ruleset(typed)),
+            Err(refusal) => Err(refusal),
+        }
+    }
+}
