@@ -7,5 +7,6 @@ pub mod Stopped
 pub mod Gives
 pub mod Bodies
 pub mod Judged
+pub mod HasType
 pub mod Seen
 pub mod Worked
