@@ -1,3 +1,4 @@
+pub mod Accepted
 pub mod Dimensions
 pub mod Scopes
 pub mod Searching

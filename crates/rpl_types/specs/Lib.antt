@@ -10,5 +10,6 @@ pub mod Judged
 pub mod Declarations
 pub mod Checked
 pub mod Refused
+pub mod HasType
 pub mod Seen
 pub mod Worked

@@ -1,19 +1,30 @@
 // What the definitions of this crate come to, on rulesets that were worked out by hand.
-ghost use Rattle.std.specs.Prelude.{◌≡◌, [], ◌∷◌, ◌++◌, None, Ok, Some, codes, neg_ℤ, pos, true};
+ghost use Rattle.std.specs.Prelude.{◌≡◌, List, [], ◌∷◌, ◌++◌, None, Ok, Some, codes, neg_ℤ, pos, true};
 ghost use Rattle.rw_base.specs.Quantity.{quantity_max};
 ghost use Rattle.rw_base.specs.Unit.{plain_number, timestep, volume};
+ghost use Rattle.rw_model.specs.Draft.{Draft};
 ghost use Rattle.rw_model.specs.Slot.{flow_unit};
 ghost use Rattle.rpl_tree.specs.declared.words.ConvertWord.TheVariants.{ElevationToStorage, StorageToElevation};
 ghost use Rattle.rpl_tree.specs.declared.words.OneWord.TheVariants.{Known, Length, Minus, Month, Not};
 ghost use Rattle.rpl_tree.specs.declared.words.TwoWord.TheVariants.{Append, Divide, Equal, Item, Less, Minus as Less_by, Or, Plus, Times};
-ghost use Rattle.rpl_tree.specs.Tree.{at, bind, brackets, branch, call, choice, convert, each, function, list, mapped, name, no_acts, no_trees, now, numeric, numeric_list, one, slot, truth, two, with_name, assign};
+ghost use Rattle.rpl_tree.specs.Tree.{Declared, at, bind, brackets, branch, call, choice, convert, each, function, list, mapped, name, no_acts, no_trees, now, numeric, numeric_list, one, slot, truth, two, with_name, assign};
 ghost use Rattle.rpl_tree.specs.Worked.{acts_of, at_now, call_of, cap_and_base, l_name, n_name, n_to_x, of_unit, one_to_x, over, pair, puts_at, rule_of, s_name, sum_ahead, sum_too_early, three, trees_of, turns_of_one_name, whole, x_put, x_rule};
 ghost use Rattle.rpl_tree.specs.declared.rpl_type.RplType.TheVariants.{Boolean, Datetime, Numeric, NumericList, Slot};
 ghost use Rattle.rpl_types.specs.declared.type_kind.TypeKind.TheVariants.{DuplicateName, ListTooLong, LiteralRange, NoTable, NotEarlier, NotSettable, TargetStep, TooCostly, UnknownName, UnknownSlot, UnknownUnit, WrongCount, WrongType, WrongUnit};
 ghost use Rattle.rpl_types.specs.Forms.{plain};
+ghost use Rattle.rpl_types.specs.HasType.{IsTyped};
+ghost use Rattle.rpl_types.specs.Nodes.{Types};
 ghost use Rattle.rpl_tree.specs.Budget.{budget, limits};
 ghost use Rattle.rpl_types.specs.Judged.{cost_refusal, judged, judged_types, type_at};
 ghost use Rattle.rpl_types.specs.Worked.{a_count, a_flow, a_length, a_step, a_volume, accepted, added_to_storage, cubed, dam_and_flow, inflow_now, judged_acts, judged_put, judged_with, judged_x, list_function, look_types, metre, nested_loops, number_function, number_param, numbers, pool_storage, refused, twice, twice_call, worked_basin};
+
+/// What is accepted is typed: each expression has a type by those of its parts, each value fits the slot that it is set to,
+/// each condition is a truth, what a function answers fits what its head says, and each cost is within its limit.
+#[tactic(auto, using(crate::proofs::Accepted::accepted))]
+pub fn accepted()
+    ensures { (basin : Draft) (rules : List Declared) (all : List Types)
+        → judged basin rules ≡ Ok all → IsTyped basin rules }
+{}
 
 /// A flow can't be added to a storage; what flows in a timestep can.
 pub fn storage_and_inflow()
