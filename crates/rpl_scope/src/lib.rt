@@ -1,6 +1,7 @@
-//! Names in scope. A name is looked up in a time that grows as the logarithm of how many there are, and not as their number.
+//! Names in scope, and what each stands for. A name is looked up in a time that grows as the logarithm of how many there are,
+//! and not as their number.
 #![tactic(auto)]
 
-mod places;
+mod scope;
 
-pub use places::Places;
+pub use scope::Scope;

@@ -1,69 +1,66 @@
 ghost use Rattle.std.specs.Prelude.{◌≡◌, ◌∷◌, [], OnErr, OnOk, length};
-ghost use Rattle.rpl_scope.specs.Places.{outer_names, place_named};
+ghost use Rattle.rpl_scope.specs.Scope.{first_named, outer_entries};
 
 use rw_base::NoMemory;
 use std::alloc::Global;
 use std::collections::BTreeMap;
 use std::marker::Model;
 
-/// A name, and the place of the next outer one that is the same.
+/// A name, what it stands for, and the place of the next outer entry of the name.
 #[derive(Drop)]
-pub(crate) struct Entry<'a> {
+pub(crate) struct Entry<'a, T: Copy> {
     pub(crate) name: &'a [u8],
+    pub(crate) means: T,
     pub(crate) outer: Option<usize>,
 }
 
-/// Names, each in its place: the outermost in place 0.
+/// Names that stand for something, the innermost of each found first.
 #[derive(Drop)]
-pub struct Places<'a> {
-    entries: Vec<Entry<'a>>,
+pub struct Scope<'a, T: Copy> {
+    entries: Vec<Entry<'a, T>>,
     innermost: BTreeMap<&'a [u8], usize>,
 }
 
-impl<'a> Model for Places<'a> {
+impl<'a, T: Copy> Model for Scope<'a, T> {
     ghost use Rattle.std.specs.Prelude.{ℕ, List, reverse};
-    ghost use Rattle.rpl_scope.specs.Places.{IsKept, names_of};
+    ghost use Rattle.rpl_scope.specs.Scope.{IsKept, entries_of};
 
-    ghost Value = { List (List ℕ) };
+    ghost Value = { List (List ℕ × T) };
 
-    ghost view = { λ s. names_of (reverse s.entries.items) };
+    ghost view = { λ s. entries_of (reverse s.entries.items) };
 
     ghost invariant = { λ s. IsKept (reverse s.entries.items) s.innermost };
 }
 
-impl<'a> Places<'a> {
+impl<'a, T: Copy> Scope<'a, T> {
     /// No names.
-    pub fn new(alloc: Global) -> Places<'a>
+    pub fn new(alloc: Global) -> Scope<'a, T>
         ensures { result ≡ [] }
     {
-        Places {
+        Scope {
             entries: Vec::new(alloc),
             innermost: BTreeMap::new(alloc),
         }
     }
 
-    /// How many names there are.
-    pub fn len(&self) -> usize
-        ensures { result ≡ length self.now }
+    /// What the innermost of a name stands for.
+    pub fn find(&self, name: &'a [u8]) -> Option<T>
+        ensures { result ≡ first_named self.now name.entry.now }
     {
-        self.entries.len()
-    }
-
-    /// The place of the innermost of a name.
-    pub fn find(&self, name: &'a [u8]) -> Option<usize>
-        ensures { result ≡ place_named self.now name.entry.now }
-    {
-        self.innermost.get(name).copied()
+        match self.innermost.get(name).copied() {
+            None => None,
+            Some(place) => Some(self.entries[place].means),
+        }
     }
 
     /// Another name, which is the innermost of all. After an error the names are those that were there.
-    pub fn push(&mut self, name: &'a [u8]) -> Result<(), NoMemory>
-        ensures ok { OnOk result (self.new ≡ name.entry.now ∷ self.old) }
+    pub fn push(&mut self, name: &'a [u8], means: T) -> Result<(), NoMemory>
+        ensures ok { OnOk result (self.new ≡ (name.entry.now, means) ∷ self.old) }
         ensures err { OnErr result (self.new ≡ self.old) }
     {
         let outer = self.innermost.get(name).copied();
         let place = self.entries.len();
-        self.entries.push(Entry { name, outer })?;
+        self.entries.push(Entry { name, means, outer })?;
         match self.innermost.insert(name, place) {
             Ok(_) => Ok(()),
             Err(_) => {
@@ -75,7 +72,7 @@ impl<'a> Places<'a> {
 
     /// Takes the innermost name away, if there is one.
     pub fn pop(&mut self)
-        ensures { self.new ≡ outer_names self.old }
+        ensures { self.new ≡ outer_entries self.old }
     {
         let Some(entry) = self.entries.pop() else {
             return;
