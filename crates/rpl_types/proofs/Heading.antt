@@ -1,14 +1,15 @@
 -- What the heads of functions say, parameter by parameter.
-use Rattle.std.proofs.Common.{◌≡◌, ℕ, ◌+◌, ◌-◌, ◌≤◌, List, [], ◌∷◌, ◌++◌, map, drop, take, length, Option, refl, sym, ap, ap₂, ◌∙◌, arith}
+use Rattle.std.proofs.Common.{◌≡◌, ℕ, ◌+◌, ◌-◌, ◌≤◌, List, [], ◌∷◌, ◌++◌, map, drop, take, length, Bool, true, false, Option, Some, None, refl, sym, ap, ap₂, ◌∙◌, arith}
 use Rattle.std.proofs.lemmas.List.{map-append}
+use Rattle.std.specs.Prelude.{◌||◌, bytes_eq, if◌then◌else◌, is_some}
+use Rattle.std.specs.List.{list_any}
+use Rattle.rpl_scope.specs.Scope.{first_named}
 use Rattle.rpl_tree.specs.Tree.{Parameter, TypeName}
 use Rattle.rpl_tree.specs.declared.rpl_type.RplType.{RplType}
-use Rattle.rpl_types.specs.declared.progress.Variable.{Variable}
 use Rattle.rpl_types.specs.declared.type_kind.TypeKind.{TypeKind}
 use Rattle.rpl_types.specs.Fits.{sooner}
 use Rattle.rpl_types.specs.Forms.{Scope}
-use Rattle.rpl_types.specs.Functions.{Signature, head_misfit, param_scope, refusal_in, type_here, written_type}
-use Rattle.rpl_types.specs.Stopped.{scope_behind, scope_of}
+use Rattle.rpl_types.specs.Functions.{Signature, head_misfit, is_named_as, param_scope, repeats_name, refusal_in, type_here, written_type}
 use Rattle.rpl_types.proofs.Sooner.{sooner_by_threes}
 
 pub head_next : (whole found : Option TypeKind) (answers : TypeName) (p : Parameter) (ps all : List Parameter) → all ≡ p ∷ ps
@@ -24,16 +25,65 @@ head_last whole found answers all e h = rw e at h
 abbrev pub signature_with : List ℕ → List RplType → RplType → Signature
 signature_with name takes result = record { name = name; takes = takes; result = result }
 
--- a variable more is the innermost
-behind_push : (scope : Scope) (vs : List Variable) (v : Variable) → scope_behind scope (vs ++ v ∷ []) ≡ (v.name.now, v.of_type) ∷ scope_behind scope vs
-behind_push scope [] v = refl
-behind_push scope (u ∷ us) v = behind_push ((u.name.now, u.of_type) ∷ scope) us v
+pub one_before : (scope new : Scope) (t : RplType) (p : Parameter) (ps all : List Parameter) → new ≡ (p.name, t) ∷ scope → all ≡ p ∷ ps
+    → t ≡ type_here p.of_type → scope ≡ param_scope ps → new ≡ param_scope all
+one_before scope new t p ps all is e of_type h =
+    is ∙ ap (λ u. (p.name, u) ∷ scope) of_type ∙ ap (λ s. (p.name, type_here p.of_type) ∷ s) h ∙ ap param_scope (sym e)
 
-pub one_before : (vs new : List Variable) (v : Variable) (p : Parameter) (ps all : List Parameter) → new ≡ vs ++ v ∷ [] → all ≡ p ∷ ps
-    → v.name.now ≡ p.name → v.of_type ≡ type_here p.of_type → scope_of vs ≡ param_scope ps → scope_of new ≡ param_scope all
-one_before vs new v p ps all is e name of_type h =
-    ap scope_of is ∙ behind_push [] vs v ∙ ap (λ x. (x, v.of_type) ∷ scope_of vs) name ∙ ap (λ t. (p.name, t) ∷ scope_of vs) of_type
-    ∙ ap (λ scope. (p.name, type_here p.of_type) ∷ scope) h ∙ ap param_scope (sym e)
+-- ---- names that were seen
+
+-- it is one of those
+abbrev pub is_seen : List (List ℕ × Unit {0}) → Parameter → Bool
+is_seen seen p = is_some (first_named seen p.name)
+
+-- one of them was seen before, or two have one name
+abbrev pub repeats_behind : List (List ℕ × Unit {0}) → List Parameter → Bool
+repeats_behind seen ps = list_any (is_seen seen) ps || repeats_name ps
+
+none_seen : (ps : List Parameter) → list_any (is_seen []) ps ≡ false
+none_seen [] = refl
+none_seen (p ∷ ps) = none_seen ps
+
+pub from_none : (ps : List Parameter) → repeats_behind [] ps ≡ repeats_name ps
+from_none ps = ap (λ b. b || repeats_name ps) (none_seen ps)
+
+by_name : (same : Bool) (o : Option (Unit {0})) → is_some (if same then Some tt else o) ≡ (same || is_some o)
+by_name true o = refl
+by_name false o = refl
+
+four : (a b c d : Bool) → ((a || b) || (c || d)) ≡ ((a || c) || (b || d))
+four true b c d = refl
+four false true true d = refl
+four false true false d = refl
+four false false true d = refl
+four false false false d = refl
+
+-- those that have the name, and those that were seen
+seen_more : (x : List ℕ) (seen : List (List ℕ × Unit {0})) (ps : List Parameter)
+    → list_any (is_seen ((x, tt) ∷ seen)) ps ≡ (list_any (is_named_as x) ps || list_any (is_seen seen) ps)
+seen_more x seen [] = refl
+seen_more x seen (p ∷ ps) =
+    ap₂ (λ a b. a || b) (by_name (bytes_eq x p.name) (first_named seen p.name)) (seen_more x seen ps)
+    ∙ four (bytes_eq x p.name) (is_seen seen p) (list_any (is_named_as x) ps) (list_any (is_seen seen) ps)
+
+swap : (a b c : Bool) → ((a || b) || c) ≡ (b || (a || c))
+swap true true c = refl
+swap true false c = refl
+swap false true c = refl
+swap false false c = refl
+
+pub seen_next : (seen new : List (List ℕ × Unit {0})) (p : Parameter) (ps all : List Parameter) → all ≡ p ∷ ps → first_named seen p.name ≡ None
+    → new ≡ (p.name, tt) ∷ seen → repeats_behind new ps ≡ repeats_behind seen all
+seen_next seen new p ps all e none is =
+    ap (λ s. repeats_behind s ps) is ∙ ap (λ b. b || repeats_name ps) (seen_more p.name seen ps)
+    ∙ swap (list_any (is_named_as p.name) ps) (list_any (is_seen seen) ps) (repeats_name ps)
+    ∙ sym (ap (λ o. (is_some o || list_any (is_seen seen) ps) || (list_any (is_named_as p.name) ps || repeats_name ps)) none)
+    ∙ ap (repeats_behind seen) (sym e)
+
+pub seen_here : (seen : List (List ℕ × Unit {0})) (p : Parameter) (ps all : List Parameter) → all ≡ p ∷ ps → is_seen seen p ≡ true
+    → repeats_behind seen all ≡ true
+seen_here seen p ps all e here =
+    ap (repeats_behind seen) e ∙ ap (λ b. (b || list_any (is_seen seen) ps) || repeats_name (p ∷ ps)) here
 
 -- ---- what a function takes
 

@@ -1,6 +1,5 @@
 pub mod Accepted
 pub mod Dimensions
-pub mod Scopes
 pub mod Searching
 pub mod Sooner
 pub mod Texts

@@ -5,25 +5,26 @@ ghost use Rattle.rpl_tree.specs.Seen.{acts_in, tree_of};
 ghost use Rattle.rpl_types.specs.Bodies.{own_and_nodes};
 ghost use Rattle.rpl_types.specs.Gives.{callable_in};
 ghost use Rattle.rpl_types.specs.Nodes.{types_of, types_of_acts};
-ghost use Rattle.rpl_types.specs.Stopped.{scope_of, stop_refusal};
+ghost use Rattle.rpl_types.specs.Stopped.{stop_refusal};
 ghost use Rattle.rpl_types.specs.declared.stop.Stop.TheVariants as Stop;
 
 use crate::known::Known;
-use crate::progress::{Progress, Variable};
+use crate::progress::Progress;
 use crate::statements::statements;
 use crate::stop::Stop;
 use crate::visit::visit;
+use rpl_scope::Scope;
 use rpl_tree::{Expr, RplType, Statement};
 
 /// The type of a function's body, and those of its nodes.
 #[tactic(auto, using(crate::proofs::VisitingActs::body_given))]
 pub fn body_types<'a>(
     known: &Known,
-    scope: Vec<Variable<'a>>,
+    scope: Scope<'a, RplType>,
     body: &'a Expr,
 ) -> Result<(RplType, Vec<Option<RplType>>), Stop>
     ensures { Answers Stop.NoMemory stop_refusal (λ pair. (pair.0, pair.1.items)) result
-        (own_and_nodes (types_of known.now.basin.now (callable_in known.now) (scope_of scope.entry.items) 1 (tree_of body.now))) }
+        (own_and_nodes (types_of known.now.basin.now (callable_in known.now) scope 1 (tree_of body.now))) }
 {
     let types = Vec::new(known.alloc);
     let mut progress = Progress { scope, types };
@@ -39,7 +40,7 @@ pub fn acts_types(known: &Known, body: &[Statement]) -> Result<Vec<Option<RplTyp
     ensures { Answers Stop.NoMemory stop_refusal (λ types. types.items) result
         (types_of_acts known.now.basin.now (callable_in known.now) [] 1 (acts_in body.now)) }
 {
-    let scope = Vec::new(known.alloc);
+    let scope = Scope::new(known.alloc);
     let types = Vec::new(known.alloc);
     let mut progress = Progress { scope, types };
     match statements(known, &mut progress, body) {

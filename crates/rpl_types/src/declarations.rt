@@ -52,7 +52,7 @@ fn function_types(
         (declared_types known.now.basin.now (callable_in known.now)
         (function name.now (map parameter_of params.now) (type_of answers.now) (tree_of body.now))) }
 {
-    if let Some(kind) = head_refusal(known.earlier, name, params, answers) {
+    if let Some(kind) = head_refusal(known.alloc, known.earlier, name, params, answers)? {
         return Err(Stop::Refused { kind, node: 0 });
     }
     let scope = param_scope(known.alloc, params)?;

@@ -1,24 +1,22 @@
 // What the head of a declaration says of its types.
-ghost use Rattle.std.specs.Prelude.{◌≡◌, ◌&&◌, None, Some, IfErr, IfOk, if◌then◌else◌, int_le, map, pos, unsigned_abs};
-ghost use Rattle.std.specs.List.{list_any};
+ghost use Rattle.std.specs.Prelude.{◌≡◌, ◌&&◌, ◌||◌, None, Some, IfErr, IfOk, if◌then◌else◌, int_le, is_some, map, pos, unsigned_abs};
 ghost use Rattle.rpl_tree.specs.Seen.{parameter_of, type_of};
 ghost use Rattle.rpl_tree.specs.declared.rpl_type.RplType.TheVariants as RplType;
 ghost use Rattle.rpl_types.specs.Fits.{longest};
-ghost use Rattle.rpl_types.specs.Functions.{head_misfit, is_duplicate, is_named_as, param_scope, refusal_in, repeats_name, signature, type_here, with_room, written_type};
+ghost use Rattle.rpl_types.specs.Functions.{head_misfit, is_duplicate, param_scope, predefined_count, refusal_in, repeats_name, signature, signature_named, type_here, with_room, written_type};
 ghost use Rattle.rpl_types.specs.Judged.{head_refusal};
 ghost use Rattle.rpl_types.specs.Seen.{signature_of, signatures_of};
-ghost use Rattle.rpl_types.specs.Stopped.{scope_of};
 ghost use Rattle.rpl_types.specs.declared.stop.Stop.TheVariants as Stop;
 
 use crate::TypeKind;
-use crate::calls::{Signature, is_same_name, predefined_count, signature_named};
+use crate::calls::{Signature, predefined_count, signature_named};
 use crate::fits::sooner;
 use crate::forms::plain;
 use crate::names::unit_named;
-use crate::progress::Variable;
 use crate::stop::Stop;
+use rpl_scope::Scope;
 use rpl_tree::{Param, RplType, TypeText};
-use rw_base::Dim;
+use rw_base::{Dim, NoMemory};
 use std::alloc::Global;
 
 /// The room of a list, where there may be so much.
@@ -106,75 +104,79 @@ fn head_misfit(params: &[Param], answers: &TypeText) -> Option<TypeKind>
     sooner(found, type_misfit(answers))
 }
 
-fn is_named_in(name: &[u8], params: &[Param]) -> bool
-    ensures { result ≡ list_any (is_named_as name.now) (map parameter_of params.now) }
-{
-    for param in params {
-        if is_same_name(name, &param.name) {
-            return true;
-        }
-    }
-    false
-}
-
 /// Whether two parameters have one name.
-fn repeats_name(params: &[Param]) -> bool
-    ensures { result ≡ repeats_name (map parameter_of params.now) }
+fn repeats_name(alloc: Global, params: &[Param]) -> Result<bool, Stop>
+    ensures ok { IfOk result (λ repeats. repeats ≡ repeats_name (map parameter_of params.now)) }
+    ensures err { IfErr result (λ stop. stop ≡ Stop.NoMemory) }
 {
-    let mut rest = params;
-    for _turn in 0..params.len() {
-        let [param, later @ ..] = rest else {
-            return false;
-        };
-        if is_named_in(&param.name, later) {
-            return true;
+    let mut seen = Scope::new(alloc);
+    for param in params {
+        if seen.find(&param.name).is_some() {
+            return Ok(true);
         }
-        rest = later;
+        match seen.push(&param.name, ()) {
+            Ok(()) => {}
+            Err(NoMemory) => return Err(Stop::NoMemory),
+        }
     }
-    false
+    Ok(false)
 }
 
-fn is_duplicate(earlier: &[Signature], name: &[u8], params: &[Param]) -> bool
-    ensures { result ≡ is_duplicate (signatures_of earlier.now) name.now (map parameter_of params.now) }
+/// Whether a name can't be that of a function behind those.
+fn is_taken(earlier: &[Signature], name: &[u8]) -> bool
+    ensures { result ≡ is_some (predefined_count name.now)
+        || is_some (signature_named (signatures_of earlier.now) name.now) }
 {
-    predefined_count(name).is_some()
-        || signature_named(earlier, name).is_some()
-        || repeats_name(params)
+    predefined_count(name).is_some() || signature_named(earlier, name).is_some()
+}
+
+fn is_duplicate(
+    alloc: Global,
+    earlier: &[Signature],
+    name: &[u8],
+    params: &[Param],
+) -> Result<bool, Stop>
+    ensures ok { IfOk result (λ duplicate. duplicate
+        ≡ is_duplicate (signatures_of earlier.now) name.now (map parameter_of params.now)) }
+    ensures err { IfErr result (λ stop. stop ≡ Stop.NoMemory) }
+{
+    if is_taken(earlier, name) {
+        Ok(true)
+    } else {
+        repeats_name(alloc, params)
+    }
 }
 
 /// What is wrong with a function before its body is judged.
 pub fn head_refusal(
+    alloc: Global,
     earlier: &[Signature],
     name: &[u8],
     params: &[Param],
     answers: &TypeText,
-) -> Option<TypeKind>
-    ensures { result ≡ head_refusal (signatures_of earlier.now) name.now
-        (map parameter_of params.now) (type_of answers.now) }
+) -> Result<Option<TypeKind>, Stop>
+    ensures ok { IfOk result (λ refusal. refusal ≡ head_refusal (signatures_of earlier.now)
+        name.now (map parameter_of params.now) (type_of answers.now)) }
+    ensures err { IfErr result (λ stop. stop ≡ Stop.NoMemory) }
 {
-    if is_duplicate(earlier, name, params) {
-        Some(TypeKind::DuplicateName)
+    if is_duplicate(alloc, earlier, name, params)? {
+        Ok(Some(TypeKind::DuplicateName))
     } else {
-        head_misfit(params, answers)
+        Ok(head_misfit(params, answers))
     }
 }
 
 /// The parameters as variables, the first of them the innermost.
-pub fn param_scope<'a>(alloc: Global, params: &'a [Param]) -> Result<Vec<Variable<'a>>, Stop>
-    ensures ok { IfOk result (λ scope. scope_of scope.items
-        ≡ param_scope (map parameter_of params.now)) }
+pub fn param_scope<'a>(alloc: Global, params: &'a [Param]) -> Result<Scope<'a, RplType>, Stop>
+    ensures ok { IfOk result (λ scope. scope ≡ param_scope (map parameter_of params.entry.now)) }
     ensures err { IfErr result (λ stop. stop ≡ Stop.NoMemory) }
 {
-    let mut scope = Vec::new(alloc);
+    let mut scope = Scope::new(alloc);
     for behind in 0..params.len() {
         let param = &params[params.len() - 1 - behind];
-        let variable = Variable {
-            name: &param.name,
-            of_type: type_here(&param.kind),
-        };
-        match scope.push(variable) {
+        match scope.push(&param.name, type_here(&param.kind)) {
             Ok(()) => {}
-            Err(_) => return Err(Stop::NoMemory),
+            Err(NoMemory) => return Err(Stop::NoMemory),
         }
     }
     Ok(scope)

@@ -1,27 +1,21 @@
 // What is known on the way over a declaration: the names that can be used, and the types of its nodes so far.
 ghost use Rattle.std.specs.Prelude.{◌≡◌, IfErr, IfOk, OnOk};
 ghost use Rattle.rpl_types.specs.Forms.{name_type};
-ghost use Rattle.rpl_types.specs.Stopped.{progress_of, scope_of};
+ghost use Rattle.rpl_types.specs.Stopped.{progress_of};
 ghost use Rattle.rpl_types.specs.Visited.{filled, next, reserved, visit, with_variable, without_variable};
 ghost use Rattle.rpl_types.specs.declared.stop.Stop.TheVariants as Stop;
 
 use crate::TypeKind;
-use crate::calls::is_same_name;
 use crate::stop::Stop;
+use rpl_scope::Scope;
 use rpl_tree::RplType;
-
-/// A name that can be used, and its type.
-#[derive(Drop)]
-pub struct Variable<'a> {
-    pub name: &'a [u8],
-    pub of_type: RplType,
-}
+use rw_base::NoMemory;
 
 /// What is known on the way over a declaration.
 #[derive(Drop)]
 pub struct Progress<'a> {
-    /// The names that can be used, the innermost last.
-    pub scope: Vec<Variable<'a>>,
+    /// The names that can be used, and their types.
+    pub scope: Scope<'a, RplType>,
     /// The types of the nodes so far: none of a statement, or of a node whose parts come yet.
     pub types: Vec<Option<RplType>>,
 }
@@ -58,13 +52,9 @@ pub fn add_variable<'a>(
         ≡ with_variable name.now of_type.now (progress_of progress.old)) }
     ensures err { IfErr result (λ stop. stop ≡ Stop.NoMemory) }
 {
-    let variable = Variable {
-        name,
-        of_type: *of_type,
-    };
-    match progress.scope.push(variable) {
+    match progress.scope.push(name, *of_type) {
         Ok(()) => Ok(()),
-        Err(_) => Err(Stop::NoMemory),
+        Err(NoMemory) => Err(Stop::NoMemory),
     }
 }
 
@@ -72,25 +62,15 @@ pub fn add_variable<'a>(
 pub fn drop_variable(progress: &mut Progress)
     ensures { progress_of progress.new ≡ without_variable (progress_of progress.old) }
 {
-    let _last = progress.scope.pop();
+    progress.scope.pop();
 }
 
 /// The type of a name: that of the innermost variable of the name.
-pub fn name_type(progress: &Progress, name: &[u8]) -> Result<RplType, TypeKind>
-    ensures { result ≡ name_type (progress_of progress.now).scope name.now }
+pub fn name_type<'a>(progress: &Progress<'a>, name: &'a [u8]) -> Result<RplType, TypeKind>
+    ensures { result ≡ name_type (progress_of progress.now).scope name.entry.now }
 {
-    variable_type(&progress.scope, name)
-}
-
-// A function may have very many parameters, so this is no recursion.
-fn variable_type(scope: &[Variable], name: &[u8]) -> Result<RplType, TypeKind>
-    ensures { result ≡ name_type (scope_of scope.now) name.now }
-{
-    for behind in 0..scope.len() {
-        let variable = &scope[scope.len() - 1 - behind];
-        if is_same_name(variable.name, name) {
-            return Ok(variable.of_type);
-        }
+    match progress.scope.find(name) {
+        Some(of_type) => Ok(of_type),
+        None => Err(TypeKind::UnknownName),
     }
-    Err(TypeKind::UnknownName)
 }

@@ -85,7 +85,7 @@ pub fn visit<'a>(known: &Known, progress: &mut Progress<'a>, e: &'a Expr) -> Res
 }
 
 /// `name`.
-fn variable(progress: &mut Progress, name: &[u8]) -> Result<RplType, Stop>
+fn variable<'a>(progress: &mut Progress<'a>, name: &'a [u8]) -> Result<RplType, Stop>
     ensures { Gives progress.new result
         (leaf (progress_of progress.old) (name_type (progress_of progress.old).scope name.now)) }
 {

@@ -12,5 +12,5 @@ loop-behind-preserved c =
     let at : length params - (c.loop-behind.behind + 1) + 1 ≡ left = omega (arith, low) in
     let step : drop (length params - (c.loop-behind.behind + 1)) params ≡ c.index-params-params.result ∷ drop left params =
     grind (arith, common_steps, c.index-params-params.is, at) in
-    one_before c.loop-behind.scope.items c.push.new.self.items _ (parameter_of c.index-params-params.result) _ _ c.in-Ok.ensures.items
-    (ap (map parameter_of) step) c.deref.ensures.value c.type_here.ensures c.loop-behind.invariant
+    one_before c.loop-behind.scope c.push.new.self c.type_here.result (parameter_of c.index-params-params.result) _ _
+    (rw c.deref.ensures.value at c.in-Ok.ensures.ok) (ap (map parameter_of) step) c.type_here.ensures c.loop-behind.invariant

@@ -1,10 +1,10 @@
-use Rattle.std.proofs.Common.{◌≡◌, ◌+◌, length, map}
+use Rattle.std.proofs.Common.{◌≡◌, drop, map}
 use Rattle.rpl_tree.specs.Seen.{parameter_of}
 use Rattle.rpl_types.specs.Functions.{repeats_name}
+use Rattle.rpl_types.proofs.Heading.{repeats_behind}
 use Rattle.rpl_types.proofs.heads.repeats_name.Given as goal
 
--- what is left, one less each turn, decides
-abbrev pub invariant-loop-turn : goal.invariant-loop-turn
-invariant-loop-turn l =
-    (repeats_name (map parameter_of l.rest) ≡ repeats_name (map parameter_of l.params))
-    × (length l.rest + l._turn ≡ length l.params)
+-- what was seen and what is left decide
+abbrev pub invariant-loop-param : goal.invariant-loop-param
+invariant-loop-param l =
+    repeats_behind l.seen (map parameter_of (drop l.param-index l.params)) ≡ repeats_name (map parameter_of l.params)

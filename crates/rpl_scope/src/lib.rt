@@ -1,0 +1,7 @@
+//! Names in scope, and what each stands for. A name is looked up in a time that grows as the logarithm of how many there are,
+//! and not as their number.
+#![tactic(auto)]
+
+mod scope;
+
+pub use scope::Scope;
