@@ -1,5 +1,5 @@
 -- What the heads of functions say, parameter by parameter.
-use Rattle.std.proofs.Common.{◌≡◌, ℕ, ◌+◌, ◌-◌, ◌≤◌, List, [], ◌∷◌, ◌++◌, map, drop, take, length, Bool, true, false, Option, Some, None, refl, sym, ap, ap₂, ◌∙◌, arith}
+use Rattle.std.proofs.Common.{◌≡◌, ℕ, ◌+◌, ◌-◌, ◌≤◌, List, [], ◌∷◌, ◌++◌, map, drop, take, length, Bool, true, false, Option, Some, None, Ok, Err, refl, sym, ap, ap₂, ◌∙◌, arith}
 use Rattle.std.proofs.lemmas.List.{map-append}
 use Rattle.std.specs.Prelude.{◌||◌, bytes_eq, if◌then◌else◌, is_some}
 use Rattle.std.specs.List.{list_any}
@@ -7,8 +7,9 @@ use Rattle.rpl_scope.specs.Scope.{first_named}
 use Rattle.rpl_tree.specs.Tree.{Parameter, TypeName}
 use Rattle.rpl_tree.specs.declared.rpl_type.RplType.{RplType}
 use Rattle.rpl_types.specs.declared.type_kind.TypeKind.{TypeKind}
-use Rattle.rpl_types.specs.Fits.{sooner}
-use Rattle.rpl_types.specs.Forms.{Scope}
+use Rattle.rpl_types.specs.declared.type_kind.TypeKind.TheVariants.{UnknownName}
+use Rattle.rpl_types.specs.Fits.{Typed, sooner}
+use Rattle.rpl_types.specs.Forms.{Scope, name_type}
 use Rattle.rpl_types.specs.Functions.{Signature, head_misfit, is_named_as, param_scope, repeats_name, refusal_in, type_here, written_type}
 use Rattle.rpl_types.proofs.Sooner.{sooner_by_threes}
 
@@ -29,6 +30,21 @@ pub one_before : (scope new : Scope) (t : RplType) (p : Parameter) (ps all : Lis
     → t ≡ type_here p.of_type → scope ≡ param_scope ps → new ≡ param_scope all
 one_before scope new t p ps all is e of_type h =
     is ∙ ap (λ u. (p.name, u) ∷ scope) of_type ∙ ap (λ s. (p.name, type_here p.of_type) ∷ s) h ∙ ap param_scope (sym e)
+
+-- ---- the type of a name
+
+abbrev pub type_found : Option RplType → Typed
+type_found None = Err UnknownName
+type_found (Some t) = Ok t
+
+by_test : (same : Bool) (t : RplType) (rest : Typed) (o : Option RplType) → rest ≡ type_found o
+    → (if same then Ok t else rest) ≡ type_found (if same then Some t else o)
+by_test true t rest o h = refl
+by_test false t rest o h = h
+
+pub found_type : (scope : Scope) (x : List ℕ) → name_type scope x ≡ type_found (first_named scope x)
+found_type [] x = refl
+found_type (v ∷ scope) x = by_test (bytes_eq v.0 x) v.1 (name_type scope x) (first_named scope x) (found_type scope x)
 
 -- ---- names that were seen
 

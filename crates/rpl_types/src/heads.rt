@@ -111,8 +111,9 @@ fn repeats_name(alloc: Global, params: &[Param]) -> Result<bool, Stop>
 {
     let mut seen = Scope::new(alloc);
     for param in params {
-        if seen.find(&param.name).is_some() {
-            return Ok(true);
+        match seen.find(&param.name) {
+            Some(()) => return Ok(true),
+            None => {}
         }
         match seen.push(&param.name, ()) {
             Ok(()) => {}
