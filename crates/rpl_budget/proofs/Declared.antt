@@ -9,7 +9,7 @@ use Rattle.rpl_tree.specs.Tree.{Tree, Acts, Declared, Parameter, TypeName, rule,
 use Rattle.rpl_tree.specs.Value.{Kind, weight, weights}
 use Rattle.rpl_tree.specs.Words.{height, height_of_acts, words_from}
 use Rattle.rpl_budget.specs.Budgets.{budgets_of, side_by_side}
-use Rattle.rpl_budget.specs.Pass.{Priced, call_budget, declared_budget, function_budget, heads_of, pass, passed_from, predefined_priced, rule_budget}
+use Rattle.rpl_budget.specs.Pass.{Priced, call_budget, declared_budget, function_budget, heads_of, pass, passed_from, predefined_priced, rule_budget, room_for}
 use Rattle.rpl_budget.proofs.Costs as Costs
 use Rattle.rpl_budget.proofs.Costs.{counting, looking, putting}
 use Rattle.rpl_budget.proofs.Exact.{costed, heads_same, stopped, stopped_budget}
@@ -65,10 +65,10 @@ module _ (functions : List Priced) where
         budget (most_of_body price_of_steps (F (λ b. b.count)) names kind body) (most_of_body price_of_looks (F (λ b. b.looks)) names kind body)
         (most_of_body price_of_puts (F (λ b. b.puts)) names kind body) (function_words (costed_heads words_of))
 
-    function_is : function_budget takes kind (pass (stopped functions) names body) ≡ stopped_budget exact_function
+    function_is : function_budget (room_for takes) kind (pass (stopped functions) names body) ≡ stopped_budget exact_function
     function_is =
-        ap (function_budget takes kind) (pass_is functions names body)
-        ∙ by_heads (λ h. function_budget takes kind (found functions names body) ≡ budget (capped limits.count exact_function.count)
+        ap (function_budget (room_for takes) kind) (pass_is functions names body)
+        ∙ by_heads (λ h. function_budget (room_for takes) kind (found functions names body) ≡ budget (capped limits.count exact_function.count)
         (capped limits.looks exact_function.looks) (capped limits.puts exact_function.puts) (capped limits.words (function_words h)))
         (same_budget (Costs.body_cost counting functions names kind body) (Costs.body_cost looking functions names kind body)
         (Costs.body_cost putting functions names kind body) (omega arith))
@@ -77,7 +77,7 @@ module _ (functions : List Priced) where
     abbrev exact_call : Budget
     exact_call = budget (weights takes + 1 + exact_function.count) (0 + exact_function.looks) (0 + exact_function.puts) exact_function.words
 
-    call_is : call_budget takes (stopped_budget exact_function) ≡ stopped_budget exact_call
+    call_is : call_budget (room_for takes) (stopped_budget exact_function) ≡ stopped_budget exact_call
     call_is = same_budget (omega arith) (omega arith) (omega arith) refl
 
 -- ---- all declarations
@@ -95,8 +95,8 @@ passed functions (function called_so params result body ∷ rest) =
     let takes = param_kinds params in
     let kind = kind_of_type result in
     let inside = exact_function functions params result body in
-    let known : Budget → Priced = λ most. record { head = record { name = called_so; takes = takes; result = kind }; most = most } in
-    ap (λ (b : Budget). b ∷ passed_from (known (call_budget takes b) ∷ stopped functions) rest) (function_is functions params result body)
+    let known : Budget → Priced = λ most. record { head = record { name = called_so; takes = takes; result = kind }; room = room_for takes; most = most } in
+    ap (λ (b : Budget). b ∷ passed_from (known (call_budget (room_for takes) b) ∷ stopped functions) rest) (function_is functions params result body)
     ∙ ap (λ (most : Budget). stopped_budget inside ∷ passed_from (known most ∷ stopped functions) rest) (call_is functions params result body)
     ∙ ap (λ bs. stopped_budget inside ∷ bs) (passed (known (exact_call functions params result body) ∷ functions) rest)
 

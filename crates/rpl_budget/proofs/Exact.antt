@@ -1,10 +1,10 @@
 -- Functions with exact costs, what stops of them, and what definitions see of them.
-use Rattle.std.proofs.Common.{◌≡◌, ℕ, Bool, true, false, List, [], ◌∷◌, map, bytes_eq, refl, ap}
+use Rattle.std.proofs.Common.{◌≡◌, ℕ, Bool, true, false, List, [], ◌∷◌, map, bytes_eq, refl, sym, ap, ◌∙◌}
 use Rattle.std.specs.Prelude.{if◌then◌else◌}
 use Rattle.rpl_tree.specs.Budget.{Budget, budget, capped, limits}
 use Rattle.rpl_tree.specs.Cost.{Costed, costed_heads, most_named}
 use Rattle.rpl_tree.specs.Kinds.{result_named, takes_named}
-use Rattle.rpl_budget.specs.Pass.{Priced, function_named, heads_of}
+use Rattle.rpl_budget.specs.Pass.{Priced, function_named, heads_of, room_for}
 
 -- as one price sees them
 abbrev pub costed : (Budget → ℕ) → List Priced → List Costed
@@ -15,7 +15,7 @@ stopped_budget b =
     budget (capped limits.count b.count) (capped limits.looks b.looks) (capped limits.puts b.puts) (capped limits.words b.words)
 
 abbrev pub stopped : List Priced → List Priced
-stopped functions = map (λ (f : Priced). record { head = f.head; most = stopped_budget f.most }) functions
+stopped functions = map (λ (f : Priced). record { head = f.head; room = room_for f.head.takes; most = stopped_budget f.most }) functions
 
 pub heads_same : (part : Budget → ℕ) (functions : List Priced) → costed_heads (costed part functions) ≡ heads_of functions
 heads_same part [] = refl
@@ -23,7 +23,7 @@ heads_same part (f ∷ functions) = ap (λ hs. f.head ∷ hs) (heads_same part f
 
 -- ---- the function of a name
 
-of_choice : {A B : Type 0} (part : A → B) (t : Bool) (x y : A) (z : B) → part y ≡ z → part (if t then x else y) ≡ if t then part x else z
+pub of_choice : {A B : Type 0} (part : A → B) (t : Bool) (x y : A) (z : B) → part y ≡ z → part (if t then x else y) ≡ if t then part x else z
 of_choice part true x y z e = refl
 of_choice part false x y z e = e
 
@@ -38,6 +38,13 @@ pub result_same : (functions : List Priced) (f : List ℕ)
 result_same [] f = refl
 result_same (known ∷ functions) f =
     of_choice (λ (p : Priced). p.head.result) (bytes_eq known.head.name f) _ _ _ (result_same functions f)
+
+pub room_same : (functions : List Priced) (f : List ℕ)
+    → (function_named (stopped functions) f).room ≡ room_for (takes_named (heads_of functions) f)
+room_same [] f = refl
+room_same (known ∷ functions) f =
+    of_choice (λ (p : Priced). p.room) (bytes_eq known.head.name f) _ _ _ (room_same functions f)
+    ∙ sym (of_choice room_for (bytes_eq known.head.name f) known.head.takes _ _ refl)
 
 abbrev pub most_of_all : List Priced → List ℕ → Budget
 most_of_all functions f =

@@ -1,9 +1,13 @@
 -- Of the entries that pass a test, the last of a list is the first of the list in reverse.
-use Rattle.std.proofs.Common.{◌≡◌, ℕ, Bool, List, [], ◌∷◌, ◌++◌, reverse, bytes_eq, refl, sym, ap, ◌∙◌}
+use Rattle.std.proofs.Common.{◌≡◌, ℕ, Bool, List, [], ◌∷◌, ◌++◌, reverse, Some, bytes_eq, unwrap_or, refl, sym, ap, ◌∙◌}
 use Rattle.std.specs.Prelude.{if◌then◌else◌}
 use Rattle.std.proofs.lemmas.List.{reverse-append}
-use Rattle.rpl_tree.specs.Kinds.{Names, kind_named}
-use Rattle.rpl_tree.specs.Value.{Kind, number_kind}
+use Rattle.rpl_tree.specs.Kinds.{kind_named}
+use Rattle.rpl_scope.specs.Scope.{first_named}
+use Rattle.rpl_budget.specs.declared.kind.TreeKind.{TreeKind}
+use Rattle.rpl_budget.specs.declared.kind.TreeKind.TheVariants.{Number}
+use Rattle.rpl_budget.specs.Seen.{kind_seen, names_of}
+use Rattle.rpl_budget.proofs.Exact.{of_choice}
 use Rattle.rpl_budget.specs.Pass.{Priced, function_named, no_function}
 
 module _ {A B : Type 0} (passes : A → Bool) (value : A → B) where
@@ -28,16 +32,11 @@ module _ {A B : Type 0} (passes : A → Bool) (value : A → B) where
 
 -- ---- names
 
-abbrev pub last_kind : List ℕ → Kind → Names → Kind
-last_kind x = last_of_all (λ (entry : List ℕ × Kind). bytes_eq entry.0 x) (λ (entry : List ℕ × Kind). entry.1)
-
-innermost : (x : List ℕ) (names : Names)
-    → first_of_all (λ (entry : List ℕ × Kind). bytes_eq entry.0 x) (λ (entry : List ℕ × Kind). entry.1) number_kind names ≡ kind_named names x
-innermost x [] = refl
-innermost x (entry ∷ names) = ap (λ found. if bytes_eq entry.0 x then entry.1 else found) (innermost x names)
-
-pub kind_found : (x : List ℕ) (names : Names) → last_kind x number_kind names ≡ kind_named (reverse names) x
-kind_found x names = last_is_first (λ (entry : List ℕ × Kind). bytes_eq entry.0 x) (λ (entry : List ℕ × Kind). entry.1) number_kind names ∙ innermost x (reverse names)
+pub kind_found : (names : List (List ℕ × TreeKind)) (x : List ℕ)
+    → kind_seen (unwrap_or (first_named names x) Number) ≡ kind_named (names_of names) x
+kind_found [] x = refl
+kind_found (entry ∷ names) x =
+    of_choice (λ kind. kind_seen (unwrap_or kind Number)) (bytes_eq entry.0 x) (Some entry.1) (first_named names x) _ (kind_found names x)
 
 -- ---- functions
 

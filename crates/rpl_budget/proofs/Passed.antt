@@ -13,8 +13,8 @@ use Rattle.rpl_tree.specs.Value.{Kind, element_of, numbers_kind, room_of, weight
 use Rattle.rpl_tree.specs.Words.{height, height_of_act, height_of_acts, height_of_all, height_of_arguments}
 use Rattle.rpl_budget.specs.declared.load.Load.{Load}
 use Rattle.rpl_budget.specs.Loads.{both, load, looked, one_put, steps}
-use Rattle.rpl_budget.specs.Pass.{Measured, Priced, argument, bound, branched, called, chosen, element, function_named, heads_of, known_load, listed, mapped_over, measured, one_load, operation, pass, pass_act, pass_acts, pass_all, pass_arguments, turned, two_load}
-use Rattle.rpl_budget.proofs.Exact.{costed, most_of_all, most_same, result_same, stopped, stopped_budget, takes_same}
+use Rattle.rpl_budget.specs.Pass.{Measured, Priced, argument, bound, branched, called, chosen, element, function_named, heads_of, known_load, listed, mapped_over, measured, one_load, operation, pass, pass_act, pass_acts, pass_all, pass_arguments, turned, two_load, room_for}
+use Rattle.rpl_budget.proofs.Exact.{costed, most_of_all, most_same, result_same, room_same, stopped, stopped_budget, takes_same}
 use Rattle.rpl_budget.proofs.Sums as Sums
 use Rattle.rpl_budget.proofs.Costs as Costs
 use Rattle.rpl_budget.proofs.Costs.{Lane, counting, looking, putting}
@@ -176,11 +176,12 @@ module _ (functions : List Priced) where
       (let xs = local_kinds H names t in let ys = all_local_kinds H names ts in omega (arith, weights-append xs ys))
 
   -- a call, by what is found of the function
-  abbrev call_of : Kind → List Kind → Budget → Load → Measured
-  call_of result takes most args = measured result (both args (called (record { head = record { name = []; takes = takes; result = result }; most = most })))
+  abbrev call_of : Kind → ℕ → Budget → Load → Measured
+  call_of result room most args =
+      measured result (both args (called (record { head = record { name = []; takes = []; result = result }; room = room; most = most })))
 
   call_is : (names : Names) (f : List ℕ) (ts : Trees) →
-      call_of (result_named H f) (takes_named H f) (stopped_budget (most_of_all functions f)) (arguments_found names (takes_named H f) ts)
+      call_of (result_named H f) (room_for (takes_named H f)) (stopped_budget (most_of_all functions f)) (arguments_found names (takes_named H f) ts)
       ≡ found names (call f ts)
   call_is names f ts =
       ap (measured (result_named H f))
@@ -196,10 +197,12 @@ module _ (functions : List Priced) where
     pass_is names (name x) = refl
     pass_is names (call f ts) =
         let known = function_named (stopped functions) f in
-        ap (λ takes. call_of known.head.result takes known.most (pass_arguments (stopped functions) names takes ts)) (takes_same functions f)
-        ∙ ap (λ result. call_of result (takes_named H f) known.most (pass_arguments (stopped functions) names (takes_named H f) ts)) (result_same functions f)
-        ∙ ap (λ most. call_of (result_named H f) (takes_named H f) most (pass_arguments (stopped functions) names (takes_named H f) ts)) (most_same functions f)
-        ∙ ap (call_of (result_named H f) (takes_named H f) (stopped_budget (most_of_all functions f))) (arguments_are names (takes_named H f) ts)
+        let args = pass_arguments (stopped functions) names (takes_named H f) ts in
+        ap (λ takes. call_of known.head.result known.room known.most (pass_arguments (stopped functions) names takes ts)) (takes_same functions f)
+        ∙ ap (λ result. call_of result known.room known.most args) (result_same functions f)
+        ∙ ap (λ room. call_of (result_named H f) room known.most args) (room_same functions f)
+        ∙ ap (λ most. call_of (result_named H f) (room_for (takes_named H f)) most args) (most_same functions f)
+        ∙ ap (call_of (result_named H f) (room_for (takes_named H f)) (stopped_budget (most_of_all functions f))) (arguments_are names (takes_named H f) ts)
         ∙ call_is names f ts
     pass_is names (brackets t) = pass_is names t
     pass_is names (list ts) = ap (listed (count_of ts)) (all_are names ts) ∙ list_is names ts

@@ -13,9 +13,10 @@ use Rattle.rpl_tree.specs.Value.{Kind, date_kind, element_of, list_kind, number_
 use Rattle.rpl_budget.specs.declared.load.Load.{Load}
 use Rattle.rpl_budget.specs.Loads.{above, both, either, fetched, fitted, kept, load, local, locals_alone, looked, nothing, one_put, standing, steps, times, unspent}
 
--- a function, and the most that a call of it comes to, its arguments apart
+-- a function, how many words its parameters take, and the most that a call of it comes to, its arguments apart
 pub record Priced : Type 0 where
   pub head : Head
+  pub room : ℕ
   pub most : Budget
 
 abbrev pub heads_of : List Priced → List Head
@@ -23,7 +24,7 @@ heads_of functions = map (λ (f : Priced). f.head) functions
 
 -- what is called where no function has the name
 abbrev pub no_function : Priced
-no_function = record { head = record { name = []; takes = []; result = number_kind }; most = budget 0 0 0 0 }
+no_function = record { head = record { name = []; takes = []; result = number_kind }; room = 0; most = budget 0 0 0 0 }
 
 abbrev pub function_named : List Priced → List ℕ → Priced
 function_named [] f = no_function
@@ -49,7 +50,7 @@ leaf kind = measured kind (fetched number_kind)
 abbrev pub called : Priced → Load
 called f =
     load f.most.count f.most.looks f.most.puts
-    (max (capped limits.words (capped limits.words (weights f.head.takes) + f.most.words)) (capped limits.words (weight f.head.result))) 0
+    (max (capped limits.words (f.room + f.most.words)) (capped limits.words (weight f.head.result))) 0
 
 -- an argument and those behind it, for parameters of these kinds
 abbrev pub argument : List Kind → Measured → Load → Load
@@ -180,29 +181,32 @@ module _ (functions : List Priced) where
 abbrev pub rule_budget : Load → Budget
 rule_budget a = budget a.count a.looks a.puts (capped limits.words (a.locals + a.height))
 
-abbrev pub function_budget : List Kind → Kind → Measured → Budget
-function_budget takes result body =
+abbrev pub function_budget : ℕ → Kind → Measured → Budget
+function_budget room result body =
     let a = fitted result body.kind body.load in
     budget a.count a.looks a.puts
-    (capped limits.words (capped limits.words (weights takes) + capped limits.words (a.locals + a.height)))
+    (capped limits.words (room + capped limits.words (a.locals + a.height)))
 
 -- what a call of it comes to, where its body comes to this: its parameters are kept, too
-abbrev pub call_budget : List Kind → Budget → Budget
-call_budget takes inside =
-    budget (capped limits.count (capped limits.words (weights takes) + 1 + inside.count)) inside.looks inside.puts inside.words
+abbrev pub call_budget : ℕ → Budget → Budget
+call_budget room inside = budget (capped limits.count (room + 1 + inside.count)) inside.looks inside.puts inside.words
+
+-- how many words values of these kinds take
+abbrev pub room_for : List Kind → ℕ
+room_for kinds = capped limits.words (weights kinds)
 
 abbrev pub predefined_priced : List Priced
-predefined_priced = map (λ (f : Function). record { head = f.head; most = budget 1 0 0 0 }) predefined_functions
+predefined_priced = map (λ (f : Function). record { head = f.head; room = room_for f.head.takes; most = budget 1 0 0 0 }) predefined_functions
 
 abbrev pub of_numbers : List ℕ → List Kind → Priced
 of_numbers called_so takes =
-    record { head = record { name = called_so; takes = takes; result = number_kind }; most = budget 1 0 0 0 }
+    record { head = record { name = called_so; takes = takes; result = number_kind }; room = room_for takes; most = budget 1 0 0 0 }
 
 -- of a declaration that may call these
 abbrev pub declared_budget : List Priced → Declared → Budget
 declared_budget functions (rule called_so body) = rule_budget (pass_acts functions [] body)
 declared_budget functions (function called_so params result body) =
-    function_budget (param_kinds params) (kind_of_type result) (pass functions (param_names params) body)
+    function_budget (room_for (param_kinds params)) (kind_of_type result) (pass functions (param_names params) body)
 
 -- what those that follow may call
 abbrev pub and_function : List Priced → Declared → List Priced
@@ -210,8 +214,9 @@ and_function functions (rule called_so body) = functions
 and_function functions (function called_so params result body) =
     let takes = param_kinds params in
     let kind = kind_of_type result in
-    let inside = function_budget takes kind (pass functions (param_names params) body) in
-    record { head = record { name = called_so; takes = takes; result = kind }; most = call_budget takes inside } ∷ functions
+    let room = room_for takes in
+    let inside = function_budget room kind (pass functions (param_names params) body) in
+    record { head = record { name = called_so; takes = takes; result = kind }; room = room; most = call_budget room inside } ∷ functions
 
 abbrev pub passed_from : List Priced → List Declared → List Budget
 passed_from functions [] = []

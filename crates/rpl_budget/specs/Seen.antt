@@ -31,13 +31,13 @@ measured_seen work = measured (kind_seen work.kind) work.load
 abbrev pub named_seen : Named → List ℕ × Kind
 named_seen n = (n.name.now, kind_seen n.kind)
 
--- the innermost of the names stands last
-abbrev pub names_of : List Named → Names
-names_of names = reverse (map named_seen names)
+abbrev pub names_of : List (List ℕ × TreeKind) → Names
+names_of names = map (λ (entry : List ℕ × TreeKind). (entry.0, kind_seen entry.1)) names
 
 abbrev pub priced_seen : Known → Priced
 priced_seen f = record {
   head = record { name = f.name.now; takes = kinds_seen f.takes.items; result = kind_seen f.result };
+  room = f.room;
   most = budget_seen f.most;
 }
 
@@ -45,6 +45,6 @@ abbrev pub priced_or_none : Option Known → Priced
 priced_or_none None = no_function
 priced_or_none (Some f) = priced_seen f
 
--- and so does the function that was declared last
+-- the function that was declared last stands last
 abbrev pub functions_of : List Known → List Priced
 functions_of known = reverse (map priced_seen known)

@@ -4,11 +4,13 @@ ghost use Rattle.rpl_tree.specs.Seen.{act_of, acts_in};
 ghost use Rattle.rpl_budget.specs.Pass as Pass;
 ghost use Rattle.rpl_budget.specs.Seen.{functions_of, named_seen, names_of};
 
+use crate::kind::TreeKind;
 use crate::known::Known;
 use crate::load::{Load, both, either, nothing, one_put, steps};
 use crate::named::Named;
 use crate::pass::pass;
 use crate::work::bound;
+use rpl_scope::Scope;
 use rpl_tree::Statement;
 use rw_base::NoMemory;
 
@@ -16,12 +18,12 @@ use rw_base::NoMemory;
 #[cycle(acts)]
 pub fn acts<'a>(
     known: &[Known],
-    names: &mut Vec<Named<'a>>,
+    names: &mut Scope<'a, TreeKind>,
     statements: &'a [Statement],
 ) -> Result<Load, NoMemory>
     ensures found { IfOk result (λ load. load ≡ Pass.pass_acts (functions_of known.now)
-        (names_of names.old.items) (acts_in statements.now)) }
-    ensures names { OnOk result (names.new.items ≡ names.old.items) }
+        (names_of names.old) (acts_in statements.now)) }
+    ensures names { OnOk result (names.new ≡ names.old) }
 {
     let mut others = nothing();
     let mut k = statements.len();
@@ -43,12 +45,12 @@ fn branched(test: Load, first: Load, second: Load) -> Load
 #[cycle(acts)]
 fn act<'a>(
     known: &[Known],
-    names: &mut Vec<Named<'a>>,
+    names: &mut Scope<'a, TreeKind>,
     statement: &'a Statement,
 ) -> Result<Load, NoMemory>
     ensures found { IfOk result (λ load. load ≡ Pass.pass_act (functions_of known.now)
-        (names_of names.old.items) (act_of statement.now)) }
-    ensures names { OnOk result (names.new.items ≡ names.old.items) }
+        (names_of names.old) (act_of statement.now)) }
+    ensures names { OnOk result (names.new ≡ names.old) }
 {
     match statement {
         Statement::Assign { value, .. } => {
@@ -77,16 +79,16 @@ fn act<'a>(
 #[cycle(acts)]
 fn inside<'a>(
     known: &[Known],
-    names: &mut Vec<Named<'a>>,
+    names: &mut Scope<'a, TreeKind>,
     variable: Named<'a>,
     body: &'a [Statement],
 ) -> Result<Load, NoMemory>
     ensures found { IfOk result (λ load. load ≡ Pass.pass_acts (functions_of known.now)
-        (named_seen variable.entry ∷ names_of names.old.items) (acts_in body.now)) }
-    ensures names { OnOk result (names.new.items ≡ names.old.items) }
+        (named_seen variable.entry ∷ names_of names.old) (acts_in body.now)) }
+    ensures names { OnOk result (names.new ≡ names.old) }
 {
-    names.push(variable)?;
+    names.push(variable.name, variable.kind)?;
     let load = acts(known, names, body)?;
-    let _ = names.pop();
+    names.pop();
     Ok(load)
 }

@@ -15,6 +15,8 @@ pub struct Known<'a> {
     pub name: &'a [u8],
     pub takes: Vec<TreeKind>,
     pub result: TreeKind,
+    /// How many words its parameters take.
+    pub room: u64,
     pub most: TreeCost,
 }
 
@@ -62,7 +64,7 @@ pub fn function_named<'a, 'b>(known: &'a [Known<'b>], name: &[u8]) -> Option<&'a
 pub fn called(f: &Known) -> Load
     ensures { result ≡ Pass.called (priced_seen f.now) }
 {
-    let words = plus(weights(&f.takes), f.most.words, WORDS);
+    let words = plus(f.room, f.most.words, WORDS);
     let result = stopped(weight(f.result), WORDS);
     Load {
         count: f.most.instructions,

@@ -1,11 +1,12 @@
-ghost use Rattle.std.specs.Prelude.{◌≡◌, bytes_eq, if◌then◌else◌};
+ghost use Rattle.std.specs.Prelude.{◌≡◌, bytes_eq};
 ghost use Rattle.rpl_tree.specs.Kinds as Kinds;
 ghost use Rattle.rpl_budget.specs.Seen.{kind_seen, names_of};
 
 use crate::kind::TreeKind;
+use rpl_scope::Scope;
 
 /// A variable or parameter, and the kind of its values.
-#[derive(Drop)]
+#[derive(Clone, Copy)]
 pub struct Named<'a> {
     pub name: &'a [u8],
     pub kind: TreeKind,
@@ -18,25 +19,10 @@ pub fn is_same_name(a: &[u8], b: &[u8]) -> bool
     a == b
 }
 
-// The kind of this one, if it has the name.
-fn kind_or(entry: &Named, name: &[u8], otherwise: TreeKind) -> TreeKind
-    ensures { kind_seen result ≡ if bytes_eq entry.now.name.now name.now
-        then kind_seen entry.now.kind else kind_seen otherwise }
-{
-    if is_same_name(entry.name, name) {
-        entry.kind
-    } else {
-        otherwise
-    }
-}
-
 /// The kind of the innermost of a name, and that of a number where there is none.
-pub fn kind_named(names: &[Named], name: &[u8]) -> TreeKind
-    ensures { kind_seen result ≡ Kinds.kind_named (names_of names.now) name.now }
+#[tactic(auto, using(crate::proofs::Found::kind_found))]
+pub fn kind_named<'a>(names: &Scope<'a, TreeKind>, name: &'a [u8]) -> TreeKind
+    ensures { kind_seen result ≡ Kinds.kind_named (names_of names.now) name.entry.now }
 {
-    let mut found = TreeKind::Number;
-    for entry in names {
-        found = kind_or(entry, name, found);
-    }
-    found
+    names.find(name).unwrap_or(TreeKind::Number)
 }

@@ -12,16 +12,21 @@ use crate::named::{Named, kind_named};
 use crate::work::{
     Work, bound, chosen, element, leaf, listed, made, mapped, one_load, turned, two_load,
 };
+use rpl_scope::Scope;
 use rpl_tree::Expr;
 use rw_base::NoMemory;
 
 /// What an expression comes to, where these functions and names can be used. The names stay as they are.
 #[cycle(pass)]
 #[tactic(auto, using(rpl_tree::proofs::Viewed::tree_of_list))]
-pub fn pass<'a>(known: &[Known], names: &mut Vec<Named<'a>>, e: &'a Expr) -> Result<Work, NoMemory>
+pub fn pass<'a>(
+    known: &[Known],
+    names: &mut Scope<'a, TreeKind>,
+    e: &'a Expr,
+) -> Result<Work, NoMemory>
     ensures found { IfOk result (λ work. measured_seen work
-        ≡ Pass.pass (functions_of known.now) (names_of names.old.items) (tree_of e.now)) }
-    ensures names { OnOk result (names.new.items ≡ names.old.items) }
+        ≡ Pass.pass (functions_of known.now) (names_of names.old) (tree_of e.now)) }
+    ensures names { OnOk result (names.new ≡ names.old) }
 {
     match e {
         Expr::Number { .. } => Ok(leaf(TreeKind::Number)),
@@ -110,19 +115,19 @@ pub fn pass<'a>(known: &[Known], names: &mut Vec<Named<'a>>, e: &'a Expr) -> Res
 #[cycle(pass)]
 fn inside<'a>(
     known: &[Known],
-    names: &mut Vec<Named<'a>>,
+    names: &mut Scope<'a, TreeKind>,
     name: &'a [u8],
     kind: TreeKind,
     body: &'a Expr,
 ) -> Result<Work, NoMemory>
     ensures found { IfOk result (λ work. measured_seen work
-        ≡ Pass.pass (functions_of known.now) ((name.now, kind_seen kind) ∷ names_of names.old.items)
+        ≡ Pass.pass (functions_of known.now) ((name.now, kind_seen kind) ∷ names_of names.old)
         (tree_of body.now)) }
-    ensures names { OnOk result (names.new.items ≡ names.old.items) }
+    ensures names { OnOk result (names.new ≡ names.old) }
 {
-    names.push(Named { name, kind })?;
+    names.push(name, kind)?;
     let work = pass(known, names, body)?;
-    let _ = names.pop();
+    names.pop();
     Ok(work)
 }
 
@@ -130,20 +135,20 @@ fn inside<'a>(
 #[cycle(pass)]
 fn inside_turn<'a>(
     known: &[Known],
-    names: &mut Vec<Named<'a>>,
+    names: &mut Scope<'a, TreeKind>,
     item: Named<'a>,
     total: &'a [u8],
     kind: TreeKind,
     body: &'a Expr,
 ) -> Result<Work, NoMemory>
     ensures found { IfOk result (λ work. measured_seen work ≡ Pass.pass (functions_of known.now)
-        ((total.now, kind_seen kind) ∷ named_seen item.entry ∷ names_of names.old.items)
+        ((total.now, kind_seen kind) ∷ named_seen item.entry ∷ names_of names.old)
         (tree_of body.now)) }
-    ensures names { OnOk result (names.new.items ≡ names.old.items) }
+    ensures names { OnOk result (names.new ≡ names.old) }
 {
-    names.push(item)?;
+    names.push(item.name, item.kind)?;
     let work = inside(known, names, total, kind, body)?;
-    let _ = names.pop();
+    names.pop();
     Ok(work)
 }
 
@@ -151,12 +156,12 @@ fn inside_turn<'a>(
 #[cycle(pass)]
 fn elements<'a>(
     known: &[Known],
-    names: &mut Vec<Named<'a>>,
+    names: &mut Scope<'a, TreeKind>,
     items: &'a [Expr],
 ) -> Result<Work, NoMemory>
     ensures found { IfOk result (λ work. measured_seen work
-        ≡ Pass.pass_all (functions_of known.now) (names_of names.old.items) (trees_in items.now)) }
-    ensures names { OnOk result (names.new.items ≡ names.old.items) }
+        ≡ Pass.pass_all (functions_of known.now) (names_of names.old) (trees_in items.now)) }
+    ensures names { OnOk result (names.new ≡ names.old) }
 {
     let mut others = Work {
         kind: TreeKind::Number,
@@ -175,13 +180,13 @@ fn elements<'a>(
 #[tactic(auto, using(crate::proofs::Viewed::count_is))]
 fn list<'a>(
     known: &[Known],
-    names: &mut Vec<Named<'a>>,
+    names: &mut Scope<'a, TreeKind>,
     items: &'a [Expr],
 ) -> Result<Work, NoMemory>
     ensures found { IfOk result (λ work. measured_seen work
-        ≡ Pass.pass (functions_of known.now) (names_of names.old.items)
+        ≡ Pass.pass (functions_of known.now) (names_of names.old)
         (list (trees_in items.now))) }
-    ensures names { OnOk result (names.new.items ≡ names.old.items) }
+    ensures names { OnOk result (names.new ≡ names.old) }
 {
     let all = elements(known, names, items)?;
     Ok(listed(items.len() as u64, all))
@@ -209,13 +214,13 @@ fn argument(takes: &[TreeKind], value: Work, others: Load) -> Load
 #[cycle(pass)]
 fn arguments<'a>(
     known: &[Known],
-    names: &mut Vec<Named<'a>>,
+    names: &mut Scope<'a, TreeKind>,
     takes: &[TreeKind],
     args: &'a [Expr],
 ) -> Result<Load, NoMemory>
     ensures found { IfOk result (λ load. load ≡ Pass.pass_arguments (functions_of known.now)
-        (names_of names.old.items) (kinds_seen takes.now) (trees_in args.now)) }
-    ensures names { OnOk result (names.new.items ≡ names.old.items) }
+        (names_of names.old) (kinds_seen takes.now) (trees_in args.now)) }
+    ensures names { OnOk result (names.new ≡ names.old) }
 {
     let mut others = nothing();
     let mut k = args.len();
@@ -230,14 +235,14 @@ fn arguments<'a>(
 #[cycle(pass)]
 fn call<'a>(
     known: &[Known],
-    names: &mut Vec<Named<'a>>,
+    names: &mut Scope<'a, TreeKind>,
     name: &[u8],
     args: &'a [Expr],
 ) -> Result<Work, NoMemory>
     ensures found { IfOk result (λ work. measured_seen work
-        ≡ Pass.pass (functions_of known.now) (names_of names.old.items)
+        ≡ Pass.pass (functions_of known.now) (names_of names.old)
         (call name.now (trees_in args.now))) }
-    ensures names { OnOk result (names.new.items ≡ names.old.items) }
+    ensures names { OnOk result (names.new ≡ names.old) }
 {
     match function_named(known, name) {
         None => {

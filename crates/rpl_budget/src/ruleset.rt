@@ -12,9 +12,9 @@ use crate::acts::acts;
 use crate::kind::{TreeKind, kind_of_type};
 use crate::known::{Known, weights};
 use crate::load::{COUNT, Load, WORDS, fitted, plus};
-use crate::named::Named;
 use crate::pass::pass;
 use crate::work::Work;
+use rpl_scope::Scope;
 use rpl_tree::{Declaration, Param, ParsedRules};
 use rw_base::NoMemory;
 use std::alloc::Global;
@@ -30,9 +30,9 @@ fn rule_cost(all: Load) -> TreeCost
     }
 }
 
-fn function_cost(takes: &[TreeKind], answers: TreeKind, body: Work) -> TreeCost
+fn function_cost(room: u64, answers: TreeKind, body: Work) -> TreeCost
     ensures { budget_seen result
-        ≡ Pass.function_budget (kinds_seen takes.now) (kind_seen answers) (measured_seen body) }
+        ≡ Pass.function_budget room (kind_seen answers) (measured_seen body) }
 {
     let all = fitted(answers, body.kind, body.load);
     let own = plus(all.locals, all.height, WORDS);
@@ -40,15 +40,15 @@ fn function_cost(takes: &[TreeKind], answers: TreeKind, body: Work) -> TreeCost
         instructions: all.count,
         reads: all.looks,
         puts: all.puts,
-        words: plus(weights(takes), own, WORDS),
+        words: plus(room, own, WORDS),
     }
 }
 
 // What a call comes to.
-fn call_cost(takes: &[TreeKind], inside: TreeCost) -> TreeCost
-    ensures { budget_seen result ≡ Pass.call_budget (kinds_seen takes.now) (budget_seen inside) }
+fn call_cost(room: u64, inside: TreeCost) -> TreeCost
+    ensures { budget_seen result ≡ Pass.call_budget room (budget_seen inside) }
 {
-    let start = plus(weights(takes), 1, COUNT);
+    let start = plus(room, 1, COUNT);
     TreeCost {
         instructions: plus(start, inside.instructions, COUNT),
         ..inside
@@ -68,19 +68,16 @@ fn param_kinds(alloc: Global, params: &[Param]) -> Result<Vec<TreeKind>, NoMemor
 }
 
 // The parameters as names, the first of them innermost.
-fn param_names<'a>(alloc: Global, params: &'a [Param]) -> Result<Vec<Named<'a>>, NoMemory>
-    ensures { IfOk result (λ names. names_of names.items
+fn param_names<'a>(alloc: Global, params: &'a [Param]) -> Result<Scope<'a, TreeKind>, NoMemory>
+    ensures { IfOk result (λ names. names_of names
         ≡ Cost.param_names (map parameter_of params.now)) }
 {
-    let mut names = Vec::new(alloc);
+    let mut names = Scope::new(alloc);
     let mut k = params.len();
     while k > 0 {
         k -= 1;
         let param = &params[k];
-        names.push(Named {
-            name: &param.name,
-            kind: kind_of_type(&param.kind),
-        })?;
+        names.push(&param.name, kind_of_type(&param.kind))?;
     }
     Ok(names)
 }
@@ -98,7 +95,7 @@ fn declared<'a>(
 {
     match declaration {
         Declaration::Rule { body, .. } => {
-            let mut names = Vec::new(alloc);
+            let mut names = Scope::new(alloc);
             Ok(rule_cost(acts(known, &mut names, body)?))
         }
         Declaration::Function {
@@ -110,12 +107,14 @@ fn declared<'a>(
             let takes = param_kinds(alloc, params)?;
             let result = kind_of_type(result);
             let mut names = param_names(alloc, params)?;
-            let cost = function_cost(&takes, result, pass(known, &mut names, body)?);
-            let most = call_cost(&takes, cost);
+            let room = weights(&takes);
+            let cost = function_cost(room, result, pass(known, &mut names, body)?);
+            let most = call_cost(room, cost);
             known.push(Known {
                 name,
                 takes,
                 result,
+                room,
                 most,
             })?;
             Ok(cost)
@@ -133,10 +132,12 @@ fn of_numbers(name: &'static [u8], takes: Vec<TreeKind>) -> Known<'static>
         puts: 0,
         words: 0,
     };
+    let room = weights(&takes);
     Known {
         name,
         takes,
         result: TreeKind::Number,
+        room,
         most,
     }
 }

@@ -8,7 +8,7 @@ use Rattle.rpl_budget.proofs.acts.+acts.Goals as goal
 pub act-returns-in_ok-second-in-If-clause-found : goal.act-returns-in_ok-second-in-If-clause-found
 act-returns-in_ok-second-in-If-clause-found t c =
     let functions = functions_of c.args.known.now in
-    let names = names_of c.args.names.now.items in
+    let names = names_of c.args.names.now in
     let test = c.in_ok-test-in-If.ensures in
     let first = c.in_ok-first-in-If.ensures in
     let found = first.found ∙ ap₂ (λ ns ss. pass_acts functions (names_of ns) (acts_in ss)) test.names c.deref.ensures.value in
@@ -21,11 +21,11 @@ act-returns-in_ok-second-in-If-clause-found t c =
 pub act-returns-in_ok-inside-in-With-clause-found : goal.act-returns-in_ok-inside-in-With-clause-found
 act-returns-in_ok-inside-in-With-clause-found t c =
     let functions = functions_of c.args.known.now in
-    let names = names_of c.args.names.now.items in
+    let names = names_of c.args.names.now in
     let value = c.in_ok-value-in-With in
     let kind = kind_seen value.value.kind in
     let found = c.in_ok-inside-in-With.ensures.found
-    ∙ ap (λ x. pass_acts functions ((x, kind) ∷ names_of c.pass-in-With.new.names.items) (acts_in c.deref-in-With-2.result.now)) c.deref-in-With.ensures.value
+    ∙ ap (λ x. pass_acts functions ((x, kind) ∷ names_of c.pass-in-With.new.names) (acts_in c.deref-in-With-2.result.now)) c.deref-in-With.ensures.value
     ∙ ap₂ (λ ns ss. pass_acts functions ((c.in-With.name.items, kind) ∷ names_of ns) (acts_in ss)) value.ensures.names c.deref-in-With-2.ensures.value in
     c.bound.ensures ∙ ap (bound (measured_seen value.value)) found
     ∙ ap (λ (m : Measured). bound m (pass_acts functions ((c.in-With.name.items, m.kind) ∷ names) (acts_in c.in-With.body.items))) value.ensures.found

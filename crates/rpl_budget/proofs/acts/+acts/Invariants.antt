@@ -6,8 +6,8 @@ use Rattle.rpl_budget.proofs.acts.+acts.Given as goal
 
 abbrev pub invariant-acts-loop-k : goal.invariant-acts-loop-k
 invariant-acts-loop-k l = record {
-  found : l.others ≡ pass_acts (functions_of l.known) (names_of l.fn.names.items) (acts_in (drop l.k l.statements));
-  same : l.names.items ≡ l.fn.names.items;
+  found : l.others ≡ pass_acts (functions_of l.known) (names_of l.fn.names) (acts_in (drop l.k l.statements));
+  same : l.names ≡ l.fn.names;
   within : l.k ≤ length l.statements;
 }
 

@@ -6,8 +6,8 @@ use Rattle.rpl_budget.proofs.pass.+pass.Given as goal
 
 abbrev pub invariant-elements-loop-k : goal.invariant-elements-loop-k
 invariant-elements-loop-k l = record {
-  found : measured_seen l.others ≡ pass_all (functions_of l.known) (names_of l.fn.names.items) (trees_in (drop l.k l.items));
-  same : l.names.items ≡ l.fn.names.items;
+  found : measured_seen l.others ≡ pass_all (functions_of l.known) (names_of l.fn.names) (trees_in (drop l.k l.items));
+  same : l.names ≡ l.fn.names;
   within : l.k ≤ length l.items;
 }
 
@@ -16,8 +16,8 @@ decreases-elements-loop-k l = l.k
 
 abbrev pub invariant-arguments-loop-k : goal.invariant-arguments-loop-k
 invariant-arguments-loop-k l = record {
-  found : l.others ≡ pass_arguments (functions_of l.known) (names_of l.fn.names.items) (kinds_seen (drop l.k l.takes)) (trees_in (drop l.k l.args));
-  same : l.names.items ≡ l.fn.names.items;
+  found : l.others ≡ pass_arguments (functions_of l.known) (names_of l.fn.names) (kinds_seen (drop l.k l.takes)) (trees_in (drop l.k l.args));
+  same : l.names ≡ l.fn.names;
   within : l.k ≤ length l.args;
 }
 

@@ -6,7 +6,7 @@ use Rattle.rpl_budget.proofs.ruleset.param_names.Given as goal
 
 abbrev pub invariant-loop-k : goal.invariant-loop-k
 invariant-loop-k l = record {
-  found : names_of l.names.items ≡ param_names (map parameter_of (drop l.k l.params));
+  found : names_of l.names ≡ param_names (map parameter_of (drop l.k l.params));
   within : l.k ≤ length l.params;
 }
 
