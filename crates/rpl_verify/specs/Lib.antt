@@ -15,3 +15,4 @@ pub mod Operations
 pub mod Machine
 pub mod Safety
 pub mod Worked
+pub mod Resolved

@@ -13,6 +13,7 @@ pub mod law;
 mod names;
 mod notes;
 mod place_fault;
+mod resolved;
 mod stacks;
 mod table;
 mod takes;
@@ -23,6 +24,7 @@ mod verify_kind;
 mod walk;
 
 pub use budget::Budget;
+pub use resolved::Resolved;
 pub use verified::{Verified, verify};
 pub use verify_fault::VerifyFault;
 pub use verify_kind::VerifyKind;

@@ -1,0 +1,5 @@
+//! What a rule of verified code does at a timestep.
+#![tactic(auto)]
+
+mod call;
+mod turn;
