@@ -1,0 +1,9 @@
+pub mod Scalars
+pub mod Computed
+pub mod ListWords
+pub mod LocalWords
+pub mod Turning
+pub mod Acts
+pub mod Makes
+pub mod ResolvedFacts
+pub mod StepAlike
