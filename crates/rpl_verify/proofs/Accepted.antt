@@ -96,27 +96,27 @@ module _ {A : Type 0} (judge : List Block → List A → Block → Result A Misp
 uncapped : (limit n : ℕ) → capped limit n ≤ limit → capped limit n ≡ n
 uncapped limit n h = omega (arith, h)
 
-befores_or : Result (List Before) Misplaced → List Before
+abbrev pub befores_or : Result (List Before) Misplaced → List Before
 befores_or (Ok bs) = bs
 befores_or (Err e) = []
 
 module _ (basin : Draft) (code : List Block) (budgets : List Budget) (accepted : AreAccepted basin code budgets) where
   -- what is before each place of each block, and the budgets of the blocks before it
-  abbrev bs : ℕ → List Before
+  abbrev pub bs : ℕ → List Before
   bs n = befores_or (befores (scope_of basin code n (block_or (numbered code n))) 0 (before [] []) (block_or (numbered code n)).lines)
 
-  abbrev earlier : ℕ → List Budget
+  abbrev pub earlier : ℕ → List Budget
   earlier n = take (n - 1) budgets
 
-  record Ruled (n : ℕ) (x : Block) : Type 0 where
-    places : List Before
-    fit : befores (scope_of basin code n x) 0 (before [] []) x.lines ≡ Ok places
-    budget_is : Budget
-    at : numbered budgets n ≡ Some budget_is
-    same : budget_by (scope_of basin code n x) (earlier n) places x.lines ≡ budget_is
-    limited : IsWithinLimits budget_is
+  pub record Ruled (n : ℕ) (x : Block) : Type 0 where
+    pub places : List Before
+    pub fit : befores (scope_of basin code n x) 0 (before [] []) x.lines ≡ Ok places
+    pub budget_is : Budget
+    pub at : numbered budgets n ≡ Some budget_is
+    pub same : budget_by (scope_of basin code n x) (earlier n) places x.lines ≡ budget_is
+    pub limited : IsWithinLimits budget_is
 
-  ruled : (n : ℕ) (x : Block) → numbered code n ≡ Some x → Ruled n x
+  pub ruled : (n : ℕ) (x : Block) → numbered code n ≡ Some x → Ruled n x
   ruled n x h =
       let s = numbered_is code n x h in
       let k : ℕ = n - 1 in
@@ -141,21 +141,20 @@ module _ (basin : Draft) (code : List Block) (budgets : List Budget) (accepted :
       few false r l h = absurd (cc h)
 
   bs_is : (n : ℕ) (x : Block) (e : numbered code n ≡ Some x) → bs n ≡ (ruled n x e).places
-  unfolding befores_or
   bs_is n x e =
       ap (λ (y : Block). befores_or (befores (scope_of basin code n y) 0 (before [] []) y.lines)) (ap block_or e) ∙ ap befores_or (ruled n x e).fit
 
-  fits : (n : ℕ) (x : Block) → numbered code n ≡ Some x → befores (scope_of basin code n x) 0 (before [] []) x.lines ≡ Ok (bs n)
+  pub fits : (n : ℕ) (x : Block) → numbered code n ≡ Some x → befores (scope_of basin code n x) 0 (before [] []) x.lines ≡ Ok (bs n)
   fits n x e = (ruled n x e).fit ∙ ap Ok (sym (bs_is n x e))
 
   -- a block's budget is what it may come to
-  record Exact (n : ℕ) (x : Block) (d : Budget) : Type 0 where
-    count : C (scope_of basin code n x) (earlier n) (count_of (scope_of basin code n x) (earlier n)) x.lines (bs n) 0 ≡ d.count
-    looks : C (scope_of basin code n x) (earlier n) (looks_of (scope_of basin code n x) (earlier n)) x.lines (bs n) 0 ≡ d.looks
-    puts : C (scope_of basin code n x) (earlier n) (puts_of (scope_of basin code n x) (earlier n)) x.lines (bs n) 0 ≡ d.puts
-    words : W (scope_of basin code n x) (earlier n) x.lines (bs n) 0 ≡ d.words
+  pub record Exact (n : ℕ) (x : Block) (d : Budget) : Type 0 where
+    pub count : C (scope_of basin code n x) (earlier n) (count_of (scope_of basin code n x) (earlier n)) x.lines (bs n) 0 ≡ d.count
+    pub looks : C (scope_of basin code n x) (earlier n) (looks_of (scope_of basin code n x) (earlier n)) x.lines (bs n) 0 ≡ d.looks
+    pub puts : C (scope_of basin code n x) (earlier n) (puts_of (scope_of basin code n x) (earlier n)) x.lines (bs n) 0 ≡ d.puts
+    pub words : W (scope_of basin code n x) (earlier n) x.lines (bs n) 0 ≡ d.words
 
-  exact : (n : ℕ) (x : Block) (e : numbered code n ≡ Some x) → Exact n x (ruled n x e).budget_is
+  pub exact : (n : ℕ) (x : Block) (e : numbered code n ≡ Some x) → Exact n x (ruled n x e).budget_is
   exact n x e =
       let r = ruled n x e in
       let sc : Scope = scope_of basin code n x in
@@ -172,7 +171,7 @@ module _ (basin : Draft) (code : List Block) (budgets : List Budget) (accepted :
       }
 
   module _ (values : Cell → Option ℤ) (now : ℕ) where
-    covered : (n k : ℕ) (x y : Block) → numbered code n ≡ Some x → nat_lt k n ≡ true → numbered code k ≡ Some y → Covers basin code values now bs earlier fits n k
+    pub covered : (n k : ℕ) (x y : Block) → numbered code n ≡ Some x → nat_lt k n ≡ true → numbered code k ≡ Some y → Covers basin code values now bs earlier fits n k
     covered n k x y h lt e =
         let r = ruled k y e in
         let q = exact k y e in
@@ -195,7 +194,7 @@ module _ (basin : Draft) (code : List Block) (budgets : List Budget) (accepted :
           words = omega (arith, m4, ap (part_of (λ (d : Budget). d.words)) d);
         }
 
-    abbrev the_world : World
+    abbrev pub the_world : World
     the_world = record { basin = basin; values = values; step = now }
 
     -- a rule that there is begins, with no arguments
@@ -203,7 +202,7 @@ module _ (basin : Draft) (code : List Block) (budgets : List Budget) (accepted :
     alike_rule Rule e = refl
     alike_rule (Function result ps) e = absurd (cc e)
 
-    rule_there : (m : ℕ) (xs : List Block) (rule n : ℕ) → rule_from m xs rule ≡ Some n → (x : Block) × (slice_get xs (n - m) ≡ Some x) × (x.head ≡ Rule) × (m ≤ n)
+    pub rule_there : (m : ℕ) (xs : List Block) (rule n : ℕ) → rule_from m xs rule ≡ Some n → (x : Block) × (slice_get xs (n - m) ≡ Some x) × (x.head ≡ Rule) × (m ≤ n)
     rule_there m [] rule n h = absurd (cc h)
     rule_there m (x ∷ xs) rule n h = by (is_alike Rule x.head) refl h (λ r e. further (rule_there (suc m) xs r n e))
       where
