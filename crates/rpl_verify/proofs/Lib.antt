@@ -21,3 +21,4 @@ pub mod Caps
 pub mod BlockFacts
 pub mod BlockRuled
 pub mod VerifiedFacts
+pub mod Resolving

@@ -1,5 +1,5 @@
 -- Names that are looked up.
-use Rattle.std.proofs.Common.{◌≡◌, ℕ, zero, suc, ◌+◌, ◌<◌, true, false, nat_le, ◌-◌, List, [], ◌∷◌, length, drop, Some, None, option_map, option_and_then, bytes_eq, refl, sym, ap, ◌∙◌, arith, if◌then◌else◌}
+use Rattle.std.proofs.Common.{◌≡◌, ℕ, zero, suc, ◌+◌, ◌<◌, true, false, nat_le, ◌-◌, List, [], ◌∷◌, length, drop, Option, Some, None, option_map, option_and_then, bytes_eq, refl, sym, ap, ◌∙◌, arith, if◌then◌else◌}
 use Rattle.std.specs.Prelude.{slice_get}
 use Rattle.std.proofs.lemmas.Bool.Decides.{nat_tests}
 use Rattle.rw_model.specs.Objects.{Object, object_at, object_from, object_named}
@@ -46,13 +46,16 @@ pub left_on : (objects : List Object) (name text : List ℕ) (place : ℕ) → I
 left_on objects name text place l lt e n =
     sym (next objects name text place lt e ∙ ap (λ b. if b then Some (place + 1) else object_from (place + 1 + 1) (drop (place + 1) objects) name) n) ∙ l
 
-pub found_here : (basin : Draft) (name text : List ℕ) (place : ℕ) (kind : Kind) → IsLeft basin.objects name place → place < length basin.objects → option_map (λ (o : Object). o.name) (object_at basin.objects (place + 1)) ≡ Some text → bytes_eq name text ≡ true
-    → option_map (λ (o : Object). o.kind) (object_at basin.objects (place + 1)) ≡ Some kind → table_named basin name ≡ table_in kind
-found_here basin name text place kind l lt e y k =
-    let objects = basin.objects in
-    let found : object_named objects name ≡ Some (place + 1) = sym l ∙ next objects name text place lt e ∙ ap (λ b. if b then Some (place + 1) else object_from (place + 1 + 1) (drop (place + 1) objects) name) y in
-    let h = here objects place lt in
-    let o : object_at objects (place + 1) ≡ Some h.object = at_is objects place ∙ h.is in
-    let kd : h.object.kind ≡ kind = let a = ap (option_map (λ (o : Object). o.kind)) (sym o) ∙ k in cc a in
-    ap (λ n. option_and_then (λ (object : Object). table_in object.kind) (option_and_then (λ number. object_at objects number) n)) found
-    ∙ ap (option_and_then (λ (object : Object). table_in object.kind)) o ∙ ap table_in kd
+pub found_here : (objects : List Object) (name text : List ℕ) (place : ℕ) → IsLeft objects name place → place < length objects → option_map (λ (o : Object). o.name) (object_at objects (place + 1)) ≡ Some text → bytes_eq name text ≡ true
+    → object_named objects name ≡ Some (place + 1)
+found_here objects name text place l lt e y =
+    sym l ∙ next objects name text place lt e ∙ ap (λ b. if b then Some (place + 1) else object_from (place + 1 + 1) (drop (place + 1) objects) name) y
+
+-- the table of the object that is found
+pub tabled : (basin : Draft) (name : List ℕ) (n : ℕ) (kind : Kind) → object_named basin.objects name ≡ Some n → option_map (λ (o : Object). o.kind) (object_at basin.objects n) ≡ Some kind → table_named basin name ≡ table_in kind
+tabled basin name n kind found k =
+    ap (λ n. option_and_then (λ (object : Object). table_in object.kind) (option_and_then (λ number. object_at basin.objects number) n)) found ∙ by (object_at basin.objects n) k
+  where
+    by : (o : Option Object) → option_map (λ (o : Object). o.kind) o ≡ Some kind → option_and_then (λ (object : Object). table_in object.kind) o ≡ table_in kind
+    by (Some o) k = let e : o.kind ≡ kind = cc k in ap table_in e
+    by None k = absurd (cc k)

@@ -12,6 +12,7 @@ use Rattle.rpl_verify.specs.declared.verify_kind.VerifyKind.TheVariants.{TooMany
 use Rattle.rpl_verify.specs.Fits.{Before, Refusal, before, befores, block_befores, count_alike, each_block, is_alike, scope_of}
 use Rattle.rpl_verify.specs.Budget.{AreAccepted, block_ruling, ruling}
 use Rattle.rpl_verify.specs.Machine.{rule_from}
+use Rattle.rpl_verify.specs.Resolved.{resolved_code}
 use Rattle.rpl_verify.specs.Verified.{Accepted, function_head, rules_from, verified, with_budgets}
 use Rattle.rpl_verify.proofs.KindFacts.{same_ok, then_do_ok}
 use Rattle.rpl_verify.proofs.Rulings.{in_block_ok}
@@ -110,12 +111,22 @@ module _ (basin : Draft) (blocks : List Block) where
 
 -- ---- what is answered
 
-pub answered : (basin : Draft) (blocks : List Block) (a : Accepted) → verified basin blocks ≡ Ok a → AreAccepted basin a.blocks a.budgets
-answered basin blocks a h = by (ruling basin blocks) refl h
+record IsAnswered (basin : Draft) (blocks : List Block) (a : Accepted) : Type 0 where
+  accepted : AreAccepted basin a.blocks a.budgets
+  resolved : a.resolved ≡ resolved_code basin a.blocks
+
+is_answered : (basin : Draft) (blocks : List Block) (a : Accepted) → verified basin blocks ≡ Ok a → IsAnswered basin blocks a
+is_answered basin blocks a h = by (ruling basin blocks) refl h
   where
-    by : (r : Result (List Budget) Refusal) → ruling basin blocks ≡ r → with_budgets blocks r ≡ Ok a → AreAccepted basin a.blocks a.budgets
+    by : (r : Result (List Budget) Refusal) → ruling basin blocks ≡ r → with_budgets basin blocks r ≡ Ok a → IsAnswered basin blocks a
     by (Ok budgets) e h =
-        let b : Accepted = record { blocks = blocks; budgets = budgets } in
+        let b : Accepted = record { blocks = blocks; budgets = budgets; resolved = resolved_code basin blocks } in
         let s : b ≡ a = same_ok b a h in
-        subst (λ (a : Accepted). AreAccepted basin a.blocks a.budgets) s e
+        subst (IsAnswered basin blocks) s (record { accepted = e; resolved = refl })
     by (Err why) e h = absurd (cc h)
+
+pub answered : (basin : Draft) (blocks : List Block) (a : Accepted) → verified basin blocks ≡ Ok a → AreAccepted basin a.blocks a.budgets
+answered basin blocks a h = let i = is_answered basin blocks a h in i.accepted
+
+pub answered_resolved : (basin : Draft) (blocks : List Block) (a : Accepted) → verified basin blocks ≡ Ok a → a.resolved ≡ resolved_code basin a.blocks
+answered_resolved basin blocks a h = let i = is_answered basin blocks a h in i.resolved

@@ -16,3 +16,4 @@ pub mod Machine
 pub mod Safety
 pub mod Worked
 pub mod Resolved
+pub mod Resolving

@@ -6,23 +6,27 @@ use Rattle.rpl_code.specs.declared.kind.ValueKind.TheVariants as K
 use Rattle.rpl_code.specs.declared.block.BlockHead.{BlockHead}
 use Rattle.rpl_code.specs.declared.block.BlockHead.TheVariants.{Rule, Function}
 use Rattle.rpl_tree.specs.Budget.{Budget}
+use Rattle.rpl_verify.specs.declared.resolved.Resolved.{Resolved}
 use Rattle.rpl_verify.specs.declared.verify_fault.VerifyFault.{VerifyFault}
 use Rattle.rpl_verify.specs.declared.verify_fault.VerifyFault.TheVariants.{Refused, NoMemory}
 use Rattle.rpl_verify.specs.Fits.{Refusal, count_alike, is_alike, refusal}
 use Rattle.rpl_verify.specs.Budget.{ruling}
+use Rattle.rpl_verify.specs.Resolved.{resolved_code}
 
--- the blocks, and the budget of each
+-- the blocks, the budget of each, and its instructions resolved
 pub record Accepted : Type 0 where
   pub blocks : List Block
   pub budgets : List Budget
+  pub resolved : List (List Resolved)
 
-abbrev pub with_budgets : List Block → Result (List Budget) Refusal → Result Accepted Refusal
-with_budgets blocks (Ok budgets) = Ok (record { blocks = blocks; budgets = budgets })
-with_budgets blocks (Err why) = Err why
+abbrev pub with_budgets : Draft → List Block → Result (List Budget) Refusal → Result Accepted Refusal
+with_budgets basin blocks (Ok budgets) =
+    Ok (record { blocks = blocks; budgets = budgets; resolved = resolved_code basin blocks })
+with_budgets basin blocks (Err why) = Err why
 
--- the code with the budget of each block, or its first refusal
+-- the code with the budget of each block and its instructions resolved, or its first refusal
 abbrev pub verified : Draft → List Block → Result Accepted Refusal
-verified basin blocks = with_budgets blocks (ruling basin blocks)
+verified basin blocks = with_budgets basin blocks (ruling basin blocks)
 
 -- the refusal that a fault tells
 abbrev pub refusal_of : VerifyFault → Option Refusal

@@ -13,6 +13,7 @@ ghost use Rattle.rpl_tree.specs.Worked.{all_cells, done_by, ended_by, fire, only
 ghost use Rattle.rpl_verify.specs.declared.verify_kind.VerifyKind.TheVariants.{BackwardJump, JumpOutside, LaterCall, MissingOperand, NoSuchName, NotSettable, PutInFunction, TargetStep, TooCostly, TooDeep, TooMany, TooManyPuts, TooManyReads, WrongOperand, WrongShape};
 ghost use Rattle.rpl_verify.specs.Budget.{AreAccepted, IsWithinLimits};
 ghost use Rattle.rpl_verify.specs.Machine.{fire_of_code};
+ghost use Rattle.rpl_verify.specs.Resolved.{resolved_code};
 ghost use Rattle.rpl_verify.specs.Safety.{AreSafe};
 ghost use Rattle.rpl_verify.specs.Verified.{Accepted, verified};
 ghost use Rattle.rpl_verify.specs.Fits.{AreFit, first_misfit, refusal};
@@ -294,12 +295,14 @@ pub fn verified_code_is_safe()
         → AreAccepted basin blocks budgets → AreSafe basin blocks budgets }
 {}
 
-/// What `verify` answers is accepted code, and so it is safe.
+/// What `verify` answers is accepted code, and so it is safe; and its instructions are resolved.
 pub fn answered_code_is_safe()
     ensures accepted { (basin : Draft) (blocks : List Block) (a : Accepted)
         → verified basin blocks ≡ Ok a → AreAccepted basin a.blocks a.budgets }
     ensures safe { (basin : Draft) (blocks : List Block) (a : Accepted)
         → verified basin blocks ≡ Ok a → AreSafe basin a.blocks a.budgets }
+    ensures resolved { (basin : Draft) (blocks : List Block) (a : Accepted)
+        → verified basin blocks ≡ Ok a → a.resolved ≡ resolved_code basin a.blocks }
 {}
 
 /// What firings pass: each look counts, also one outside the run, which looks at no cell; a put counts that is executed before

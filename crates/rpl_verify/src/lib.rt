@@ -14,6 +14,7 @@ mod names;
 mod notes;
 mod place_fault;
 mod resolved;
+mod resolver;
 mod stacks;
 mod table;
 mod takes;

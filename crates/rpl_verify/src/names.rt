@@ -1,6 +1,8 @@
 // Names that instructions use, looked up in the basin, the predefined functions and the blocks.
 ghost use Rattle.std.specs.Prelude.{◌≡◌, ℕ, List, bytes_eq, option_map};
-ghost use Rattle.rw_model.specs.Objects.{numbered, slot_named};
+ghost use Rattle.std.specs.Option.{ForSome};
+ghost use Rattle.rw_model.specs.Draft.{IsObject};
+ghost use Rattle.rw_model.specs.Objects.{numbered, object_named, slot_named};
 ghost use Rattle.rpl_code.specs.declared.kind.ValueKind.{ValueKind};
 ghost use Rattle.rpl_tree.specs.Mean.{predefined_functions};
 ghost use Rattle.rpl_tree.specs.World.{table_in, table_named};
@@ -9,8 +11,9 @@ ghost use Rattle.rpl_verify.specs.Names.{call_misfit, name_misfit, put_misfit, p
 ghost use Rattle.rpl_verify.specs.Places.{Spot};
 ghost use Rattle.rpl_verify.specs.Steps.{scope_in, takes_count};
 ghost use Rattle.rpl_verify.specs.Table.{function_named};
+ghost use Rattle.rpl_verify.specs.Resolved.{call_of, object_or_none, slot_or_first};
 
-use crate::VerifyKind;
+use crate::{Resolved, VerifyKind};
 use rpl_code::{Block, BlockHead, Instruction};
 use rw_base::ObjectNo;
 use rw_model::{Basin, Kind, Name};
@@ -43,6 +46,27 @@ pub(crate) fn predefined_count(name: &Name) -> Option<u8>
     }
 }
 
+/// The call of a predefined function, by its row, or of row 0 if there is none of this name.
+pub(crate) fn call_of(name: &Name) -> Resolved
+    ensures { result ≡ call_of 1 predefined_functions name.now }
+{
+    if is_called(name, "Min") {
+        Resolved::Call { row: 1, takes: 2 }
+    } else if is_called(name, "Max") {
+        Resolved::Call { row: 2, takes: 2 }
+    } else if is_called(name, "Abs") {
+        Resolved::Call { row: 3, takes: 1 }
+    } else if is_called(name, "Clamp") {
+        Resolved::Call { row: 4, takes: 3 }
+    } else if is_called(name, "RoundDown") {
+        Resolved::Call { row: 5, takes: 2 }
+    } else if is_called(name, "Sign") {
+        Resolved::Call { row: 6, takes: 1 }
+    } else {
+        Resolved::Call { row: 0, takes: 0 }
+    }
+}
+
 /// The block of a number, counted from 1.
 pub(crate) fn block_numbered(blocks: &[Block], number: u32) -> Option<&Block>
     ensures { option_map (λ block. block.now) result ≡ numbered blocks.now number }
@@ -53,17 +77,49 @@ pub(crate) fn block_numbered(blocks: &[Block], number: u32) -> Option<&Block>
     blocks.get(number as usize - 1)
 }
 
-// A reservoir of this name has to be there, with a table.
-fn table_misfit(basin: &Basin, name: &Name) -> Option<VerifyKind>
-    ensures { result ≡ unless_there (table_named basin.now name.now) }
+// The number of the object of this name, if there is one.
+fn find_object(basin: &Basin, name: &Name) -> Option<ObjectNo>
+    ensures number { option_map (λ object. object.0) result
+        ≡ object_named basin.now.objects name.now }
+    ensures known { ForSome result (λ object. IsObject basin.now.objects object.0) }
 {
     for place in 0..basin.object_count() {
         let object = ObjectNo(place + 1);
         if name.as_str() == basin.object_name(object) {
-            return unless_tabled(basin.kind(object));
+            return Some(object);
         }
     }
-    Some(VerifyKind::NoSuchName)
+    None
+}
+
+/// The number of the object of this name, or 0 if there is none.
+pub(crate) fn object_number(basin: &Basin, name: &Name) -> u16
+    ensures { result ≡ object_or_none (object_named basin.now.objects name.now) }
+{
+    match find_object(basin, name) {
+        None => 0,
+        Some(object) => object.0,
+    }
+}
+
+/// The number of the slot of these names, or 1 if there is none.
+pub(crate) fn slot_number(basin: &Basin, object: &Name, slot: &Name) -> u16
+    ensures { result ≡ slot_or_first (slot_named basin.now.objects object.now slot.now) }
+{
+    match basin.find_slot(object.as_str(), slot.as_str()) {
+        None => 1,
+        Some(number) => number.0,
+    }
+}
+
+// A reservoir of this name has to be there, with a table.
+fn table_misfit(basin: &Basin, name: &Name) -> Option<VerifyKind>
+    ensures { result ≡ unless_there (table_named basin.now name.now) }
+{
+    match find_object(basin, name) {
+        None => Some(VerifyKind::NoSuchName),
+        Some(object) => unless_tabled(basin.kind(object)),
+    }
 }
 
 // An object of this kind has to have a table.

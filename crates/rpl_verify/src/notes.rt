@@ -57,7 +57,7 @@ pub(crate) fn cap_of(part: Part) -> u32
 }
 
 /// A sum, up to the first number above the limit.
-fn plus(part: Part, a: u64, b: u64) -> u32
+pub(crate) fn plus(part: Part, a: u64, b: u64) -> u32
     ensures { result ≡ capped (limit_of part) (a + b) }
 {
     a.saturating_add(b).min(u64::from(cap_of(part))) as u32
@@ -114,8 +114,8 @@ fn called(budgets: &[Budget], number: u32) -> Budget
     }
 }
 
-// The words of a local, if there is one.
-fn local_words(locals: &[ValueKind], n: u32) -> u32
+/// The words of a local, if there is one.
+pub(crate) fn local_words(locals: &[ValueKind], n: u32) -> u32
     ensures { result ≡ words_of_kind (slice_get locals.now n) }
 {
     match locals.get(n as usize) {

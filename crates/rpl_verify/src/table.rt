@@ -107,15 +107,15 @@ fn most_from(
     }
 }
 
-// Where it goes on behind the innermost loop.
-fn loop_end(ends: &[usize]) -> usize
+/// Where it goes on behind the innermost loop.
+pub(crate) fn loop_end(ends: &[usize]) -> usize
     ensures { result ≡ slice_index (reverse ends.now) 0 }
 {
     ends.last().copied().unwrap_or(0)
 }
 
-// Follows, from the end back, the loops that are open.
-fn follow_back(
+/// Follows, from the end back, the loops that are open.
+pub(crate) fn follow_back(
     ends: &mut Vec<usize>,
     place: usize,
     instruction: &Instruction,

@@ -1,5 +1,5 @@
 use Rattle.rpl_verify.proofs.Accepted.{safe}
-use Rattle.rpl_verify.proofs.VerifiedFacts.{answered}
+use Rattle.rpl_verify.proofs.VerifiedFacts.{answered, answered_resolved}
 use Rattle.rpl_verify.proofs.law.answered_code_is_safe.Goals as goal
 
 pub returns-clause-accepted : goal.returns-clause-accepted
@@ -7,3 +7,6 @@ returns-clause-accepted c = answered
 
 pub returns-clause-safe : goal.returns-clause-safe
 returns-clause-safe c = λ basin blocks a h. safe basin a.blocks a.budgets (answered basin blocks a h)
+
+pub returns-clause-resolved : goal.returns-clause-resolved
+returns-clause-resolved c = answered_resolved
