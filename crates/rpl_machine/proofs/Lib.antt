@@ -7,3 +7,4 @@ pub mod Acts
 pub mod Makes
 pub mod ResolvedFacts
 pub mod StepAlike
+pub mod Fine
