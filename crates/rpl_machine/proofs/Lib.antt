@@ -8,3 +8,4 @@ pub mod Makes
 pub mod ResolvedFacts
 pub mod StepAlike
 pub mod Fine
+pub mod Standing
