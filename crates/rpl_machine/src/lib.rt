@@ -2,4 +2,7 @@
 #![tactic(auto)]
 
 mod call;
+mod locals;
+mod looks;
+mod stack;
 mod turn;
