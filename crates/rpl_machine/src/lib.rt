@@ -1,8 +1,15 @@
 //! What a rule of verified code does at a timestep.
 #![tactic(auto)]
 
+mod blocks;
 mod call;
+mod calls;
 mod locals;
 mod looks;
+mod loops;
+mod machine;
+mod moves;
+mod puts;
 mod stack;
 mod turn;
+mod turns;
