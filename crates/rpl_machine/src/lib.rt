@@ -4,6 +4,7 @@
 mod blocks;
 mod call;
 mod calls;
+mod compute;
 mod locals;
 mod looks;
 mod loops;
@@ -11,5 +12,6 @@ mod machine;
 mod moves;
 mod puts;
 mod stack;
+mod step;
 mod turn;
 mod turns;
