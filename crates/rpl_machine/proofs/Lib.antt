@@ -1,2 +1,3 @@
 mod Backwards
 mod Moved
+mod Stepping

@@ -3,3 +3,4 @@ pub mod Memory
 pub mod Seen
 pub mod Steps
 pub mod State
+pub mod Parts
