@@ -1,1 +1,2 @@
 mod Backwards
+mod Ranges

@@ -2,3 +2,4 @@ pub mod Words
 pub mod Memory
 pub mod Seen
 pub mod Steps
+pub mod Parts

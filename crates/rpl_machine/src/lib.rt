@@ -2,7 +2,9 @@
 #![tactic(auto)]
 
 mod call;
+mod compute;
 mod locals;
 mod looks;
+mod parts;
 mod stack;
 mod turn;
