@@ -1,2 +1,3 @@
 mod Backwards
 mod Ranges
+mod Silent
