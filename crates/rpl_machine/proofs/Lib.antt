@@ -1,3 +1,4 @@
 mod Backwards
 mod Ranges
 mod Silent
+mod Price
