@@ -1,3 +1,6 @@
 mod Backwards
 mod Moved
+mod Price
+mod Ranges
+mod Silent
 mod Stepping

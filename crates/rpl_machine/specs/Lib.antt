@@ -2,5 +2,5 @@ pub mod Words
 pub mod Memory
 pub mod Seen
 pub mod Steps
-pub mod State
 pub mod Parts
+pub mod State

@@ -10,6 +10,7 @@ mod looks;
 mod loops;
 mod machine;
 mod moves;
+mod parts;
 mod puts;
 mod stack;
 mod step;

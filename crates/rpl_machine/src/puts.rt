@@ -6,8 +6,8 @@ use rw_series::RulePut;
 use std::alloc::Global;
 use std::marker::Model;
 
-// For how many there is room.
-const PUTS_MAX: usize = 2_000;
+// For how many there is room: one more than a budget allows.
+const PUTS_MAX: usize = 2_001;
 
 /// The puts of a firing, seen as their list. Only `with_room` takes memory.
 #[derive(Drop)]
