@@ -9,3 +9,9 @@ pub mod ResolvedFacts
 pub mod StepAlike
 pub mod Fine
 pub mod Standing
+mod Backwards
+mod Moved
+mod Price
+mod Ranges
+mod Silent
+mod Stepping

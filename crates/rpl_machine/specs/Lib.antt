@@ -2,3 +2,5 @@ pub mod Words
 pub mod Memory
 pub mod Seen
 pub mod Steps
+pub mod Parts
+pub mod State

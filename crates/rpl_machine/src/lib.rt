@@ -1,5 +1,18 @@
 //! What a rule of verified code does at a timestep.
 #![tactic(auto)]
 
+mod blocks;
 mod call;
+mod calls;
+mod compute;
+mod locals;
+mod looks;
+mod loops;
+mod machine;
+mod moves;
+mod parts;
+mod puts;
+mod stack;
+mod step;
 mod turn;
+mod turns;
