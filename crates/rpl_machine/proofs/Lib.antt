@@ -9,6 +9,7 @@ pub mod ResolvedFacts
 pub mod StepAlike
 pub mod Fine
 pub mod Standing
+pub mod Ready
 mod Backwards
 mod Moved
 mod Price
