@@ -1,5 +1,6 @@
 mod Backwards
 mod Moved
+mod Plain
 mod Price
 mod Ranges
 mod Silent
