@@ -6,10 +6,10 @@ use rw_series::Look;
 use std::alloc::Global;
 use std::marker::Model;
 
-// For how many looks there is room.
-const LOOKS_MAX: usize = 20_000;
+// For how many looks there is room: those of a firing, and one more.
+const LOOKS_MAX: usize = 20_001;
 
-/// The looks of a firing, with room for 20,000 of them, seen as their list. Only `with_room` takes memory.
+/// The looks of a firing, with room for 20,001 of them, seen as their list. Only `with_room` takes memory.
 #[derive(Drop)]
 pub(crate) struct Looks {
     looks: Vec<Look>,
