@@ -12,6 +12,7 @@ pub mod Standing
 pub mod Ready
 mod Backwards
 mod Moved
+mod Plain
 mod Price
 mod Ranges
 mod Silent

@@ -53,7 +53,8 @@ impl Calls {
 
     /// Takes out the one that came last.
     pub(crate) fn pop(&mut self) -> Option<Call>
-        ensures { MatchOption result ((self.old ≡ []) × (self.new ≡ [])) (λ call. self.old ≡ call ∷ self.new) }
+        ensures { MatchOption result ((self.old ≡ []) × (self.new ≡ []))
+            (λ call. self.old ≡ call ∷ self.new) }
     {
         self.calls.pop()
     }
