@@ -8,7 +8,7 @@ mod compute;
 mod locals;
 mod looks;
 mod loops;
-mod machine;
+mod state;
 mod moves;
 mod parts;
 mod puts;
