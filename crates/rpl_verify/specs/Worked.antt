@@ -13,11 +13,13 @@ use Rattle.rpl_code.specs.declared.block.Block.{Block}
 use Rattle.rpl_code.specs.Worked.{plain_rule}
 use Rattle.rpl_tree.specs.Budget.{Budget}
 use Rattle.rpl_tree.specs.Worked.{basin_of, dam, flow_object, numbers_object, pool, unknown_cells}
+use Rattle.rpl_verify.specs.declared.resolved.Resolved.{Resolved}
 use Rattle.rpl_verify.specs.declared.verify_kind.VerifyKind.{VerifyKind}
 use Rattle.rpl_verify.specs.Fits.{Refusal, first_misfit, refusal}
 use Rattle.rpl_verify.specs.Budget.{ruling}
 use Rattle.rpl_tree.specs.World.{World}
 use Rattle.rpl_verify.specs.Machine.{fire_of_code, first_frame}
+use Rattle.rpl_verify.specs.Resolved.{resolved_block}
 use Rattle.rpl_verify.specs.Safety.{firing_from, looks_in, most_words, puts_from}
 
 -- ---- basins of one day
@@ -213,6 +215,10 @@ abbrev pub sum_of_slots : List Block
 sum_of_slots = rule_with (K.S ∷ K.N ∷ [])
     (x_slot ∷ I.List 1 ∷ y_slot ∷ I.Append ∷ I.Widen 5 ∷ I.Foreach 0 ∷ I.Load 1 ∷ I.Load 0 ∷ I.Now ∷ I.Read ∷ I.Add ∷ I.Store 1
     ∷ I.Next ∷ I.Load 1 ∷ put_x ∷ []) ∷ []
+
+-- the instructions resolved of a rule of these locals and lines, in the basin of that object and the pool
+abbrev pub resolved_of : List ValueKind → List Instruction → List Resolved
+resolved_of locals lines = resolved_block (basin_of 40 (numbers_object ∷ pool ∷ [])) [] 1 (rule_with locals lines)
 
 -- ---- what firings pass
 

@@ -10,14 +10,15 @@ ghost use Rattle.rw_series.specs.declared.fire.FireEnd.TheVariants.{Done, OutOfR
 ghost use Rattle.rpl_tree.specs.Budget.{Budget, budget};
 ghost use Rattle.rpl_tree.specs.World.{cell_of, put_to};
 ghost use Rattle.rpl_tree.specs.Worked.{all_cells, done_by, ended_by, fire, only_slot, unknown_cells, x_ends, x_is};
+ghost use Rattle.rpl_verify.specs.declared.resolved.Resolved.TheVariants as R;
 ghost use Rattle.rpl_verify.specs.declared.verify_kind.VerifyKind.TheVariants.{BackwardJump, JumpOutside, LaterCall, MissingOperand, NoSuchName, NotSettable, PutInFunction, TargetStep, TooCostly, TooDeep, TooMany, TooManyPuts, TooManyReads, WrongOperand, WrongShape};
 ghost use Rattle.rpl_verify.specs.Budget.{AreAccepted, IsWithinLimits};
 ghost use Rattle.rpl_verify.specs.Machine.{fire_of_code};
-ghost use Rattle.rpl_verify.specs.Resolved.{resolved_code};
+ghost use Rattle.rpl_verify.specs.Resolved.{resolved_at, resolved_code};
 ghost use Rattle.rpl_verify.specs.Safety.{AreSafe};
 ghost use Rattle.rpl_verify.specs.Verified.{Accepted, verified};
 ghost use Rattle.rpl_verify.specs.Fits.{AreFit, first_misfit, refusal};
-ghost use Rattle.rpl_verify.specs.Worked.{cap_and_base_code, code_does, dam_and_flow, doubled_items, earlier_code, endless, hundredth_code, long_locals, many_puts, misfit_at, misfit_in, function_with, misfit_of, nested, number, number_function, numbers_basin, looks_of_firing, one_dam, one_or_sum, one_or_two, over_a_list, pair_then, put_before_look, put_outflow, put_spill, puts_of_firing, raise_and_reset_code, rule_with, ruled, second_slot, seen_before, skipped, sum_of_slots, spilling_dam, sum_ahead_code, sum_or_two, three_counted, tower, words_of_firing, x_by_truth, x_of, x_of_pool, x_slot, y_slot};
+ghost use Rattle.rpl_verify.specs.Worked.{cap_and_base_code, code_does, dam_and_flow, doubled_items, earlier_code, endless, hundredth_code, long_locals, many_puts, misfit_at, misfit_in, function_with, misfit_of, nested, number, number_function, numbers_basin, looks_of_firing, one_dam, one_or_sum, one_or_two, over_a_list, pair_then, put_before_look, put_outflow, put_spill, puts_of_firing, raise_and_reset_code, rule_with, ruled, second_slot, seen_before, skipped, sum_of_slots, spilling_dam, sum_ahead_code, sum_or_two, three_counted, tower, words_of_firing, x_by_truth, x_of, x_of_pool, x_slot, y_slot, put_x, resolved_of};
 
 /// Codes that fit. What a jump leaves out is judged as well, with the operands that the target behind the jump declares.
 pub fn codes_that_fit()
@@ -260,6 +261,46 @@ pub fn lists()
     ensures first_step { x_of (K.D ∷ []) (I.Now ∷ I.Load 0 ∷ I.Between ∷ []) ≡ x_is (pos 1) 4 }
     ensures first_slot { x_of (K.S ∷ []) (I.Load 0 ∷ I.Now ∷ I.Read ∷ [])
         ≡ ended_by Unknown (cell_of 1 1 ∷ []) 3 }
+{}
+
+/// Codes with their instructions resolved. A local is named by its first word, a slot is the word that is its number less 1, and
+/// of a block that doesn't fit there is nothing.
+pub fn resolved_codes()
+    ensures seven_kept { resolved_code one_dam seven_kept
+        ≡ (R.Push (pos 7) ∷ R.Store 0 1 ∷ R.Push (pos 50) ∷ R.Put 2 ∷ R.End ∷ []) ∷ [] }
+    ensures sum_ahead { resolved_code dam_and_flow sum_ahead_code
+        ≡ (R.Push (pos 0) ∷ R.Now ∷ R.Load 0 1 ∷ R.Sum ∷ R.Read ∷ R.End ∷ [])
+        ∷ (R.Push (pos 0) ∷ R.Push (pos 1) ∷ R.List 2 ∷ R.Push (pos 0) ∷ R.Store 1 1
+        ∷ R.Foreach 0 2 12 ∷ R.Load 1 1 ∷ R.Load 0 1 ∷ R.Invoke 1 1 0 ∷ R.Sum ∷ R.Store 1 1 ∷ R.Next
+        ∷ R.Load 1 1 ∷ R.Put 4 ∷ R.End ∷ []) ∷ [] }
+    ensures doubled_items { resolved_code one_dam doubled_items
+        ≡ (R.Push (pos 4) ∷ R.Push (pos 5) ∷ R.List 2 ∷ R.Map 0 2 8 ∷ R.Load 0 1 ∷ R.Load 0 1 ∷ R.Sum
+        ∷ R.Yield ∷ R.Widen 1 3 ∷ R.Push (pos 2) ∷ R.Item 3 ∷ R.Put 2 ∷ R.End ∷ []) ∷ [] }
+    ensures sum_of_slots { resolved_code numbers_basin sum_of_slots
+        ≡ (R.Push (pos 0) ∷ R.List 1 ∷ R.Push (pos 1) ∷ R.Append 1 ∷ R.Widen 3 5 ∷ R.Foreach 0 5 13
+        ∷ R.Load 1 1 ∷ R.Load 0 1 ∷ R.Now ∷ R.Read ∷ R.Sum ∷ R.Store 1 1 ∷ R.Next ∷ R.Load 1 1
+        ∷ R.Put 1 ∷ R.End ∷ []) ∷ [] }
+    ensures nested { resolved_code one_dam nested
+        ≡ (R.Push (pos 4) ∷ R.Push (pos 5) ∷ R.List 2 ∷ R.Foreach 0 2 10 ∷ R.Push (pos 4)
+        ∷ R.Push (pos 5) ∷ R.List 2 ∷ R.Foreach 1 2 9 ∷ R.Next ∷ R.Next ∷ R.End ∷ []) ∷ [] }
+    ensures endless { resolved_code one_dam endless ≡ [] ∷ [] }
+{}
+
+/// Locals and parameters of several words, names of functions and objects, and places of which there is nothing.
+pub fn resolved_instructions()
+    ensures locals { resolved_of (K.NList 3 ∷ K.N ∷ []) (I.Load 0 ∷ I.Foreach 1 ∷ I.Next ∷ [])
+        ≡ R.Load 0 4 ∷ R.Foreach 4 3 3 ∷ R.Next ∷ R.End ∷ [] }
+    ensures call { resolved_of [] (number 1 ∷ number 2 ∷ I.Call (codes "Max") ∷ put_x ∷ [])
+        ≡ R.Push (pos 1) ∷ R.Push (pos 2) ∷ R.Call 2 2 ∷ R.Put 1 ∷ R.End ∷ [] }
+    ensures object { resolved_of [] (number 250 ∷ I.ToStorage (codes "Pool") ∷ put_x ∷ [])
+        ≡ R.Push (pos 250) ∷ R.ToStorage 2 ∷ R.Put 1 ∷ R.End ∷ [] }
+    ensures invoke { resolved_code one_dam
+        (function_with (K.NList 3 ∷ []) K.N (K.N ∷ K.N ∷ []) (I.Load 0 ∷ I.Length ∷ [])
+        ∷ rule_with (K.NList 3 ∷ []) (I.Load 0 ∷ I.Invoke 1 ∷ put_outflow 0 ∷ []) ∷ [])
+        ≡ (R.Load 0 4 ∷ R.Length 3 ∷ R.End ∷ [])
+        ∷ (R.Load 0 4 ∷ R.Invoke 1 4 2 ∷ R.Put 2 ∷ R.End ∷ []) ∷ [] }
+    ensures no_place { resolved_at ((R.Now ∷ R.End ∷ []) ∷ []) 1 2 ≡ R.End }
+    ensures no_block { resolved_at ((R.Now ∷ R.End ∷ []) ∷ []) 0 0 ≡ R.End }
 {}
 
 /// Codes that are stuck: they would take operands that aren't there or are of another kind, jump where nothing is declared of
