@@ -10,6 +10,8 @@ pub mod StepAlike
 pub mod Fine
 pub mod Standing
 pub mod Ready
+pub mod Going
+pub mod Firing
 mod Backwards
 mod Moved
 mod Plain

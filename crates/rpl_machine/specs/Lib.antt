@@ -4,3 +4,4 @@ pub mod Seen
 pub mod Steps
 pub mod Parts
 pub mod State
+pub mod Fired

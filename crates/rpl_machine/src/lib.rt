@@ -1,18 +1,27 @@
-//! What a rule of verified code does at a timestep.
+//! What a rule of verified code does at a timestep. A `Machine` goes through the code instruction by instruction on words of 64 bits
+//! that tell no kinds: that a word is a number, a truth value, a timestep or a slot is known from the verifier alone. `fire` does
+//! what the definition of such a machine over values gives (`fire_of_code` of `rpl_verify`), is never stuck, and takes no
+//! memory.
 #![tactic(auto)]
 
 mod blocks;
 mod call;
 mod calls;
 mod compute;
+mod fire;
+mod fired;
 mod locals;
 mod looks;
 mod loops;
-mod state;
+mod machine;
 mod moves;
 mod parts;
 mod puts;
 mod stack;
+mod state;
 mod step;
 mod turn;
 mod turns;
+
+pub use fired::Fired;
+pub use machine::Machine;

@@ -28,14 +28,14 @@ use Rattle.rpl_verify.proofs.Running.{EndsOn, Ran, runs}
 
 -- ---- lists
 
-numbered_is : {A : Type 0} (xs : List A) (n : ℕ) (x : A) → numbered xs n ≡ Some x → (slice_get xs (n - 1) ≡ Some x) × (1 ≤ n)
+pub numbered_is : {A : Type 0} (xs : List A) (n : ℕ) (x : A) → numbered xs n ≡ Some x → (slice_get xs (n - 1) ≡ Some x) × (1 ≤ n)
 numbered_is xs n x h = by (nat_le 1 n) refl h
   where
     by : (t : Bool) → nat_le 1 n ≡ t → (if t then slice_get xs (n - 1) else None) ≡ Some x → (slice_get xs (n - 1) ≡ Some x) × (1 ≤ n)
     by true e h = (h, grind (arith, nat_tests, e))
     by false e h = absurd (cc h)
 
-numbered_by : {A : Type 0} (xs : List A) (n : ℕ) (x : A) → slice_get xs (n - 1) ≡ Some x → 1 ≤ n → numbered xs n ≡ Some x
+pub numbered_by : {A : Type 0} (xs : List A) (n : ℕ) (x : A) → slice_get xs (n - 1) ≡ Some x → 1 ≤ n → numbered xs n ≡ Some x
 numbered_by xs n x h le = by (nat_le 1 n) (grind (arith, nat_tests, le))
   where
     by : (t : Bool) → t ≡ true → (if t then slice_get xs (n - 1) else None) ≡ Some x
