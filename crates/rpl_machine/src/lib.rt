@@ -25,3 +25,6 @@ mod turns;
 
 pub use fired::Fired;
 pub use machine::Machine;
+
+#[cfg(test)]
+mod tests;
