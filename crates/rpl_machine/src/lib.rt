@@ -25,6 +25,3 @@ mod turns;
 
 pub use fired::Fired;
 pub use machine::Machine;
-
-#[cfg(test)]
-mod tests;

@@ -2,8 +2,8 @@
 ghost use Rattle.std.specs.Prelude.{◌≡◌, ◌≤◌, length, Ok};
 ghost use Rattle.rpl_verify.specs.Verified.{verified};
 
-use crate::{Fired, Machine};
 use rpl_code::read_code;
+use rpl_machine::{Fired, Machine};
 use rpl_predef::{Predef, Predefs, absolute, clamped, greatest, least, rounded_down, sign};
 use rpl_verify::{Verified, verify};
 use rw_base::{RuleNo, SlotNo, StepNo};

@@ -1,0 +1,6 @@
+//! Worked examples of calls on code: rules that are fired. There is nothing here but tests: what they compare with was worked out by
+//! hand.
+#![tactic(auto)]
+
+#[cfg(test)]
+mod firings;
