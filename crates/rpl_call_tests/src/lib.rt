@@ -1,6 +1,8 @@
-//! Worked examples of calls on code: rules that are fired. There is nothing here but tests: what they compare with was worked out by
-//! hand.
+//! Worked examples of calls on code: rules that are fired, and the functions that they call by name. There is nothing here but tests:
+//! what they compare with was worked out by hand.
 #![tactic(auto)]
 
 #[cfg(test)]
 mod firings;
+#[cfg(test)]
+mod tables;
