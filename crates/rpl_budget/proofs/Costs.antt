@@ -1,12 +1,7 @@
 -- What each form costs at one price, by what its parts cost, where each number stops above the limit.
-use Rattle.std.proofs.Common.{◌≡◌, ℕ, ◌+◌, ◌*◌, max, Bool, true, false, List, ◌∷◌, refl, ap, ◌∙◌, subst}
-use Rattle.std.specs.Prelude.{if◌then◌else◌}
+use Rattle.rw_base.proofs.Common.{◌≡◌, ℕ, ◌+◌, ◌*◌, max, Bool, true, false, List, ◌∷◌, refl, ap, ◌∙◌, subst, if◌then◌else◌}
 use Rattle.rpl_tree.specs.declared.words.TwoWord.TheVariants as W
-use Rattle.rpl_tree.specs.Budget.{Budget, capped, limits}
-use Rattle.rpl_tree.specs.Cost.{Costed, Price, costed_heads, most, most_arguments, most_named, most_of, most_of_act, most_of_acts, most_of_body, price_of_looks, price_of_puts, price_of_steps, to_widen}
-use Rattle.rpl_tree.specs.Kinds.{Head, Names, count_of, kind_named, takes_named, tree_kind}
-use Rattle.rpl_tree.specs.Tree.{Tree, Trees, tree, bind, call, choice, each, list, mapped, name, two, Acts, with_name}
-use Rattle.rpl_tree.specs.Value.{Kind, element_of, is_same_kind, room_of, weight}
+use Rattle.rpl_tree.proofs.Common.{Budget, capped, limits, Costed, Price, costed_heads, most, most_arguments, most_named, most_of, most_of_act, most_of_acts, most_of_body, price_of_looks, price_of_puts, price_of_steps, to_widen, Head, Names, count_of, kind_named, takes_named, tree_kind, Tree, Trees, tree, bind, call, choice, each, list, mapped, name, two, Acts, with_name, Kind, element_of, is_same_kind, room_of, weight}
 use Rattle.rpl_budget.specs.Pass.{Priced, heads_of}
 use Rattle.rpl_budget.specs.Loads.{widening}
 use Rattle.rpl_budget.proofs.Exact.{costed, heads_same}

@@ -1,13 +1,6 @@
 -- The budgets of all declarations by one pass are those that are defined.
 use Rattle.std.proofs.Common.{◌≡◌, ℕ, ◌+◌, max, List, [], ◌∷◌, refl, sym, ap, ap₂, ◌∙◌, subst, arith}
-use Rattle.rpl_tree.specs.Budget.{Budget, budget, capped, limits}
-use Rattle.rpl_tree.specs.Cost.{Costed, costed_heads, costs_from, most_of_acts, most_of_body, param_names, price_of_looks, price_of_puts, price_of_steps}
-use Rattle.rpl_tree.specs.Kinds.{Head, Names, kind_of_type}
-use Rattle.rpl_tree.specs.Locals.{acts_local_kinds, local_kinds}
-use Rattle.rpl_tree.specs.Mean.{param_kinds}
-use Rattle.rpl_tree.specs.Tree.{Tree, Acts, Declared, Parameter, TypeName, rule, function}
-use Rattle.rpl_tree.specs.Value.{Kind, weight, weights}
-use Rattle.rpl_tree.specs.Words.{height, height_of_acts, words_from}
+use Rattle.rpl_tree.proofs.Common.{Budget, budget, capped, limits, Costed, costed_heads, costs_from, most_of_acts, most_of_body, param_names, price_of_looks, price_of_puts, price_of_steps, Head, Names, kind_of_type, acts_local_kinds, local_kinds, param_kinds, Tree, Acts, Declared, Parameter, TypeName, rule, function, Kind, weight, weights, height, height_of_acts, words_from}
 use Rattle.rpl_budget.specs.Budgets.{budgets_of, side_by_side}
 use Rattle.rpl_budget.specs.Pass.{Priced, call_budget, declared_budget, function_budget, heads_of, pass, passed_from, predefined_priced, rule_budget, room_for}
 use Rattle.rpl_budget.proofs.Costs as Costs

@@ -1,9 +1,6 @@
 -- Functions with exact costs, what stops of them, and what definitions see of them.
-use Rattle.std.proofs.Common.{◌≡◌, ℕ, Bool, true, false, List, [], ◌∷◌, map, bytes_eq, refl, sym, ap, ◌∙◌}
-use Rattle.std.specs.Prelude.{if◌then◌else◌}
-use Rattle.rpl_tree.specs.Budget.{Budget, budget, capped, limits}
-use Rattle.rpl_tree.specs.Cost.{Costed, costed_heads, most_named}
-use Rattle.rpl_tree.specs.Kinds.{result_named, takes_named}
+use Rattle.rw_base.proofs.Common.{◌≡◌, ℕ, Bool, true, false, List, [], ◌∷◌, map, bytes_eq, refl, sym, ap, ◌∙◌, if◌then◌else◌}
+use Rattle.rpl_tree.proofs.Common.{Budget, budget, capped, limits, Costed, costed_heads, most_named, result_named, takes_named}
 use Rattle.rpl_budget.specs.Pass.{Priced, function_named, heads_of, room_for}
 
 -- as one price sees them

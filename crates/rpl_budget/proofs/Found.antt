@@ -1,7 +1,5 @@
 -- Of the entries that pass a test, the last of a list is the first of the list in reverse.
-use Rattle.std.proofs.Common.{◌≡◌, ℕ, Bool, List, [], ◌∷◌, ◌++◌, reverse, Some, bytes_eq, unwrap_or, refl, sym, ap, ◌∙◌}
-use Rattle.std.specs.Prelude.{if◌then◌else◌}
-use Rattle.std.proofs.lemmas.List.{reverse-append}
+use Rattle.rw_base.proofs.Common.{◌≡◌, ℕ, Bool, List, [], ◌∷◌, ◌++◌, reverse, Some, bytes_eq, unwrap_or, refl, sym, ap, ◌∙◌, if◌then◌else◌, reverse-append}
 use Rattle.rpl_tree.specs.Kinds.{kind_named}
 use Rattle.rpl_scope.specs.Scope.{first_named}
 use Rattle.rpl_budget.specs.declared.kind.TreeKind.{TreeKind}

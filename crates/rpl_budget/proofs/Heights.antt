@@ -1,11 +1,6 @@
 -- How high each form stands, and what its locals take, by its parts, where each number stops above the limit.
 use Rattle.std.proofs.Common.{◌≡◌, ℕ, ◌+◌, ◌*◌, max, List, [], ◌∷◌, ◌++◌, sym, ap, ◌∙◌, subst, arith}
-use Rattle.rpl_tree.specs.Budget.{capped, limits}
-use Rattle.rpl_tree.specs.Cost.{Costed, costed_heads, most_named}
-use Rattle.rpl_tree.specs.Kinds.{Head, Names, result_named, takes_named, tree_kind}
-use Rattle.rpl_tree.specs.Tree.{Tree, Trees, tree, bind, call, choice, each, mapped, Acts, with_name}
-use Rattle.rpl_tree.specs.Value.{Kind, element_of, room_of, weight, weights}
-use Rattle.rpl_tree.specs.Words.{height, height_of_act, height_of_acts, height_of_arguments}
+use Rattle.rpl_tree.proofs.Common.{capped, limits, Costed, costed_heads, most_named, Head, Names, result_named, takes_named, tree_kind, Tree, Trees, tree, bind, call, choice, each, mapped, Acts, with_name, Kind, element_of, room_of, weight, weights, height, height_of_act, height_of_acts, height_of_arguments}
 use Rattle.rpl_budget.specs.Pass.{Priced, heads_of}
 use Rattle.rpl_budget.proofs.Exact.{costed, heads_same}
 

@@ -1,10 +1,6 @@
 -- There are as many budgets as declarations, each in its place.
-use Rattle.std.proofs.Common.{◌≡◌, ℕ, zero, suc, ◌+◌, ◌-◌, ◌<◌, List, [], ◌∷◌, Some, length, refl, ap, ◌∙◌, arith}
-use Rattle.std.specs.Prelude.{slice_get, slice_index}
-use Rattle.rpl_tree.specs.Tree.{Declared, rule, function}
-use Rattle.rpl_tree.specs.Budget.{Budget, budget, budget_of, capped, limits}
-use Rattle.rpl_tree.specs.Cost.{Costed, Price, costs, costs_from, price_of_looks, price_of_puts, price_of_steps}
-use Rattle.rpl_tree.specs.Words.{words, words_from}
+use Rattle.rw_base.proofs.Common.{◌≡◌, ℕ, zero, suc, ◌+◌, ◌-◌, ◌<◌, List, [], ◌∷◌, Some, length, refl, ap, ◌∙◌, arith, slice_get, slice_index}
+use Rattle.rpl_tree.proofs.Common.{Declared, rule, function, Budget, budget, budget_of, capped, limits, Costed, Price, costs, costs_from, price_of_looks, price_of_puts, price_of_steps, words, words_from}
 use Rattle.rpl_budget.specs.Budgets.{budgets_of, side_by_side}
 
 costs_length : (price : Price) (rules : List Declared) (functions : List Costed) → length (costs_from price functions rules) ≡ length rules

@@ -4,13 +4,7 @@ use Rattle.rpl_tree.specs.declared.words.OneWord.{OneWord}
 use Rattle.rpl_tree.specs.declared.words.OneWord.TheVariants as O
 use Rattle.rpl_tree.specs.declared.words.TwoWord.{TwoWord}
 use Rattle.rpl_tree.specs.declared.words.TwoWord.TheVariants as W
-use Rattle.rpl_tree.specs.Budget.{Budget, capped, limits}
-use Rattle.rpl_tree.specs.Cost.{Costed, most, most_arguments, most_of, most_of_act, most_of_acts}
-use Rattle.rpl_tree.specs.Kinds.{Head, Names, count_of, first_kind, result_named, takes_named, tree_kind, two_kind}
-use Rattle.rpl_tree.specs.Locals.{act_local_kinds, acts_local_kinds, all_local_kinds, local_kinds}
-use Rattle.rpl_tree.specs.Tree.{Tree, Trees, literal, truth, now, slot, name, call, brackets, list, choice, bind, each, mapped, one, two, convert, at, no_trees, tree, Act, Acts, assign, branch, with_name, no_acts, act}
-use Rattle.rpl_tree.specs.Value.{Kind, element_of, numbers_kind, room_of, weights}
-use Rattle.rpl_tree.specs.Words.{height, height_of_act, height_of_acts, height_of_all, height_of_arguments}
+use Rattle.rpl_tree.proofs.Common.{Budget, capped, limits, Costed, most, most_arguments, most_of, most_of_act, most_of_acts, Head, Names, count_of, first_kind, result_named, takes_named, tree_kind, two_kind, act_local_kinds, acts_local_kinds, all_local_kinds, local_kinds, Tree, Trees, literal, truth, now, slot, name, call, brackets, list, choice, bind, each, mapped, one, two, convert, at, no_trees, tree, Act, Acts, assign, branch, with_name, no_acts, act, Kind, element_of, numbers_kind, room_of, weights, height, height_of_act, height_of_acts, height_of_all, height_of_arguments}
 use Rattle.rpl_budget.specs.declared.load.Load.{Load}
 use Rattle.rpl_budget.specs.Loads.{both, load, looked, one_put, steps}
 use Rattle.rpl_budget.specs.Pass.{Measured, Priced, argument, bound, branched, called, chosen, element, function_named, heads_of, known_load, listed, mapped_over, measured, one_load, operation, pass, pass_act, pass_acts, pass_all, pass_arguments, turned, two_load, room_for}
@@ -19,7 +13,7 @@ use Rattle.rpl_budget.proofs.Sums as Sums
 use Rattle.rpl_budget.proofs.Costs as Costs
 use Rattle.rpl_budget.proofs.Costs.{Lane, counting, looking, putting}
 use Rattle.rpl_budget.proofs.Heights as Heights
-use Rattle.rpl_budget.proofs.Heights.{three_locals, two_locals, weights-append}
+use Rattle.rpl_budget.proofs.Heights.{two_locals, weights-append}
 
 pub same_load : {a b c d e p q r s t : ℕ} → a ≡ p → b ≡ q → c ≡ r → d ≡ s → e ≡ t → load a b c d e ≡ load p q r s t
 same_load u v w x y = rw (u, v, w, x, y) refl

@@ -1,10 +1,7 @@
 -- Arguments from a place on, for the parameters from there on.
-use Rattle.std.proofs.Common.{◌≡◌, ℕ, zero, suc, ◌+◌, ◌<◌, List, [], ◌∷◌, drop, length, refl, sym, ap, ap₂, ◌∙◌, arith}
-use Rattle.std.specs.Prelude.{get_or}
-use Rattle.std.proofs.lemmas.List.{drop_more}
+use Rattle.rw_base.proofs.Common.{◌≡◌, ℕ, zero, suc, ◌+◌, ◌<◌, List, [], ◌∷◌, drop, length, refl, sym, ap, ap₂, ◌∙◌, arith, get_or, drop_more}
 use Rattle.rpl_tree.specs.declared.expression.Expr.{Expr}
-use Rattle.rpl_tree.specs.Kinds.{Names}
-use Rattle.rpl_tree.specs.Seen.{tree_of, trees_in}
+use Rattle.rpl_tree.proofs.Common.{Names, tree_of, trees_in}
 use Rattle.rpl_budget.specs.declared.kind.TreeKind.{TreeKind}
 use Rattle.rpl_budget.specs.declared.load.Load.{Load}
 use Rattle.rpl_budget.specs.Pass.{Measured, Priced, argument, pass, pass_arguments, rest_of}

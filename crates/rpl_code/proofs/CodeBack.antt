@@ -1,10 +1,5 @@
 -- A text that is read is what is written of the code that it is read as.
-use Rattle.std.proofs.Common.{◌≡◌, ℕ, List, [], ◌∷◌, ◌++◌, refl, sym, ap, ap₂, subst, ◌∙◌, append_assoc, ◌+◌, ◌<◌, ◌≤◌, ◌^◌, arith, Result, Ok, Err}
-use Rattle.std.specs.Prelude.{Bool, true, false, ◌&&◌, ◌==◌, if◌then◌else◌, Option, Some, None, length, map, flat_map, codes, is_ok}
-use Rattle.std.specs.List.{AllByRecursion}
-use Rattle.std.specs.Str.{bytes_eq}
-use Rattle.std.proofs.lemmas.Slice.Eq.{bytes_eq-Decides}
-use Rattle.std.proofs.lemmas.Bool.{and_parts, false≢true}
+use Rattle.rw_base.proofs.Common.{◌≡◌, ℕ, List, [], ◌∷◌, ◌++◌, refl, sym, ap, ap₂, subst, ◌∙◌, append_assoc, ◌+◌, ◌<◌, ◌≤◌, ◌^◌, arith, Result, Ok, Err, Bool, true, false, ◌&&◌, ◌==◌, if◌then◌else◌, Option, Some, None, length, map, flat_map, codes, is_ok, AllByRecursion, bytes_eq, bytes_eq-Decides, and_parts, false≢true}
 use Rattle.rpl_code.specs.declared.kind.ValueKind.{ValueKind}
 use Rattle.rpl_code.specs.declared.instruction.Instruction.{Instruction}
 use Rattle.rpl_code.specs.declared.block.BlockHead.{BlockHead}

@@ -1,7 +1,5 @@
 -- What is written of a code is read as that code.
-use Rattle.std.proofs.Common.{◌≡◌, ℕ, List, [], ◌∷◌, ◌++◌, true, refl, ap, ◌∙◌, append_assoc, ◌+◌, Ok}
-use Rattle.std.specs.Prelude.{Some, map, flat_map, codes}
-use Rattle.std.specs.List.{AllByRecursion}
+use Rattle.rw_base.proofs.Common.{◌≡◌, ℕ, List, [], ◌∷◌, ◌++◌, true, refl, ap, ◌∙◌, append_assoc, ◌+◌, Ok, Some, map, flat_map, codes, AllByRecursion}
 use Rattle.rpl_code.specs.declared.instruction.Instruction.{Instruction}
 use Rattle.rpl_code.specs.declared.block.Block.{Block}
 use Rattle.rpl_code.specs.declared.said.Said.{Said}

@@ -1,10 +1,6 @@
 -- What is written of a line is read as the same.
-use Rattle.std.proofs.Common.{◌≡◌, ℕ, List, [], ◌∷◌, Bool, true, false, refl, ap, ◌∙◌, ◌<◌, ◌≤◌, ◌^◌, arith, ℤ, pos, negsuc}
-use Rattle.std.specs.Prelude.{suc, ltb, ◌==◌, Some, map, codes}
-use Rattle.std.specs.List.{AllByRecursion, list_all}
-use Rattle.std.specs.Fmt.{decimal, signed_decimal}
-use Rattle.std.proofs.lemmas.Int.{ints}
-use Rattle.std.proofs.lemmas.Bool.{and_parts, ltb-true}
+use Rattle.rw_base.proofs.Common.{◌≡◌, ℕ, List, [], ◌∷◌, Bool, true, false, refl, ap, ◌∙◌, ◌<◌, ◌≤◌, ◌^◌, arith, ℤ, pos, negsuc, suc, ◌==◌, Some, map, codes, AllByRecursion, list_all, decimal, signed_decimal, ints, and_parts, ltb-true}
+use Rattle.std.specs.Prelude.{ltb}
 use Rattle.rw_base.specs.Quantity.{IsQuantity}
 use Rattle.rpl_code.specs.declared.kind.ValueKind.{ValueKind}
 use Rattle.rpl_code.specs.declared.kind.ValueKind.TheVariants as K

@@ -1,13 +1,5 @@
 -- What a word is read as, where it is known whether digits stand there and which.
-use Rattle.std.proofs.Common.{◌≡◌, ◌≢◌, ℕ, List, refl, sym, ap, subst, ◌∙◌, ◌<◌, ◌≤◌, ◌^◌, arith}
-use Rattle.std.specs.Prelude.{Option, Some, None, Result, Err, Ok, is_ok, false}
-use Rattle.std.specs.Str.{bytes_eq, IsUtf8, IsAscii}
-use Rattle.std.proofs.lemmas.Slice.Eq.{bytes_eq-Decides}
-use Rattle.std.specs.Str.Parse.{ParsesUnsigned}
-use Rattle.std.proofs.lemmas.Fmt.{decimal_injective, parse-decimal, IsAscii-decimal}
-use Rattle.std.proofs.lemmas.Str.{IsUtf8-from_ascii}
-use Rattle.std.proofs.lemmas.Bool.{false≢true}
-use Rattle.std.specs.Fmt.{decimal}
+use Rattle.rw_base.proofs.Common.{◌≡◌, ◌≢◌, ℕ, List, refl, sym, ap, subst, ◌∙◌, ◌<◌, ◌≤◌, ◌^◌, arith, Option, Some, None, Result, Err, Ok, is_ok, false, bytes_eq, IsUtf8, IsAscii, bytes_eq-Decides, ParsesUnsigned, decimal_injective, parse-decimal, IsAscii-decimal, IsUtf8-from_ascii, false≢true, decimal}
 use Rattle.rpl_code.specs.Words.{number_in}
 use Rattle.rpl_code.proofs.WordsRead.{number_is}
 use Rattle.rpl_code.proofs.WordsBack.{number_back}
@@ -25,10 +17,6 @@ number_outside least most n word is small greatest outside = none_but (number_in
     (λ m e. let back = number_back least most m word e in
     let same : m ≡ n = decimal_injective m n (omega (arith, greatest, back.2)) small (sym back.0 ∙ is) in
     outside (omega (arith, same, back.1)) (omega (arith, same, back.2)))
-
-pub number_nowhere : (least most : ℕ) (word : List ℕ) → ((n : ℕ) → n < 2 ^ 64 → word ≢ decimal n) → most < 2 ^ 64 → number_in least most word ≡ None
-number_nowhere least most word never greatest = none_but (number_in least most word)
-    (λ m e. let back = number_back least most m word e in never m (omega (arith, greatest, back.2)) back.0)
 
 pub never_utf8 : (n : ℕ) (word : List ℕ) → n < 2 ^ 64 → word ≡ decimal n → (IsUtf8 word → ⊥) → ⊥
 never_utf8 n word small is not = not (IsUtf8-from_ascii word (subst IsAscii (sym is) (IsAscii-decimal n small)))

@@ -1,9 +1,5 @@
 -- A text that was joined is parted again, and a text that was parted is joined again.
-use Rattle.std.proofs.Common.{◌≡◌, ℕ, List, [], ◌∷◌, ◌++◌, true, false, refl, sym, ap, subst, ◌∙◌, append-nil, ◌+◌, ◌-◌, ◌<◌, ◌≤◌, arith, length, get_or, take, drop, drop-cons, length-drop, add-one}
-use Rattle.std.proofs.lemmas.List.{take-append-drop, take_all}
-use Rattle.std.specs.Prelude.{◌==◌}
-use Rattle.std.specs.List.{AllByRecursion}
-use Rattle.std.proofs.lemmas.Bool.{eq-eqb, ne_eqb}
+use Rattle.rw_base.proofs.Common.{◌≡◌, ℕ, List, [], ◌∷◌, ◌++◌, true, false, refl, sym, ap, subst, ◌∙◌, append-nil, ◌+◌, ◌-◌, ◌<◌, ◌≤◌, arith, length, get_or, take, drop, drop-cons, length-drop, add-one, take-append-drop, take_all, ◌==◌, AllByRecursion, eq-eqb, ne_eqb}
 use Rattle.rpl_code.specs.Parting.{parted}
 use Rattle.rpl_code.specs.Spelling.{joined, ended}
 

@@ -1,8 +1,5 @@
 -- What is left of a text is read as the whole of it would be.
-use Rattle.std.proofs.Common.{◌≡◌, ℕ, List, [], ◌∷◌, ◌++◌, refl, sym, ap, subst, ◌∙◌, ◌+◌, append-nil}
-use Rattle.std.specs.Prelude.{◌&&◌, if◌then◌else◌, true, None, Result, Ok, Err, is_ok, MatchResult}
-use Rattle.std.specs.Str.{bytes_eq}
-use Rattle.std.proofs.lemmas.Bool.{false≢true}
+use Rattle.rw_base.proofs.Common.{◌≡◌, ℕ, List, [], ◌∷◌, ◌++◌, refl, sym, ap, subst, ◌∙◌, ◌+◌, append-nil, ◌&&◌, if◌then◌else◌, true, None, Result, Ok, Err, is_ok, MatchResult, bytes_eq, false≢true}
 use Rattle.rpl_code.specs.declared.block.Block.{Block}
 use Rattle.rpl_code.specs.declared.progress.Progress.{Progress}
 use Rattle.rpl_code.specs.declared.progress.Progress.TheVariants as P

@@ -1,13 +1,5 @@
 -- A word that is read is what is written of what it was read as.
-use Rattle.std.proofs.Common.{◌≡◌, ℕ, zero, suc, List, [], ◌∷◌, ◌++◌, Bool, true, false, refl, sym, ap, ap₂, subst, ◌∙◌, append-nil, ◌≤◌, arith, ℤ, pos}
-use Rattle.std.specs.Prelude.{◌==◌, ◌&&◌, if◌then◌else◌, nat_le, Option, Some, None, is_some, unwrap_or, option_map, option_and_then, map, codes, neg_ℤ}
-use Rattle.std.specs.List.{AllByRecursion}
-use Rattle.std.specs.Str.{bytes_eq}
-use Rattle.std.specs.Str.Parse.{digits_value}
-use Rattle.std.specs.Fmt.{decimal, signed_decimal}
-use Rattle.std.proofs.lemmas.Slice.Eq.{bytes_eq-Decides}
-use Rattle.std.proofs.lemmas.Bool.{eqb-true, leb-true, and_parts, false≢true}
-use Rattle.std.proofs.lemmas.Int.{ints}
+use Rattle.rw_base.proofs.Common.{◌≡◌, ℕ, zero, suc, List, [], ◌∷◌, ◌++◌, Bool, true, false, refl, sym, ap, ap₂, subst, ◌∙◌, append-nil, ◌≤◌, arith, ℤ, pos, ◌==◌, ◌&&◌, if◌then◌else◌, nat_le, Option, Some, None, is_some, unwrap_or, option_map, option_and_then, map, codes, neg_ℤ, AllByRecursion, bytes_eq, digits_value, decimal, signed_decimal, bytes_eq-Decides, eqb-true, leb-true, and_parts, false≢true, ints}
 use Rattle.rw_base.specs.Quantity.{IsQuantity}
 use Rattle.rpl_code.specs.declared.kind.ValueKind.{ValueKind}
 use Rattle.rpl_code.specs.Names.{is_name}

@@ -1,14 +1,6 @@
 -- What is written of a word is read as the same.
-use Rattle.std.proofs.Common.{◌≡◌, ℕ, suc, List, [], ◌∷◌, ◌++◌, Bool, true, false, refl, ap, ◌∙◌, ◌<◌, ◌≤◌, ◌^◌, ◌+◌, ◌%◌, arith, ℤ, pos, negsuc}
-use Rattle.std.specs.Prelude.{◌&&◌, nat_le, Some, option_map, ◌||◌, length, map, codes, neg_ℤ}
-use Rattle.std.specs.List.{AllByRecursion, list_all}
-use Rattle.std.specs.Str.{bytes_eq}
-use Rattle.std.specs.Fmt.{decimal, signed_decimal, digits}
-use Rattle.std.proofs.lemmas.Fmt.{decimal_is_IsNumeral, decimal_by_steps}
-use Rattle.std.proofs.lemmas.Slice.Eq.{bytes_eq-Decides}
-use Rattle.std.proofs.lemmas.Bool.{ne_eqb, le-leb, and_parts}
-use Rattle.std.proofs.lemmas.Bool.Decides.{nat_tests}
-use Rattle.std.proofs.lemmas.Int.{ints}
+use Rattle.rw_base.proofs.Common.{◌≡◌, ℕ, suc, List, [], ◌∷◌, ◌++◌, Bool, true, false, refl, ap, ◌∙◌, ◌<◌, ◌≤◌, ◌^◌, ◌+◌, ◌%◌, arith, ℤ, pos, negsuc, ◌&&◌, nat_le, Some, option_map, ◌||◌, length, map, codes, neg_ℤ, AllByRecursion, list_all, bytes_eq, decimal, signed_decimal, decimal_is_IsNumeral, decimal_by_steps, bytes_eq-Decides, ne_eqb, le-leb, and_parts, nat_tests, ints}
+use Rattle.std.specs.Fmt.{digits}
 use Rattle.rw_base.specs.Quantity.{IsQuantity}
 use Rattle.rpl_code.specs.declared.kind.ValueKind.{ValueKind}
 use Rattle.rpl_code.specs.declared.kind.ValueKind.TheVariants as K

@@ -1,13 +1,5 @@
 -- What words come to, where it is known how they were cut.
-use Rattle.std.proofs.Common.{◌≡◌, ◌⊎◌, inl, inr, ℕ, List, [], ◌∷◌, ◌++◌, refl, sym, ap, ap₂, subst, ◌∙◌, append-nil, append_assoc, ◌<◌, arith, length}
-use Rattle.std.specs.Prelude.{Bool, true, false, ◌&&◌, ◌||◌, nat_le, Option, Some, None, is_some, Result, Ok, Err, option_map, option_and_then}
-use Rattle.std.specs.List.{list_all}
-use Rattle.std.specs.Result.{IsErrAnd}
-use Rattle.std.specs.Str.{IsAscii, IsUtf8}
-use Rattle.std.proofs.lemmas.Str.{IsUtf8-from_ascii}
-use Rattle.std.proofs.lemmas.Str.Ascii.{IsAscii-nil, IsAscii-cons}
-use Rattle.std.proofs.lemmas.Bool.{and_parts, false≢true}
-use Rattle.std.proofs.lemmas.Bool.Decides.{nat_tests}
+use Rattle.rw_base.proofs.Common.{◌≡◌, ◌⊎◌, inl, inr, ℕ, List, [], ◌∷◌, ◌++◌, refl, sym, ap, ap₂, subst, ◌∙◌, append-nil, ◌<◌, arith, length, Bool, true, false, ◌&&◌, ◌||◌, nat_le, Option, Some, None, is_some, Result, Ok, Err, option_map, option_and_then, list_all, IsErrAnd, IsAscii, IsUtf8, IsUtf8-from_ascii, IsAscii-nil, IsAscii-cons, and_parts, false≢true, nat_tests}
 use Rattle.rpl_code.specs.declared.kind.ValueKind.{ValueKind}
 use Rattle.rpl_code.specs.Names.{is_letter, is_digit, is_name}
 use Rattle.rpl_code.specs.Parting.{parted}
@@ -110,20 +102,6 @@ name_utf8 name h = IsUtf8-from_ascii name (name_ascii name h)
 
 abbrev pub kinds_with : List ValueKind → List (List ℕ) → Option (List ValueKind)
 kinds_with kinds words = option_map (λ more. kinds ++ more) (each_kind words)
-
-after_one : (kinds : List ValueKind) (kind : ValueKind) (rest : Option (List ValueKind))
-    → option_map (λ more. kinds ++ more) (option_map (λ ks. kind ∷ ks) rest) ≡ option_map (λ more. (kinds ++ kind ∷ []) ++ more) rest
-after_one kinds kind None = refl
-after_one kinds kind (Some more) = ap Some (sym (append_assoc kinds (kind ∷ []) more))
-
-pub kinds_more : (kinds : List ValueKind) (word : List ℕ) (kind : ValueKind) (words : List (List ℕ)) → kind_in word ≡ Some kind
-    → kinds_with kinds (word ∷ words) ≡ kinds_with (kinds ++ kind ∷ []) words
-kinds_more kinds word kind words e =
-    ap (λ found. option_map (λ more. kinds ++ more) (option_and_then (λ k. option_map (λ ks. k ∷ ks) (each_kind words)) found)) e
-    ∙ after_one kinds kind (each_kind words)
-
-pub kinds_none : (kinds : List ValueKind) (word : List ℕ) (words : List (List ℕ)) → kind_in word ≡ None → kinds_with kinds (word ∷ words) ≡ None
-kinds_none kinds word words e = ap (λ found. option_map (λ more. kinds ++ more) (option_and_then (λ k. option_map (λ ks. k ∷ ks) (each_kind words)) found)) e
 
 abbrev pair : List ℕ → List ℕ → (List ℕ) × (List ℕ)
 pair x y = (x, y)

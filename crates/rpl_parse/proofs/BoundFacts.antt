@@ -1,10 +1,7 @@
 -- What is bounded in a ruleset, from the declarations on.
-use Rattle.std.proofs.Common.{◌≡◌, ◌≤◌, ◌+◌, ◌++◌, ◌==◌, ℕ, Bool, true, false, List, [], ◌∷◌, length, refl, sym, ap, subst, arith}
-use mathlib.Core.Logic.{inl, inr}
-use Rattle.rpl_tree.specs.Tree.{Declared, rule, function}
+use Rattle.rw_base.proofs.Common.{◌≡◌, ◌≤◌, ◌+◌, ◌++◌, ◌==◌, ℕ, Bool, true, false, List, [], ◌∷◌, length, refl, sym, ap, subst, arith, inl, inr}
+use Rattle.rpl_tree.proofs.Common.{Declared, rule, function, rules_of, nodes_of}
 use Rattle.rpl_tree.specs.declared.rules.ParsedRules.{ParsedRules}
-use Rattle.rpl_tree.specs.Seen.{rules_of}
-use Rattle.rpl_tree.specs.Count.{nodes_of}
 use Rattle.rpl_parse.specs.Tokens.{Tok, Lined}
 use Rattle.rpl_parse.specs.Scan.{Scanned, all, bad_at, tokens}
 use Rattle.rpl_parse.specs.Depth.{declared_depth}

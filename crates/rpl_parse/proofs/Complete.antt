@@ -1,7 +1,5 @@
 -- What is in the grammar is read, to that very tree.
-use Rattle.std.proofs.Common.{◌≡◌, ◌<◌, ◌≤◌, ◌-◌, ◌+◌, ◌*◌, ◌==◌, ◌∙◌, ◌++◌, ◌⊎◌, ℕ, ℤ, zero, suc, Bool, true, false, List, [], ◌∷◌, length, max, Option, Some, None, refl, sym, ap, subst, arith, if◌then◌else◌}
-use mathlib.Core.Logic.{inl, inr}
-use Rattle.std.proofs.lemmas.Bool.{lt-ltb}
+use Rattle.rw_base.proofs.Common.{◌≡◌, ◌<◌, ◌≤◌, ◌-◌, ◌+◌, ◌*◌, ◌==◌, ◌∙◌, ◌++◌, ◌⊎◌, ℕ, ℤ, zero, suc, Bool, true, false, List, [], ◌∷◌, length, max, Option, Some, None, refl, sym, ap, subst, arith, if◌then◌else◌, inl, inr, lt-ltb}
 use Rattle.std.proofs.lemmas.List.{append-nil, append_assoc}
 use Rattle.rpl_parse.specs.declared.token.Mark.{Mark}
 use Rattle.rpl_parse.specs.declared.token.Mark.TheVariants as M
@@ -339,17 +337,6 @@ left_four T.LessEqual e = refl
 left_four T.Greater e = refl
 left_four T.GreaterEqual e = refl
 left_four w e = absurd (omega (arith, e))
-
--- words that stand before an expression, and between two, are loose
-loose_prefix : (w : OneWord) → is_prefix w ≡ true → 1 ≤ looseness_of_one w
-loose_prefix O.Not e = omega arith
-loose_prefix O.Minus e = omega arith
-loose_prefix w e = absurd (cc e)
-
-loose_operator : (w : TwoWord) → is_operator w ≡ true → 2 ≤ looseness_of w
-loose_operator T.Append e = absurd (cc e)
-loose_operator T.Item e = absurd (cc e)
-loose_operator w e = omega arith
 
 tight_word : (w : OneWord) → looseness_of_one w ≤ 0 → is_prefix w ≡ false
 tight_word O.Not le = absurd (omega arith)

@@ -1,6 +1,5 @@
 -- What statements are in the grammar are read, to those very trees.
-use Rattle.std.proofs.Common.{◌≡◌, ◌<◌, ◌≤◌, ◌+◌, ◌∙◌, ◌++◌, ℕ, ℤ, zero, suc, false, List, [], ◌∷◌, length, max, Some, None, refl, sym, ap, subst, arith}
-use mathlib.Core.Logic.{inl, inr}
+use Rattle.rw_base.proofs.Common.{◌≡◌, ◌<◌, ◌≤◌, ◌+◌, ◌∙◌, ◌++◌, ℕ, ℤ, zero, suc, false, List, [], ◌∷◌, length, max, Some, None, refl, sym, ap, subst, arith, inl, inr}
 use Rattle.std.proofs.lemmas.List.{append-nil, append_assoc}
 use Rattle.rpl_tree.specs.Tree.{Tree, Act, Acts, assign, branch, with_name, no_acts, act}
 use Rattle.rpl_parse.specs.declared.token.Mark.{Mark}

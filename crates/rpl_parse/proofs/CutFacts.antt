@@ -1,6 +1,5 @@
 -- Where the first declaration is cut; that what is due is one thing.
-use Rattle.std.proofs.Common.{◌≡◌, ◌<◌, ◌+◌, ◌∙◌, ◌++◌, ℕ, suc, Bool, true, false, List, [], ◌∷◌, length, map, take, drop, slice_index_or, Some, None, refl, sym, ap, subst, arith, if◌then◌else◌}
-use mathlib.Core.Logic.{inl, inr}
+use Rattle.rw_base.proofs.Common.{◌≡◌, ◌<◌, ◌+◌, ◌∙◌, ◌++◌, ℕ, suc, Bool, true, false, List, [], ◌∷◌, length, map, take, drop, slice_index_or, Some, None, refl, sym, ap, subst, arith, if◌then◌else◌, inl, inr}
 use Rattle.rpl_tree.specs.Tree.{Declared}
 use Rattle.rpl_parse.specs.declared.token.TokenAt.{TokenAt}
 use Rattle.rpl_parse.specs.Tokens.{Tok, Lined, seen, lined_of, toks}

@@ -1,9 +1,5 @@
 -- A fault that is handed on.
-use Rattle.std.proofs.Common.{◌≡◌, ℕ, List, Option, None, Result, Ok, Err, sym, subst}
-use Rattle.std.specs.Result.{IsErrAnd}
-use Rattle.std.specs.Borrow.{Bor}
-use Rattle.std.specs.declared.vec.Vec.{Vec}
-use Rattle.std.specs.declared.alloc.Global.{Global}
+use Rattle.rw_base.proofs.Common.{◌≡◌, ℕ, List, Option, None, Result, Ok, Err, sym, subst, IsErrAnd, Bor, Vec, Global}
 use Rattle.rpl_tree.specs.declared.expression.Expr.{Expr}
 use Rattle.rpl_parse.specs.declared.token.TokenAt.{TokenAt}
 use Rattle.rpl_parse.specs.declared.stop.Stop.{Stop}

@@ -1,8 +1,6 @@
 -- A tree has no more nodes than it has tokens, and a text no more tokens than bytes.
-use Rattle.std.proofs.Common.{◌≡◌, ◌≤◌, ◌-◌, ◌+◌, ℕ, zero, suc, Bool, true, false, List, [], ◌∷◌, length, Some, None, refl, sym, ap, arith, if◌then◌else◌}
-use mathlib.Core.Logic.{inl, inr}
-use Rattle.rpl_tree.specs.Tree.{Tree, Trees, literal, truth, now, slot, name, call, brackets, list, choice, bind, each, mapped, one, two, convert, at, no_trees, tree, Act, Acts, assign, branch, with_name, no_acts, act, Declared, rule, function}
-use Rattle.rpl_tree.specs.Count.{node_count, node_counts, act_nodes, acts_nodes, nodes_of}
+use Rattle.rw_base.proofs.Common.{◌≡◌, ◌≤◌, ◌-◌, ◌+◌, ℕ, zero, suc, Bool, true, false, List, [], ◌∷◌, length, Some, None, refl, sym, ap, arith, if◌then◌else◌, inl, inr}
+use Rattle.rpl_tree.proofs.Common.{Tree, Trees, literal, truth, now, slot, name, call, brackets, list, choice, bind, each, mapped, one, two, convert, at, no_trees, tree, Act, Acts, assign, branch, with_name, no_acts, act, Declared, rule, function, node_count, node_counts, act_nodes, acts_nodes, nodes_of}
 use Rattle.rpl_parse.specs.declared.token.Mark.TheVariants as M
 use Rattle.rpl_parse.specs.Tokens.{Tok, mark, word, digits, text, Lined, lined}
 use Rattle.rpl_parse.specs.Scan.{Front, gap, token as found, bad, front, Scanned, all, bad_at, led_by, by_front, line_behind, scan, tokens}

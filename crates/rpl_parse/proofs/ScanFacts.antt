@@ -1,5 +1,5 @@
 -- Numbers only grow while they are read; one turn of the scanner.
-use Rattle.std.proofs.Common.{◌≡◌, ◌<◌, ◌≤◌, ◌-◌, ◌+◌, ◌*◌, ◌++◌, ◌∙◌, ℕ, zero, suc, List, [], ◌∷◌, arith, drop, take, length, slice_index_or, refl, sym, ap, subst}
+use Rattle.rw_base.proofs.Common.{◌≡◌, ◌<◌, ◌≤◌, ◌-◌, ◌+◌, ◌*◌, ◌++◌, ◌∙◌, ℕ, zero, suc, List, [], ◌∷◌, arith, drop, take, length, slice_index_or, refl, sym, ap, subst}
 use Rattle.std.proofs.lemmas.List.{append_assoc, append-nil, length-drop}
 use Rattle.rpl_parse.specs.declared.token.Span.{Span}
 use Rattle.rpl_parse.specs.Tokens.{Tok, text, Lined, lined, bytes_in}

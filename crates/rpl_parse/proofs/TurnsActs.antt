@@ -1,9 +1,5 @@
 -- One turn of the reading of statements.
-use Rattle.std.proofs.Common.{◌≡◌, ◌<◌, ◌-◌, ◌+◌, ◌∙◌, ℕ, zero, suc, List, [], length, Option, Some, None, refl, sym, ap, arith, Result, Ok, Err, subst}
-use Rattle.std.specs.Result.{IsErrAnd}
-use Rattle.std.specs.Borrow.{Bor}
-use Rattle.std.specs.declared.vec.Vec.{Vec}
-use Rattle.std.specs.declared.alloc.Global.{Global}
+use Rattle.rw_base.proofs.Common.{◌≡◌, ◌<◌, ◌-◌, ◌+◌, ◌∙◌, ℕ, zero, suc, List, [], length, Option, Some, None, refl, sym, ap, arith, Result, Ok, Err, subst, IsErrAnd, Bor, Vec, Global}
 use Rattle.rpl_tree.specs.declared.statement.Statement.{Statement}
 use Rattle.rpl_parse.specs.declared.token.TokenAt.{TokenAt}
 use Rattle.rpl_parse.specs.declared.stop.Stop.{Stop}

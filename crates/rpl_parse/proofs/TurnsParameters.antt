@@ -1,9 +1,5 @@
 -- One turn of the reading of parameters.
-use Rattle.std.proofs.Common.{◌≡◌, ◌<◌, ◌-◌, ◌+◌, ◌∙◌, ◌++◌, ℕ, zero, suc, List, [], ◌∷◌, Option, Some, None, refl, sym, ap, arith, Result, Ok, Err, subst}
-use Rattle.std.specs.Result.{IsErrAnd}
-use Rattle.std.specs.Borrow.{Bor}
-use Rattle.std.specs.declared.vec.Vec.{Vec}
-use Rattle.std.specs.declared.alloc.Global.{Global}
+use Rattle.rw_base.proofs.Common.{◌≡◌, ◌<◌, ◌-◌, ◌+◌, ◌∙◌, ◌++◌, ℕ, zero, suc, List, [], ◌∷◌, Option, Some, None, refl, sym, ap, arith, Result, Ok, Err, subst, IsErrAnd, Bor, Vec, Global}
 use Rattle.rpl_tree.specs.declared.rules.Param.{Param}
 use Rattle.rpl_parse.specs.declared.token.TokenAt.{TokenAt}
 use Rattle.rpl_parse.specs.declared.token.Mark.TheVariants as M

@@ -1,12 +1,10 @@
 -- The plain tree of a list of expressions, and of a list of statements, by the elements of its vector.
-use Rattle.std.proofs.Common.{◌≡◌, ℕ, List, [], ◌∷◌, map, refl, ap, ap₂, ◌∙◌, Vec, Global}
-use mathlib.Core.Former.{Count}
+use Rattle.rw_base.proofs.Common.{◌≡◌, ℕ, List, [], ◌∷◌, map, refl, ap, ap₂, ◌∙◌, Vec, Global, Count}
 use Rattle.rpl_tree.specs.declared.expression.Expr.{Expr, Row_of-Expr, end_of-Expr, more_of-Expr, items-the_row-Expr, items_hidden-the_row-Expr-0}
 use Rattle.rpl_tree.specs.declared.expression.Expr.TheVariants.{Call, Call', List as Listed, List'}
 use Rattle.rpl_tree.specs.declared.statement.Statement.{Statement, Row_of-Statement, end_of-Statement, more_of-Statement, items-the_row-Statement, items_hidden-the_row-Statement-0}
 use Rattle.rpl_tree.specs.declared.statement.Statement.TheVariants.{If as Branched, If', With, With'}
-use Rattle.rpl_tree.specs.Tree.{Trees, tree, call, list, Acts, act, branch, with_name}
-use Rattle.rpl_tree.specs.Seen.{tree_of, act_of}
+use Rattle.rpl_tree.proofs.Common.{Trees, tree, call, list, Acts, act, branch, with_name, tree_of, act_of}
 use Rattle.rpl_tree.specs.Seen as Seen
 use Rattle.rpl_parse.specs.Reading.{trees_of}
 use Rattle.rpl_parse.specs.ReadingActs.{acts_of}

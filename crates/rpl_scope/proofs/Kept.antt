@@ -1,15 +1,6 @@
 -- That a map keeps the innermost place of each name, as names come and go.
-use Rattle.std.proofs.Common.{◌≡◌, ℕ, ◌<◌, Bool, true, false, List, [], ◌∷◌, ◌++◌, reverse, length, Option, None, Some, bytes_eq, refl, sym, ap, ◌∙◌, arith}
-use Rattle.std.specs.Prelude.{get_or, if◌then◌else◌}
-use Rattle.std.specs.Borrow.{Bor}
+use Rattle.rw_base.proofs.Common.{◌≡◌, ℕ, ◌<◌, Bool, true, false, List, [], ◌∷◌, ◌++◌, reverse, length, Option, None, Some, bytes_eq, refl, sym, ap, ◌∙◌, arith, get_or, if◌then◌else◌, Bor, BTreeMap, slice_cmp, nat_cmp, get_or_append_left, length-reverse, reverse-append, get_or-append_seam, bytes_eq-Decides, btree_map_updates_str}
 use Rattle.std.specs.BTreeMap as tree
-use Rattle.std.specs.BTreeMap.{BTreeMap}
-use Rattle.std.specs.Cmp.Lexicographic.{slice_cmp}
-use Rattle.std.specs.Ordering.{nat_cmp}
-use Rattle.std.proofs.lemmas.List.{get_or_append_left, length-reverse, reverse-append}
-use Rattle.std.proofs.Math.Seq.{get_or-append_seam}
-use Rattle.std.proofs.lemmas.Slice.Eq.{bytes_eq-Decides}
-use Rattle.std.proofs.lemmas.Map.Text.{btree_map_updates_str}
 use Rattle.rpl_scope.specs.declared.scope.Entry.{Entry}
 use Rattle.rpl_scope.specs.Scope.{IsKept, entries_of, first_named, outer_entries, place_in, place_named}
 

@@ -1,16 +1,13 @@
 -- What two outcomes have in common that differ in the values of cells alone.
-use Rattle.std.proofs.Common.{◌≡◌, ℕ, ◌+◌, ℤ, Bool, true, false, List, [], ◌∷◌, ◌++◌, Option, Some, None, refl, ap, subst}
-use Rattle.std.specs.Prelude.{if◌then◌else◌}
+use Rattle.rw_base.proofs.Common.{◌≡◌, ℕ, ◌+◌, ℤ, Bool, true, false, List, [], ◌∷◌, ◌++◌, Option, Some, None, refl, ap, subst, if◌then◌else◌, is_some, unsigned_abs}
 use Rattle.rw_base.specs.declared.number.Cell.{Cell}
-use Rattle.rw_model.specs.Draft.{Draft}
-use Rattle.rw_model.specs.Before.{before_of}
+use Rattle.rw_model.proofs.Common.{Draft, before_of}
 use Rattle.rpl_tree.specs.Value.{Value, a_number, a_truth, a_date, a_slot, numbers, slots}
 use Rattle.rpl_tree.specs.Outcome.{Answer, Outcome, Trail, after, ended, gives, goes_on, is_stuck, looking, spent, stuck, value, ◌>>=◌}
 use Rattle.rpl_tree.specs.Operators.{chosen}
 use Rattle.rpl_tree.specs.World.{World, cell_of, is_step, known_of, known_or_end, read_of}
 use Rattle.rpl_tree.specs.Mean.{both, numbers_for, turns, with_elements, with_number}
 use Rattle.rpl_tree.specs.Frame.{AreAlike}
-use Rattle.std.specs.Prelude.{is_some, unsigned_abs}
 
 alike_left : {A : Type 0} (one other : Cell → A) (xs ys : List Cell) → AreAlike one other (xs ++ ys) → AreAlike one other xs
 alike_left one other [] ys all = tt

@@ -2,3 +2,4 @@ mod Framed
 pub mod FramedTrees
 pub mod Standing
 pub mod Viewed
+pub mod Common

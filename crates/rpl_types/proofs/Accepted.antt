@@ -1,10 +1,8 @@
 -- What is accepted is typed: by recursion on the tree, a line for each form.
-use Rattle.std.proofs.Common.{◌≡◌, ◌+◌, ◌++◌, ℕ, ℤ, Bool, Result, true, false, refl, ap, sym, subst, List, [], ◌∷◌, Option, Some, None, is_some, Ok, Err}
-use Rattle.std.proofs.lemmas.Bool.{false≢true}
+use Rattle.rw_base.proofs.Common.{◌≡◌, ◌+◌, ◌++◌, ℕ, ℤ, Bool, Result, true, false, refl, ap, sym, subst, List, [], ◌∷◌, Option, Some, None, is_some, Ok, Err, false≢true}
 use Rattle.rw_base.specs.Answers.{unless_refused}
 use Rattle.rw_model.specs.Draft.{Draft}
-use Rattle.rpl_tree.specs.Budget.{budget_of}
-use Rattle.rpl_tree.specs.Tree.{Tree, Trees, literal, truth, now, slot, name, call, brackets, list, choice, bind, each, mapped, one, two, convert, at, no_trees, tree, Act, Acts, assign, branch, with_name, no_acts, act, Declared, Parameter, rule, function}
+use Rattle.rpl_tree.proofs.Common.{budget_of, Tree, Trees, literal, truth, now, slot, name, call, brackets, list, choice, bind, each, mapped, one, two, convert, at, no_trees, tree, Act, Acts, assign, branch, with_name, no_acts, act, Declared, Parameter, rule, function}
 use Rattle.rpl_tree.specs.declared.words.OneWord.{OneWord}
 use Rattle.rpl_tree.specs.declared.words.TwoWord.{TwoWord}
 use Rattle.rpl_tree.specs.declared.words.ConvertWord.{ConvertWord}

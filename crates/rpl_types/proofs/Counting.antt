@@ -1,14 +1,10 @@
 -- Budgets and declarations, each in its place.
-use Rattle.std.proofs.Common.{◌≡◌, ℕ, zero, suc, ◌+◌, ◌≤◌, ◌<◌, List, [], ◌∷◌, map, length, get_or, Option, Some, None, option_map, IsSome, refl, ap, ◌∙◌, sym, subst, arith}
-use Rattle.std.proofs.lemmas.List.{length-map}
-use Rattle.std.proofs.lemmas.Option.{slice_get-get_or, slice_get-map}
-use Rattle.std.specs.Prelude.{slice_get}
+use Rattle.rw_base.proofs.Common.{◌≡◌, ℕ, zero, suc, ◌+◌, ◌≤◌, ◌<◌, List, [], ◌∷◌, map, length, get_or, Some, option_map, ap, ◌∙◌, sym, arith, length-map, slice_get-get_or, slice_get-map, slice_get}
 use Rattle.rpl_budget.proofs.Ordered.{budget_at, budgets_length}
 use Rattle.rpl_budget.specs.Budgets.{budgets_of}
 use Rattle.rpl_budget.specs.Seen.{budget_seen}
 use Rattle.rpl_budget.specs.declared.cost.TreeCost.{TreeCost}
-use Rattle.rpl_tree.specs.Budget.{Budget, budget_of}
-use Rattle.rpl_tree.specs.Tree.{Declared, rule, function}
+use Rattle.rpl_tree.proofs.Common.{Budget, budget_of, Declared, rule, function}
 use Rattle.rpl_types.specs.Checked.{declaration_from, declaration_of_rule, rule_budget}
 
 -- what is read past the end

@@ -1,7 +1,5 @@
 -- A dimension that is found is the one of which the test tells that it is one.
-use Rattle.std.proofs.Common.{◌≡◌, ◌∙◌, ap, sym, ℤ, pos, neg_ℤ, Option, None, Some}
-use Rattle.std.specs.Bool.{Decides}
-use Rattle.std.proofs.lemmas.Bool.Decides.{Decides-and}
+use Rattle.rw_base.proofs.Common.{◌≡◌, ◌∙◌, ap, sym, ℤ, pos, neg_ℤ, Option, None, Some, Decides, Decides-and}
 use Rattle.rw_base.specs.Dimension.{Dimension, AnswersDimension, IsDimension, IsExponent}
 use Rattle.rw_base.proofs.Tests.{Decides-from_to, fails, unless, where-true}
 use Rattle.rpl_types.specs.Forms.{a_dimension, is_dimension, is_exponent, measured_in}

@@ -1,8 +1,7 @@
 -- Declarations that are judged one after the other.
 use Rattle.std.proofs.Common.{◌≡◌, ℕ, ◌+◌, List, [], ◌∷◌, ◌++◌, Result, Ok, Err, refl, sym, ap, ap₂, ◌∙◌, append_assoc}
 use Rattle.rw_model.specs.Draft.{Draft}
-use Rattle.rpl_tree.specs.Budget.{Budget, budget_of}
-use Rattle.rpl_tree.specs.Tree.{Declared}
+use Rattle.rpl_tree.proofs.Common.{Budget, budget_of, Declared}
 use Rattle.rpl_types.specs.Functions.{Signature}
 use Rattle.rpl_types.specs.Nodes.{Judged, Types}
 use Rattle.rpl_types.specs.Judged.{Refusal, and_function, and_then, before_others, function_names, judged_from, refusal, with_budget}

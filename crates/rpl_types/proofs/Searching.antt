@@ -1,11 +1,7 @@
 -- The search for an object by its name, where some objects were looked at.
-use Rattle.std.proofs.Common.{◌≡◌, ◌+◌, ◌-◌, ℕ, suc, Bool, true, false, List, [], ◌∷◌, drop, Option, Some, None, refl, sym, ap, ◌∙◌, arith}
-use Rattle.std.specs.Prelude.{bytes_eq, slice_get, option_map, unwrap_or, is_some, if◌then◌else◌}
-use Rattle.std.proofs.lemmas.Bool.{false≢true}
-use Rattle.std.proofs.lemmas.Option.{get_or_from_slice_get, slice_get_within}
+use Rattle.rw_base.proofs.Common.{◌≡◌, ◌+◌, ◌-◌, ℕ, suc, Bool, true, false, List, [], ◌∷◌, drop, Option, Some, None, refl, sym, ap, ◌∙◌, arith, bytes_eq, slice_get, option_map, unwrap_or, is_some, if◌then◌else◌, false≢true, get_or_from_slice_get, slice_get_within}
 use Rattle.std.proofs.Math.Seq.{drop-cons}
-use Rattle.rw_model.specs.Objects.{Object, object_at, object_from}
-use Rattle.rw_model.proofs.Numbered.{numbered-known}
+use Rattle.rw_model.proofs.Common.{Object, object_at, object_from, numbered-known}
 
 front : (objects : List Object) (k : ℕ) (o : Object) → slice_get objects k ≡ Some o → drop k objects ≡ o ∷ drop (k + 1) objects
 front objects k o at =

@@ -1,6 +1,5 @@
 -- Of several refusals that may be due, the first in the order is given, however they are taken together.
-use Rattle.std.proofs.Common.{◌≡◌, nat_lt, arith, refl, Bool, true, false, List, [], ◌∷◌, Option, None, Some, ◌∙◌, sym, ap}
-use Rattle.std.proofs.lemmas.Bool.Decides.{nat_tests}
+use Rattle.rw_base.proofs.Common.{◌≡◌, nat_lt, arith, refl, Bool, true, false, List, [], ◌∷◌, Option, None, Some, ◌∙◌, sym, nat_tests}
 use Rattle.rpl_types.specs.declared.type_kind.TypeKind.{TypeKind}
 use Rattle.rpl_tree.specs.declared.rpl_type.RplType.{RplType}
 use Rattle.rpl_types.specs.Fits.{misfit, misfit_among, misfit_in_places, order, sooner}
@@ -24,11 +23,6 @@ sooner_by_threes (Some a) None c = refl
 sooner_by_threes (Some a) (Some b) None = sooner_none (sooner (Some a) (Some b))
 sooner_by_threes (Some a) (Some b) (Some c) = by_order _ _ _ a b c refl refl refl
 
--- the next is taken together with those before it
-pub sooner_next : (whole found next rest more : Option TypeKind) → sooner found more ≡ whole → more ≡ sooner next rest
-    → sooner (sooner found next) rest ≡ whole
-sooner_next whole found next rest more e f = sooner_by_threes found next rest ∙ ap (sooner found) (sym f) ∙ e
-
 -- ---- what is found in a list so far, and what is left of it
 
 pub among_next : (whole found : Option TypeKind) (asked t : RplType) (ts xs : List RplType) → xs ≡ t ∷ ts
@@ -43,7 +37,3 @@ pub places_next : (whole found : Option TypeKind) (t p : RplType) (ts ps xs ys :
     → sooner found (misfit_in_places xs ys) ≡ whole → sooner (sooner found (misfit t p)) (misfit_in_places ts ps) ≡ whole
 places_next whole found t p ts ps xs ys e f h =
     sooner_by_threes found (misfit t p) (misfit_in_places ts ps) ∙ (rw (e, f) at h)
-
-pub places_all : (whole found : Option TypeKind) (xs ys : List RplType) → xs ≡ []
-    → sooner found (misfit_in_places xs ys) ≡ whole → found ≡ whole
-places_all whole found xs ys e h = sym (sooner_none found) ∙ (rw e at h)

@@ -1,22 +1,8 @@
 -- What is no text names no unit, no object and no slot.
-use Rattle.std.proofs.Common.{◌≡◌, ◌<◌, ◌+◌, ◌==◌, ℕ, ℤ, Bool, true, false, List, [], ◌∷◌, ◌++◌, map, Option, Some, None, refl, sym, subst, ap, arith, inl, inr}
-use Rattle.std.specs.Prelude.{◌⊎◌, bytes_eq, nat_lt, option_and_then}
-use Rattle.std.specs.List.{AllByRecursion, list_all}
-use Rattle.std.specs.Str.{IsAscii, IsUtf8}
-use Rattle.std.proofs.lemmas.Str.{IsUtf8-from_ascii}
-use Rattle.std.proofs.lemmas.Str.Ascii.{IsAscii-nil, IsAscii-cons}
-use Rattle.std.proofs.lemmas.Bool.{and_parts, cases_Bool, ltb-true}
-use Rattle.std.proofs.lemmas.List.Elements.{recursion_from_All}
-use Rattle.std.proofs.lemmas.Slice.Eq.{bytes_eq-Decides}
+use Rattle.rw_base.proofs.Common.{◌≡◌, ◌<◌, ◌+◌, ◌==◌, ℕ, ℤ, Bool, true, false, List, [], ◌∷◌, ◌++◌, map, Option, Some, None, refl, sym, subst, ap, arith, inl, inr, ◌⊎◌, bytes_eq, nat_lt, option_and_then, AllByRecursion, list_all, IsAscii, IsUtf8, IsUtf8-from_ascii, IsAscii-nil, IsAscii-cons, and_parts, cases_Bool, ltb-true, recursion_from_All, bytes_eq-Decides}
 use Rattle.rw_base.specs.Dimension.{Dimension}
 use Rattle.rw_base.specs.Unit.{units, unit_in}
-use Rattle.rw_model.specs.Basin.{IsBasin}
-use Rattle.rw_model.specs.Draft.{Draft, IsSound}
-use Rattle.rw_model.specs.Kind.{IsKind}
-use Rattle.rw_model.specs.Name.{IsDigit, IsLetter, IsName}
-use Rattle.rw_model.specs.Objects.{Object, Placed, all_slots, first_from, is_named, object_from, object_named, placed_from, slot_named, slots_from}
-use Rattle.rw_model.specs.Slot.{Slot, of_range, all_quantities}
-use Rattle.rw_model.specs.Slots.{slots_of, where_chosen}
+use Rattle.rw_model.proofs.Common.{IsBasin, Draft, IsSound, IsKind, IsDigit, IsLetter, IsName, Object, Placed, all_slots, first_from, is_named, object_from, object_named, placed_from, slot_named, slots_from, Slot, of_range, all_quantities, slots_of, where_chosen}
 use Rattle.rw_model.specs.declared.data_slots.DataSlot.{DataSlot}
 use Rattle.rw_model.specs.declared.kind.Kind.{Kind}
 use Rattle.rw_model.specs.declared.kind.Kind.TheVariants.{DataObject, Gage, Confluence, Bifurcation, Reach, Reservoir, WaterUser, Canal}

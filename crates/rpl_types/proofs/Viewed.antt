@@ -3,8 +3,7 @@ use Rattle.std.proofs.Common.{◌≡◌, ℕ, ap, ap₂, sym, ◌∙◌, Vec, Gl
 use Rattle.rpl_tree.specs.declared.expression.Expr.{Expr}
 use Rattle.rpl_tree.specs.declared.statement.Statement.{Statement}
 use Rattle.rpl_tree.specs.declared.statement.Statement.TheVariants.{If, With}
-use Rattle.rpl_tree.specs.Tree.{branch, with_name}
-use Rattle.rpl_tree.specs.Seen.{act_of, acts_in, tree_of}
+use Rattle.rpl_tree.proofs.Common.{branch, with_name, act_of, acts_in, tree_of}
 use Rattle.rpl_parse.proofs.Viewed as Read
 
 pub act_of_branch : (c : Expr) (ys ns : Vec Statement Global) → act_of (If c ys ns) ≡ branch (tree_of c) (acts_in ys.items) (acts_in ns.items)

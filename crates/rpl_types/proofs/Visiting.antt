@@ -1,12 +1,8 @@
 -- What is found on one way over a tree is what the definition gives: a claim for each form, over those of its parts.
-use Rattle.std.proofs.Common.{◌≡◌, ◌+◌, ◌-◌, ℕ, arith, refl, ap, sym, ◌∙◌, List, [], ◌∷◌, ◌++◌, length, Some, None, is_some, Ok, Err}
-use Rattle.std.specs.Prelude.{slice_set}
+use Rattle.rw_base.proofs.Common.{◌≡◌, ◌+◌, ◌-◌, ℕ, arith, refl, ap, sym, ◌∙◌, List, [], ◌∷◌, ◌++◌, length, Some, None, is_some, Ok, Err, slice_set, set-append_seam}
 use Rattle.std.proofs.lemmas.List.{append_assoc, append-nil, length-append}
-use Rattle.std.proofs.Math.Seq.{set-append_seam}
-use Rattle.rw_model.specs.Draft.{Draft}
-use Rattle.rw_model.specs.Objects.{object_named}
-use Rattle.rpl_tree.specs.World.{table_named}
-use Rattle.rpl_tree.specs.Tree.{Tree, Trees, literal, truth, now, slot, name, call, brackets, list, choice, bind, each, mapped, one, two, convert, at, no_trees, tree}
+use Rattle.rw_model.proofs.Common.{Draft, object_named}
+use Rattle.rpl_tree.proofs.Common.{table_named, Tree, Trees, literal, truth, now, slot, name, call, brackets, list, choice, bind, each, mapped, one, two, convert, at, no_trees, tree}
 use Rattle.rpl_tree.specs.declared.words.OneWord.{OneWord}
 use Rattle.rpl_tree.specs.declared.words.TwoWord.{TwoWord}
 use Rattle.rpl_tree.specs.declared.words.ConvertWord.{ConvertWord}

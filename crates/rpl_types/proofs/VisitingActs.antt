@@ -1,5 +1,5 @@
 -- The same of statements, and of a whole body, whose first node is 1.
-use Rattle.std.proofs.Common.{◌≡◌, ◌+◌, ℕ, ℤ, arith, refl, ap, sym, ◌∙◌, List, [], ◌∷◌, ◌++◌, length, Option, Some, None, Ok, Err}
+use Rattle.rw_base.proofs.Common.{◌≡◌, ◌+◌, ℕ, ℤ, arith, refl, ap, sym, ◌∙◌, List, [], ◌∷◌, ◌++◌, length, Option, Some, None, Ok, Err}
 use Rattle.std.proofs.lemmas.List.{append_assoc, append-nil, length-append}
 use Rattle.rw_model.specs.Draft.{Draft}
 use Rattle.rpl_tree.specs.Tree.{Tree, Act, Acts, assign, branch, with_name, no_acts, act}

@@ -1,20 +1,12 @@
 -- Accepted code is safe: its blocks fit, and their budgets are what they may come to.
-use Rattle.std.proofs.Common.{◌≡◌, ℕ, zero, suc, ◌+◌, ◌-◌, ◌≤◌, ◌<◌, ◌==◌, ℤ, Bool, true, false, nat_lt, nat_le, List, [], ◌∷◌, ◌++◌, length, take, Option, Some, None, Result, Ok, Err, refl, sym, ap, ap₂, ◌∙◌, subst, arith, append_assoc, append-nil, length-append, if◌then◌else◌}
-use Rattle.std.specs.Prelude.{slice_get, option_and_then, option_map}
-use Rattle.std.proofs.lemmas.Option.{slice_get_within}
-use Rattle.std.proofs.lemmas.List.{length-take}
-use Rattle.std.proofs.lemmas.Bool.Decides.{nat_tests}
+use Rattle.rw_base.proofs.Common.{◌≡◌, ℕ, zero, suc, ◌+◌, ◌-◌, ◌≤◌, ◌<◌, ◌==◌, ℤ, Bool, true, false, nat_lt, nat_le, List, [], ◌∷◌, ◌++◌, length, take, Option, Some, None, Result, Ok, Err, refl, sym, ap, ap₂, ◌∙◌, subst, arith, append_assoc, append-nil, length-append, if◌then◌else◌, slice_get, option_and_then, option_map, slice_get_within, length-take, nat_tests}
 use Rattle.rw_base.specs.declared.number.Cell.{Cell}
-use Rattle.rw_model.specs.Draft.{Draft}
-use Rattle.rw_model.specs.Objects.{numbered}
+use Rattle.rw_model.proofs.Common.{Draft, numbered}
 use Rattle.rw_series.specs.Fire.{Fire}
 use Rattle.rpl_code.specs.declared.block.Block.{Block}
 use Rattle.rpl_code.specs.declared.block.BlockHead.{BlockHead}
 use Rattle.rpl_code.specs.declared.block.BlockHead.TheVariants.{Rule, Function}
-use Rattle.rpl_tree.specs.Budget.{Budget, capped, limits}
-use Rattle.rpl_tree.specs.Outcome.{Answer, Trail, ended, stuck, value}
-use Rattle.rpl_tree.specs.World.{World}
-use Rattle.rpl_tree.specs.Mean.{fire_of}
+use Rattle.rpl_tree.proofs.Common.{Budget, capped, limits, Answer, Trail, ended, stuck, value, World, fire_of}
 use Rattle.rpl_verify.specs.declared.verify_kind.VerifyKind.TheVariants.{TooMany}
 use Rattle.rpl_verify.specs.Names.{Scope}
 use Rattle.rpl_verify.specs.Fits.{Before, Misplaced, at_place, before, befores, block_befores, count_alike, each_block, is_alike, parameters_of, scope_of}
@@ -41,11 +33,6 @@ numbered_by xs n x h le = by (nat_le 1 n) (grind (arith, nat_tests, le))
     by : (t : Bool) → t ≡ true → (if t then slice_get xs (n - 1) else None) ≡ Some x
     by true e = h
     by false e = absurd (cc e)
-
-get_front : {A : Type 0} (xs ys : List A) (k : ℕ) (x : A) → slice_get xs k ≡ Some x → slice_get (xs ++ ys) k ≡ Some x
-get_front [] ys k x h = absurd (cc h)
-get_front (z ∷ xs) ys zero x h = h
-get_front (z ∷ xs) ys (suc k) x h = get_front xs ys k x h
 
 get_behind : {A : Type 0} (xs ys : List A) (x : A) → slice_get ((xs ++ x ∷ []) ++ ys) (length xs) ≡ Some x
 get_behind [] ys x = refl

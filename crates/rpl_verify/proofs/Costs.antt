@@ -1,9 +1,5 @@
 -- The most that there is from each place on, and that a way from place to place never comes to more.
-use Rattle.std.proofs.Common.{◌≡◌, ℕ, zero, suc, ◌+◌, ◌-◌, ◌*◌, max, ◌≤◌, ◌<◌, List, [], ◌∷◌, length, drop, Some, refl, sym, ap, ap₂, ◌∙◌, arith, mul-le-mul_right}
-use Rattle.std.proofs.Math.Nat.{suc-mul}
-use Rattle.std.specs.Prelude.{slice_get, slice_index}
-use Rattle.std.proofs.lemmas.List.{get_or-drop}
-use Rattle.std.proofs.lemmas.Option.{slice_get_within}
+use Rattle.rw_base.proofs.Common.{◌≡◌, ℕ, zero, suc, ◌+◌, ◌-◌, ◌*◌, max, ◌≤◌, ◌<◌, List, [], ◌∷◌, length, drop, Some, refl, sym, ap, ap₂, ◌∙◌, arith, mul-le-mul_right, suc-mul, slice_get, slice_index, get_or-drop, slice_get_within}
 use Rattle.rpl_code.specs.declared.instruction.Instruction.{Instruction}
 use Rattle.rpl_verify.specs.Places.{loop_end, rest_of}
 use Rattle.rpl_tree.specs.Budget.{Budget}

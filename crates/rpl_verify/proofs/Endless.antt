@@ -1,9 +1,6 @@
 -- A firing that jumps back for ever takes more steps than it may, however many those are.
-use Rattle.std.specs.Prelude.{◌≡◌, ℕ, zero, suc, [], ◌∷◌, None}
-use Rattle.std.proofs.Common.{refl, ap}
-use Rattle.rpl_tree.specs.Outcome.{Answer, Trail, stuck}
-use Rattle.rpl_tree.specs.World.{World}
-use Rattle.rpl_tree.specs.Mean.{fire_of}
+use Rattle.rw_base.proofs.Common.{◌≡◌, ℕ, zero, suc, [], ◌∷◌, None, refl, ap}
+use Rattle.rpl_tree.proofs.Common.{Answer, Trail, stuck, World, fire_of}
 use Rattle.rpl_verify.specs.Machine.{Frame, run}
 use Rattle.rpl_verify.specs.Worked.{endless}
 

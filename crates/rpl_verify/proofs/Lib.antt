@@ -22,3 +22,4 @@ pub mod BlockFacts
 pub mod BlockRuled
 pub mod VerifiedFacts
 pub mod Resolving
+pub mod Common

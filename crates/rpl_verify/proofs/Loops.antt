@@ -1,7 +1,5 @@
 -- Loops and jumps of a block that fits.
-use Rattle.std.proofs.Common.{◌≡◌, ℕ, zero, suc, ◌+◌, ◌≤◌, ◌<◌, Bool, true, false, nat_lt, List, [], ◌∷◌, length, drop, reverse, Option, Some, None, Ok, refl, sym, ap, ap₂, ◌∙◌, subst, arith, rules, if◌then◌else◌}
-use Rattle.std.specs.Prelude.{slice_get, slice_index}
-use Rattle.std.proofs.lemmas.Bool.Decides.{nat_tests}
+use Rattle.rw_base.proofs.Common.{◌≡◌, ℕ, zero, suc, ◌+◌, ◌≤◌, ◌<◌, Bool, true, false, nat_lt, List, [], ◌∷◌, length, drop, reverse, Option, Some, None, Ok, refl, sym, ap, ap₂, ◌∙◌, subst, arith, rules, if◌then◌else◌, slice_get, slice_index, nat_tests}
 use Rattle.rpl_code.specs.declared.kind.ValueKind.{ValueKind}
 use Rattle.rpl_code.specs.declared.instruction.Instruction.{Instruction}
 use Rattle.rpl_code.specs.declared.instruction.Instruction.TheVariants as I

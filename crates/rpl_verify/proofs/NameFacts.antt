@@ -1,9 +1,6 @@
 -- Names that are looked up.
-use Rattle.std.proofs.Common.{◌≡◌, ℕ, zero, suc, ◌+◌, ◌<◌, true, false, nat_le, ◌-◌, List, [], ◌∷◌, length, drop, Option, Some, None, option_map, option_and_then, bytes_eq, refl, sym, ap, ◌∙◌, arith, if◌then◌else◌}
-use Rattle.std.specs.Prelude.{slice_get}
-use Rattle.std.proofs.lemmas.Bool.Decides.{nat_tests}
-use Rattle.rw_model.specs.Objects.{Object, object_at, object_from, object_named}
-use Rattle.rw_model.specs.Draft.{Draft}
+use Rattle.rw_base.proofs.Common.{◌≡◌, ℕ, zero, suc, ◌+◌, ◌<◌, true, false, nat_le, ◌-◌, List, [], ◌∷◌, length, drop, Option, Some, None, option_map, option_and_then, bytes_eq, refl, sym, ap, ◌∙◌, arith, if◌then◌else◌, slice_get, nat_tests}
+use Rattle.rw_model.proofs.Common.{Object, object_at, object_from, object_named, Draft}
 use Rattle.rw_model.specs.declared.kind.Kind.{Kind}
 use Rattle.rpl_tree.specs.World.{table_in, table_named}
 

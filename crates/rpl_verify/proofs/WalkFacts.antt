@@ -1,8 +1,5 @@
 -- A walk's fields.
-use Rattle.std.proofs.Common.{◌≡◌, ℕ, zero, suc, ◌+◌, ◌≤◌, ◌<◌, Bool, true, ◌&&◌, List, [], ◌∷◌, ◌++◌, length, map, reverse, get_or, Option, Some, None, Ok, drop, append_assoc, refl, sym, ap, ap₂, ◌∙◌, arith, length-append}
-use Rattle.std.specs.Prelude.{All}
-use Rattle.std.proofs.lemmas.List.{drop_more, map-append, reverse-append}
-use Rattle.std.proofs.lemmas.List.Elements.{All-get_or, All-push}
+use Rattle.rw_base.proofs.Common.{◌≡◌, ℕ, zero, suc, ◌+◌, ◌≤◌, ◌<◌, Bool, true, ◌&&◌, List, [], ◌∷◌, ◌++◌, length, map, reverse, get_or, Option, Some, None, Ok, drop, append_assoc, refl, sym, ap, ap₂, ◌∙◌, arith, length-append, All, drop_more, map-append, reverse-append, All-get_or, All-push}
 use Rattle.rpl_code.specs.declared.kind.ValueKind.{ValueKind}
 use Rattle.rpl_code.specs.declared.instruction.Instruction.{Instruction}
 use Rattle.rpl_verify.specs.declared.walk.OpenLoop.{OpenLoop}

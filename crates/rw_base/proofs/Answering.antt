@@ -1,6 +1,5 @@
 -- What a call that judges finds.
-use Rattle.std.proofs.Common.{◌≡◌, false, Option, None, Some, refl, sym}
-use Rattle.std.proofs.lemmas.Bool.{both_ways}
+use Rattle.rw_base.proofs.Common.{◌≡◌, false, Option, None, Some, refl, sym, both_ways}
 use Rattle.rw_base.specs.Answers.{Finds}
 
 -- what is wrong, where a fault was found

@@ -6,3 +6,4 @@ pub mod Rounding
 pub mod Predefined
 pub mod Tests
 pub mod Answering
+pub mod Common

@@ -1,6 +1,5 @@
 -- Each statement of an exact answer has one answer.
-use Rattle.std.proofs.Common.{◌≡◌, ℤ, Option, Some, None, Ok, Err, refl, sym, ap, ◌∙◌}
-use Rattle.std.specs.Prelude.{Result}
+use Rattle.rw_base.proofs.Common.{◌≡◌, ℤ, Option, Some, None, Ok, Err, refl, sym, ap, ◌∙◌, Result}
 use Rattle.rw_base.specs.declared.quantity.ArithFault.{ArithFault}
 use Rattle.rw_base.specs.declared.quantity.ArithFault.TheVariants.{ZeroDivisor, OutOfRange}
 use Rattle.rw_base.specs.Quantity.{AnswersExactly}

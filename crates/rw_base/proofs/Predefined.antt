@@ -1,9 +1,5 @@
 -- The predefined functions lead from quantities to quantities.
-use Rattle.std.proofs.Common.{ℕ, Bool, true, false, ℤ, pos, negsuc, arith}
-use Rattle.std.specs.Prelude.{◌==◌, if◌then◌else◌}
-use Rattle.std.proofs.lemmas.Int.{ints, clamps}
-use Rattle.std.specs.Int.{int_min, int_max}
-use mathlib.Core.Logic.{inl, inr}
+use Rattle.rw_base.proofs.Common.{ℕ, Bool, true, false, ℤ, pos, negsuc, arith, ◌==◌, if◌then◌else◌, ints, clamps, int_min, int_max, inl, inr}
 use Rattle.rw_base.specs.Quantity.{IsQuantity}
 use Rattle.rw_base.specs.Predefined.{size_of, rounded_down, sign_of, predefined_of, IsFromZeroTo}
 use Rattle.rw_base.proofs.Rounding.{IsFromZeroTo-rounded_down}

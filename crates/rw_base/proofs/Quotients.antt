@@ -1,12 +1,6 @@
 -- What floor division gives.
-use Rattle.std.proofs.Common.{◌≡◌, ◌≢◌, ℕ, zero, suc, ◌+◌, ◌<◌, ◌≤◌, ℤ, pos, negsuc, neg_ℤ, ◌+ℤ◌, ◌*ℤ◌, ◌≤ℤ◌, ◌<ℤ◌, refl, ap, ◌∙◌, arith}
-use Rattle.std.proofs.lemmas.Int.{ints, by_lt_z}
-use Rattle.std.proofs.lemmas.Nat.{div-add-mod'}
-use Rattle.std.proofs.Math.Nat.{mod-lt, div-le_self, mul-le-mul_right}
-use Rattle.std.proofs.Math.IntN.{+ℤ_one, suc_ℤ-*ℤ, *ℤ-negsuc}
-use Rattle.std.specs.Int.{int_div_euclid}
-use borrow.Author.Differences.{up, down}
-use Rattle.rw_base.specs.Quantity.{IsQuantity}
+use Rattle.rw_base.proofs.Common.{◌≡◌, ◌≢◌, ℕ, zero, suc, ◌+◌, ◌<◌, ◌≤◌, ℤ, pos, negsuc, neg_ℤ, ◌+ℤ◌, ◌*ℤ◌, ◌≤ℤ◌, ◌<ℤ◌, refl, ap, ◌∙◌, arith, ints, by_lt_z, div-add-mod', mod-lt, +ℤ_one, suc_ℤ-*ℤ, *ℤ-negsuc, int_div_euclid, up, down}
+use Rattle.std.proofs.Math.Nat.{mul-le-mul_right}
 use Rattle.rw_base.specs.Quotient.{floor_div, IsFloor}
 
 add-one-times : (q b : ℤ) → (q +ℤ pos 1) *ℤ b ≡ q *ℤ b +ℤ b
@@ -26,11 +20,6 @@ not_above (negsuc n) b h = omega (arith, ints, div-add-mod' n b, mod-lt n h)
 next_above : (a : ℤ) (b : ℕ) → 0 < b → a <ℤ (int_div_euclid a (pos b) *ℤ pos b +ℤ pos b)
 next_above (pos n) b h = omega (arith, ints, div-add-mod' n b, mod-lt n h)
 next_above (negsuc n) b h = omega (arith, ints, div-add-mod' n b)
-
--- the quotient is not further from 0 than the dividend
-IsQuantity-euclid : (a : ℤ) (b : ℕ) → 0 < b → IsQuantity a → IsQuantity (int_div_euclid a (pos b))
-IsQuantity-euclid (pos n) b h q = record { low = omega (arith, ints); high = omega (arith, ints, q.high, div-le_self n b) }
-IsQuantity-euclid (negsuc n) b h q = record { low = omega (arith, ints, q.low, div-le_self n b); high = omega (arith, ints) }
 
 -- multiples of a positive divisor keep the order
 first_not_above : (a q r : ℤ) (b : ℕ) → (q *ℤ pos b) ≤ℤ a → a <ℤ (r *ℤ pos b +ℤ pos b) → q ≤ℤ r
@@ -73,10 +62,3 @@ IsFloor_alone a (negsuc b) q r h f g =
     let up = first_not_above (neg_ℤ a) q r (suc b) (omega (arith, ints, one.1)) (omega (arith, ints, other.0)) in
     let down = first_not_above (neg_ℤ a) r q (suc b) (omega (arith, ints, other.1)) (omega (arith, ints, one.0)) in
     omega (arith, ints)
-
-pub IsQuantity-neg : (a : ℤ) → IsQuantity a → IsQuantity (neg_ℤ a)
-IsQuantity-neg a q = record { low = omega (arith, ints, q.high); high = omega (arith, ints, q.low) }
-
-pub IsQuantity-floor_div : (a b : ℤ) → b ≢ pos 0 → IsQuantity a → IsQuantity (floor_div a b)
-IsQuantity-floor_div a (pos b) h q = IsQuantity-euclid a b (some b h) q
-IsQuantity-floor_div a (negsuc b) h q = IsQuantity-euclid (neg_ℤ a) (suc b) (omega arith) (IsQuantity-neg a q)

@@ -1,11 +1,6 @@
 -- What rounding down gives.
-use Rattle.std.proofs.Common.{◌≡◌, ◌≢◌, ℕ, zero, suc, ◌*◌, ◌/◌, ◌<◌, ◌≤◌, ℤ, pos, negsuc, ◌*ℤ◌, refl, ap, ◌∙◌, arith}
-use Rattle.std.specs.Prelude.{int_div, unsigned_abs}
-use Rattle.std.proofs.lemmas.Int.{ints, quot-rem, unsigned_abs-mul}
-use Rattle.std.proofs.lemmas.Bool.{cases_lt}
-use Rattle.std.proofs.lemmas.Nat.{div-add-mod'}
-use Rattle.std.proofs.Math.Nat.{mod-lt, mod-le, mul-le-mul_right}
-use mathlib.Core.Logic.{inl, inr, ⊎_elim}
+use Rattle.rw_base.proofs.Common.{◌≡◌, ◌≢◌, ℕ, zero, suc, ◌*◌, ◌/◌, ◌<◌, ◌≤◌, ℤ, pos, negsuc, ◌*ℤ◌, refl, ap, ◌∙◌, arith, int_div, unsigned_abs, ints, quot-rem, unsigned_abs-mul, cases_lt, div-add-mod', mod-lt, mod-le, inl, inr, ⊎_elim}
+use Rattle.std.proofs.Math.Nat.{mul-le-mul_right}
 use Rattle.rw_base.specs.Predefined.{rounded_down, IsFromZeroTo, IsMultipleOf, distance}
 
 pub rounded_down_is : (a b : ℤ) → b ≢ pos 0 → rounded_down a b ≡ int_div a b *ℤ b

@@ -1,10 +1,5 @@
 -- Tests on numbers, and choices by tests.
-use Rattle.std.proofs.Common.{◌≡◌, ◌≤◌, ℕ, nat_le, ℤ, ◌≤ℤ◌, ◌<ℤ◌, int_le, int_lt, Bool, true, false, if◌then◌else◌, Option, None, Some, refl, sym, arith, inl, inr, ◌⊎◌}
-use Rattle.std.specs.Bool.{Decides}
-use Rattle.std.proofs.lemmas.Bool.{both_ways}
-use Rattle.std.proofs.lemmas.Bool.Decides.{nat_tests, Decides-and}
-use Rattle.std.proofs.lemmas.Int.{ints, by_lt_z}
-use mathlib.Core.Logic.{⊎_elim}
+use Rattle.rw_base.proofs.Common.{◌≡◌, ◌≤◌, ℕ, nat_le, ℤ, ◌≤ℤ◌, ◌<ℤ◌, int_le, int_lt, Bool, true, false, if◌then◌else◌, Option, None, Some, refl, sym, arith, inl, inr, ◌⊎◌, Decides, both_ways, nat_tests, Decides-and, ints, by_lt_z, ⊎_elim}
 use Rattle.rw_base.specs.Range.{is_from_to}
 
 below-or-not : (a b : ℤ) → (a <ℤ b) ⊎ (b ≤ℤ a)

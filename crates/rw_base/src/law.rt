@@ -8,6 +8,7 @@ ghost use Rattle.rw_base.specs.Unit.{units, words_of, unit_in};
 ghost use Rattle.rw_base.specs.Predefined.{rounded_down, predefined_of, IsFromZeroTo, IsMultipleOf, distance};
 
 /// What is exact has one answer: two calls that answer the same exact value, or the same exponents, answer alike.
+#[tactic(auto, using(crate::proofs::OneAnswer::AnswersExactly_one, crate::proofs::OneAnswer::AnswersDimension_one))]
 pub fn one_answer()
     ensures quantity { (exact : ℤ) (r s : Result ℤ ArithFault)
         → AnswersExactly exact r → AnswersExactly exact s → r ≡ s }

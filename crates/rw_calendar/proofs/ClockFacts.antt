@@ -1,8 +1,5 @@
 -- What the library's dates and times show, as moments.
-use Rattle.std.proofs.Common.{◌≡◌, ℕ, ◌<◌, ◌≤◌, inl, inr, MatchOption, min, ℤ, pos, negsuc, ◌+ℤ◌, ◌*ℤ◌, ◌≤ℤ◌, unsigned_abs, refl, sym, ◌∙◌, arith}
-use Rattle.std.proofs.lemmas.Bool.{cases_lt}
-use Rattle.std.specs.Prelude.{Result, Ok, Err, IsOk, IfOk}
-use Rattle.std.specs.Result.{result_ok}
+use Rattle.rw_base.proofs.Common.{◌≡◌, ℕ, ◌<◌, ◌≤◌, inl, inr, MatchOption, min, ℤ, pos, negsuc, ◌+ℤ◌, ◌*ℤ◌, ◌≤ℤ◌, unsigned_abs, refl, sym, ◌∙◌, arith, cases_lt, Result, Ok, Err, IsOk, IfOk, result_ok}
 use Rattle.jiff_core.specs.Calendar.{days_in_month}
 use Rattle.jiff_core.proofs.SignedLemmas.{signed_arith}
 use Rattle.jiff_core.proofs.CalendarLemmas.{days_in_month_bounds, days_from_civil-day_count, day_count-day_of_year, day_count-later_year, day_count-next_year, day_count-end}

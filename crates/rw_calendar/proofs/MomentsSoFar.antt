@@ -1,7 +1,5 @@
 -- A list of a run's moments, as far as it has come.
-use Rattle.std.proofs.Common.{ℕ, ◌+◌, ◌<◌, List, [], ◌∷◌, ◌++◌, length, slice_index_or, sym, arith, below_more, length-append}
-use Rattle.std.proofs.Math.ListN.{get_or-append}
-use Rattle.std.proofs.Math.Seq.{get_or-append_seam}
+use Rattle.rw_base.proofs.Common.{ℕ, ◌+◌, ◌<◌, List, [], ◌∷◌, ◌++◌, length, slice_index_or, sym, arith, below_more, length-append, get_or-append, get_or-append_seam}
 use Rattle.rw_calendar.specs.declared.step_length.StepLength.{StepLength}
 use Rattle.rw_calendar.specs.declared.moment.Moment.{Moment}
 use Rattle.rw_calendar.specs.Stamps.{IsMomentAfter, HasMoments}

@@ -1,7 +1,5 @@
 -- The refusals of the calendar stand where their words say.
-use Rattle.std.proofs.Common.{◌≡◌, ◌∙◌, ◌<◌, ◌≤◌, ℕ, nat_lt, pos, Bool, true, false, if◌then◌else◌, Option, None, Some, refl, unsigned_abs, arith, ◌↔◌}
-use Rattle.std.specs.Bool.{Decides}
-use Rattle.std.proofs.lemmas.Bool.Decides.{Decides-and, Decides-eqb, Decides-ltb, Decides-like, nat_tests}
+use Rattle.rw_base.proofs.Common.{◌≡◌, ◌∙◌, ◌<◌, ◌≤◌, ℕ, nat_lt, pos, Bool, true, false, if◌then◌else◌, Option, None, Some, refl, unsigned_abs, arith, ◌↔◌, Decides, Decides-and, Decides-eqb, Decides-ltb, Decides-like, nat_tests}
 use Rattle.rw_base.proofs.Tests.{Decides-from_to, fails, denied, unless, where-true}
 use Rattle.rw_calendar.specs.declared.start.Start.{Start}
 use Rattle.rw_calendar.specs.declared.step_length.StepLength.{StepLength}

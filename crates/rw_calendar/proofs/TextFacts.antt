@@ -1,8 +1,6 @@
 -- What the formatter writes of a number with leading zeros is the number in so many digits.
-use Rattle.std.proofs.Common.{◌≡◌, ℕ, ◌+◌, ◌-◌, ◌/◌, ◌%◌, ◌<◌, ◌≤◌, ◌^◌, inl, inr, List, [], ◌∷◌, ◌++◌, ap, ◌∙◌, arith}
-use Rattle.std.proofs.lemmas.Bool.{cases_lt}
-use Rattle.std.proofs.lemmas.Fmt.{decimal_digit, decimal_step}
-use Rattle.std.specs.Fmt.{format_spec, styled_decimal, padded_integral, char_count, decimal}
+use Rattle.rw_base.proofs.Common.{◌≡◌, ℕ, ◌+◌, ◌-◌, ◌/◌, ◌%◌, ◌<◌, ◌≤◌, ◌^◌, inl, inr, List, [], ◌∷◌, ◌++◌, ap, ◌∙◌, arith, cases_lt, decimal_digit, decimal_step, format_spec, styled_decimal, decimal}
+use Rattle.std.specs.Fmt.{padded_integral, char_count}
 use Rattle.rw_calendar.specs.Stamps.{in_digits}
 
 -- what `{:02}` and `{:04}` write

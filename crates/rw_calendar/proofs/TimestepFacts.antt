@@ -1,6 +1,5 @@
 -- That the timesteps of stamps are those of a run.
-use Rattle.std.proofs.Common.{◌≡◌, ◌≤◌, ◌+◌, ◌*◌, ℕ, ℤ, pos, negsuc, List, refl, subst, arith}
-use Rattle.std.specs.Prelude.{◌≤ℤ◌, unsigned_abs}
+use Rattle.rw_base.proofs.Common.{◌≡◌, ◌≤◌, ◌+◌, ◌*◌, ℕ, ℤ, pos, negsuc, List, refl, subst, arith, ◌≤ℤ◌, unsigned_abs}
 use Rattle.jiff_core.proofs.SignedLemmas.{signed_arith}
 use Rattle.rw_calendar.specs.declared.moment.Moment.{Moment}
 use Rattle.rw_calendar.specs.declared.start.Start.{Start}
@@ -42,9 +41,9 @@ moment_there m (Hours hours) k is begin = (hours_later_is m (k * hours) is).mome
 moment_there m Month k is begin = (months_later_is m k is begin.0 begin.1).moment
 
 -- those that can be stamped
-pub are-stamped : (start : Start) (length : StepLength) (steps : ℕ) → 1 ≤ steps → steps ≤ 4096 → CanBeStamped start length steps
+pub are_stamped : (start : Start) (length : StepLength) (steps : ℕ) → 1 ≤ steps → steps ≤ 4096 → CanBeStamped start length steps
     → AreTimesteps (timesteps_of start length steps)
-are-stamped start length steps some few can =
+are_stamped start length steps some few can =
     let m = start_is start can.valid in record {
       some = some;
       few = few;

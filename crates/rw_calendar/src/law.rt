@@ -35,6 +35,7 @@ pub fn later_moments_exist()
 {}
 
 /// Timesteps that can be stamped are those of a run.
+#[tactic(auto, using(crate::proofs::TimestepFacts::are_stamped))]
 pub fn stamped_timesteps()
     ensures { (start : Start) (length : StepLength) (steps : ℕ) → 1 ≤ steps → steps ≤ 4096
         → CanBeStamped start length steps → AreTimesteps (timesteps_of start length steps) }

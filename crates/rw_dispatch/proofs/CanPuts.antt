@@ -1,24 +1,15 @@
 -- What an object puts, it can put.
-use Rattle.std.proofs.Common.{◌≡◌, ◌<◌, ◌&&◌, ℕ, true, List, Option, Some, None, refl, sym, ap, ◌∙◌, arith}
-use Rattle.std.specs.Prelude.{ℤ, int_le, IsSome, option_map, unwrap_or, slice_index_or}
-use Rattle.std.proofs.lemmas.Bool.{and_parts}
-use Rattle.std.proofs.lemmas.Int.{ints}
+use Rattle.rw_base.proofs.Common.{◌≡◌, ◌<◌, ◌&&◌, ℕ, true, List, Option, Some, None, refl, sym, ap, ◌∙◌, arith, ℤ, int_le, IsSome, option_map, unwrap_or, slice_index_or, and_parts, ints}
 use Rattle.rw_model.specs.declared.kind.Kind.{Kind}
-use Rattle.rw_model.specs.Kind.{IsKind}
-use Rattle.rw_model.specs.Slot.{Bounds, all_quantities}
-use Rattle.rw_model.specs.Slots.{slot_in}
-use Rattle.rw_model.specs.Objects.{Object, object_at, slot_in_place}
-use Rattle.rw_model.specs.Draft.{Draft, IsObject}
-use Rattle.rw_model.specs.Links.{IsBetween}
+use Rattle.rw_model.proofs.Common.{IsKind, Bounds, all_quantities, slot_in, Object, object_at, slot_in_place, Draft, IsObject, IsBetween}
 use Rattle.rw_method.specs.declared.put.Put.{Put}
 use Rattle.rw_method.specs.declared.solved.Solved.TheVariants.{Idle, Puts}
 use Rattle.rw_method.specs.declared.view.View.{View}
 use Rattle.rw_method.specs.View.{bounds_at, is_between}
 use Rattle.rw_method.specs.Puts.{is_bounded}
 use Rattle.rw_method.specs.Solve.{solve_of}
-use Rattle.rw_run.specs.Log.{Cells}
+use Rattle.rw_run.proofs.Common.{Cells, bounds_in_place, view_of, solved_by}
 use Rattle.rw_method.proofs.SolvedPuts.{solve-puts}
-use Rattle.rw_run.specs.Dispatch.{bounds_in_place, view_of, solved_by}
 use Rattle.rw_dispatch.specs.Putting.{ArePuts, CanPut}
 use Rattle.rw_dispatch.proofs.Viewed.{has_slot, bounds_at-view}
 

@@ -1,9 +1,5 @@
 -- A list that is filled place by place.
-use Rattle.std.proofs.Common.{◌≡◌, ◌<◌, ◌+◌, ◌-◌, ℕ, suc, List, [], ◌∷◌, ◌++◌, map, set, length, sym, ap, ap₂, ◌∙◌, arith, append_assoc}
-use Rattle.std.specs.Prelude.{replicate}
-use Rattle.std.specs.List.{range_with_len}
-use Rattle.std.proofs.Math.Seq.{set-append_seam}
-use Rattle.std.proofs.lemmas.List.FromFn.{map-range_with_len_more, length-map-range_with_len}
+use Rattle.rw_base.proofs.Common.{◌≡◌, ◌<◌, ◌+◌, ◌-◌, ℕ, suc, List, [], ◌∷◌, ◌++◌, map, set, length, sym, ap, ap₂, ◌∙◌, arith, append_assoc, replicate, range_with_len, set-append_seam, map-range_with_len_more, length-map-range_with_len}
 
 -- the first places are filled, the others are blank
 abbrev pub filled : {X : Type 0} → (ℕ → X) → X → ℕ → ℕ → List X

@@ -1,17 +1,12 @@
 -- Puts are made one after another.
-use Rattle.std.proofs.Common.{◌≡◌, ◌<◌, ◌+◌, ℕ, suc, arith, drop, drop-cons, length, slice_index_or, Bool, true, false, List, [], ◌∷◌, Option, Some, None, refl, sym, ap, subst, ◌∙◌, if◌then◌else◌}
-use Rattle.std.specs.Prelude.{option_map, unwrap_or, pos}
-use Rattle.std.specs.Option.{option_or}
+use Rattle.rw_base.proofs.Common.{◌≡◌, ◌<◌, ◌+◌, ℕ, suc, arith, drop, drop-cons, length, slice_index_or, Bool, true, false, List, [], ◌∷◌, Option, Some, None, refl, sym, ap, subst, ◌∙◌, if◌then◌else◌, option_map, unwrap_or, pos, option_or}
 use Rattle.rw_base.specs.declared.number.Cell.{Cell}
 use Rattle.rw_model.specs.declared.content.Content.{Content}
-use Rattle.rw_model.specs.Objects.{slot_in_place}
-use Rattle.rw_model.specs.Draft.{Draft}
-use Rattle.rw_model.specs.Links.{IsBetween, bounds_in}
+use Rattle.rw_model.proofs.Common.{slot_in_place, Draft, IsBetween, bounds_in}
 use Rattle.rw_method.specs.declared.put.Put.{Put}
 use Rattle.rw_series.specs.Series.{Series, held, is_shared, Sets}
 use Rattle.rw_series.proofs.Bounds.{bounds-shared}
-use Rattle.rw_run.specs.Log.{Asked, Cells, last_put}
-use Rattle.rw_run.specs.Dispatch.{asked_by, bounds_in_place, slot_or_none}
+use Rattle.rw_run.proofs.Common.{Asked, Cells, last_put, asked_by, bounds_in_place, slot_or_none}
 use Rattle.rw_dispatch.specs.Stage.{AreBounded}
 use Rattle.rw_dispatch.specs.Putting.{CanPut}
 use Rattle.rw_dispatch.proofs.CanPuts.{there}

@@ -1,17 +1,7 @@
 -- Who owns a slot that puts reach.
-use Rattle.std.proofs.Common.{◌≡◌, ◌≤◌, ◌<◌, ◌+◌, ◌-◌, ◌==◌, ◌||◌, ℕ, Bool, true, false, List, [], ◌∷◌, length, take, Option, Some, None, refl, sym, ap, subst, ◌∙◌, arith, slice_index_or}
-use Rattle.std.specs.Prelude.{IfSome, option_map, unwrap_or}
-use Rattle.std.specs.List.{list_any}
-use Rattle.std.proofs.lemmas.Bool.{eqb-true}
-use Rattle.std.proofs.lemmas.List.{take_all}
-use Rattle.std.proofs.lemmas.List.Folds.{list_any_more, Any-from_list_any}
+use Rattle.rw_base.proofs.Common.{◌≡◌, ◌≤◌, ◌<◌, ◌+◌, ◌-◌, ◌==◌, ◌||◌, ℕ, Bool, true, false, List, [], ◌∷◌, length, take, Option, Some, None, refl, sym, ap, subst, ◌∙◌, arith, slice_index_or, IfSome, option_map, unwrap_or, list_any, eqb-true, take_all, list_any_more, Any-from_list_any}
 use Rattle.rw_base.specs.declared.number.SlotNo.{SlotNo}
-use Rattle.rw_model.specs.Kept.{place_of, numbers_of}
-use Rattle.rw_model.specs.Objects.{Object, Placed, all_slots, slot_at}
-use Rattle.rw_model.specs.Draft.{Draft}
-use Rattle.rw_model.specs.Links.{group_of, owner_of}
-use Rattle.rw_model.proofs.Numbered.{numbered-found}
-use Rattle.rw_model.proofs.Numbering.{StandsAt-stored}
+use Rattle.rw_model.proofs.Common.{place_of, numbers_of, Object, Placed, all_slots, slot_at, Draft, group_of, owner_of, numbered-found, StandsAt-stored}
 use Rattle.rw_run.specs.Waiting.{is_at, is_owner}
 use Rattle.rw_dispatch.specs.Owners.{IsLeastAbove}
 

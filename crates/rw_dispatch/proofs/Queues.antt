@@ -1,14 +1,9 @@
 -- A queue with one object more or less.
-use Rattle.std.proofs.Common.{◌≡◌, ◌≤◌, ◌<◌, ◌+◌, ◌-◌, ◌==◌, ℕ, zero, suc, Bool, true, false, not, ◌&&◌, cond, List, [], ◌∷◌, ◌++◌, length, get_or, set, nat_eq, nat_lt, refl, sym, ap, ap₂, subst, ◌∙◌, arith, add-one, append_assoc, append-nil, Option}
-use Rattle.std.specs.List.{list_any, filter}
-use Rattle.std.proofs.lemmas.List.Elements.{filter-append}
+use Rattle.rw_base.proofs.Common.{◌≡◌, ◌≤◌, ◌<◌, ◌+◌, ◌-◌, ◌==◌, ℕ, zero, suc, Bool, true, false, not, ◌&&◌, cond, List, [], ◌∷◌, ◌++◌, length, get_or, set, nat_eq, nat_lt, refl, sym, ap, ap₂, subst, ◌∙◌, arith, add-one, append_assoc, append-nil, Option, list_any, filter, filter-append, nat_tests}
 use Rattle.std.proofs.Math.ListN.{length-replicate, replicate, length-append, length-set}
-use Rattle.std.proofs.lemmas.Bool.Decides.{nat_tests}
 use Rattle.rw_model.specs.Draft.{Draft}
-use Rattle.rw_run.specs.Times.{times}
-use Rattle.rw_run.specs.Waiting.{numbers, is_data, is_woken, is_but, is_owner}
+use Rattle.rw_run.proofs.Common.{times, numbers, is_data, is_woken, is_but, is_owner, times-append, times-filter, times-numbers, any-times}
 use Rattle.rw_dispatch.specs.Queue.{KeepsQueue, is_marked, unmarked}
-use Rattle.rw_run.proofs.Lists.{times-append, times-filter, times-numbers, any-times}
 
 unmarked-set : (bits : List Bool) (k : ℕ) (v : Bool) → k < length bits → unmarked (set bits k v) + cond (get_or bits k false) 0 1 ≡ unmarked bits + cond v 0 1
 unmarked-set [] k v l = absurd (omega arith)

@@ -3,8 +3,7 @@ use Rattle.std.proofs.Common.{◌≡◌, ◌≤◌, ◌++◌, ◌-◌, ℕ, List
 use Rattle.rw_model.specs.Draft.{Draft, IsObject}
 use Rattle.rw_series.specs.Series.{held}
 use Rattle.rw_run.specs.declared.fault.RunFault.{RunFault}
-use Rattle.rw_run.specs.Dispatch.{dispatched, looks_of, places}
-use Rattle.rw_run.proofs.Ready.{AreReady, queued_after-ready}
+use Rattle.rw_run.proofs.Common.{dispatched, looks_of, places, AreReady, queued_after-ready}
 use Rattle.rw_dispatch.specs.declared.dispatched.Dispatched.{Dispatched}
 use Rattle.rw_dispatch.specs.Answer.{Tells}
 use Rattle.rw_dispatch.specs.Stage.{IsStageOf, Leaves, stage}

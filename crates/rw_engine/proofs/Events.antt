@@ -1,12 +1,6 @@
 -- One event of the engine, over the log that its state holds.
-use Rattle.std.proofs.Common.{◌≡◌, ◌≤◌, ◌<◌, ◌==◌, ℕ, Bool, true, false, List, [], ◌∷◌, ◌++◌, map, Option, Some, None, find, nat_le, refl, sym, ap, ap₂, subst, ◌∙◌, arith}
-use Rattle.std.specs.Prelude.{if◌then◌else◌}
-use Rattle.std.specs.Option.{option_or}
-use Rattle.std.proofs.lemmas.Bool.Decides.{nat_tests}
-use Rattle.std.proofs.lemmas.Option.{none-some, same_Some}
+use Rattle.rw_base.proofs.Common.{◌≡◌, ◌<◌, ◌==◌, ℕ, Bool, true, false, List, [], ◌∷◌, ◌++◌, map, Option, Some, None, nat_le, refl, sym, ap, ap₂, subst, ◌∙◌, arith, if◌then◌else◌, option_or, nat_tests, none-some, same_Some}
 use Rattle.rw_base.specs.declared.number.Cell.{Cell}
-use Rattle.rw_model.specs.declared.control.AgendaOrder.{AgendaOrder}
-use Rattle.rw_model.specs.declared.control.AgendaOrder.TheVariants.{HighFirst, LowFirst}
 use Rattle.rw_model.specs.Draft.{Draft}
 use Rattle.rw_method.specs.declared.put.Put.{Put}
 use Rattle.rw_series.specs.Series.{held}
@@ -15,13 +9,7 @@ use Rattle.rw_run.specs.declared.fault.RunFault.{RunFault}
 use Rattle.rw_run.specs.declared.fault.RunFault.TheVariants.{ObjectLimit}
 use Rattle.rw_run.specs.declared.run.RunEnd.TheVariants.{Settled, Fault}
 use Rattle.rw_run.specs.declared.trace.TraceEvent.TheVariants.{Solve}
-use Rattle.rw_run.specs.Log.{Cells, Event, closed, fault, Log, cells_of, held_after, last_put, written_by}
-use Rattle.rw_run.specs.Waiting.{waiting, first_of, queued_after}
-use Rattle.rw_run.specs.Dispatch.{asked_for, dispatched}
-use Rattle.rw_run.specs.Next.{count_if, dispatches, agenda_of, no_rules, is_due, next, next_of, after_objects}
-use Rattle.rw_run.specs.Runs.{inside, standing}
-use Rattle.rw_run.specs.RunOf.{line_of, lines, end_of, last_closed}
-use Rattle.rw_run.proofs.Waits.{idles, solves}
+use Rattle.rw_run.proofs.Common.{Cells, Event, closed, fault, Log, cells_of, held_after, last_put, written_by, waiting, first_of, queued_after, asked_for, dispatched, count_if, dispatches, no_rules, next, next_of, inside, standing, line_of, lines, end_of, last_closed, idles, solves}
 use Rattle.rw_dispatch.specs.declared.dispatched.Dispatched.{Dispatched}
 use Rattle.rw_dispatch.specs.declared.dispatched.Dispatched.TheVariants.{Idle as IsIdle, Solved as IsSolved, Conflict as IsConflict, OutOfRange as IsOutOfRange}
 use Rattle.rw_dispatch.specs.Answer.{event_of}
@@ -47,29 +35,6 @@ next_is basin cells step log object rest waits same below =
         ≡ dispatched basin (cells_of basin log) object step
     often true is = absurd (grind (arith, nat_tests))
     often false is = refl
-
--- at the limit that is the fault
-pub next_limit : (basin : Draft) (step : ℕ) (log : Log) (object : ℕ) (rest : List ℕ) → waiting basin log ≡ object ∷ rest
-    → basin.control.object_limit ≤ dispatches log object
-    → next basin no_rules step log ≡ Some (fault (ObjectLimit (record { 0 = object }) (record { 0 = step }) (dispatches log object)))
-next_limit basin step log object rest waits reached =
-    ap (λ queue. next_of basin no_rules (cells_of basin log) log step (first_of queue)) waits
-    ∙ ap Some (often (nat_le basin.control.object_limit (dispatches log object)) refl)
-  where
-    often : (test : Bool) → nat_le basin.control.object_limit (dispatches log object) ≡ test
-        → (if test then fault (ObjectLimit (record { 0 = object }) (record { 0 = step }) (dispatches log object)) else dispatched basin (cells_of basin log) object step)
-        ≡ fault (ObjectLimit (record { 0 = object }) (record { 0 = step }) (dispatches log object))
-    often true is = refl
-    often false is = absurd (grind (arith, nat_tests))
-
--- where none waits the timestep is closed
-pub next_closes : (basin : Draft) (step : ℕ) (log : Log) → waiting basin log ≡ [] → next basin no_rules step log ≡ Some (closed step)
-next_closes basin step log waits =
-    ap (λ queue. next_of basin no_rules (cells_of basin log) log step (first_of queue)) waits ∙ none basin.control.agenda
-  where
-    none : (order : AgendaOrder) → after_objects basin no_rules (cells_of basin log) log step (find (is_due (cells_of basin log) log) (agenda_of order 0)) ≡ Some (closed step)
-    none HighFirst = refl
-    none LowFirst = refl
 
 -- ---- after an event
 

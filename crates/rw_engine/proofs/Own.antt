@@ -1,16 +1,11 @@
 -- A dispatch writes to cells of its object's slots alone.
-use Rattle.std.proofs.Common.{◌≡◌, ◌≤◌, ℕ, List, [], ◌∷◌, Option, Some, None, map, refl, sym, ap, subst, ◌∙◌}
-use Rattle.std.specs.Prelude.{All, IsSome, option_map, unwrap_or}
-use Rattle.std.proofs.lemmas.List.Elements.{All-nil, All-cons, All-head, All-tail}
+use Rattle.rw_base.proofs.Common.{◌≡◌, ◌≤◌, ℕ, List, [], ◌∷◌, Option, Some, None, map, refl, sym, ap, subst, ◌∙◌, All, IsSome, option_map, unwrap_or, All-nil, All-cons, All-head, All-tail}
 use Rattle.rw_base.specs.declared.number.Cell.{Cell}
-use Rattle.rw_model.specs.Draft.{Draft}
-use Rattle.rw_model.specs.Objects.{slot_in_place}
-use Rattle.rw_model.proofs.Bounding.{known_in_place}
+use Rattle.rw_model.proofs.Common.{Draft, slot_in_place, known_in_place}
 use Rattle.rw_method.specs.declared.put.Put.{Put}
 use Rattle.rw_series.specs.Series.{IsCell}
 use Rattle.rw_series.specs.declared.look.Look.{Look}
-use Rattle.rw_run.specs.Log.{Event, written_by}
-use Rattle.rw_run.specs.Dispatch.{cell_at, cell_in, asked_by}
+use Rattle.rw_run.proofs.Common.{Event, written_by, cell_at, cell_in, asked_by}
 use Rattle.rw_dispatch.specs.declared.dispatched.Dispatched.{Dispatched}
 use Rattle.rw_dispatch.specs.declared.dispatched.Dispatched.TheVariants.{Idle, Solved, Conflict, OutOfRange}
 use Rattle.rw_dispatch.specs.Answer.{Tells, event_of, written_in}

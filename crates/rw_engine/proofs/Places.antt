@@ -1,13 +1,11 @@
 -- Inputs are placed one after another.
-use Rattle.std.proofs.Common.{◌≡◌, ℕ, suc, ◌+◌, List, [], ◌∷◌, ◌++◌, Some, refl, sym, ap, subst, ◌∙◌}
+use Rattle.rw_base.proofs.Common.{◌≡◌, ℕ, suc, ◌+◌, List, [], ◌∷◌, ◌++◌, Some, refl, sym, ap, subst, ◌∙◌, ℤ}
 use Rattle.std.proofs.Math.Numerals.{add-one}
-use Rattle.std.specs.Prelude.{ℤ}
 use Rattle.rw_base.specs.declared.number.Cell.{Cell}
 use Rattle.rw_model.specs.Draft.{Draft}
 use Rattle.rw_series.specs.Series.{Series, held, Sets}
 use Rattle.rw_inputs.specs.Inputs.{Inputs, IsInputsOf, value_at}
-use Rattle.rw_run.specs.Log.{Log, input_content}
-use Rattle.rw_run.specs.Runs.{placed}
+use Rattle.rw_run.proofs.Common.{Log, input_content, placed}
 use Rattle.rw_dispatch.specs.Stage.{AreBounded}
 use Rattle.rw_dispatch.proofs.Makes.{AreBounded-put}
 use Rattle.rw_engine.specs.Givens.{if_given, givens_of, givens_to, HoldsAll}

@@ -1,7 +1,5 @@
 -- Counts of numbered things.
-use Rattle.std.proofs.Common.{◌≡◌, ◌<◌, ◌≤◌, ◌+◌, ◌-◌, ◌==◌, ℕ, zero, suc, List, [], ◌∷◌, length, get_or, set, refl, arith}
-use Rattle.std.specs.Prelude.{if◌then◌else◌}
-use Rattle.std.proofs.lemmas.Bool.Decides.{nat_tests}
+use Rattle.rw_base.proofs.Common.{◌≡◌, ◌<◌, ◌≤◌, ◌+◌, ◌-◌, ◌==◌, ℕ, zero, suc, List, [], ◌∷◌, length, get_or, set, refl, arith, if◌then◌else◌, nat_tests}
 use Rattle.rw_run.specs.Next.{count_if}
 use Rattle.rw_engine.specs.Counts.{IsCounted, count_of, raised, room}
 

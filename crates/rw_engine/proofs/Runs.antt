@@ -4,10 +4,7 @@ use Rattle.rw_model.specs.Draft.{Draft}
 use Rattle.rw_inputs.specs.Inputs.{Inputs}
 use Rattle.rw_run.specs.declared.fault.RunFault.{RunFault}
 use Rattle.rw_run.specs.declared.run.Run.{Run}
-use Rattle.rw_run.specs.Log.{Log}
-use Rattle.rw_run.specs.Next.{no_rules}
-use Rattle.rw_run.specs.Runs.{rests, standing, placed, IsOver}
-use Rattle.rw_run.specs.RunOf.{IsRunOf}
+use Rattle.rw_run.proofs.Common.{Log, no_rules, rests, standing, placed, IsOver, IsRunOf}
 use Rattle.rw_engine.specs.Engine.{Engine}
 use Rattle.rw_engine.specs.declared.step_end.StepEnd.TheVariants.{Closed as IsClosed, Fault as IsFault}
 use Rattle.rw_engine.specs.Givens.{givens}

@@ -1,11 +1,8 @@
 -- The log of the inputs, and logs between timesteps.
-use Rattle.std.proofs.Common.{◌≡◌, ℕ, List, [], ◌∷◌, refl, ◌∙◌, append-nil}
-use Rattle.std.specs.Prelude.{ℤ}
+use Rattle.rw_base.proofs.Common.{◌≡◌, ℕ, List, [], ◌∷◌, refl, ◌∙◌, append-nil, ℤ}
 use Rattle.rw_base.specs.declared.number.Cell.{Cell}
 use Rattle.rw_run.specs.declared.run.RunEnd.TheVariants.{Settled}
-use Rattle.rw_run.specs.Log.{given, fault, Log}
-use Rattle.rw_run.specs.Runs.{placed, standing, rests}
-use Rattle.rw_run.specs.RunOf.{trace_of, end_of, last_closed}
+use Rattle.rw_run.proofs.Common.{given, fault, Log, placed, standing, rests, trace_of, end_of, last_closed}
 
 pub trace-placed : (log : Log) (inputs : List (Cell × ℤ)) → trace_of (placed log inputs) ≡ trace_of log
 trace-placed log [] = refl

@@ -1,16 +1,9 @@
 -- A timestep of the engine, over the log that it shows.
-use Rattle.std.proofs.Common.{◌≡◌, ◌≤◌, ◌+◌, ℕ, Bool, true, false, List, [], ◌∷◌, ◌++◌, Some, None, nat_lt, refl, sym, ap, subst, ◌∙◌, arith, append_assoc}
-use Rattle.std.proofs.lemmas.Bool.Decides.{nat_tests}
-use Rattle.std.specs.Prelude.{if◌then◌else◌}
+use Rattle.rw_base.proofs.Common.{◌≡◌, ◌≤◌, ◌+◌, ℕ, Bool, true, false, List, [], ◌∷◌, ◌++◌, Some, None, nat_lt, refl, sym, ap, subst, ◌∙◌, arith, append_assoc, nat_tests, if◌then◌else◌}
 use Rattle.rw_model.specs.Draft.{Draft}
 use Rattle.rw_series.specs.Series.{Series, held}
-use Rattle.rw_run.specs.Log.{Log, Event, opened}
-use Rattle.rw_run.specs.Waiting.{all_waiting}
-use Rattle.rw_run.specs.Next.{Policy, no_rules, next}
-use Rattle.rw_run.specs.Runs.{Leads, follows, follows_in}
-use Rattle.rw_run.specs.RunOf.{lines}
+use Rattle.rw_run.proofs.Common.{Log, Event, opened, all_waiting, Policy, no_rules, next, Leads, follows, follows_in, lines, opens}
 use Rattle.rw_run.specs.declared.run.RunEnd.TheVariants.{Settled}
-use Rattle.rw_run.proofs.Waits.{opens}
 use Rattle.rw_engine.specs.declared.state.State.{State}
 use Rattle.rw_engine.specs.declared.step_end.StepEnd.{StepEnd}
 use Rattle.rw_engine.specs.Counts.{count_of}

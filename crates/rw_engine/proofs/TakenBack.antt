@@ -1,17 +1,11 @@
 -- Putting back what cells held.
-use Rattle.std.proofs.Common.{◌≡◌, ◌<◌, ◌≤◌, ℕ, zero, suc, Bool, true, false, ◌||◌, ◌+◌, ◌==◌, List, [], ◌∷◌, ◌++◌, Option, Some, None, refl, sym, ap, subst, ◌∙◌, append_assoc, arith}
-use Rattle.std.specs.Prelude.{All, if◌then◌else◌, IsTrue, option_map}
-use Rattle.std.specs.List.{list_any, cons_option, filter_map, range_with_len}
-use Rattle.std.specs.Option.{option_or}
+use Rattle.rw_base.proofs.Common.{◌≡◌, ◌<◌, ◌≤◌, ℕ, zero, suc, Bool, true, false, ◌||◌, ◌+◌, ◌==◌, List, [], ◌∷◌, ◌++◌, Option, Some, None, refl, sym, ap, subst, ◌∙◌, append_assoc, arith, All, if◌then◌else◌, IsTrue, option_map, list_any, cons_option, filter_map, range_with_len, option_or, All-nil, All-cons, All-head, All-tail, filter_map-append, nat_tests}
 use Rattle.std.proofs.Math.Numerals.{add-one}
-use Rattle.std.proofs.lemmas.List.Elements.{All-nil, All-cons, All-head, All-tail, filter_map-append}
-use Rattle.std.proofs.lemmas.Bool.Decides.{nat_tests}
 use Rattle.rw_base.specs.declared.number.Cell.{Cell}
 use Rattle.rw_model.specs.declared.content.Content.{Content}
 use Rattle.rw_model.specs.Draft.{Draft}
 use Rattle.rw_series.specs.Series.{is_shared, IsCell}
-use Rattle.rw_run.specs.Log.{Asked, Cells, Event, held_after, last_put, written_by}
-use Rattle.rw_run.specs.Dispatch.{cell_in, places}
+use Rattle.rw_run.proofs.Common.{Asked, Cells, Event, held_after, last_put, written_by, cell_in, places}
 use Rattle.rw_engine.specs.declared.undo.Undone.{Undone}
 use Rattle.rw_engine.specs.Undone.{taken_back, undone_at, undone_in}
 

@@ -1,8 +1,5 @@
 -- Columns of values, one of which is set.
-use Rattle.std.proofs.Common.{◌≡◌, ◌≢◌, ℕ, ◌<◌, ◌==◌, ◌&&◌, Bool, true, false, if◌then◌else◌, List, [], length, Some, refl, ap, subst, sym, ◌∙◌, arith}
-use Rattle.std.specs.Prelude.{ℤ, nat_le, slice_set}
-use Rattle.std.proofs.lemmas.Bool.Decides.{nat_tests}
-use Rattle.std.proofs.lemmas.List.{get_or-set_same, get_or-set_other}
+use Rattle.rw_base.proofs.Common.{◌≡◌, ◌≢◌, ℕ, ◌<◌, ◌==◌, ◌&&◌, Bool, true, false, if◌then◌else◌, List, [], length, Some, refl, ap, subst, sym, ◌∙◌, arith, ℤ, nat_le, slice_set, nat_tests, get_or-set_same, get_or-set_other}
 use Rattle.rw_inputs.specs.Inputs.{column_of}
 use Rattle.rw_inputs.specs.Column.{Column, HasMore, IsColumn, value_in}
 

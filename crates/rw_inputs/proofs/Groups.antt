@@ -1,10 +1,6 @@
 -- Slots that carry one value are kept at one slot.
-use Rattle.std.proofs.Common.{◌≡◌, ℕ, ◌==◌, ◌||◌, Bool, true, false, List, [], ◌∷◌, refl, sym, ap, ◌∙◌, slice_index_or}
-use Rattle.std.specs.List.{filter}
-use Rattle.std.proofs.lemmas.Cmp.{nat_eq_equiv}
-use Rattle.std.proofs.lemmas.List.Elements.{filter_agree}
-use Rattle.rw_model.specs.Draft.{Draft}
-use Rattle.rw_model.specs.Links.{link_of, is_same_link, is_together, slot_numbers, group_of}
+use Rattle.rw_base.proofs.Common.{◌≡◌, ℕ, ◌==◌, ◌||◌, Bool, true, false, List, [], ◌∷◌, refl, sym, ap, ◌∙◌, slice_index_or, filter, nat_eq_equiv, filter_agree}
+use Rattle.rw_model.proofs.Common.{Draft, link_of, is_same_link, is_together, slot_numbers, group_of}
 use Rattle.rw_series.proofs.Sharing.{together_alike, together_turned}
 use Rattle.rw_inputs.specs.Inputs.{kept_slot}
 

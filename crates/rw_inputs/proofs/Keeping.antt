@@ -1,13 +1,9 @@
 -- What is kept where a row gives values to cells that none has.
-use Rattle.std.proofs.Common.{◌≡◌, ◌≢◌, ℕ, ◌≤◌, ◌<◌, Bool, true, false, if◌then◌else◌, List, [], ◌∷◌, ◌++◌, length, Option, Some, None, refl, sym, ap, subst, ◌∙◌, arith}
-use Rattle.std.specs.Prelude.{ℤ, max, min, ◌||◌, slice_index_or, slice_set}
-use Rattle.std.specs.List.{list_any}
-use Rattle.std.proofs.lemmas.Bool.Decides.{nat_tests}
-use Rattle.std.proofs.lemmas.List.{get_or_default, length-set, set-get_or}
-use Rattle.rw_model.specs.Draft.{Draft, IsSlot}
+use Rattle.rw_base.proofs.Common.{◌≡◌, ◌≢◌, ℕ, ◌≤◌, ◌<◌, Bool, true, false, if◌then◌else◌, List, [], ◌∷◌, ◌++◌, length, Option, Some, None, refl, sym, ap, subst, ◌∙◌, arith, ℤ, max, min, ◌||◌, slice_index_or, slice_set, list_any, nat_tests, get_or_default, set-get_or}
+use Rattle.std.proofs.lemmas.List.{length-set}
+use Rattle.rw_model.proofs.Common.{Draft, IsSlot, IsBetween}
 use Rattle.rw_series.proofs.Bounds.{bounds-alike}
 use Rattle.rw_inputs.specs.declared.given.Given.{Given}
-use Rattle.rw_model.specs.Links.{IsBetween}
 use Rattle.rw_inputs.specs.Inputs.{Inputs, IsInputsOf, IsKeptValue, Keeps, column_of, given_at, gives, kept_slot, value_at}
 use Rattle.rw_inputs.specs.Column.{Column, HasMore, IsColumn, IsFree, IsTaken, value_in}
 use Rattle.rw_inputs.specs.Reading.{shares_cell}

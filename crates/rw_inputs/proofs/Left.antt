@@ -1,7 +1,5 @@
 -- The records that are left of a text.
-use Rattle.std.proofs.Common.{◌≡◌, ◌<◌, ◌≤◌, ℕ, zero, suc, Bool, true, false, if◌then◌else◌, List, [], ◌∷◌, ◌++◌, ◌==◌, ◌&&◌, not, length, take, drop, Option, Some, None, refl, sym, ap, subst, ◌∙◌, arith, Bor}
-use Rattle.std.proofs.lemmas.Bool.{false≢true}
-use Rattle.std.proofs.lemmas.Option.{same_Some}
+use Rattle.rw_base.proofs.Common.{◌≡◌, ◌<◌, ◌≤◌, ℕ, zero, suc, Bool, true, false, if◌then◌else◌, List, [], ◌∷◌, ◌++◌, ◌==◌, ◌&&◌, not, length, take, drop, Option, Some, None, refl, sym, ap, subst, ◌∙◌, arith, Bor, false≢true, same_Some}
 use Rattle.csv.specs.Machine.{Read, ends_at_end, field_after, fields_after, is_end, next_record, step}
 use Rattle.csv.specs.Reading.{AreRecords, Reached, ReadRecord, default_config, Ready, has_failed, reader_trim, records_from, records_next, source_of, strip_bom}
 use Rattle.csv.specs.declared.parser.Config.{Config}

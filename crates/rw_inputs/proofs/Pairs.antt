@@ -1,9 +1,5 @@
 -- Values, of which those are kept that are given.
-use Rattle.std.proofs.Common.{◌≡◌, ◌≢◌, ℕ, zero, suc, ◌+◌, ◌==◌, ◌<◌, ◌≤◌, ◌&&◌, Bool, true, false, if◌then◌else◌, List, [], ◌∷◌, length, Some, None, inl, inr, refl, sym, ap, ◌∙◌, arith}
-use Rattle.std.specs.Prelude.{ℤ, nat_le, slice_index_or, slice_set}
-use Rattle.std.proofs.lemmas.Bool.Decides.{nat_tests}
-use Rattle.std.proofs.lemmas.List.{get_or-set_same, get_or-set_other, get_or_past}
-use native.Mathlib.Decide.{dec_lt}
+use Rattle.rw_base.proofs.Common.{◌≡◌, ◌≢◌, ℕ, zero, suc, ◌+◌, ◌==◌, ◌<◌, ◌≤◌, ◌&&◌, Bool, true, false, if◌then◌else◌, List, [], ◌∷◌, length, Some, None, inl, inr, refl, sym, ap, ◌∙◌, arith, ℤ, nat_le, slice_index_or, slice_set, nat_tests, get_or-set_same, get_or-set_other, get_or_past, dec_lt}
 use Rattle.rw_inputs.specs.Column.{Column, HasMore, HasPlaces, IsColumn, IsPaired, given_values, value_in}
 
 -- what is kept at a timestep is what stands in its place, where that is given

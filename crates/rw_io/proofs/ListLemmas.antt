@@ -1,7 +1,6 @@
 -- Parts of lists that are copied and appended.
-use Rattle.std.proofs.Common.{◌≡◌, ℕ, ◌+◌, ◌-◌, ◌≤◌, List, ◌++◌, length, take, drop, sym, arith}
-use Rattle.std.proofs.lemmas.List.{take_all, drop-drop, take-append-drop, length-drop}
-use Rattle.std.proofs.Math.Seq.{take-append_seam}
+use Rattle.rw_base.proofs.Common.{◌≡◌, ℕ, ◌+◌, ◌-◌, ◌≤◌, List, ◌++◌, length, take, drop, sym, arith, take_all, drop-drop, take-append-drop, take-append_seam}
+use Rattle.std.proofs.lemmas.List.{length-drop}
 
 -- what was copied to the front, and what is left
 pub copied : (at n m : ℕ) (bytes new tail : List ℕ) → new ≡ take n (take m (drop at bytes))

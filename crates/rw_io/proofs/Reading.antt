@@ -1,6 +1,5 @@
 -- What holds while a file is read.
-use Rattle.std.proofs.Common.{◌≡◌, ℕ, ◌≤◌, List, length, Some}
-use Rattle.std.specs.Io.KnownBytes.{Consumes}
+use Rattle.rw_base.proofs.Common.{◌≡◌, ℕ, ◌≤◌, List, length, Some, Consumes}
 use Rattle.rw_io.specs.Causes.{NoneFell}
 use Rattle.rw_io.specs.Outside.{Change, ShelfView}
 

@@ -1,17 +1,11 @@
 -- Which term gives way.
-use Rattle.std.proofs.Common.{◌≡◌, refl, ap, arith, true, false, inl, inr, List, [], ◌∷◌, ◌++◌, append_assoc, All, Option, None, Some}
+use Rattle.rw_base.proofs.Common.{◌≡◌, refl, ap, arith, true, false, inl, inr, List, [], ◌∷◌, ◌++◌, append_assoc, All, Option, None, Some, All-append, All-push, cases_Bool, both_ways}
 use Rattle.std.proofs.lemmas.List.{append-nil}
-use Rattle.std.proofs.lemmas.List.Elements.{All-append, All-push}
-use Rattle.std.proofs.lemmas.Bool.{cases_Bool, both_ways}
 use Rattle.rw_method.specs.declared.given.Given.{Given}
 use Rattle.rw_method.specs.declared.term.Term.{Term}
 use Rattle.rw_method.specs.Settling.{gives_way_before, weakest, IsNoWeaker, IsStronger, GivesWay}
 
 -- ---- the order of terms
-
-no_weaker_self : (given : Option Given) → IsNoWeaker given given
-no_weaker_self None = _
-no_weaker_self (Some held) = omega arith
 
 no_weaker_trans : (a b c : Option Given) → IsNoWeaker a b → IsNoWeaker b c → IsNoWeaker a c
 no_weaker_trans a b None h k = _

@@ -1,7 +1,5 @@
 -- The greatest number beside a term.
-use Rattle.std.proofs.Common.{◌≡◌, ◌≢◌, ◌∙◌, refl, arith, ℕ, suc, ◌<◌, ◌≤◌, ◌==◌, max, if◌then◌else◌, Bool, true, false, ◌⊎◌, inl, inr, List, [], ◌∷◌, All, Contains}
-use Rattle.std.proofs.lemmas.Bool.{cases_Bool, cases_lt, both_ways}
-use Rattle.std.proofs.lemmas.Bool.Decides.{Decides-eqb}
+use Rattle.rw_base.proofs.Common.{◌≡◌, ◌≢◌, ◌∙◌, refl, arith, ℕ, suc, ◌<◌, ◌≤◌, ◌==◌, max, if◌then◌else◌, Bool, true, false, ◌⊎◌, inl, inr, List, [], ◌∷◌, All, Contains, cases_Bool, cases_lt, both_ways, Decides-eqb}
 use Rattle.rw_method.specs.declared.term.Term.{Term}
 use Rattle.rw_method.specs.Settling.{number_of, greatest_beside, IsGreatestBeside}
 use Rattle.rw_method.proofs.GivingWay.{and_pass, none_pass}

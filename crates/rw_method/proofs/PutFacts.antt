@@ -1,6 +1,5 @@
 -- Whether puts fit, when one more is added.
-use Rattle.std.proofs.Common.{◌≡◌, refl, arith, Bool, true, false, List, [], ◌∷◌, ◌++◌}
-use Rattle.std.proofs.lemmas.Grind.{common_steps}
+use Rattle.rw_base.proofs.Common.{◌≡◌, refl, arith, Bool, true, false, List, [], ◌∷◌, ◌++◌, common_steps}
 use Rattle.rw_method.specs.declared.put.Put.{Put}
 use Rattle.rw_method.specs.declared.solved.Solved.TheVariants.{OutOfRange}
 use Rattle.rw_method.specs.Solve.{first_misfit, AllFit, answer_of_puts}

@@ -1,16 +1,11 @@
 -- What a method puts stands in slots of its kind.
-use Rattle.std.proofs.Common.{◌≡◌, ℕ, zero, suc, ◌+◌, ◌==◌, ◌<◌, ◌≤◌, ℤ, pos, ◌+ℤ◌, Bool, true, false, not, ◌&&◌, if◌then◌else◌, List, [], ◌∷◌, ◌++◌, length, All, Option, None, Some, is_some, IsSome, nat_le, refl, sym, ap, ap₂, subst, ◌∙◌, arith}
-use Rattle.std.specs.Ordering.{int_eq}
+use Rattle.rw_base.proofs.Common.{◌≡◌, ℕ, zero, suc, ◌+◌, ◌==◌, ◌<◌, ◌≤◌, ℤ, pos, ◌+ℤ◌, Bool, true, false, not, ◌&&◌, if◌then◌else◌, List, [], ◌∷◌, ◌++◌, length, All, Option, None, Some, is_some, IsSome, nat_le, refl, sym, ap, ap₂, subst, ◌∙◌, arith, int_eq, All-append, All-push, same_Some, none-some}
 use Rattle.std.proofs.lemmas.List.{length-append}
-use Rattle.std.proofs.lemmas.List.Elements.{All-append, All-push}
-use Rattle.std.proofs.lemmas.Option.{same_Some, none-some}
 use Rattle.rw_table.specs.Table.{Row}
 use Rattle.rw_model.specs.declared.kind.Kind.{Kind}
 use Rattle.rw_model.specs.declared.kind.Kind.TheVariants.{DataObject, Gage, Confluence, Bifurcation, Reach, Reservoir, WaterUser, Canal}
 use Rattle.rw_model.specs.declared.kind.Supply.TheVariants.{Request, Rule}
-use Rattle.rw_model.specs.Kind.{IsKind, IsStored}
-use Rattle.rw_model.specs.Slot.{Slot}
-use Rattle.rw_model.specs.Slots.{where_chosen, slot_in}
+use Rattle.rw_model.proofs.Common.{IsKind, IsStored, Slot, where_chosen, slot_in}
 use Rattle.rw_method.specs.declared.balanced.Balanced.{Balanced}
 use Rattle.rw_method.specs.declared.balanced.Balanced.TheVariants.{Idle, Holds, Solves, Conflicts}
 use Rattle.rw_method.specs.declared.basis.Basis.{Basis}

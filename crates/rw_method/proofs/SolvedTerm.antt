@@ -1,9 +1,5 @@
 -- A solved term makes the balance true.
-use Rattle.std.proofs.Common.{◌≡◌, refl, ap, arith, rules, ℕ, suc, ◌+◌, ◌≤◌, ◌==◌, nat_le, if◌then◌else◌, ℤ, pos, neg_ℤ, ◌+ℤ◌, ◌-ℤ◌, Bool, true, false, inl, inr, List, [], ◌∷◌, ◌++◌, All, Option, None, Some, IsSome, is_some}
-use Rattle.std.specs.Ordering.{int_eq}
-use Rattle.std.proofs.lemmas.Int.{ints}
-use Rattle.std.proofs.lemmas.List.Elements.{All-append}
-use Rattle.std.proofs.lemmas.Bool.{cases_Bool, both_ways}
+use Rattle.rw_base.proofs.Common.{◌≡◌, refl, ap, arith, rules, ℕ, suc, ◌+◌, ◌≤◌, ◌==◌, nat_le, if◌then◌else◌, ℤ, pos, neg_ℤ, ◌+ℤ◌, ◌-ℤ◌, Bool, true, false, inl, inr, List, [], ◌∷◌, ◌++◌, All, Option, None, Some, IsSome, is_some, int_eq, ints, All-append, cases_Bool, both_ways}
 use Rattle.rw_method.specs.declared.given.Given.{Given}
 use Rattle.rw_method.specs.declared.share.Share.{Share}
 use Rattle.rw_method.specs.declared.share.Share.TheVariants.{Brings, Takes, Conveys}

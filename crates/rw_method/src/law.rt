@@ -15,23 +15,27 @@ ghost use Rattle.rw_method.specs.Solve.{solve_of};
 ghost use Rattle.rw_method.specs.Worked.{input, by_rule, view_with, worked_rows};
 
 /// The term that gives way is one that isn't given, or else one of the greatest number, and of several such the last.
+#[tactic(auto, using(crate::proofs::GivingWay::gives_way))]
 pub fn term_that_gives_way()
     ensures { (first : Term) (rest : List Term) → GivesWay (first ∷ rest) (weakest first rest) }
 {}
 
 /// Where a term is solved, it is the one that gives way, the others are all given, and its value makes the balance true.
+#[tactic(auto, using(crate::proofs::SolvedTerm::solved_term))]
 pub fn solved_term()
     ensures { (steady : ℤ) (terms : List Term) (place number : ℕ) (value : ℤ) → All (λ (term : Term). IsShare term.share) terms
         → settled (Some steady) terms ≡ Balanced.Solves place value number → IsSolved steady terms place value }
 {}
 
 /// A solved term has the greatest number of the others, and 0 where none of them is given.
+#[tactic(auto, using(crate::proofs::SolvedTerm::number_of_solved))]
 pub fn number_of_a_solved_term()
     ensures { (steady : ℤ) (terms : List Term) (place number : ℕ) (value : ℤ)
         → settled (Some steady) terms ≡ Balanced.Solves place value number → IsGreatestBeside place terms number }
 {}
 
 /// The least inflow of a canal conveys the outflow, and each lesser inflow conveys less. No outflow comes from no inflow.
+#[tactic(auto, using(crate::proofs::LeastInflow::conveyed, crate::proofs::LeastInflow::least))]
 pub fn least_inflow_of_a_canal()
     ensures conveyed { (seepage : ℕ) (outflow : ℤ) → seepage ≤ 999
         → brought (Share.Conveys seepage) (least_inflow seepage outflow) ≡ outflow }

@@ -1,14 +1,5 @@
 -- What bounds leave each slot, and that what the readers answer is in range.
-use Rattle.std.proofs.Common.{◌≡◌, ℕ, zero, suc, ◌+◌, ◌*◌, ◌-◌, ◌<◌, ◌≤◌, ◌==◌, List, [], ◌∷◌, length, Bool, true, false, Option, Some, None, refl, sym, ap, subst, ◌∙◌, arith, is_some, ◌&&◌, option_and_then, slice_index_or}
-use Rattle.std.specs.Prelude.{All, ℤ, ◌≤ℤ◌, slice_get, option_map, unwrap_or, codes, if◌then◌else◌}
-use Rattle.std.specs.List.{list_any, range_with_len}
-use Rattle.std.specs.Option.{ForSome}
-use Rattle.std.specs.Int.{int_max, int_min}
-use Rattle.std.proofs.lemmas.Int.{ints, by_lt_z, fold-int_max_bounds, fold-int_min_bounds}
-use Rattle.std.proofs.lemmas.List.FromFn.{get_or-map-range_with_len, length-map-range_with_len, get_or-range_with_len, length-range_with_len}
-use Rattle.std.proofs.lemmas.List.Folds.{list_any_at, list_any-append}
-use Rattle.std.proofs.lemmas.List.Elements.{All-nil, All-cons, All-head, All-tail, All-append}
-use Rattle.std.proofs.lemmas.Option.{slice_get_within, get_or_from_slice_get}
+use Rattle.rw_base.proofs.Common.{◌≡◌, ℕ, zero, suc, ◌+◌, ◌*◌, ◌-◌, ◌<◌, ◌≤◌, ◌==◌, List, [], ◌∷◌, length, Bool, true, false, Option, Some, None, refl, sym, ap, subst, ◌∙◌, arith, is_some, ◌&&◌, option_and_then, slice_index_or, All, ℤ, ◌≤ℤ◌, slice_get, option_map, unwrap_or, codes, if◌then◌else◌, list_any, range_with_len, ForSome, int_max, int_min, ints, by_lt_z, fold-int_max_bounds, fold-int_min_bounds, get_or-map-range_with_len, length-map-range_with_len, get_or-range_with_len, length-range_with_len, list_any_at, list_any-append, All-nil, All-cons, All-head, All-tail, All-append, slice_get_within, get_or_from_slice_get}
 use Rattle.rw_base.specs.Dimension.{Dimension}
 use Rattle.rw_base.specs.Unit.{volume, length as length-unit}
 use Rattle.rw_model.specs.declared.data_slots.DataSlot.{DataSlot}

@@ -1,11 +1,5 @@
 -- The tests of kinds, objects and bounds decide what their words say, and nothing is refused exactly where they can be built.
-use Rattle.std.proofs.Common.{◌≡◌, ◌↔◌, ◌∙◌, ◌≤◌, ℕ, nat_lt, ℤ, pos, ◌-ℤ◌, Bool, true, false, ◌||◌, not, if◌then◌else◌, IsTrue, List, [], ◌∷◌, ◌++◌, length, Option, None, Some, refl, subst, arith}
-use Rattle.std.specs.Prelude.{is_some, IsSome}
-use Rattle.std.specs.Bool.{Decides}
-use Rattle.std.specs.List.{list_all}
-use Rattle.std.specs.Option.{ForSome}
-use Rattle.std.proofs.lemmas.Bool.{both_ways}
-use Rattle.std.proofs.lemmas.Bool.Decides.{nat_tests, Decides-and, Decides-eqb, Decides-like, Decides-by_and}
+use Rattle.rw_base.proofs.Common.{◌≡◌, ◌↔◌, ◌∙◌, ◌≤◌, ℕ, nat_lt, ℤ, pos, ◌-ℤ◌, Bool, true, false, ◌||◌, not, if◌then◌else◌, IsTrue, List, [], ◌∷◌, ◌++◌, length, Option, None, Some, refl, subst, arith, is_some, IsSome, Decides, list_all, ForSome, both_ways, nat_tests, Decides-and, Decides-eqb, Decides-like, Decides-by_and}
 use Rattle.rw_base.specs.Quantity.{quantity_max, IsQuantity}
 use Rattle.rw_base.specs.Range.{is_from_to}
 use Rattle.rw_base.proofs.Tests.{Decides-le, Decides-int_le, Decides-from_to, passed, spared, unless, where-true}

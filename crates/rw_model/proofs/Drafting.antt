@@ -1,14 +1,7 @@
 -- What a builder was told stays in order with each thing more that it takes.
-use Rattle.std.proofs.Common.{◌≡◌, ℕ, zero, suc, ◌+◌, ◌-◌, ◌<◌, ◌≤◌, nat_le, ◌==◌, List, [], ◌∷◌, ◌++◌, length, Bool, true, false, ◌&&◌, ◌||◌, Option, Some, None, refl, sym, ap, subst, ◌∙◌, append-nil, append_assoc, arith}
-use Rattle.std.specs.Prelude.{map, All, Contains, slice_get, bytes_eq, pos, IsTrue, Result, Ok, Err, OnOk, OnErr, cond, option_map, unwrap_or, if◌then◌else◌}
-use Rattle.std.specs.List.{list_any, filter, IsDistinct}
-use Rattle.std.specs.Option.{option_or, ForSome}
-use Rattle.std.specs.Ordering.{int_eq}
-use Rattle.std.proofs.lemmas.Bool.Decides.{Decides-int_eq}
-use Rattle.std.proofs.lemmas.Cmp.{nat_eq_equiv, nat_list_eq_equiv}
-use Rattle.std.proofs.lemmas.List.{length-append, map-append}
-use Rattle.std.proofs.lemmas.List.Elements.{All-nil, All-cons, All-head, All-tail, All-push, All-weaker, All-contains, filter-append}
-use Rattle.std.proofs.lemmas.Map.Keys.{IsDistinct-push}
+use Rattle.rw_base.proofs.Common.{◌≡◌, ℕ, zero, suc, ◌+◌, ◌-◌, ◌<◌, ◌≤◌, nat_le, ◌==◌, List, [], ◌∷◌, ◌++◌, length, Bool, true, false, ◌&&◌, ◌||◌, Option, Some, None, refl, sym, ap, subst, ◌∙◌, append-nil, append_assoc, arith, map, All, Contains, slice_get, bytes_eq, pos, IsTrue, Result, Ok, Err, OnOk, OnErr, cond, option_map, unwrap_or, if◌then◌else◌, list_any, filter, option_or, ForSome, int_eq, Decides-int_eq, nat_eq_equiv, nat_list_eq_equiv, map-append, All-nil, All-cons, All-head, All-tail, All-push, All-weaker, All-contains, filter-append, IsDistinct-push}
+use Rattle.std.specs.List.{IsDistinct}
+use Rattle.std.proofs.lemmas.List.{length-append}
 use Rattle.rw_base.specs.Dimension.{Dimension, dimension}
 use Rattle.rw_model.specs.Refusal.{BuildRefusal, bad_parameter}
 use Rattle.rw_model.specs.Slot.{Bounds, IsInside}

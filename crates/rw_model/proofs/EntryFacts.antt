@@ -1,10 +1,5 @@
 -- The objects of a map's entries.
-use Rattle.std.proofs.Common.{nat_eq, ◌≡◌, ℕ, ◌+◌, List, [], ◌∷◌, ◌++◌, Bool, true, false, Option, Some, None, cond, refl, ap, ◌∙◌, String}
-use Rattle.std.specs.Prelude.{string_bytes, bytes_eq, option_map, if◌then◌else◌}
-use Rattle.std.specs.List.{position, position_from}
-use Rattle.std.proofs.lemmas.Iterator.Adapters.{position_from-zero}
-use Rattle.std.specs.Map.{keys_of, lookup}
-use Rattle.std.proofs.lemmas.List.{map-append}
+use Rattle.rw_base.proofs.Common.{nat_eq, ◌≡◌, ℕ, ◌+◌, List, [], ◌∷◌, ◌++◌, Bool, true, false, Option, Some, None, cond, refl, ap, ◌∙◌, String, string_bytes, bytes_eq, option_map, if◌then◌else◌, position, position_from, position_from-zero, keys_of, lookup, map-append}
 use Rattle.indexmap.specs.IndexMap.{insert_entry}
 use Rattle.rw_model.specs.declared.kind.Kind.{Kind}
 use Rattle.rw_model.specs.Objects.{Object, object_from, object_named}

@@ -1,11 +1,6 @@
 -- The groups that links make.
-use Rattle.std.proofs.Common.{◌≡◌, ◌≢◌, ℕ, zero, suc, ◌+◌, ◌<◌, ◌≤◌, ◌==◌, List, [], ◌∷◌, ◌++◌, length, Bool, true, false, ◌||◌, Some, None, cond, refl, sym, ap, subst, ◌∙◌, append-nil, arith, slice_index_or}
-use Rattle.std.specs.Prelude.{map, All, slice_set, Result, Ok, Err, OnOk}
-use Rattle.std.specs.List.{filter, range_with_len}
-use Rattle.std.proofs.lemmas.Cmp.{nat_eq_equiv}
-use Rattle.std.proofs.lemmas.List.{get_or-set_same, get_or-set_other, length-set}
-use Rattle.std.proofs.lemmas.List.FromFn.{map-range_with_len_more}
-use Rattle.std.proofs.lemmas.List.Elements.{All-nil, All-cons, All-head, All-tail, filter-append, filter_agree, All-filter}
+use Rattle.rw_base.proofs.Common.{◌≡◌, ◌≢◌, ℕ, zero, suc, ◌+◌, ◌<◌, ◌≤◌, ◌==◌, List, [], ◌∷◌, ◌++◌, length, Bool, true, false, ◌||◌, Some, None, cond, refl, sym, ap, subst, ◌∙◌, append-nil, arith, slice_index_or, map, All, slice_set, Result, Ok, Err, OnOk, filter, range_with_len, nat_eq_equiv, get_or-set_same, get_or-set_other, map-range_with_len_more, All-nil, All-cons, All-head, All-tail, filter-append, filter_agree, All-filter}
+use Rattle.std.proofs.lemmas.List.{length-set}
 use Rattle.rw_base.specs.declared.number.SlotNo.{SlotNo}
 use Rattle.rw_model.specs.Objects.{Object, all_slots}
 use Rattle.rw_model.specs.Draft.{IsSlot}
@@ -32,12 +27,6 @@ on_ok f (Ok x) p = f p
 on_ok f (Err e) p = tt
 
 -- ---- groups without a slot
-
-pub blank_push : (groups : List (List ℕ)) → ((k : ℕ) → slice_index_or groups k [] ≡ []) → (k : ℕ) → slice_index_or (groups ++ [] ∷ []) k [] ≡ []
-blank_push [] blank zero = refl
-blank_push [] blank (suc k) = refl
-blank_push (g ∷ groups) blank zero = blank 0
-blank_push (g ∷ groups) blank (suc k) = blank_push groups (λ j. blank (suc j)) k
 
 -- ---- a slot more
 

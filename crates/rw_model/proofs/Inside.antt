@@ -1,10 +1,7 @@
 -- Where a table has an elevation.
-use Rattle.std.proofs.Common.{◌↔◌, ℤ, List, Bool, true, false, Option, Some, None, refl, rules, IsTrue}
-use Rattle.std.proofs.Common.{◌≡◌, sym, subst}
-use Rattle.std.specs.Option.{ForSome}
+use Rattle.rw_base.proofs.Common.{◌↔◌, ℤ, List, Bool, true, false, Option, Some, None, refl, rules, IsTrue, ◌≡◌, sym, subst, ForSome, option_map, MatchOption, is_some, ◌&&◌, if◌then◌else◌, int_le}
 use Rattle.rw_model.specs.Slot.{Slot, Bounds, IsInside}
 use Rattle.rw_model.specs.Objects.{Placed}
-use Rattle.std.specs.Prelude.{option_map, MatchOption, is_some, ◌&&◌, if◌then◌else◌, int_le}
 use Rattle.rw_table.specs.Table.{Row}
 use Rattle.rw_table.specs.Curve.{first_row, last_row, elev_of, IsVolumeInside, IsGreatest}
 

@@ -11,3 +11,4 @@ pub mod Grouping
 pub mod PlaceNumbers
 pub mod Bounding
 pub mod Linked
+pub mod Common

@@ -1,17 +1,5 @@
 -- What the definitions of links, groups and bounds come to.
-use Rattle.std.proofs.Common.{◌≡◌, ◌↔◌, ℕ, zero, suc, ◌+◌, ◌-◌, ◌<◌, ◌≤◌, ◌==◌, nat_le, List, [], ◌∷◌, length, Bool, true, false, ◌||◌, Option, Some, None, cond, refl, sym, ap, ◌∙◌, arith, ℤ, ◌≤ℤ◌}
-use Rattle.std.specs.Prelude.{All, Contains, if◌then◌else◌, slice_get}
-use Rattle.std.specs.List.{filter}
-use Rattle.std.specs.Int.{int_max, int_min}
-use Rattle.std.specs.Prelude.{int_lt}
-use Rattle.std.proofs.lemmas.Bool.{cond_both}
-use Rattle.std.proofs.lemmas.Cmp.{nat_eq_equiv}
-use Rattle.std.proofs.lemmas.Map.Views.{list_any-from_Contains, Contains-from_any}
-use Rattle.std.proofs.lemmas.Int.{ints, fold-int_max_bounds, fold-int_min_bounds}
-use Rattle.std.proofs.lemmas.List.Elements.{All-nil, All-cons, All-head, All-tail, All-contains, filter_passes}
-use Rattle.std.proofs.lemmas.List.FromFn.{length-range_with_len, get_or-range_with_len}
-use Rattle.std.proofs.lemmas.Option.{slice_get-get_or}
-use Rattle.std.proofs.lemmas.Bool.Decides.{nat_tests}
+use Rattle.rw_base.proofs.Common.{◌≡◌, ◌↔◌, ℕ, zero, suc, ◌+◌, ◌-◌, ◌<◌, ◌≤◌, ◌==◌, nat_le, List, [], ◌∷◌, length, Bool, true, false, ◌||◌, Option, Some, None, cond, refl, sym, ap, ◌∙◌, arith, ℤ, ◌≤ℤ◌, All, Contains, if◌then◌else◌, slice_get, filter, int_max, int_min, int_lt, cond_both, nat_eq_equiv, list_any-from_Contains, Contains-from_any, ints, fold-int_max_bounds, fold-int_min_bounds, All-nil, All-cons, All-head, All-tail, All-contains, filter_passes, length-range_with_len, get_or-range_with_len, slice_get-get_or, nat_tests}
 use Rattle.rw_base.proofs.Tests.{passed, spared, unless, where-true}
 use Rattle.rw_model.specs.Refusal.{link_bounds}
 use Rattle.rw_model.specs.Slot.{Bounds}
@@ -20,8 +8,8 @@ use Rattle.rw_model.specs.Draft.{Draft, Bound, IsSlot}
 use Rattle.rw_model.specs.Links.{is_among, link_from, link_of, is_same_link, is_together, slot_numbers, group_of, IsBetween, own_bounds, meet, meet_all}
 use Rattle.rw_model.specs.Basin.{IsLink, IsDraft, link_count, IsBasin, finish_refusal, cell_count, has_crossed_bounds}
 
-pub basin-iff : (draft : Draft) → IsDraft draft → (finish_refusal draft ≡ None) ↔ IsBasin draft
-basin-iff draft whole = (
+pub basin_iff : (draft : Draft) → IsDraft draft → (finish_refusal draft ≡ None) ↔ IsBasin draft
+basin_iff draft whole = (
   λ e.
       let first = spared (nat_le (length draft.objects) 0) _ _ e in
       let second = passed (nat_le (cell_count draft) 1000000) _ _ first.1 in
@@ -132,9 +120,6 @@ hit false place rest never found = absurd (never found)
 missed : (test : Bool) (place i : ℕ) (rest : Option ℕ) → (if test then Some place else rest) ≡ Some (place + suc i) → rest ≡ Some ((place + 1) + i)
 missed true place i rest found = let same : place ≡ place + suc i = cc in absurd (omega (arith, same))
 missed false place i rest found = let same : place + suc i ≡ (place + 1) + i = omega arith in found ∙ ap Some same
-
-some_place : (a b : ℕ) → Some a ≡ Some b → a ≡ b
-some_place a b same = cc
 
 after : (test : Bool) (place k : ℕ) (rest : Option ℕ) → (rest ≡ Some k → place + 1 ≤ k) → (if test then Some place else rest) ≡ Some k → place ≤ k
 after true place k rest later found = let same : place ≡ k = cc in omega (arith, same)

@@ -1,11 +1,5 @@
 -- The test of a name decides what a name is.
-use Rattle.std.proofs.Common.{◌≡◌, ◌⊎◌, ◌<◌, ℕ, zero, suc, List, [], ◌∷◌, length, slice_index, slice_index_or, Bool, true, false, ◌||◌, refl, sym, arith, inl, inr}
-use Rattle.std.specs.Prelude.{Contains, bytes_eq}
-use Rattle.std.specs.Bool.{Decides}
-use Rattle.std.specs.List.{list_all}
-use Rattle.std.proofs.lemmas.Bool.{cases_Bool, false≢true}
-use Rattle.std.proofs.lemmas.Bool.Decides.{Decides-and, Decides-or, Decides-not, Decides-eqb, Decides-like, Decides-by_and}
-use Rattle.std.proofs.lemmas.Slice.Eq.{bytes_eq-Decides}
+use Rattle.rw_base.proofs.Common.{◌≡◌, ◌⊎◌, ◌<◌, ℕ, zero, suc, List, [], ◌∷◌, length, slice_index, slice_index_or, Bool, true, false, ◌||◌, refl, sym, arith, inl, inr, Contains, bytes_eq, Decides, list_all, cases_Bool, false≢true, Decides-and, Decides-or, Decides-not, Decides-eqb, Decides-like, Decides-by_and, bytes_eq-Decides}
 use Rattle.rw_base.proofs.Tests.{Decides-le}
 use Rattle.rw_model.specs.Name.{IsLetter, IsDigit, IsName, reserved_words, is_letter, is_digit, is_word, is_name}
 

@@ -1,9 +1,6 @@
 -- Which number an object's slots have, and what stands under a number.
-use Rattle.std.proofs.Common.{◌≡◌, ◌≢◌, ℕ, zero, suc, ◌+◌, ◌-◌, ◌<◌, ◌≤◌, List, [], ◌∷◌, ◌++◌, length, Bool, false, Option, Some, None, refl, sym, ap, subst, ◌∙◌, arith, slice_index_or}
-use Rattle.std.specs.Prelude.{◌⊎◌, All, take, slice_get, if◌then◌else◌, option_map, option_and_then}
+use Rattle.rw_base.proofs.Common.{◌≡◌, ◌≢◌, ℕ, zero, suc, ◌+◌, ◌-◌, ◌<◌, ◌≤◌, List, [], ◌∷◌, ◌++◌, length, Bool, false, Option, Some, None, refl, sym, ap, subst, ◌∙◌, arith, slice_index_or, ◌⊎◌, All, take, slice_get, if◌then◌else◌, option_map, option_and_then, slice_get_within, get_or_from_slice_get, inl, inr, ⊎_elim}
 use Rattle.std.proofs.lemmas.List.{length-append}
-use Rattle.std.proofs.lemmas.Option.{slice_get_within, get_or_from_slice_get}
-use mathlib.Core.Logic.{inl, inr, ⊎_elim}
 use Rattle.rw_model.specs.declared.kind.Kind.{Kind}
 use Rattle.rw_model.specs.Slot.{Slot}
 use Rattle.rw_model.specs.Slots.{slots_of, slot_in}

@@ -1,8 +1,6 @@
 -- How the slots of a basin follow from its objects.
-use Rattle.std.proofs.Common.{◌≡◌, ℕ, ◌+◌, ◌<◌, ◌≤◌, List, [], ◌∷◌, ◌++◌, length, sym, ap, ◌∙◌, arith, append_assoc, append-nil}
-use Rattle.std.specs.Prelude.{map}
-use Rattle.std.proofs.lemmas.List.{map-append, length-append}
-use Rattle.std.proofs.lemmas.List.Elements.{All-push}
+use Rattle.rw_base.proofs.Common.{◌≡◌, ℕ, ◌+◌, ◌<◌, ◌≤◌, List, [], ◌∷◌, ◌++◌, length, sym, ap, ◌∙◌, arith, append_assoc, append-nil, map, map-append, All-push}
+use Rattle.std.proofs.lemmas.List.{length-append}
 use Rattle.rw_model.specs.Slots.{slots_of}
 use Rattle.rw_model.specs.Objects.{Object, placed_from, slots_from, all_slots}
 use Rattle.rw_model.specs.declared.place.Place.{Place}

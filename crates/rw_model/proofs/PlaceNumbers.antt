@@ -1,7 +1,5 @@
 -- The numbers of slots by object and place.
-use Rattle.std.proofs.Common.{◌≡◌, ℕ, ◌+◌, ◌*◌, ◌<◌, ◌++◌, ◌∷◌, [], List, Option, ap, ap₂, sym, ◌∙◌, arith}
-use Rattle.std.proofs.lemmas.Nat.{div-mul-add, mod-mul-add}
-use Rattle.std.proofs.lemmas.List.FromFn.{map-range_with_len_more}
+use Rattle.rw_base.proofs.Common.{◌≡◌, ℕ, ◌+◌, ◌*◌, ◌<◌, ◌++◌, ◌∷◌, [], List, Option, ap, ap₂, sym, ◌∙◌, arith, div-mul-add, mod-mul-add, map-range_with_len_more}
 use Rattle.rw_model.specs.Objects.{Object, slot_in_place}
 use Rattle.rw_model.specs.Kept.{number_at, numbers_up_to}
 

@@ -54,6 +54,7 @@ pub fn faultless_parts()
 {}
 
 /// Nothing is wrong with all that a builder was told exactly where it makes a valid basin.
+#[tactic(auto, using(crate::proofs::Linked::basin_iff))]
 pub fn faultless_basins()
     ensures { (draft : Draft) → IsDraft draft → (finish_refusal draft ≡ None) ↔ IsBasin draft }
 {}

@@ -1,14 +1,7 @@
 -- What a file is read as is a valid basin.
-use Rattle.std.proofs.Common.{◌≡◌, ℕ, ◌+◌, ◌≤◌, ℤ, pos, ◌<ℤ◌, int_lt, unsigned_abs, Bool, true, false, ◌||◌, if◌then◌else◌, List, [], ◌∷◌, ◌++◌, Option, None, Some, Result, Ok, Err, codes, refl, arith}
-use Rattle.std.specs.Prelude.{IfOk}
+use Rattle.rw_base.proofs.Common.{◌≡◌, ℕ, ◌+◌, ◌≤◌, ℤ, pos, ◌<ℤ◌, int_lt, unsigned_abs, Bool, true, false, ◌||◌, if◌then◌else◌, List, [], ◌∷◌, ◌++◌, Option, None, Some, Result, Ok, Err, codes, refl, arith, IfOk, ints, both_ways}
 use Rattle.toml.specs.Data.{Data, string, integer, float, boolean, datetime, array, table, Items, no_items, item, Members, get_member}
-use Rattle.rw_model.specs.Links.{link_refusal}
-use Rattle.rw_model.specs.Draft.{Draft, IsControl}
-use Rattle.rw_model.specs.Basin.{IsDraft, IsBasin, finish_refusal}
-use Rattle.rw_model.specs.Build.{object_refusal, bound_refusal}
-use Rattle.rw_model.proofs.BuildFacts.{object-iff, bound-iff}
-use Rattle.rw_model.proofs.Drafting.{IsDraft-begin, IsDraft-object, IsDraft-link, IsDraft-bound}
-use Rattle.rw_model.proofs.Linked.{basin-iff}
+use Rattle.rw_model.proofs.Common.{link_refusal, Draft, IsControl, IsDraft, IsBasin, finish_refusal, object_refusal, bound_refusal, object-iff, bound-iff, IsDraft-begin, IsDraft-object, IsDraft-link, IsDraft-bound, basin_iff}
 use Rattle.rw_model_toml.specs.declared.run.Run.{Run}
 use Rattle.rw_model_toml.specs.Refusal.{ModelRefusal, missing, ◌>>=◌, refused_as, bad_build, bad_calendar, out_of_range}
 use Rattle.rw_model_toml.specs.Path.{key_path, element_path}
@@ -22,13 +15,11 @@ use Rattle.rw_model_toml.specs.Kinds.{kind_of}
 use Rattle.rw_model_toml.specs.Told as told
 use Rattle.rw_model_toml.specs.Told.{object_told, link_told, bound_told, object_of, link_of, slot_in, few_linked, slot_number}
 use Rattle.rw_model_toml.specs.Model.{in_turn, control_in, empty_draft, objects_from, links_from, bounds_from, filled, file_keys, draft_of, basin_of, toml_of, table_or, model_of}
-use Rattle.std.proofs.lemmas.Int.{ints}
-use Rattle.std.proofs.lemmas.Bool.{both_ways}
 use Rattle.rw_base.specs.Answers.{unless_refused}
 use Rattle.rw_base.proofs.Tests.{denied, Decides-int_lt}
 use Rattle.rw_calendar.specs.Stamps.{AreTimesteps, stamps_refusal, stamps_of, timesteps_of}
 use Rattle.rw_calendar.proofs.Refusals.{stamped-iff}
-use Rattle.rw_calendar.proofs.TimestepFacts.{are-stamped}
+use Rattle.rw_calendar.proofs.TimestepFacts.{are_stamped}
 
 -- what is read next, whatever was read before it
 next : {A B : Type 0} (P : B → Type 0) (reading : Result A ModelRefusal) (then_ : A → Result B ModelRefusal) → ((x : A) → IfOk (then_ x) P) → IfOk (reading >>= then_) P
@@ -106,7 +97,7 @@ run-inside ms = next InLimits (start_of ms) _ (λ start. next InLimits (step_len
 control-inside : (run : Run) → InLimits run → IfOk (control_of run) IsControl
 control-inside run p = next-by AreTimesteps IsControl (refused_as bad_calendar (stamps_of run.start run.step_length run.steps)) _
     (kept-by AreTimesteps bad_calendar (stamps_refusal run.start run.step_length run.steps) (timesteps_of run.start run.step_length run.steps)
-    (λ none. are-stamped run.start run.step_length run.steps p.2.0 p.2.1 ((stamped-iff run.start run.step_length run.steps).0 none)))
+    (λ none. are_stamped run.start run.step_length run.steps p.2.0 p.2.1 ((stamped-iff run.start run.step_length run.steps).0 none)))
     (λ stamps are. record { timesteps = are; least_object = p.0.0; most_object = p.0.1; least_rule = p.1.0; most_rule = p.1.1 })
 
 in-control : (ms : Members) → IfOk (control_in ms) IsControl
@@ -174,11 +165,11 @@ filled-keeps ms draft is = next-by IsDraft IsDraft (objects_from ms draft) _ (ob
     (λ with_links links_are. bounds-keep ms with_links links_are))
 
 -- what a file says is a valid basin
-pub model-valid : (bytes : List ℕ) → IfOk (model_of bytes) IsBasin
+pub model_valid : (bytes : List ℕ) → IfOk (model_of bytes) IsBasin
 unfolding basin_of draft_of
-model-valid bytes = next IsBasin (table_or (toml_of bytes)) basin_of
+model_valid bytes = next IsBasin (table_or (toml_of bytes)) basin_of
     (λ ms. next-by IsDraft IsBasin (draft_of ms) _
     (next-by IsControl IsDraft (control_in ms) _ (in-control ms)
     (λ control limits. next-by IsDraft IsDraft (filled ms (empty_draft control)) _ (filled-keeps ms (empty_draft control) (IsDraft-begin control limits))
     (λ draft is. next IsDraft (only_listed file_keys [] ms) _ (λ listed. is))))
-    (λ draft is. kept-by IsBasin (bad_build (codes "basin")) (finish_refusal draft) draft (basin-iff draft is).0))
+    (λ draft is. kept-by IsBasin (bad_build (codes "basin")) (finish_refusal draft) draft (basin_iff draft is).0))

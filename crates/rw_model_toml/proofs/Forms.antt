@@ -1,6 +1,5 @@
 -- Texts of another length than a form don't have it.
-use Rattle.std.proofs.Common.{◌≡◌, ◌≢◌, ◌<◌, ℕ, zero, suc, List, [], ◌∷◌, length, slice_index, Bool, true, false, ◌&&◌, IsTrue, refl, arith}
-use Rattle.std.proofs.lemmas.Bool.{and_parts, false≢true}
+use Rattle.rw_base.proofs.Common.{◌≡◌, ◌≢◌, ◌<◌, ℕ, zero, suc, List, [], ◌∷◌, length, slice_index, Bool, true, false, ◌&&◌, IsTrue, refl, arith, and_parts, false≢true}
 use Rattle.rw_model_toml.specs.StartText.{fits, fits_byte}
 
 both-false : (b : Bool) {c : Bool} → c ≡ false → (b && c) ≡ false

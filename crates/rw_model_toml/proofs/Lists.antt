@@ -1,16 +1,14 @@
 -- Reading the items of an array one by one.
-use Rattle.std.proofs.Common.{arith, None, ◌≢◌, ◌≡◌, ℕ, ◌+◌, ◌<◌, List, [], ◌∷◌, ◌++◌, length, drop, get_or, append_assoc, subst, Result, Ok, Err, refl, ap, sym, ◌∙◌}
+use Rattle.rw_base.proofs.Common.{None, ◌≢◌, ◌≡◌, ℕ, ◌+◌, ◌<◌, List, [], ◌∷◌, ◌++◌, length, drop, get_or, append_assoc, subst, Result, Ok, Err, refl, ap, sym, ◌∙◌, IsErrAnd}
 use Rattle.toml.specs.declared.value.Value.{Value}
 use Rattle.toml.specs.View.{view, items_view}
 use Rattle.toml.proofs.Views.{items_view-drop}
-use Rattle.toml.specs.Data.{no_items, Data, Items, item}
+use Rattle.toml.specs.Data.{Data, Items, item}
 use Rattle.rw_model_toml.specs.declared.fault.ModelFault.{ModelFault}
-use Rattle.rw_model.specs.Draft.{Draft}
+use Rattle.rw_model.proofs.Common.{Draft, numbers_of}
 use Rattle.rw_base.specs.declared.number.SlotNo.{SlotNo}
-use Rattle.rw_model.specs.Kept.{numbers_of}
 use Rattle.rw_model_toml.specs.Model.{in_turn}
 use Rattle.rw_model_toml.specs.Fault.{IsWhy, Gives}
-use Rattle.std.specs.Result.{IsErrAnd}
 use Rattle.rw_model_toml.specs.Refusal.{ModelRefusal, ◌>>=◌}
 use Rattle.rw_model_toml.specs.Path.{element_path}
 use Rattle.rw_model_toml.specs.ListOf.{list_of}
@@ -69,13 +67,6 @@ stops reading next fault why = (λ refusal is. rw (why.0 refusal is) refl, why.1
 -- what is read next is refused
 pub goes-on : {A B : Type 0} (reading : Result A ModelRefusal) (next : A → Result B ModelRefusal) (x : A) (fault : ModelFault) → reading ≡ Ok x → IsWhy (next x) fault → IsWhy (reading >>= next) fault
 goes-on reading next x fault read why = subst (λ r. IsWhy (r >>= next) fault) (sym read) why
-
--- an array of two values
-pub items-two : (vs : List Value) (a b : Value) → length vs ≡ 2 → a ≡ get_or vs 0 a → b ≡ get_or vs 1 b → items_view vs ≡ item (view a) (item (view b) no_items)
-items-two [] a b two first second = absurd (omega arith)
-items-two (x ∷ []) a b two first second = absurd (omega arith)
-items-two (x ∷ y ∷ []) a b two first second = cc
-items-two (x ∷ y ∷ z ∷ vs) a b two first second = absurd (omega arith)
 
 -- an array of another number of values is no row
 pub items-not-two : (vs : List Value) → length vs ≢ 2 → row_in (items_view vs) ≡ None

@@ -1,8 +1,5 @@
 -- What the toolchain's reader says of bytes, in the words of the definition.
-use Rattle.std.proofs.Common.{◌≡◌, ℕ, List, Some, None, inl, inr, refl}
-use Rattle.std.specs.Str.{IsUtf8, is_utf8}
-use Rattle.std.proofs.lemmas.Str.{IsUtf8-from_is_utf8, is_utf8-from_IsUtf8}
-use Rattle.std.proofs.lemmas.Bool.{cases_Bool}
+use Rattle.rw_base.proofs.Common.{◌≡◌, ℕ, List, Some, None, inl, inr, refl, IsUtf8, is_utf8, IsUtf8-from_is_utf8, is_utf8-from_IsUtf8, cases_Bool}
 use Rattle.toml.specs.Data.{Members}
 use Rattle.toml.specs.Parse.{parse_document}
 use Rattle.rw_model_toml.specs.Model.{toml_of}

@@ -1,7 +1,5 @@
 -- Words that are others.
-use Rattle.std.proofs.Common.{◌≡◌, List, ℕ, false, sym}
-use Rattle.std.specs.Prelude.{bytes_eq}
-use Rattle.std.proofs.lemmas.Slice.Eq.{bytes_eq-Decides}
+use Rattle.rw_base.proofs.Common.{◌≡◌, List, ℕ, false, sym, bytes_eq, bytes_eq-Decides}
 use Rattle.rw_base.proofs.Tests.{fails}
 
 -- the word is another

@@ -1,12 +1,8 @@
 -- A basin that is one plain reservoir has no links, since a link joins slots of two objects.
-use Rattle.std.proofs.Common.{◌≡◌, ◌≤◌, ℕ, zero, suc, ℤ, List, [], ◌∷◌, refl, arith}
-use Rattle.std.proofs.lemmas.Bool.Decides.{nat_tests}
-use Rattle.std.specs.Prelude.{All}
+use Rattle.rw_base.proofs.Common.{◌≡◌, ◌≤◌, ℕ, zero, suc, ℤ, List, [], ◌∷◌, refl, arith, nat_tests, All}
 use Rattle.std.specs.List.{IsDistinct}
 use Rattle.rw_model.specs.declared.control.RunControl.{RunControl}
-use Rattle.rw_model.specs.Draft.{Bound, Draft}
-use Rattle.rw_model.specs.Basin.{IsLink}
-use Rattle.rw_model.specs.Links.{owner_of}
+use Rattle.rw_model.proofs.Common.{Bound, Draft, IsLink, owner_of}
 use Rattle.rw_plain_reservoir.specs.FirstForm.{plain_reservoir}
 
 abbrev pub lone : RunControl → List ℕ → ℤ → List Bound → Draft

@@ -2,8 +2,7 @@
 use Rattle.std.proofs.Common.{◌≡◌, ℕ, List, [], ◌∷◌, Option, Some, None, ap, sym, ◌∙◌, ℤ}
 use Rattle.rw_model.specs.declared.kind.Kind.{Kind}
 use Rattle.rw_model.specs.declared.kind.Kind.TheVariants.{DataObject, Gage, Confluence, Bifurcation, Reach, Reservoir, WaterUser, Canal}
-use Rattle.rw_model.specs.Objects.{Object}
-use Rattle.rw_model.specs.Draft.{Draft}
+use Rattle.rw_model.proofs.Common.{Object, Draft}
 use Rattle.rw_plain_reservoir.specs.FirstForm.{plain_reservoir, FirstModel, IsFirstForm}
 
 abbrev name_in : List Object → List ℕ

@@ -1,6 +1,5 @@
 -- A run has one end and one text.
-use Rattle.std.proofs.Common.{◌≡◌, ℕ, ◌+◌, ◌<◌, ◌≤◌, ℤ, List, ◌++◌, refl, ap, sym, ◌∙◌, subst, arith, None, Some}
-use Rattle.std.specs.Prelude.{Option}
+use Rattle.rw_base.proofs.Common.{◌≡◌, ℕ, ◌+◌, ◌<◌, ◌≤◌, ℤ, List, ◌++◌, refl, ap, sym, ◌∙◌, subst, arith, None, Some, Option}
 use Rattle.rw_plain_reservoir.specs.FirstForm.{FirstModel}
 use Rattle.rw_model.specs.Kind.{IsAmount}
 use Rattle.rw_plain_reservoir.specs.Reservoir.{IsReservoirRun, storage_at}

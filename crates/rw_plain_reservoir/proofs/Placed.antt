@@ -1,19 +1,13 @@
 -- What the cells hold once the inputs are placed.
-use Rattle.std.proofs.Common.{◌≡◌, ◌≤◌, ◌==◌, ◌≢◌, ℕ, zero, suc, ℤ, Bool, true, false, List, [], ◌∷◌, ◌++◌, Option, Some, None, refl, sym, ap, ◌∙◌, arith}
-use Rattle.std.specs.Prelude.{if◌then◌else◌}
-use Rattle.std.specs.Option.{option_or}
-use Rattle.std.proofs.lemmas.Bool.Decides.{nat_tests}
+use Rattle.rw_base.proofs.Common.{◌≡◌, ◌≤◌, ◌==◌, ◌≢◌, ℕ, zero, suc, ℤ, Bool, true, false, List, [], ◌∷◌, ◌++◌, Option, Some, None, refl, sym, ap, ◌∙◌, arith, if◌then◌else◌, option_or, nat_tests}
 use Rattle.rw_base.specs.declared.number.Cell.{Cell}
 use Rattle.rw_model.specs.declared.content.Content.{Content}
 use Rattle.rw_model.specs.declared.control.RunControl.{RunControl}
 use Rattle.rw_model.specs.Draft.{Bound, Draft}
 use Rattle.rw_series.specs.Series.{is_shared}
 use Rattle.rw_inputs.specs.Inputs.{Inputs, value_at}
-use Rattle.rw_run.specs.Log.{Log, given, cells_of, input_content}
-use Rattle.rw_run.specs.Dispatch.{cell_at}
+use Rattle.rw_run.proofs.Common.{Log, given, cells_of, input_content, cell_at, end_of, last_closed, placed, standing, rests}
 use Rattle.rw_run.specs.declared.run.RunEnd.TheVariants.{Settled}
-use Rattle.rw_run.specs.RunOf.{end_of, last_closed}
-use Rattle.rw_run.specs.Runs.{placed, standing, rests}
 use Rattle.rw_engine.specs.Givens.{if_given, givens_of, givens_to}
 use Rattle.rw_plain_reservoir.proofs.Alone.{lone}
 

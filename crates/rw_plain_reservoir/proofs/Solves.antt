@@ -1,7 +1,5 @@
 -- What a dispatch of the plain reservoir is, from the flows that are given and the storage before.
-use Rattle.std.proofs.Common.{◌≡◌, ℕ, ℤ, pos, neg_ℤ, ◌+ℤ◌, ◌-ℤ◌, Bool, true, false, ◌&&◌, List, [], ◌∷◌, map, replicate, Option, None, Some, refl, ap, ◌∙◌, arith, inl, inr}
-use Rattle.std.specs.Prelude.{◌⊎◌, if◌then◌else◌, slice_index_or}
-use Rattle.std.proofs.lemmas.Int.{ints}
+use Rattle.rw_base.proofs.Common.{◌≡◌, ℕ, ℤ, pos, neg_ℤ, ◌+ℤ◌, ◌-ℤ◌, Bool, true, false, ◌&&◌, List, [], ◌∷◌, map, replicate, Option, None, Some, refl, ap, ◌∙◌, arith, inl, inr, ◌⊎◌, if◌then◌else◌, slice_index_or, ints}
 use Rattle.rw_table.proofs.Comparison.{below_or_not, le_fails}
 use Rattle.rw_base.specs.Quantity.{quantity_max}
 use Rattle.rw_model.specs.declared.content.Content.{Content}
@@ -9,11 +7,7 @@ use Rattle.rw_model.specs.declared.control.RunControl.{RunControl}
 use Rattle.rw_model.specs.declared.kind.Kind.{Kind}
 use Rattle.rw_model.specs.declared.kind.Kind.TheVariants.{Reservoir}
 use Rattle.rw_model.specs.declared.writer.Writer.TheVariants.{Object}
-use Rattle.rw_model.specs.Draft.{Bound, Draft}
-use Rattle.rw_model.specs.Kind.{IsAmount}
-use Rattle.rw_model.specs.Links.{bounds_in}
-use Rattle.rw_model.specs.Put.{end_of_put}
-use Rattle.rw_model.specs.Slot.{Bounds, from_zero, all_quantities}
+use Rattle.rw_model.proofs.Common.{Bound, Draft, IsAmount, bounds_in, end_of_put, Bounds, from_zero, all_quantities}
 use Rattle.rw_method.specs.declared.solved.Solved.{Solved}
 use Rattle.rw_method.specs.declared.solved.Solved.TheVariants.{Puts, OutOfRange}
 use Rattle.rw_method.specs.declared.view.View.{View}
@@ -22,8 +16,7 @@ use Rattle.rw_method.specs.Puts.{put}
 use Rattle.rw_method.specs.Solve.{solve_of, all_or_misfit, fits}
 use Rattle.rw_series.specs.declared.look.Look.{Look}
 use Rattle.rw_run.specs.declared.fault.RunFault.TheVariants.{ObjectOutOfRange}
-use Rattle.rw_run.specs.Log.{Asked, Cells, Dispatch, Event, solved, fault, input_content}
-use Rattle.rw_run.specs.Dispatch.{cell_at, places, bounds_in_place, past_value, looked_cells, looks_at, dispatched, answered, judged, or_fault, denied_by, is_written, dispatch_of}
+use Rattle.rw_run.proofs.Common.{Asked, Cells, Dispatch, Event, solved, fault, input_content, cell_at, places, bounds_in_place, past_value, looked_cells, looks_at, dispatched, answered, judged, or_fault, denied_by, is_written, dispatch_of}
 use Rattle.rw_plain_reservoir.specs.FirstForm.{plain_reservoir}
 use Rattle.rw_plain_reservoir.proofs.Alone.{lone}
 

@@ -1,29 +1,15 @@
 -- The run of a plain reservoir, event by event.
-use Rattle.std.proofs.Common.{◌≡◌, ◌≢◌, ◌≤◌, ◌<◌, ◌+◌, ◌-◌, ◌==◌, ℕ, zero, suc, ℤ, pos, ◌-ℤ◌, Bool, true, false, List, [], ◌∷◌, length, Option, Some, None, nat_lt, refl, sym, ap, subst, ◌∙◌, arith, inl, inr, below_more}
-use Rattle.std.specs.Prelude.{if◌then◌else◌, nat_le, option_map}
-use Rattle.std.specs.Option.{option_or}
-use Rattle.std.specs.List.{slice_index_or, find}
-use Rattle.std.proofs.lemmas.Bool.Decides.{nat_tests}
+use Rattle.rw_base.proofs.Common.{◌≡◌, ◌≢◌, ◌≤◌, ◌<◌, ◌+◌, ◌-◌, ◌==◌, ℕ, zero, suc, ℤ, pos, ◌-ℤ◌, Bool, true, false, List, [], ◌∷◌, length, Option, Some, None, nat_lt, refl, sym, ap, subst, ◌∙◌, arith, inl, inr, below_more, if◌then◌else◌, nat_le, option_map, option_or, slice_index_or, find, nat_tests}
 use Rattle.rw_model.specs.declared.content.Content.{Content}
 use Rattle.rw_model.specs.declared.control.AgendaOrder.{AgendaOrder}
 use Rattle.rw_model.specs.declared.control.AgendaOrder.TheVariants.{HighFirst, LowFirst}
 use Rattle.rw_model.specs.declared.control.RunControl.{RunControl}
-use Rattle.rw_model.specs.Before.{before_of}
-use Rattle.rw_model.specs.Draft.{Bound, Draft}
-use Rattle.rw_model.specs.Kind.{IsAmount}
-use Rattle.rw_model.specs.Links.{bounds_in}
-use Rattle.rw_model.specs.Slot.{from_zero}
+use Rattle.rw_model.proofs.Common.{before_of, Bound, Draft, IsAmount, bounds_in, from_zero}
 use Rattle.rw_series.specs.declared.look.Look.{Look}
 use Rattle.rw_run.specs.declared.fault.RunFault.TheVariants.{ObjectLimit, ObjectOutOfRange}
 use Rattle.rw_run.specs.declared.run.RunEnd.{RunEnd}
 use Rattle.rw_run.specs.declared.run.RunEnd.TheVariants.{Settled, Fault}
-use Rattle.rw_run.specs.Log.{Cells, Event, Log, opened, closed, solved, fault, cells_of, input_content, value_in}
-use Rattle.rw_run.specs.Waiting.{first_waiting, first_of}
-use Rattle.rw_run.specs.Dispatch.{cell_at, dispatched, looked_cells, looks_at, past_value}
-use Rattle.rw_run.specs.Next.{no_rules, next_of, after_objects, agenda_of, is_due, first_due}
-use Rattle.rw_run.specs.Runs.{Leads, IsOver, follows, follows_in, standing, rests}
-use Rattle.rw_run.specs.RunOf.{end_of, last_closed}
-use Rattle.rw_run.proofs.Waits.{opens, solves}
+use Rattle.rw_run.proofs.Common.{Cells, Event, Log, opened, closed, solved, fault, cells_of, input_content, value_in, first_waiting, first_of, cell_at, dispatched, looked_cells, looks_at, past_value, no_rules, next_of, after_objects, agenda_of, is_due, first_due, Leads, IsOver, follows, follows_in, standing, rests, end_of, last_closed, opens, solves}
 use Rattle.rw_plain_reservoir.specs.FirstForm.{plain_reservoir}
 use Rattle.rw_plain_reservoir.specs.Reservoir.{IsReservoirRun, storage_at}
 use Rattle.rw_plain_reservoir.proofs.Alone.{lone}

@@ -1,8 +1,5 @@
 -- One storage follows the other.
-use Rattle.std.proofs.Common.{◌≡◌, ℕ, zero, suc, ◌+◌, ◌<◌, ℤ, pos, ◌+ℤ◌, List, [], ◌∷◌, length, take, arith, sym, ap, ◌∙◌}
-use Rattle.std.proofs.Math.Numerals.{suc-eq-add-one}
-use Rattle.std.proofs.lemmas.Int.{ints}
-use Rattle.std.specs.List.{slice_index_or}
+use Rattle.rw_base.proofs.Common.{◌≡◌, ℕ, zero, suc, ◌+◌, ◌<◌, ℤ, pos, ◌+ℤ◌, List, [], ◌∷◌, length, take, arith, sym, ap, ◌∙◌, suc-eq-add-one, ints, slice_index_or}
 use Rattle.rw_plain_reservoir.specs.Reservoir.{storage_at, total}
 use Rattle.rw_plain_reservoir.proofs.Solves.{after}
 

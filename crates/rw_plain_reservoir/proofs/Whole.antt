@@ -1,20 +1,13 @@
 -- The section of the run of a plain reservoir is the text of its run.
-use Rattle.std.proofs.Common.{◌≡◌, ◌+◌, ℕ, ℤ, List, [], ◌∷◌, Option, Some, None, refl, sym, ap, subst, ◌∙◌, arith}
-use Rattle.std.specs.Prelude.{◌↔◌, All}
-use Rattle.std.proofs.lemmas.Option.{none-some}
+use Rattle.rw_base.proofs.Common.{◌≡◌, ◌+◌, ℕ, ℤ, List, [], ◌∷◌, Option, Some, None, refl, sym, ap, subst, ◌∙◌, arith, ◌↔◌, All, none-some}
 use Rattle.rw_calendar.specs.Stamps.{Timesteps}
-use Rattle.rw_model.specs.Basin.{IsBasin, IsLink}
+use Rattle.rw_model.proofs.Common.{IsBasin, IsLink, Bound, Draft, bounds_in}
 use Rattle.rw_base.specs.declared.number.Cell.{Cell}
 use Rattle.rw_model.specs.declared.control.RunControl.{RunControl}
-use Rattle.rw_model.specs.Draft.{Bound, Draft}
-use Rattle.rw_model.specs.Links.{bounds_in}
 use Rattle.rw_inputs.specs.Inputs.{Inputs}
 use Rattle.rw_run.specs.declared.run.RunEnd.{RunEnd}
 use Rattle.rw_run.specs.declared.run.RunEnd.TheVariants.{Settled, Fault}
-use Rattle.rw_run.specs.Log.{Log, cells_of}
-use Rattle.rw_run.specs.Next.{Policy, no_rules}
-use Rattle.rw_run.specs.RunOf.{end_of, last_closed}
-use Rattle.rw_run.specs.Runs.{IsRun, placed}
+use Rattle.rw_run.proofs.Common.{Log, cells_of, Policy, no_rules, end_of, last_closed, IsRun, placed}
 use Rattle.rw_report.specs.Section.{section_of, values_in}
 use Rattle.rw_plain_reservoir.specs.FirstForm.{FirstModel, IsFirstForm, IsFirstFlows, plain_reservoir}
 use Rattle.rw_engine.specs.Givens.{givens}
@@ -121,10 +114,10 @@ in_first_form basin model inputs inflows outflows P valid form flows all =
     (subst (λ r. P (lone basin.control model.name model.initial basin.bounds) (with_run r)) form.run
     (all basin.control model.name model.initial basin.bounds is flows_here))
 
-pub first-run : (basin : Draft) (model : FirstModel) (inputs : Inputs) (inflows outflows : List ℤ)
+pub first_run : (basin : Draft) (model : FirstModel) (inputs : Inputs) (inflows outflows : List ℤ)
     → IsBasin basin → IsFirstForm basin model → IsFirstFlows inputs model.run.count inflows outflows
     → (log : Log) × IsRun basin no_rules (givens basin inputs) log
-first-run basin model inputs inflows outflows valid form flows =
+first_run basin model inputs inflows outflows valid form flows =
     in_first_form basin model inputs inflows outflows (λ b m. (log : Log) × IsRun b no_rules (givens b inputs) log) valid form flows
     (λ control name initial bounds is here.
     let s = case_of control name initial bounds inflows outflows in

@@ -1,9 +1,5 @@
 -- Worked values, where they don't compute by themselves.
-use Rattle.std.proofs.Common.{◌≡◌, pos, negsuc, [], ◌∷◌, ◌++◌, Some, refl, ap, arith}
-use Rattle.std.proofs.lemmas.Fmt.{decimal_digit}
-use Rattle.std.proofs.lemmas.Int.{ints}
-use Rattle.std.specs.Fmt.{decimal}
-use Rattle.std.specs.Prelude.{codes}
+use Rattle.rw_base.proofs.Common.{◌≡◌, pos, negsuc, [], ◌∷◌, ◌++◌, Some, refl, ap, arith, decimal_digit, ints, decimal, codes}
 use Rattle.rw_model.specs.Kind.{IsAmount}
 use Rattle.rw_plain_reservoir.specs.Reservoir.{IsReservoirRun}
 use Rattle.rw_plain_reservoir.specs.Table.{heading}

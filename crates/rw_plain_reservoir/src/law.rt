@@ -18,6 +18,7 @@ ghost use Rattle.rw_plain_reservoir.specs.Table.{IsFirstText, columns, heading};
 use rw_run::law::one_run;
 
 /// One plain reservoir, whose inflow and outflow are given, has a run.
+#[tactic(auto, using(crate::proofs::Whole::first_run))]
 pub fn first_run()
     ensures { (basin : Draft) (model : FirstModel) (inputs : Inputs) (inflows outflows : List ℤ)
         → IsBasin basin → IsFirstForm basin model → IsFirstFlows inputs model.run.count inflows outflows
@@ -39,11 +40,13 @@ pub fn first_text()
 }
 
 /// A basin is in the first form in one way.
+#[tactic(auto, using(crate::proofs::OneModel::one_model))]
 pub fn one_model()
     ensures { (basin : Draft) (model other : FirstModel) → IsFirstForm basin model → IsFirstForm basin other → model ≡ other }
 {}
 
 /// Such a run has one end and one text.
+#[tactic(auto, using(crate::proofs::OneText::one_text))]
 pub fn one_text()
     ensures { (model : FirstModel) (inflows outflows : List ℤ) (end other : Option ℤ) (text more : List ℕ)
         → IsFirstText model inflows outflows end text → IsFirstText model inflows outflows other more → (end ≡ other) × (text ≡ more) }
@@ -51,6 +54,7 @@ pub fn one_text()
 
 /// Worked values: 1000 and three days of inflow 100, with outflows 50, 150 and 100; a reservoir of which 1001 are taken
 /// at once; and the texts of their ends and of the columns.
+#[tactic(auto, using(crate::proofs::Worked::emptied, crate::proofs::Worked::faulted))]
 pub fn worked()
     ensures first { storage_at (pos 1000) (pos 100 ∷ pos 100 ∷ pos 100 ∷ []) (pos 50 ∷ pos 150 ∷ pos 100 ∷ []) 1 ≡ pos 1050 }
     ensures second { storage_at (pos 1000) (pos 100 ∷ pos 100 ∷ pos 100 ∷ []) (pos 50 ∷ pos 150 ∷ pos 100 ∷ []) 2 ≡ pos 1000 }

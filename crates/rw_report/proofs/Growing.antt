@@ -1,6 +1,5 @@
 -- A text that grows part by part.
-use Rattle.std.proofs.Common.{◌≡◌, ℕ, ◌+◌, List, ◌++◌, sym, ap, ◌∙◌, append_assoc}
-use Rattle.std.proofs.Math.Numerals.{suc-eq-add-one}
+use Rattle.rw_base.proofs.Common.{◌≡◌, ℕ, ◌+◌, List, ◌++◌, sym, ap, ◌∙◌, append_assoc, suc-eq-add-one}
 use Rattle.rw_report.specs.Section.{for_each}
 
 -- two parts, one after the other

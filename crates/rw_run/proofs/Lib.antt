@@ -9,3 +9,4 @@ mod Lasts
 mod SameRuns
 mod SomeRun
 mod Choices
+pub mod Common

@@ -1,8 +1,5 @@
 -- A policy and inputs have one run.
-use Rattle.std.proofs.Common.{◌≡◌, ◌≤◌, ◌+◌, ℕ, ℤ, nat_lt, false, List, [], ◌∷◌, Option, Some, None, refl, sym, ap, subst, ◌∙◌, arith}
-use Rattle.std.specs.Prelude.{if◌then◌else◌}
-use Rattle.std.proofs.lemmas.Bool.Decides.{nat_tests}
-use Rattle.std.proofs.lemmas.Option.{same_Some, none-some}
+use Rattle.rw_base.proofs.Common.{◌≡◌, ◌≤◌, ◌+◌, ℕ, ℤ, nat_lt, false, List, [], ◌∷◌, Option, Some, None, refl, sym, ap, subst, ◌∙◌, arith, if◌then◌else◌, nat_tests, same_Some, none-some}
 use Rattle.rw_base.specs.declared.number.Cell.{Cell}
 use Rattle.rw_model.specs.Draft.{Draft}
 use Rattle.rw_run.specs.Log.{Log, Event, opened}
@@ -29,8 +26,8 @@ same_end basin policy old (e ∷ es) (f ∷ fs) x y l m u v =
     let same : f ≡ e = same_Some _ _ (sym m.0 ∙ l.0) in
     same_end basin policy (e ∷ old) es fs x y l.1 (subst (λ z. Leads basin policy (z ∷ old) fs y) same m.1) u v
 
-pub one-run : (basin : Draft) (policy : Policy) (inputs : List (Cell × ℤ)) (one other : Log) → IsRun basin policy inputs one → IsRun basin policy inputs other
+pub one_run : (basin : Draft) (policy : Policy) (inputs : List (Cell × ℤ)) (one other : Log) → IsRun basin policy inputs one → IsRun basin policy inputs other
     → one ≡ other
-one-run basin policy inputs one other r s =
+one_run basin policy inputs one other r s =
     same_end basin policy (placed [] inputs) r.events s.events one other r.leads s.leads
     (none_follows basin policy one (first_waiting basin one) (standing one) r.end) (none_follows basin policy other (first_waiting basin other) (standing other) s.end)

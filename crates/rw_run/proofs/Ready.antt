@@ -1,6 +1,5 @@
 -- Who waits has a balance: no data object waits.
-use Rattle.std.proofs.Common.{◌≡◌, ℕ, Bool, true, false, not, ◌&&◌, List, length, All, Option, Some, None, refl}
-use Rattle.std.proofs.lemmas.List.Elements.{All-append, filter_passes}
+use Rattle.rw_base.proofs.Common.{◌≡◌, ℕ, Bool, true, false, not, ◌&&◌, List, length, All, Option, Some, None, refl, All-append, filter_passes}
 use Rattle.rw_model.specs.Draft.{Draft}
 use Rattle.rw_run.specs.Log.{Event, opened, solved, fired}
 use Rattle.rw_run.specs.Waiting.{numbers, is_data, all_waiting, is_woken, woken, slots_at, queued_after}

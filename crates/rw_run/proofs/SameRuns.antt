@@ -1,9 +1,5 @@
 -- Policies that do the same have the same runs.
-use Rattle.std.proofs.Common.{◌≡◌, ◌<◌, ◌+◌, ◌==◌, ℕ, ℤ, Bool, true, false, cond, List, [], ◌∷◌, Option, Some, None, find, reverse, nat_le, refl, sym, ap, subst, ◌∙◌, arith}
-use Rattle.std.specs.Prelude.{if◌then◌else◌, option_map}
-use Rattle.std.proofs.lemmas.Bool.Decides.{nat_tests}
-use Rattle.std.proofs.lemmas.List.{reverse-append}
-use Rattle.std.proofs.lemmas.Option.{same_Some, none-some}
+use Rattle.rw_base.proofs.Common.{◌≡◌, ◌<◌, ◌+◌, ◌==◌, ℕ, ℤ, Bool, true, false, cond, List, [], ◌∷◌, Option, Some, None, find, reverse, nat_le, refl, sym, ap, subst, ◌∙◌, arith, if◌then◌else◌, option_map, nat_tests, reverse-append, same_Some, none-some}
 use Rattle.rw_base.specs.declared.number.Cell.{Cell}
 use Rattle.rw_model.specs.Draft.{Draft}
 use Rattle.rw_model.specs.declared.control.AgendaOrder.{AgendaOrder}
@@ -79,13 +75,13 @@ module _ (basin : Draft) (one other : Policy) (alike : FireAlike one other) wher
   leads_same old (event ∷ events) new leads =
       (sym (follows_same old (first_waiting basin old) (standing old)) ∙ leads.0, leads_same (event ∷ old) events new leads.1)
 
-pub same-runs : (basin : Draft) (one other : Policy) (inputs : List (Cell × ℤ)) (log : Log) → FireAlike one other → IsRun basin one inputs log
+pub same_runs : (basin : Draft) (one other : Policy) (inputs : List (Cell × ℤ)) (log : Log) → FireAlike one other → IsRun basin one inputs log
     → IsRun basin other inputs log
-same-runs basin one other inputs log alike run =
+same_runs basin one other inputs log alike run =
     record { events = run.events; leads = leads_same basin one other alike (placed [] inputs) run.events log run.leads; end = run.end }
 
-pub alike-none : (other : Policy) → other.rules ≡ 0 → FireAlike no_rules other
-alike-none other none = record {
+pub alike_none : (other : Policy) → other.rules ≡ 0 → FireAlike no_rules other
+alike_none other none = record {
   rules = sym none;
   same = λ rule step values is. absurd (let first = is.first in let last = is.last in omega (arith, first, last));
 }

@@ -1,8 +1,5 @@
 -- The look back finds the first event after the last dispatch that wakes the object.
-use Rattle.std.proofs.Common.{◌≡◌, ℕ, Bool, true, false, [], ◌∷◌, ◌++◌, length, Option, Some, None, refl, sym, ap, ◌∙◌, inl, inr}
-use Rattle.std.specs.Prelude.{◌⊎◌, ◌↔◌, if◌then◌else◌}
-use Rattle.std.specs.Option.{option_or}
-use Rattle.std.proofs.lemmas.Option.{same_Some, none-some}
+use Rattle.rw_base.proofs.Common.{◌≡◌, ℕ, Bool, true, false, [], ◌∷◌, ◌++◌, length, Option, Some, None, refl, sym, ap, ◌∙◌, inl, inr, ◌⊎◌, ◌↔◌, if◌then◌else◌, option_or, same_Some, none-some}
 use Rattle.rw_model.specs.Draft.{Draft}
 use Rattle.rw_run.specs.Log.{Log, Event}
 use Rattle.rw_run.specs.Waiting.{ends_wait, wakes, since}
@@ -79,8 +76,8 @@ waits basin [] object place e = absurd (none-some _ e)
 waits basin (x ∷ log) object place e =
     by_bits basin x log object place (ends_wait x object) (wakes basin x object) (since basin log object) refl refl refl (waits basin log object place) e
 
-pub since-is : (basin : Draft) (log : Log) (object place : ℕ) → (since basin log object ≡ Some place) ↔ WaitsSince basin log object place
-since-is basin log object place = (
+pub since_is : (basin : Draft) (log : Log) (object place : ℕ) → (since basin log object ≡ Some place) ↔ WaitsSince basin log object place
+since_is basin log object place = (
   waits basin log object place,
   λ r. ap (λ z. since basin z object) r.whole ∙ found basin r.newer r.event r.before object r.wakes_it r.none_ends r.is_first ∙ ap Some r.at_place,
 )

@@ -1,8 +1,5 @@
 -- A run exists: in a timestep each event but its closing and a fault leaves fewer dispatches and firings below their limits.
-use Rattle.std.proofs.Common.{◌≡◌, ◌<◌, ◌≤◌, ◌+◌, ◌-◌, ◌==◌, ℕ, zero, suc, ℤ, Bool, true, false, cond, List, [], ◌∷◌, length, map, Option, Some, None, is_some, IsSome, nat_le, nat_lt, refl, sym, ap, subst, ◌∙◌, arith, inl, inr}
-use Rattle.std.specs.Prelude.{◌⊎◌, if◌then◌else◌, option_map}
-use Rattle.std.proofs.lemmas.Bool.Decides.{nat_tests}
-use Rattle.std.proofs.lemmas.Option.{same_Some, none-some}
+use Rattle.rw_base.proofs.Common.{◌≡◌, ◌<◌, ◌≤◌, ◌+◌, ◌-◌, ◌==◌, ℕ, zero, suc, ℤ, Bool, true, false, cond, List, [], ◌∷◌, length, map, Option, Some, None, is_some, IsSome, nat_le, nat_lt, refl, sym, ap, subst, ◌∙◌, arith, inl, inr, ◌⊎◌, if◌then◌else◌, option_map, nat_tests, same_Some, none-some}
 use Rattle.rw_base.specs.declared.number.Cell.{Cell}
 use Rattle.rw_model.specs.Draft.{Draft}
 use Rattle.rw_method.specs.declared.solved.Solved.{Solved}
@@ -249,14 +246,14 @@ pub standing-placed : (log : Log) (inputs : List (Cell × ℤ)) → standing log
 standing-placed log [] at = at
 standing-placed log (input ∷ inputs) at = standing-placed (given input.0 input.1 ∷ log) inputs refl
 
-pub some-run : (basin : Draft) (policy : Policy) (inputs : List (Cell × ℤ)) → IsPolicyOf basin policy → (log : Log) × IsRun basin policy inputs log
-some-run basin policy inputs promise =
+pub some_run : (basin : Draft) (policy : Policy) (inputs : List (Cell × ℤ)) → IsPolicyOf basin policy → (log : Log) × IsRun basin policy inputs log
+some_run basin policy inputs promise =
     let run = rests_on basin policy basin.control.stamps.count 0 (placed [] inputs) promise (standing-placed [] inputs refl) (omega arith) in
     (run.log, record { events = run.events; leads = run.leads; end = run.end })
 
 -- no rule promises everything
-pub none-promises : (basin : Draft) → IsPolicyOf basin no_rules
-none-promises basin = record {
+pub none_promises : (basin : Draft) → IsPolicyOf basin no_rules
+none_promises basin = record {
   ends = λ rule step values is. absurd (let first = is.first in let last = is.last in omega (arith, first, last));
   framed = λ rule step one other fire is alike. absurd (none-some _ is);
   silent = λ rule step values fire is late. absurd (none-some _ is);

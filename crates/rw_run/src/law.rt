@@ -21,6 +21,7 @@ ghost use Rattle.rw_run.specs.Frame.{AreAlike, FollowInStep, IsFramed, IsStepFro
 ghost use Rattle.rw_run.specs.Index.{IsIndex, MarksTouched};
 
 /// A cell holds what was last put to a cell that shares its value with it.
+#[tactic(auto, using(crate::proofs::Lasts::given_held, crate::proofs::Lasts::last_held, crate::proofs::Lasts::earlier_held, crate::proofs::Lasts::still_held))]
 pub fn cells_after()
     ensures given { (basin : Draft) (log : Log) (cell other : Cell) (value : ℤ)
         → IsTrue (is_shared basin cell other)
@@ -37,6 +38,7 @@ pub fn cells_after()
 
 /// One timestep after another is opened, the first one after the inputs. After the last one nothing follows, nor after a
 /// fault.
+#[tactic(auto, using(crate::proofs::Lasts::opens_first, crate::proofs::Lasts::opens_next, crate::proofs::Lasts::opens_none))]
 pub fn timesteps()
     ensures first { (basin : Draft) (policy : Policy) (log : Log) (cell : Cell) (value : ℤ)
         → 1 ≤ basin.control.stamps.count
@@ -51,6 +53,7 @@ pub fn timesteps()
 {}
 
 /// A basin, a policy and inputs have one run.
+#[tactic(auto, using(crate::proofs::OneRun::one_run))]
 pub fn one_run()
     ensures { (basin : Draft) (policy : Policy) (inputs : List (Cell × ℤ)) (log other : Log)
         → IsRun basin policy inputs log → IsRun basin policy inputs other → log ≡ other }
@@ -58,6 +61,7 @@ pub fn one_run()
 
 /// A policy that keeps its promises has a run: no event is without a next one, and limits end each timestep. That of no rules
 /// promises nothing that it could break.
+#[tactic(auto, using(crate::proofs::SomeRun::some_run, crate::proofs::SomeRun::none_promises))]
 pub fn some_run()
     ensures exists { (basin : Draft) (policy : Policy) (inputs : List (Cell × ℤ))
         → IsPolicyOf basin policy → (log : Log) × IsRun basin policy inputs log }
@@ -65,6 +69,7 @@ pub fn some_run()
 {}
 
 /// Policies of as many rules that do the same have the same runs, and so have all policies without rules.
+#[tactic(auto, using(crate::proofs::SameRuns::same_runs, crate::proofs::SameRuns::alike_none))]
 pub fn same_runs()
     ensures alike { (basin : Draft) (one other : Policy) (inputs : List (Cell × ℤ)) (log : Log)
         → FireAlike one other → IsRun basin one inputs log → IsRun basin other inputs log }
@@ -72,6 +77,7 @@ pub fn same_runs()
 {}
 
 /// Where any object that waits may be dispatched next, the one that has waited longest is such a one.
+#[tactic(auto, using(crate::proofs::Choices::may_follow, crate::proofs::Choices::may_lead))]
 pub fn choices()
     ensures event { (basin : Draft) (policy : Policy) (log : Log) (event : Event)
         → follows basin policy log ≡ Some event → MayFollow basin policy log event }
@@ -110,6 +116,7 @@ pub fn worked_timesteps()
 /// Which objects wait after an event, by those that waited before it. A timestep begins with all but the data objects. A
 /// dispatch takes its object out, wherever that stands. What is written puts others at the end, in order of number: each
 /// that owns a slot which it reaches and doesn't wait already, but no data object and not the one that wrote it.
+#[tactic(auto, using(crate::proofs::Waits::opens, crate::proofs::Waits::idles, crate::proofs::Waits::solves, crate::proofs::Waits::fires, crate::proofs::Waits::closes, crate::proofs::Waits::gives, crate::proofs::Waits::faults))]
 pub fn waiting_after()
     ensures opened { (basin : Draft) (log : Log) (step : ℕ)
         → waiting basin (opened step ∷ log) ≡ all_waiting basin }
@@ -134,12 +141,14 @@ pub fn waiting_after()
 {}
 
 /// An object waits since the first event that wakes it, from the opening of the timestep on, and after its last dispatch.
+#[tactic(auto, using(crate::proofs::Sinces::since_is))]
 pub fn since_is()
     ensures { (basin : Draft) (log : Log) (object place : ℕ)
         → (since basin log object ≡ Some place) ↔ WaitsSince basin log object place }
 {}
 
 /// Where the cells at which a timestep's events look are alike before it, the same events follow.
+#[tactic(auto, using(crate::proofs::Frames::frame))]
 pub fn frame()
     ensures { (basin : Draft) (policy : Policy) (step : ℕ) (old other : Log) (events : List Event)
         → IsFramed policy → FollowInStep basin policy step (opened step ∷ old) events
@@ -148,6 +157,7 @@ pub fn frame()
 {}
 
 /// The events of a timestep that was closed lead on in another run, where the cells at which they look are alike.
+#[tactic(auto, using(crate::proofs::Reuses::reuse))]
 pub fn reuse()
     ensures { (basin : Draft) (policy : Policy) (step : ℕ) (old other end : Log)
         (first : Event) (events : List Event)
@@ -159,6 +169,7 @@ pub fn reuse()
 {}
 
 /// Where each rule is marked whose last looks the puts touch, a rule without a mark still isn't due.
+#[tactic(auto, using(crate::proofs::Reuses::index))]
 pub fn index()
     ensures { (basin : Draft) (cells : Cells) (puts : List Asked)
         (looked : ℕ → Option (List Look)) (was_marked is_marked : ℕ → Bool)

@@ -1,11 +1,6 @@
 -- Cells of which nothing is kept.
-use Rattle.std.proofs.Common.{◌≡◌, ◌<◌, ◌≤◌, ℕ, Bool, true, false, List, [], ◌++◌, length, Option, None, if◌then◌else◌, sym, ap, ◌∙◌, refl, arith, slice_index_or, map, nat_le}
-use Rattle.std.specs.Prelude.{replicate, take}
-use Rattle.std.proofs.Math.Seq.{take-nil}
-use Rattle.std.proofs.Math.ListN.{get_or-map, get_or-eq_default}
-use Rattle.std.proofs.lemmas.List.{get_or-replicate, length-replicate}
-use Rattle.std.proofs.lemmas.Bool.{cond_both}
-use Rattle.std.proofs.lemmas.Bool.Decides.{nat_tests}
+use Rattle.rw_base.proofs.Common.{◌≡◌, ◌≤◌, ℕ, Bool, true, false, List, [], ◌++◌, length, Option, None, sym, ap, ◌∙◌, refl, arith, slice_index_or, map, nat_le, replicate, take, take-nil, get_or-eq_default, get_or-replicate, length-replicate, cond_both, nat_tests}
+use Rattle.std.proofs.Math.ListN.{get_or-map}
 use Rattle.rw_series.specs.Cells.{is_kept, position_of, kept_at}
 
 module _ {X A : Type 0} (read : X → Option A) (blank : X) (nothing : read blank ≡ None) where

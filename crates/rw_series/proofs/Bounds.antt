@@ -1,14 +1,7 @@
 -- Slots that carry one value have the same bounds.
-use Rattle.std.proofs.Common.{◌≡◌, ℕ, suc, ◌+◌, ◌==◌, ◌||◌, Bool, true, false, if◌then◌else◌, List, [], ◌∷◌, Some, refl, sym, ap, ap₂, subst, ◌∙◌, arith}
-use Rattle.std.specs.Prelude.{ℤ, slice_get, unwrap_or, option_and_then}
-use Rattle.std.specs.Int.{int_max, int_min}
-use Rattle.std.proofs.lemmas.Int.{ints, int_max_is, int_min_is}
-use Rattle.std.proofs.lemmas.Bool.Decides.{nat_tests}
+use Rattle.rw_base.proofs.Common.{◌≡◌, ℕ, suc, ◌+◌, ◌==◌, ◌||◌, Bool, true, false, if◌then◌else◌, List, [], ◌∷◌, Some, refl, sym, ap, ap₂, subst, ◌∙◌, arith, ℤ, slice_get, unwrap_or, option_and_then, int_max, int_min, ints, int_max_is, int_min_is, nat_tests}
 use Rattle.rw_base.specs.declared.number.Cell.{Cell}
-use Rattle.rw_model.specs.Slot.{Bounds}
-use Rattle.rw_model.specs.Objects.{Object}
-use Rattle.rw_model.specs.Draft.{Draft, Bound}
-use Rattle.rw_model.specs.Links.{is_among, link_from, link_of, is_together, own_bounds, meet, meet_all, bounds_in}
+use Rattle.rw_model.proofs.Common.{Bounds, Object, Draft, Bound, is_among, link_from, link_of, is_together, own_bounds, meet, meet_all, bounds_in}
 use Rattle.rw_series.specs.Series.{is_shared}
 use Rattle.rw_series.proofs.Sharing.{linked_alike, Shared-of}
 

@@ -1,9 +1,6 @@
 -- The places of cells.
-use Rattle.std.proofs.Common.{◌≡◌, ◌≢◌, ℕ, ◌+◌, ◌-◌, ◌*◌, ◌<◌, ◌≤◌, ◌==◌, ◌&&◌, Bool, true, false, if◌then◌else◌, List, length, Option, None, refl, ap, ◌∙◌, arith, slice_index_or}
-use Rattle.std.specs.Prelude.{slice_set}
-use Rattle.std.proofs.Math.Nat.{mul-le-mul_right, mul_comm}
-use Rattle.std.proofs.lemmas.Bool.Decides.{nat_tests}
-use Rattle.std.proofs.lemmas.List.{get_or-set_same, get_or-set_other, get_or_default}
+use Rattle.rw_base.proofs.Common.{◌≡◌, ◌≢◌, ℕ, ◌+◌, ◌-◌, ◌*◌, ◌<◌, ◌≤◌, ◌==◌, ◌&&◌, Bool, true, false, if◌then◌else◌, List, length, Option, None, refl, ap, ◌∙◌, arith, slice_index_or, slice_set, mul_comm, nat_tests, get_or-set_same, get_or-set_other, get_or_default}
+use Rattle.std.proofs.Math.Nat.{mul-le-mul_right}
 use Rattle.rw_series.specs.Cells.{is_kept, position_of, kept_at}
 
 -- such a slot and such a timestep

@@ -1,22 +1,10 @@
 -- A cell is set for all slots that carry one value with its slot.
-use Rattle.std.specs.List.{range_with_len}
-use Rattle.std.proofs.Common.{◌≡◌, ◌⊎◌, inl, inr, ℕ, zero, suc, ◌+◌, ◌-◌, ◌<◌, ◌≤◌, ◌==◌, ◌&&◌, nat_le, nat_lt, Bool, true, false, if◌then◌else◌, List, [], ◌∷◌, length, subst, Option, refl, sym, ap, ap₂, ◌∙◌, arith, slice_index_or}
-use Rattle.std.proofs.lemmas.Bool.Decides.{nat_tests}
-use Rattle.std.proofs.lemmas.List.{get_or_past, get_or-map, length-map}
-use Rattle.std.proofs.lemmas.Bool.{and_parts}
-use Rattle.std.specs.Prelude.{All}
-use Rattle.std.proofs.Math.Nat.{zero-lt-suc}
-use Rattle.std.proofs.lemmas.List.Folds.{list_any_at}
-use Rattle.std.proofs.lemmas.List.FromFn.{get_or-range_with_len}
-use Rattle.std.proofs.lemmas.Cmp.{nat_eq_equiv}
+use Rattle.rw_base.proofs.Common.{range_with_len, ◌≡◌, ◌⊎◌, inl, inr, ℕ, zero, suc, ◌+◌, ◌-◌, ◌<◌, ◌≤◌, ◌==◌, ◌&&◌, nat_le, nat_lt, Bool, true, false, List, [], ◌∷◌, length, subst, refl, sym, ap, ◌∙◌, arith, slice_index_or, nat_tests, get_or_past, get_or-map, length-map, and_parts, All, zero-lt-suc, list_any_at, nat_eq_equiv}
 use Rattle.rw_base.specs.declared.number.Cell.{Cell}
 use Rattle.rw_base.specs.declared.number.SlotNo.{SlotNo}
-use Rattle.rw_model.specs.Objects.{all_slots}
-use Rattle.rw_model.specs.Draft.{Draft, IsSlot}
-use Rattle.rw_model.specs.Kept.{numbers_of}
-use Rattle.rw_model.specs.Links.{is_together, is_among, slot_numbers, group_of}
+use Rattle.rw_model.proofs.Common.{all_slots, Draft, numbers_of, is_together, is_among, slot_numbers, group_of}
 use Rattle.rw_series.specs.Cells.{is_kept}
-use Rattle.rw_series.specs.Columns.{column_of, AreColumns}
+use Rattle.rw_series.specs.Columns.{column_of}
 use Rattle.rw_series.specs.Series.{Series, IsCell, is_shared, IsSeriesOf}
 use Rattle.rw_series.proofs.Sharing.{known_number, among_group}
 

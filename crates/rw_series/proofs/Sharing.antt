@@ -1,15 +1,8 @@
 -- Cells that share their value.
-use Rattle.std.proofs.Common.{◌≡◌, ℕ, ◌+◌, ◌-◌, ◌<◌, ◌==◌, ◌&&◌, ◌||◌, Bool, true, false, if◌then◌else◌, List, length, Option, Some, None, refl, sym, ap, ap₂, subst, ◌∙◌, arith}
-use Rattle.std.proofs.lemmas.Bool.{and_parts}
-use Rattle.std.proofs.lemmas.Cmp.{nat_eq_equiv}
-use Rattle.std.proofs.lemmas.Bool.Decides.{nat_tests}
-use Rattle.std.proofs.lemmas.Map.Views.{any-filter_same}
+use Rattle.rw_base.proofs.Common.{◌≡◌, ℕ, ◌+◌, ◌-◌, ◌<◌, ◌==◌, ◌&&◌, ◌||◌, Bool, true, false, if◌then◌else◌, List, length, Option, Some, None, refl, sym, ap, ap₂, subst, ◌∙◌, arith, and_parts, nat_eq_equiv, nat_tests, any-filter_same}
 use Rattle.rw_base.specs.declared.number.Cell.{Cell}
 use Rattle.rw_model.specs.declared.content.Content.{Content}
-use Rattle.rw_model.specs.Objects.{Object, all_slots}
-use Rattle.rw_model.specs.Draft.{Draft, IsSlot}
-use Rattle.rw_model.specs.Links.{link_of, is_same_link, is_together, is_among, slot_numbers, group_of}
-use Rattle.rw_model.proofs.Bounding.{some_crossed}
+use Rattle.rw_model.proofs.Common.{Object, all_slots, Draft, IsSlot, link_of, is_same_link, is_together, is_among, slot_numbers, group_of, some_crossed}
 use Rattle.rw_series.specs.Columns.{AreColumns}
 use Rattle.rw_series.specs.Series.{Series, IsCell, is_shared, IsSeriesOf, Sets}
 

@@ -1,13 +1,7 @@
 -- The columns of slots.
-use Rattle.std.proofs.Common.{◌≡◌, ◌≢◌, ◌⊎◌, inl, inr, ℕ, ◌+◌, ◌-◌, ◌<◌, ◌≤◌, ◌==◌, ◌||◌, ◌&&◌, nat_le, Bool, true, false, if◌then◌else◌, List, [], ◌∷◌, ◌++◌, length, max, Option, Some, None, refl, sym, ap, ap₂, ◌∙◌, arith, slice_index_or}
-use Rattle.std.proofs.lemmas.Cmp.{nat_eq_equiv}
-use Rattle.std.proofs.lemmas.Bool.Decides.{nat_tests}
-use Rattle.std.proofs.Math.Seq.{get_or-append_seam}
-use Rattle.std.proofs.lemmas.List.{length_push, get_or_append_left}
-use Rattle.rw_base.specs.declared.number.Cell.{Cell}
-use Rattle.rw_model.specs.Draft.{Draft}
-use Rattle.rw_model.specs.Links.{link_of, is_same_link, is_together}
-use Rattle.rw_series.specs.Columns.{column_of, AreColumns, HasNewColumn, IsShared, IsColumnFor}
+use Rattle.rw_base.proofs.Common.{◌≡◌, inl, inr, ℕ, ◌+◌, ◌-◌, ◌<◌, ◌≤◌, ◌==◌, ◌||◌, nat_le, Bool, true, false, List, [], ◌∷◌, ◌++◌, length, max, refl, sym, ap, ap₂, ◌∙◌, arith, slice_index_or, nat_eq_equiv, nat_tests, get_or-append_seam, length_push, get_or_append_left}
+use Rattle.rw_model.proofs.Common.{Draft, link_of, is_same_link, is_together}
+use Rattle.rw_series.specs.Columns.{column_of, AreColumns, IsColumnFor}
 use Rattle.rw_series.proofs.Sharing.{same_turned, together_alike, together_turned}
 
 -- ---- together, from either side

@@ -1,6 +1,5 @@
 -- The volume at an elevation, row after row: where it has a value, that it never falls, and which two rows decide it.
-use Rattle.std.proofs.Common.{◌≡◌, ℕ, zero, suc, ◌<◌, ◌≤◌, ℤ, ◌≤ℤ◌, ◌<ℤ◌, List, [], ◌∷◌, length, Option, Some, None, refl, sym, ap, ◌∙◌, arith, inl, inr}
-use Rattle.std.proofs.lemmas.Int.{ints}
+use Rattle.rw_base.proofs.Common.{◌≡◌, ℕ, zero, suc, ◌<◌, ◌≤◌, ℤ, ◌≤ℤ◌, ◌<ℤ◌, List, [], ◌∷◌, length, Option, Some, None, refl, sym, ap, ◌∙◌, arith, inl, inr, ints}
 use Rattle.rw_table.proofs.Comparison.{below_or_not, same_or_not, le_passes, le_fails, lt_passes, lt_fails, eq_passes, eq_fails}
 use Rattle.rw_table.proofs.Line.{between_bounds, between_rises, between_low}
 use Rattle.rw_table.specs.Table.{Row, row_at, IsAbove, IsRisingAt, IsTable}

@@ -1,9 +1,5 @@
 -- What a comparison of two numbers computes.
-use Rattle.std.proofs.Common.{◌≡◌, ℤ, ◌≤ℤ◌, ◌<ℤ◌, int_le, int_lt, Bool, true, false, refl, sym, arith, ◌⊎◌, inl, inr}
-use Rattle.std.specs.Ordering.{int_eq}
-use Rattle.std.specs.Cmp.{signed_Decides}
-use Rattle.std.proofs.lemmas.Int.{ints, by_lt_z}
-use Rattle.std.proofs.lemmas.Bool.{cases_Bool, both_ways}
+use Rattle.rw_base.proofs.Common.{◌≡◌, ℤ, ◌≤ℤ◌, ◌<ℤ◌, int_le, int_lt, Bool, true, false, refl, sym, arith, ◌⊎◌, inl, inr, int_eq, signed_Decides, ints, by_lt_z, cases_Bool, both_ways}
 
 -- the cases of two numbers
 pub below_or_not : (a b : ℤ) → (a <ℤ b) ⊎ (b ≤ℤ a)

@@ -1,8 +1,5 @@
 -- The count down to the greatest elevation whose volume is at most s.
-use Rattle.std.proofs.Common.{◌≡◌, ℕ, zero, suc, ◌<◌, ◌≤◌, ℤ, pos, ◌≤ℤ◌, Bool, true, false, cond, List, Option, Some, None, MatchOption, refl, arith, inl, inr}
-use Rattle.std.specs.Prelude.{IsSomeAnd}
-use Rattle.std.proofs.lemmas.Bool.{cases_eq}
-use Rattle.std.proofs.lemmas.Int.{ints}
+use Rattle.rw_base.proofs.Common.{◌≡◌, ℕ, zero, suc, ◌<◌, ◌≤◌, ℤ, pos, ◌≤ℤ◌, Bool, true, false, cond, List, Option, Some, None, MatchOption, refl, arith, inl, inr, IsSomeAnd, cases_eq, ints}
 use Rattle.rw_table.specs.Table.{Row}
 use Rattle.rw_table.specs.Curve.{vol_of, is_at_most, greatest_up_to, IsAtMost}
 

@@ -1,6 +1,5 @@
 -- The elevation at a volume in a table: the count finds the greatest, and so does the last on the line of the interval.
-use Rattle.std.proofs.Common.{◌≡◌, ℕ, zero, suc, ◌-◌, ◌<◌, ℤ, pos, negsuc, ◌+ℤ◌, ◌≤ℤ◌, ◌<ℤ◌, unsigned_abs, List, length, Option, Some, None, refl, ap, ◌∙◌, arith, inl, inr}
-use Rattle.std.proofs.lemmas.Int.{ints}
+use Rattle.rw_base.proofs.Common.{◌≡◌, ℕ, zero, suc, ◌-◌, ◌<◌, ℤ, pos, negsuc, ◌+ℤ◌, ◌≤ℤ◌, ◌<ℤ◌, unsigned_abs, List, length, Option, Some, None, refl, ap, ◌∙◌, arith, inl, inr, ints}
 use Rattle.rw_table.proofs.Comparison.{below_or_not, le_passes, le_fails}
 use Rattle.rw_table.proofs.Order.{no_less}
 use Rattle.rw_table.proofs.Volume.{inside, volume_of_row, volume_on_line, never_falls}

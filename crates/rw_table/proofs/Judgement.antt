@@ -1,9 +1,5 @@
 -- Nothing is wrong with rows exactly where they are a table.
-use Rattle.std.proofs.Common.{◌≡◌, ◌↔◌, ℕ, zero, suc, ◌<◌, ◌≤◌, nat_lt, List, length, Option, None, Some, refl, sym, subst, ◌∙◌, ap, ◌+◌, arith, below_more, inl, inr}
-use Rattle.std.specs.Option.{option_or}
-use Rattle.std.specs.Bool.{Decides}
-use Rattle.std.proofs.lemmas.Bool.{cases_eq}
-use Rattle.std.proofs.lemmas.Bool.Decides.{nat_tests, Decides-and, Decides-like}
+use Rattle.rw_base.proofs.Common.{◌≡◌, ◌↔◌, ℕ, zero, suc, ◌<◌, ◌≤◌, nat_lt, List, length, Option, None, Some, refl, sym, subst, ◌∙◌, ap, ◌+◌, arith, below_more, inl, inr, option_or, Decides, cases_eq, nat_tests, Decides-and, Decides-like}
 use Rattle.rw_base.specs.Answers.{Finds}
 use Rattle.rw_base.proofs.Answering.{found}
 use Rattle.rw_base.proofs.Tests.{Decides-from_to, Decides-int_lt, passed, spared, unless, where-true}
@@ -52,8 +48,8 @@ rows-free : (rows : List Row) (n : ℕ) → ((k : ℕ) → k < n → IsGoodRow r
 rows-free rows zero good = refl
 rows-free rows (suc n) good = ap (λ found. option_or found (row_refusal rows n)) (rows-free rows n (λ k below. good k (omega arith))) ∙ (row-iff rows n).1 (good n (omega arith))
 
-pub table-iff : (rows : List Row) → (table_refusal rows ≡ None) ↔ IsTable rows
-table-iff rows = (
+pub table_iff : (rows : List Row) → (table_refusal rows ≡ None) ↔ IsTable rows
+table_iff rows = (
   λ e.
       let first = spared (nat_lt (length rows) 2) _ _ e in
       let second = spared (nat_lt 200 (length rows)) (rows_refusal rows (length rows)) _ first.1 in

@@ -1,7 +1,5 @@
 -- The laws of tables, by the names that they have in src/law.rt.
-use Rattle.std.proofs.Common.{◌≡◌, ℕ, suc, ◌+◌, ◌<◌, ℤ, ◌≤ℤ◌, ◌<ℤ◌, ◌↔◌, ◌⊎◌, inl, inr, subst, List, length, ◌-◌, Option, Some, None, MatchOption, refl, sym, arith}
-use Rattle.std.specs.Prelude.{IsSome, IsSomeAnd}
-use Rattle.std.proofs.lemmas.Int.{ints}
+use Rattle.rw_base.proofs.Common.{◌≡◌, ℕ, suc, ◌+◌, ◌<◌, ℤ, ◌≤ℤ◌, ◌<ℤ◌, ◌↔◌, ◌⊎◌, inl, inr, subst, List, length, ◌-◌, Option, Some, None, MatchOption, refl, sym, arith, IsSome, IsSomeAnd, ints}
 use Rattle.rw_table.specs.Table.{Row, row_at, IsTable}
 use Rattle.rw_table.specs.Line.{between}
 use Rattle.rw_table.specs.Curve.{vol_of, elev_of, first_row, last_row, IsElevationInside, IsVolumeInside, IsGreatest}

@@ -1,6 +1,5 @@
 -- The volume on the line from one row to the next.
-use Rattle.std.proofs.Common.{◌≡◌, ℕ, ◌≤◌, ◌+◌, ◌*◌, ◌/◌, ◌<◌, ℤ, pos, negsuc, ◌+ℤ◌, ◌-ℤ◌, ◌≤ℤ◌, ◌<ℤ◌, refl, arith}
-use Rattle.std.proofs.lemmas.Int.{ints}
+use Rattle.rw_base.proofs.Common.{◌≡◌, ℕ, ◌≤◌, ◌+◌, ◌*◌, ◌/◌, ◌<◌, ℤ, pos, negsuc, ◌+ℤ◌, ◌-ℤ◌, ◌≤ℤ◌, ◌<ℤ◌, refl, arith, ints}
 use Rattle.rw_table.specs.Table.{Row, IsAbove}
 use Rattle.rw_table.specs.Line.{between, IsLastOnLine}
 use Rattle.rw_table.proofs.Quotient.{share_below, share_rises}

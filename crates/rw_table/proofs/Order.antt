@@ -1,9 +1,5 @@
 -- The order of a table's rows, and what it gives the searches.
-use Rattle.std.proofs.Common.{◌≡◌, ℕ, zero, suc, ◌<◌, ◌≤◌, ℤ, pos, ◌≤ℤ◌, ◌<ℤ◌, int_le, true, false, List, length, arith, inl, inr, slice_index_or}
-use Rattle.std.proofs.lemmas.Int.{ints}
-use Rattle.std.proofs.lemmas.Bool.{cases_eq}
-use Rattle.std.proofs.lemmas.List.{get_or_default}
-use Rattle.std.specs.List.Sorted.{IsPartitionedBy, IsPartitionPoint}
+use Rattle.rw_base.proofs.Common.{◌≡◌, ℕ, zero, suc, ◌<◌, ◌≤◌, ℤ, pos, ◌≤ℤ◌, ◌<ℤ◌, int_le, true, false, List, length, arith, inl, inr, slice_index_or, ints, cases_eq, get_or_default, IsPartitionedBy, IsPartitionPoint}
 use Rattle.rw_table.proofs.Comparison.{le_passes}
 use Rattle.rw_table.specs.Table.{Row, row_at, IsAbove, IsTable}
 

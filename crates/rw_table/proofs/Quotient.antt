@@ -1,7 +1,5 @@
 -- Of a rise over a run, the share after d of the run, `d * rise / run`.
-use Rattle.std.proofs.Common.{ℕ, ◌*◌, ◌/◌, ◌<◌, ◌≤◌, arith}
-use Rattle.std.proofs.lemmas.Nat.{div_below, le-div}
-use Rattle.std.proofs.Math.Nat.{div-mul-le_self}
+use Rattle.rw_base.proofs.Common.{ℕ, ◌*◌, ◌/◌, ◌<◌, ◌≤◌, arith, div_below, le-div, div-mul-le_self}
 
 -- the share before the end is less than the rise
 pub share_below : (d rise run : ℕ) → d < run → 0 < rise → d * rise / run < rise

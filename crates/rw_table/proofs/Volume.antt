@@ -1,6 +1,5 @@
 -- The volume at an elevation in a table.
-use Rattle.std.proofs.Common.{◌≡◌, ℕ, zero, suc, ◌-◌, ◌<◌, ℤ, ◌≤ℤ◌, ◌<ℤ◌, List, [], ◌∷◌, length, Option, Some, None, refl, ap, arith}
-use Rattle.std.proofs.lemmas.Int.{ints}
+use Rattle.rw_base.proofs.Common.{◌≡◌, ℕ, zero, suc, ◌-◌, ◌<◌, ℤ, ◌≤ℤ◌, ◌<ℤ◌, List, [], ◌∷◌, length, Option, Some, None, refl, ap, arith, ints}
 use Rattle.rw_table.proofs.Chain.{chain, last, found, has_volume, volume_rises, volume_at_row, volume_between}
 use Rattle.rw_table.specs.Table.{Row, row_at, IsTable}
 use Rattle.rw_table.specs.Line.{between}

@@ -1,10 +1,8 @@
 -- The rules that there are, and the blocks that they are.
-use Rattle.std.proofs.Common.{◌≡◌, ℕ, ◌+◌, ◌-◌, zero, suc, ◌≤◌, ◌<◌, Bool, true, false, List, [], ◌∷◌, length, Some, IsSome, refl, arith}
-use Rattle.std.specs.Prelude.{if◌then◌else◌, ◌==◌}
+use Rattle.rw_base.proofs.Common.{◌≡◌, ℕ, ◌+◌, ◌-◌, zero, suc, ◌≤◌, ◌<◌, Bool, true, false, List, [], ◌∷◌, length, Some, IsSome, refl, arith, if◌then◌else◌, ◌==◌}
 use Rattle.rpl_code.specs.declared.block.Block.{Block}
 use Rattle.rpl_code.specs.declared.block.BlockHead.TheVariants.{Rule}
-use Rattle.rpl_verify.specs.Fits.{is_alike}
-use Rattle.rpl_verify.specs.Machine.{rule_from}
+use Rattle.rpl_verify.proofs.Common.{is_alike, rule_from}
 use Rattle.rpl_tree.specs.Tree.{Declared, rule, function}
 use Rattle.rpl_parse.specs.Bounds.{rule_count}
 use Rattle.rpl_types.specs.Checked.{declaration_from, declaration_of_rule}

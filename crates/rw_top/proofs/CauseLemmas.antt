@@ -1,8 +1,6 @@
 -- Causes as the code comes to them, step by step.
-use Rattle.std.proofs.Common.{◌≡◌, ◌≢◌, inl, inr, ℕ, ◌<◌, List, refl, sym, ap, arith, subst, Some, None, true, false, Option, option_map, Result, Ok, Err, IsErrOf, MatchResult, IsSomeAnd}
+use Rattle.std.proofs.Common.{◌≡◌, inr, ℕ, ◌<◌, List, refl, sym, ap, arith, subst, Some, None, true, false, Option, option_map, Result, Ok, Err, IsErrOf, MatchResult, IsSomeAnd}
 use Rattle.rw_inputs.specs.declared.fault.InputFault.TheVariants.{Refused}
-use Rattle.rw_inputs.specs.Inputs.{Inputs as Given}
-use Rattle.rw_inputs.specs.Reading.{Reads}
 use Rattle.rw_io.specs.Causes.{NoneFell, Rose}
 use Rattle.rw_io.specs.Outside.{Change, Holds, ShelfView, SinkView, change}
 use Rattle.rw_io.specs.declared.whole_file.TheConstants.{FILE_MAX}
@@ -10,7 +8,6 @@ use Rattle.rw_io.specs.declared.whole_file.ReadEnd.{ReadEnd}
 use Rattle.rw_io.specs.declared.whole_file.ReadEnd.TheVariants.{ReadFault, TooLong as EndTooLong, NoMemory as EndNoMemory}
 use Rattle.rw_model.specs.Draft.{Draft}
 use Rattle.rw_model_toml.specs.Fault.{refusal_of}
-use Rattle.rw_model_toml.specs.Model.{model_of}
 use Rattle.rw_model_toml.specs.Refusal.{ModelRefusal}
 use Rattle.rpl_parse.specs.declared.fault.ParseFault.{ParseFault}
 use Rattle.rpl_tree.specs.Tree.{Declared}
@@ -26,12 +23,11 @@ use Rattle.rpl_code.specs.declared.fault.CodeFault.TheVariants as C
 use Rattle.rpl_verify.specs.Fits.{refusal as block_refusal}
 use Rattle.rpl_types.specs.Nodes.{Types as NodeTypes}
 use Rattle.rw_top.specs.Command.{Command, path_of}
-use Rattle.rw_top.specs.Policy.{Unread, Misfit, Policy, PolicyRefusal, BadRules, BadBlocks, RulesRefusal, BadToken, BadDeclaration, TooMany, BadNode, IsPolicyOf, IsRulesetOf, RefusesNode, is_code}
+use Rattle.rw_top.specs.Policy.{Unread, Misfit, Policy, BadRules, BadBlocks, RulesRefusal, BadToken, BadDeclaration, TooMany, BadNode, IsRulesetOf, RefusesNode, is_code}
 use Rattle.rw_top.specs.Reason.{Reason, BadModel, BadPolicy, BadInputs, LongFile, status_by}
-use Rattle.rw_top.specs.Reading.{IsTooLong, Reaches, ReadsBoth, ReadsModel, ReadsPolicy, WasRead}
-use Rattle.rw_top.specs.Refusal.{Cause, FileCause, IsInputRefusal, IsModelRefusal, IsPolicyRefusal, TellsReason, WasFound, reason_of, refusal_after, refusal_of_code, refusal_of_grammar, status_of}
+use Rattle.rw_top.specs.Reading.{IsTooLong, Reaches, ReadsPolicy}
+use Rattle.rw_top.specs.Refusal.{Cause, FileCause, IsPolicyRefusal, WasFound, reason_of, refusal_after, refusal_of_code, refusal_of_grammar, status_of}
 use Rattle.rw_top.specs.declared.refusal.File.{File}
-use Rattle.rw_top.specs.declared.refusal.File.TheVariants.{Model as ModelFile, Policy as PolicyFile, Inputs as InputsFile}
 use Rattle.rw_top.specs.declared.refusal.Refusal.{Refusal}
 use Rattle.rw_top.specs.declared.refusal.Refusal.TheVariants.{CannotRead, CannotWrite, NoMemory, Model, Grammar, Types, Code, Block as BlockAt, Inputs, TooLong}
 
@@ -65,13 +61,6 @@ told_status (Inputs kind row column) reason tells = let same : BadInputs (Refuse
 told_status (TooLong file) reason tells = let same : LongFile file ≡ reason = cc in ap status_by same
 told_status why reason tells = absurd cc
 
--- a refusal that tells a reason has it as its cause
-pub tells_cause : (command : Command) (shelf : Change ShelfView) (why : Refusal) → TellsReason command shelf why
-    → FileCause command shelf why
-tells_cause command shelf (CannotRead file) told = let tells : None ≡ Some told.reason = told.tells in absurd cc
-tells_cause command shelf NoMemory told = tt
-tells_cause command shelf why told = told
-
 no_memory : (command : Command) (shelf : Change ShelfView) (why : Refusal) → why ≡ NoMemory → FileCause command shelf why
 no_memory command shelf why is = subst (FileCause command shelf) (sym is) tt
 
@@ -95,41 +84,6 @@ read_cause command shelf file path EndTooLong result is named reached fault long
   };
 }
 read_cause command shelf file path EndNoMemory result is named reached fault long longer = tt
-
--- why a model that was read isn't accepted
-model_cause : (command : Command) (shelf : Change ShelfView) (text : List ℕ) (why : Refusal)
-    → WasRead command shelf.before.holds ModelFile text → IsModelRefusal text why → FileCause command shelf why
-model_cause command shelf text why read (inl is) = no_memory command shelf why is
-model_cause command shelf text why read (inr bad) = tells_cause command shelf why (record {
-  reason = BadModel bad.0;
-  tells = bad.1;
-  found = record { text = text; read = read; is = bad.2 };
-})
-
-pub judged_model : (command : Command) (shelf : Change ShelfView) (text : List ℕ) (result : Result Draft Refusal)
-    → WasRead command shelf.before.holds ModelFile text
-    → MatchResult result (λ basin. model_of text ≡ Ok basin) (IsModelRefusal text)
-    → MatchResult result (ReadsModel command shelf.before.holds) (FileCause command shelf)
-judged_model command shelf text (Ok basin) read is = record { text = text; read = read; is = is }
-judged_model command shelf text (Err why) read bad = model_cause command shelf text why read bad
-
--- and why inputs aren't
-inputs_cause : (command : Command) (shelf : Change ShelfView) (basin : Draft) (text : List ℕ) (why : Refusal)
-    → ReadsModel command shelf.before.holds basin → WasRead command shelf.before.holds InputsFile text
-    → IsInputRefusal basin text why → FileCause command shelf why
-inputs_cause command shelf basin text why model read (inl is) = no_memory command shelf why is
-inputs_cause command shelf basin text why model read (inr bad) = tells_cause command shelf why (record {
-  reason = BadInputs bad.0;
-  tells = bad.1;
-  found = record { basin = basin; model = model; text = text; read = read; are = bad.2 };
-})
-
-pub judged_inputs : (command : Command) (shelf : Change ShelfView) (basin : Draft) (text : List ℕ) (result : Result Given Refusal)
-    → ReadsModel command shelf.before.holds basin → WasRead command shelf.before.holds InputsFile text
-    → MatchResult result (Reads basin text) (IsInputRefusal basin text)
-    → MatchResult result (ReadsBoth command shelf.before.holds basin) (FileCause command shelf)
-judged_inputs command shelf basin text (Ok inputs) model read are = record { model = model; text = text; read = read; are = are }
-judged_inputs command shelf basin text (Err why) model read bad = inputs_cause command shelf basin text why model read bad
 
 -- why a text is no ruleset
 pub grammar_refusal : (basin : Draft) (text : List ℕ) (fault : ParseFault) → is_code text ≡ false → ¬ (fault ≡ P.NoMemory)
@@ -173,24 +127,6 @@ accepted_rules basin text rules all spells is =
       types = all.types;
       typed = subst (λ rs. judged basin rs ≡ Ok all.types) same.0 same.1;
     }
-
--- why a policy isn't accepted
-rules_cause : (command : Command) (shelf : Change ShelfView) (basin : Draft) (text : List ℕ) (why : Refusal)
-    → ReadsModel command shelf.before.holds basin → WasRead command shelf.before.holds PolicyFile text
-    → IsPolicyRefusal basin text why → FileCause command shelf why
-rules_cause command shelf basin text why model read (inl is) = no_memory command shelf why is
-rules_cause command shelf basin text why model read (inr bad) = tells_cause command shelf why (record {
-  reason = BadPolicy bad.0;
-  tells = bad.1;
-  found = record { basin = basin; model = model; text = text; read = read; is = bad.2 };
-})
-
-pub judged_policy : {A : Type 0} (seen : A → Policy) (command : Command) (shelf : Change ShelfView) (basin : Draft) (text : List ℕ)
-    (result : Result A Refusal) → ReadsModel command shelf.before.holds basin → WasRead command shelf.before.holds PolicyFile text
-    → MatchResult result (λ x. IsPolicyOf basin text (seen x)) (IsPolicyRefusal basin text)
-    → MatchResult result (λ x. ReadsPolicy command shelf.before.holds basin (seen x)) (FileCause command shelf)
-judged_policy seen command shelf basin text (Ok x) model read is = record { model = model; text = text; read = read; is = is }
-judged_policy seen command shelf basin text (Err why) model read bad = rules_cause command shelf basin text why model read bad
 
 -- faults that are counted from earlier on
 rose_since : (first later now : ShelfView) (o : Option (List ℕ)) → NoneFell first.faults later.faults

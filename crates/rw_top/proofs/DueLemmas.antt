@@ -1,6 +1,5 @@
 -- A refusal that is due is given, and none is given that isn't.
-use Rattle.std.proofs.Common.{◌≡◌, inl, inr, ℕ, List, refl, ◌∙◌, Option, None, Some, IfSome, IsSome, IsSomeAnd}
-use Rattle.std.proofs.lemmas.Bool.{cases_lt}
+use Rattle.rw_base.proofs.Common.{◌≡◌, inl, inr, ℕ, List, refl, ◌∙◌, Option, None, Some, IfSome, IsSome, IsSomeAnd, cases_lt}
 use Rattle.rw_io.specs.Causes.{Rose}
 use Rattle.rw_io.specs.Outside.{Change, Holds, ShelfView, SinkView}
 use Rattle.rw_top.specs.Command.{Command, Simulate, Check, order, path_of}
@@ -13,7 +12,7 @@ use Rattle.rw_top.specs.declared.refusal.File.TheVariants.{Model as ModelFile, P
 use Rattle.rw_top.specs.declared.refusal.Refusal.{Refusal}
 use Rattle.rw_top.specs.declared.refusal.Refusal.TheVariants.{CannotRead, CannotWrite, NoMemory}
 use Rattle.rw_top.proofs.CauseLemmas.{told_status}
-use Rattle.rw_top.proofs.Findings.{IsTold, IsToldUpTo, names, not_found, one_reason}
+use Rattle.rw_top.proofs.Findings.{IsToldUpTo, names, not_found, one_reason}
 
 -- a text is written only where every file is accepted
 accepts_all : (command : Command) (holds : Holds) (status : ℕ) (text : List ℕ) → HasText command holds status text → AcceptsAll command holds

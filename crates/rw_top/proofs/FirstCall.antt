@@ -7,8 +7,7 @@ use Rattle.rw_inputs.specs.Reading.{Reads}
 use Rattle.rw_io.specs.Known.{GrowsBy}
 use Rattle.rw_run.specs.declared.run.RunEnd.{RunEnd}
 use Rattle.rw_run.specs.declared.run.RunEnd.TheVariants.{Settled, Fault}
-use Rattle.rw_model.specs.Basin.{IsBasin}
-use Rattle.rw_model.specs.Draft.{Draft}
+use Rattle.rw_model.proofs.Common.{IsBasin, Draft}
 use Rattle.rw_model_toml.specs.Model.{model_of}
 use Rattle.rw_top.specs.Call.{Call}
 use Rattle.rw_top.specs.Command.{Command, Simulate}

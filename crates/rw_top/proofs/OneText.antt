@@ -1,19 +1,13 @@
 -- A run has one end and one text.
-use Rattle.std.proofs.Common.{◌≡◌, ℕ, zero, suc, ◌++◌, List, refl, sym, ap, ap₂, ◌∙◌, subst}
-use Rattle.std.specs.Prelude.{ℤ, option_map, length}
+use Rattle.rw_base.proofs.Common.{◌≡◌, ℕ, zero, suc, ◌++◌, List, refl, sym, ap, ap₂, ◌∙◌, subst, ℤ, option_map, length}
 use Rattle.rw_base.specs.declared.number.Cell.{Cell}
 use Rattle.rw_model.specs.declared.content.Content.{Content}
-use Rattle.rw_model.specs.Draft.{Draft}
-use Rattle.rw_model.specs.Objects.{all_slots}
+use Rattle.rw_model.proofs.Common.{Draft, all_slots}
 use Rattle.rw_series.specs.Series.{held}
 use Rattle.rw_inputs.specs.Inputs.{Inputs, value_at}
 use Rattle.rw_run.specs.declared.run.Run.{Run}
 use Rattle.rw_run.specs.declared.run.RunEnd.{RunEnd}
-use Rattle.rw_run.specs.Log.{Log, cells_of}
-use Rattle.rw_run.specs.Dispatch.{cell_at}
-use Rattle.rw_run.specs.Next.{Policy, no_rules}
-use Rattle.rw_run.specs.Runs.{IsRun}
-use Rattle.rw_run.specs.RunOf.{end_of}
+use Rattle.rw_run.proofs.Common.{Log, cells_of, cell_at, Policy, no_rules, IsRun, end_of}
 use Rattle.rw_report.specs.Section.{section_of, values_in}
 use Rattle.rw_engine.specs.Givens.{if_given, givens_of, givens_to, givens}
 use Rattle.rw_engine.specs.Passing.{ComesTo}

@@ -1,7 +1,5 @@
 -- Parts of a line that are written one after another.
-use Rattle.std.proofs.Common.{inl, inr, ℕ, ◌≤◌, List, ◌++◌, length, Bool, true, false, sym, subst, arith}
-use Rattle.std.specs.Prelude.{MatchBool}
-use Rattle.std.proofs.lemmas.List.{take_all}
+use Rattle.rw_base.proofs.Common.{inl, inr, ℕ, ◌≤◌, List, ◌++◌, length, Bool, true, false, sym, subst, arith, MatchBool, take_all}
 use Rattle.rw_io.specs.Causes.{Rose}
 use Rattle.rw_io.specs.Known.{GrowsBy, PrefixGrew}
 use Rattle.rw_io.specs.Outside.{SinkView, change}

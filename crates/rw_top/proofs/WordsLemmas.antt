@@ -1,7 +1,6 @@
 -- The words of a command are three.
-use Rattle.std.proofs.Common.{◌≡◌, ◌⊎◌, inl, inr, ℕ, ◌<◌, ◌≤◌, List, [], ◌∷◌, length, get_or, codes, slice_index_or, refl, sym, subst, arith}
-use Rattle.rw_top.specs.Command.{Asks, Command, IsPath, Simulate, Check, path_of, words_of}
-use Rattle.std.specs.Prelude.{IfSome}
+use Rattle.rw_base.proofs.Common.{◌≡◌, ◌⊎◌, inl, inr, ℕ, ◌<◌, ◌≤◌, List, [], ◌∷◌, length, get_or, codes, slice_index_or, refl, sym, subst, arith, IfSome}
+use Rattle.rw_top.specs.Command.{Asks, Command, IsPath, Simulate, Check, path_of}
 use Rattle.rw_top.specs.declared.refusal.File.{File}
 use Rattle.rw_top.specs.declared.refusal.File.TheVariants.{Model, Policy, Inputs}
 

@@ -1,6 +1,5 @@
 use Rattle.std.proofs.Common.{◌≡◌, ◌+◌, ◌≤◌, drop}
-use Rattle.rpl_tree.specs.Budget.{capped, limits}
-use Rattle.rpl_tree.specs.Value.{weights}
+use Rattle.rpl_tree.proofs.Common.{capped, limits, weights}
 use Rattle.rpl_budget.specs.Seen.{kinds_seen}
 use Rattle.rpl_budget.proofs.known.weights.Given as goal
 

@@ -1,7 +1,5 @@
 use Rattle.std.proofs.Common.{◌≡◌, ◌+◌, ◌-◌, ◌<◌, IfOk, ap, ap₂, sym, subst, ◌∙◌, arith, drop, length}
-use Rattle.rpl_tree.specs.Seen.{tree_of, trees_in}
-use Rattle.rpl_tree.specs.Tree.{Tree, call}
-use Rattle.rpl_tree.proofs.Viewed.{tree_of_call}
+use Rattle.rpl_tree.proofs.Common.{tree_of, trees_in, Tree, call, tree_of_call}
 use Rattle.rpl_budget.specs.Pass.{argument, pass, pass_arguments}
 use Rattle.rpl_budget.specs.Seen.{functions_of, kinds_seen, measured_seen, names_of}
 use Rattle.rpl_budget.proofs.Rows.{arguments_on}

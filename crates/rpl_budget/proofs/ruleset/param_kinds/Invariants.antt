@@ -1,6 +1,5 @@
 use Rattle.std.proofs.Common.{◌≡◌, ◌++◌, drop, map}
-use Rattle.rpl_tree.specs.Mean.{param_kinds}
-use Rattle.rpl_tree.specs.Seen.{parameter_of}
+use Rattle.rpl_tree.proofs.Common.{param_kinds, parameter_of}
 use Rattle.rpl_budget.specs.Seen.{kinds_seen}
 use Rattle.rpl_budget.proofs.ruleset.param_kinds.Given as goal
 

@@ -1,6 +1,5 @@
 use Rattle.std.proofs.Common.{◌≡◌, ◌≤◌, drop, length, map}
-use Rattle.rpl_tree.specs.Cost.{param_names}
-use Rattle.rpl_tree.specs.Seen.{parameter_of}
+use Rattle.rpl_tree.proofs.Common.{param_names, parameter_of}
 use Rattle.rpl_budget.specs.Seen.{names_of}
 use Rattle.rpl_budget.proofs.ruleset.param_names.Given as goal
 

@@ -1,4 +1,4 @@
-use Rattle.std.proofs.Common.{refl}
+use Rattle.rw_base.proofs.Common.{refl}
 use Rattle.std.specs.Fmt.{digits}
 use Rattle.rpl_code.proofs.law.worked_places.Goals as goal
 

@@ -1,5 +1,4 @@
-use Rattle.std.proofs.Common.{arith, ◌≡◌, ◌∷◌, ◌+◌, drop, string_bytes}
-use Rattle.std.proofs.lemmas.Grind.{common_steps}
+use Rattle.rw_base.proofs.Common.{arith, ◌≡◌, ◌∷◌, ◌+◌, drop, string_bytes, common_steps}
 use Rattle.rpl_code.proofs.Growing.{block_more}
 use Rattle.rpl_code.proofs.writing.push_blocks.Goals as goal
 

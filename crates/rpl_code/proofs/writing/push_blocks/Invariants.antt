@@ -1,5 +1,4 @@
-use Rattle.std.proofs.Common.{◌≡◌, ◌++◌, drop, string_bytes}
-use Rattle.std.specs.Prelude.{flat_map}
+use Rattle.rw_base.proofs.Common.{◌≡◌, ◌++◌, drop, string_bytes, flat_map}
 use Rattle.rpl_code.specs.Spelling.{ended, block_lines}
 use Rattle.rpl_code.proofs.writing.push_blocks.Given as goal
 

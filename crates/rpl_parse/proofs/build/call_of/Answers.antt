@@ -1,6 +1,5 @@
 use Rattle.std.proofs.Common.{ap, map, ◌∙◌, ℕ, List}
-use Rattle.rpl_tree.specs.Tree.{call}
-use Rattle.rpl_tree.specs.Seen.{tree_of}
+use Rattle.rpl_tree.proofs.Common.{call, tree_of}
 use Rattle.rpl_parse.specs.Reading.{trees_of}
 use Rattle.rpl_parse.proofs.Viewed.{tree_of_call}
 use Rattle.rpl_parse.proofs.build.call_of.Goals as goal

@@ -1,8 +1,7 @@
-use Rattle.std.proofs.Common.{arith, ◌∙◌, sym, ◌∷◌, [], length, map}
+use Rattle.rw_base.proofs.Common.{arith, ◌∙◌, sym, ◌∷◌, [], length, map, map-append}
 use Rattle.rpl_parse.specs.Reading.{read, got, many, turns_of}
 use Rattle.rpl_tree.specs.Seen.{tree_of}
 use Rattle.rpl_parse.specs.Tokens.{toks}
-use Rattle.std.proofs.lemmas.List.{map-append}
 use Rattle.rpl_parse.proofs.Faults.{fails_on, many_fault}
 use Rattle.rpl_parse.proofs.Turns.{items_stops, items_fails, items_goes, steps_goes, chain_goes}
 use Rattle.rpl_parse.proofs.expression.+parse.Goals as goal

@@ -1,5 +1,5 @@
-use Rattle.std.proofs.Common.{rules, arith, ◌<◌, ◌∙◌, sym, ap, ◌∷◌, [], length, map}
-use Rattle.std.proofs.lemmas.List.{map-append, length-drop}
+use Rattle.rw_base.proofs.Common.{rules, arith, ◌<◌, ◌∙◌, sym, ap, ◌∷◌, [], length, map, map-append}
+use Rattle.std.proofs.lemmas.List.{length-drop}
 use Rattle.rpl_tree.specs.Seen.{declared_of}
 use Rattle.rpl_parse.specs.Declarations.{one_more_if, too_many}
 use Rattle.rpl_parse.proofs.Faults.{fails_bad}

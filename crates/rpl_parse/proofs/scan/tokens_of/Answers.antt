@@ -1,5 +1,4 @@
-use Rattle.std.proofs.Common.{rules, arith, map}
-use Rattle.std.proofs.lemmas.List.{map-append}
+use Rattle.rw_base.proofs.Common.{rules, arith, map, map-append}
 use Rattle.rpl_parse.specs.Tokens.{seen, lined_of}
 use Rattle.rpl_parse.proofs.ScanFacts.{all_read, bad_read, gap_read, token_read}
 use Rattle.rpl_parse.proofs.scan.tokens_of.Goals as goal

@@ -1,5 +1,4 @@
-use Rattle.std.proofs.Common.{arith, ◌∙◌, sym, ◌∷◌, [], length, map}
-use Rattle.std.proofs.lemmas.List.{map-append, length-map}
+use Rattle.rw_base.proofs.Common.{arith, ◌∙◌, sym, ◌∷◌, [], length, map, map-append, length-map}
 use Rattle.rpl_tree.specs.Seen.{act_of}
 use Rattle.rpl_parse.specs.ReadingActs.{act_at, done, step}
 use Rattle.rpl_parse.specs.declared.token.TokenAt.{TokenAt}

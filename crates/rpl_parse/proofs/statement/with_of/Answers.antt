@@ -1,6 +1,5 @@
 use Rattle.std.proofs.Common.{ap, map, ◌∙◌, ℕ, List}
-use Rattle.rpl_tree.specs.Tree.{with_name}
-use Rattle.rpl_tree.specs.Seen.{tree_of, act_of}
+use Rattle.rpl_tree.proofs.Common.{with_name, tree_of, act_of}
 use Rattle.rpl_parse.specs.ReadingActs.{acts_of}
 use Rattle.rpl_parse.proofs.Viewed.{act_of_with}
 use Rattle.rpl_parse.proofs.statement.with_of.Goals as goal

@@ -1,5 +1,4 @@
-use Rattle.std.proofs.Common.{◌∙◌, sym, ◌∷◌, [], length, map}
-use Rattle.std.proofs.lemmas.List.{map-append}
+use Rattle.rw_base.proofs.Common.{◌∙◌, sym, ◌∷◌, [], length, map, map-append}
 use Rattle.rpl_tree.specs.Seen.{parameter_of}
 use Rattle.rpl_parse.specs.ReadingDeclared.{takes, read_parameter}
 use Rattle.rpl_parse.specs.Tokens.{toks}

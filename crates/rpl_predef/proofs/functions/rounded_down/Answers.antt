@@ -1,5 +1,4 @@
-use Rattle.std.proofs.Common.{arith, ◌≡◌, ◌∙◌, sym, refl, ap, ap₂, subst, of_z, w64}
-use Rattle.std.specs.Prelude.{IsSome}
+use Rattle.rw_base.proofs.Common.{arith, ◌≡◌, ◌∙◌, sym, refl, ap, ap₂, subst, of_z, w64, IsSome}
 use Rattle.rw_base.specs.Predefined.{rounded_down}
 use Rattle.rpl_predef.proofs.Rounding.{difference, quantity_fits, made}
 use Rattle.rpl_predef.proofs.functions.rounded_down.Goals as goal

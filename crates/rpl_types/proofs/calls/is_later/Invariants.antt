@@ -1,5 +1,4 @@
-use Rattle.std.proofs.Common.{◌≡◌, bytes_eq, drop, map}
-use Rattle.std.specs.List.{list_any}
+use Rattle.rw_base.proofs.Common.{◌≡◌, bytes_eq, drop, map, list_any}
 use Rattle.rpl_tree.specs.Seen.{declared_of}
 use Rattle.rpl_types.specs.Judged.{function_names}
 use Rattle.rpl_types.proofs.calls.is_later.Given as goal

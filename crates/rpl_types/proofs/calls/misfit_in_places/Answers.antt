@@ -1,5 +1,4 @@
-use Rattle.std.proofs.Common.{arith, ◌≡◌, ◌∷◌, ◌+◌, drop}
-use Rattle.std.proofs.lemmas.Grind.{common_steps}
+use Rattle.rw_base.proofs.Common.{arith, ◌≡◌, ◌∷◌, ◌+◌, drop, common_steps}
 use Rattle.rpl_types.proofs.Sooner.{places_next}
 use Rattle.rpl_types.proofs.calls.misfit_in_places.Goals as goal
 

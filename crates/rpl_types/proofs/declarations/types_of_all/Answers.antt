@@ -1,6 +1,5 @@
-use Rattle.std.proofs.Common.{arith, ◌≡◌, ◌∷◌, ◌+◌, ◌-◌, [], get_or, ap, ap₂, drop, length, map, sym, ◌∙◌, Err, refl}
-use Rattle.std.proofs.lemmas.Grind.{common_steps}
-use Rattle.std.proofs.lemmas.List.{length-drop, length-map, map-append, take_all}
+use Rattle.rw_base.proofs.Common.{arith, ◌≡◌, ◌∷◌, ◌+◌, ◌-◌, [], get_or, ap, ap₂, drop, length, map, sym, ◌∙◌, Err, refl, common_steps, length-map, map-append, take_all}
+use Rattle.std.proofs.lemmas.List.{length-drop}
 use Rattle.rpl_budget.specs.Seen.{budget_seen}
 use Rattle.rpl_tree.specs.Seen.{declared_of}
 use Rattle.rpl_types.specs.Declarations.{node_refusal}

@@ -1,5 +1,4 @@
-use Rattle.std.proofs.Common.{arith, ◌≡◌, ◌∷◌, ◌+◌, [], ap, drop, map, ◌∙◌}
-use Rattle.std.proofs.lemmas.Grind.{common_steps}
+use Rattle.rw_base.proofs.Common.{arith, ◌≡◌, ◌∷◌, ◌+◌, [], ap, drop, map, ◌∙◌, common_steps}
 use Rattle.rpl_tree.specs.Seen.{parameter_of}
 use Rattle.rpl_types.specs.Fits.{sooner}
 use Rattle.rpl_types.proofs.Heading.{head_last, head_next}

@@ -1,5 +1,4 @@
-use Rattle.std.proofs.Common.{arith, ◌≡◌, ◌∷◌, ◌+◌, ◌-◌, ap, drop, length, map}
-use Rattle.std.proofs.lemmas.Grind.{common_steps}
+use Rattle.rw_base.proofs.Common.{arith, ◌≡◌, ◌∷◌, ◌+◌, ◌-◌, ap, drop, length, map, common_steps}
 use Rattle.rpl_tree.specs.Seen.{parameter_of}
 use Rattle.rpl_types.proofs.Heading.{one_before}
 use Rattle.rpl_types.proofs.heads.param_scope.Goals as goal

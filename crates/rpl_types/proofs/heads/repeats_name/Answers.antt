@@ -1,5 +1,4 @@
-use Rattle.std.proofs.Common.{arith, ◌≡◌, ◌∷◌, ◌+◌, ap, drop, is_some, map, sym, ◌∙◌}
-use Rattle.std.proofs.lemmas.Grind.{common_steps}
+use Rattle.rw_base.proofs.Common.{arith, ◌≡◌, ◌∷◌, ◌+◌, ap, drop, is_some, map, sym, ◌∙◌, common_steps}
 use Rattle.rpl_tree.specs.Seen.{parameter_of}
 use Rattle.rpl_types.proofs.Heading.{from_none, seen_here, seen_next}
 use Rattle.rpl_types.proofs.heads.repeats_name.Goals as goal

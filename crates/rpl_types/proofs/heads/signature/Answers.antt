@@ -1,5 +1,4 @@
-use Rattle.std.proofs.Common.{◌≡◌, ◌+◌, ◌++◌, ◌∷◌, [], ap, map, take, sym, ◌∙◌}
-use Rattle.std.proofs.lemmas.List.{map-append, take_all, take_more}
+use Rattle.rw_base.proofs.Common.{◌≡◌, ◌+◌, ◌++◌, ◌∷◌, [], ap, map, take, sym, ◌∙◌, map-append, take_all, take_more}
 use Rattle.rpl_tree.specs.Seen.{parameter_of}
 use Rattle.rpl_types.proofs.Heading.{same_signature, taken, taken_more}
 use Rattle.rpl_types.proofs.heads.signature.Goals as goal

@@ -1,4 +1,4 @@
-use Rattle.std.proofs.Common.{sym, refl, ap, ◌∙◌}
+use Rattle.std.proofs.Common.{sym, ap, ◌∙◌}
 use Rattle.rpl_types.proofs.Heading.{found_type, type_found}
 use Rattle.rpl_types.proofs.progress.name_type.Goals as goal
 

@@ -1,6 +1,5 @@
 use Rattle.std.proofs.Common.{rules, ◌≡◌, ◌∙◌, ap, ap₂, subst, sym, List, ℕ, Ok}
-use Rattle.rpl_tree.specs.Tree.{Act, Acts, branch, with_name}
-use Rattle.rpl_tree.specs.Seen.{acts_in, tree_of}
+use Rattle.rpl_tree.proofs.Common.{Act, Acts, branch, with_name, acts_in, tree_of}
 use Rattle.rpl_types.specs.Gives.{VisitsAct, callable_in}
 use Rattle.rpl_types.specs.Stopped.{progress_of}
 use Rattle.rpl_types.specs.Visited.{visited_act}

@@ -1,7 +1,5 @@
 use Rattle.std.proofs.Common.{◌∙◌, ap, ap₂, subst, sym}
-use Rattle.rpl_tree.specs.Tree.{Tree, call}
-use Rattle.rpl_tree.specs.Seen.{trees_in}
-use Rattle.rpl_tree.proofs.Viewed.{tree_of_call}
+use Rattle.rpl_tree.proofs.Common.{Tree, call, trees_in, tree_of_call}
 use Rattle.rpl_types.specs.Gives.{Visits}
 use Rattle.rpl_types.proofs.visit.+visit.Goals as goal
 

@@ -1,5 +1,4 @@
-use Rattle.std.proofs.Common.{◌≡◌, ◌+◌, ◌*◌, [], drop}
-use Rattle.std.specs.Prelude.{max}
+use Rattle.rw_base.proofs.Common.{◌≡◌, ◌+◌, ◌*◌, [], drop, max}
 use Rattle.rpl_tree.specs.declared.expression.Expr.{size-Expr}
 use Rattle.rpl_tree.specs.Seen.{trees_in}
 use Rattle.rpl_types.specs.Gives.{callable_in}

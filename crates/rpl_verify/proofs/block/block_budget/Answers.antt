@@ -1,5 +1,4 @@
-use Rattle.std.proofs.Common.{◌≡◌, ◌<◌, ◌+◌, suc, Ok, Err, length, map, take, sym, ap, ◌∙◌, arith}
-use Rattle.std.proofs.lemmas.List.{length-take-le}
+use Rattle.rw_base.proofs.Common.{◌≡◌, ◌<◌, ◌+◌, suc, Ok, Err, length, map, take, sym, ap, ◌∙◌, arith, length-take-le}
 use Rattle.rpl_verify.specs.Places.{spots}
 use Rattle.rpl_verify.specs.Fits.{count_alike}
 use Rattle.rpl_verify.specs.Notes.{budget_noted, budget_seen}

@@ -1,5 +1,4 @@
-use Rattle.std.proofs.Common.{◌+◌, [], ◌∷◌, ◌++◌, map, drop, refl, ap, ◌∙◌, arith}
-use Rattle.std.proofs.lemmas.List.{drop_all}
+use Rattle.rw_base.proofs.Common.{◌+◌, [], ◌∷◌, ◌++◌, map, drop, refl, ap, ◌∙◌, arith, drop_all}
 use Rattle.rpl_verify.specs.Places.{spots}
 use Rattle.rpl_verify.specs.Notes.{budget_seen, note_of}
 use Rattle.rpl_verify.specs.Steps.{scope_in}

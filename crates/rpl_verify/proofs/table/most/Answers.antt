@@ -1,5 +1,4 @@
-use Rattle.std.proofs.Common.{◌≡◌, ◌<◌, ◌-◌, ◌+◌, ◌∷◌, suc, drop, length, reverse, refl, sym, ap, ◌∙◌, arith, set, length-set}
-use Rattle.std.specs.Prelude.{slice_index}
+use Rattle.rw_base.proofs.Common.{◌≡◌, ◌<◌, ◌-◌, ◌+◌, ◌∷◌, suc, drop, length, reverse, refl, sym, ap, ◌∙◌, arith, set, length-set, slice_index}
 use Rattle.rpl_verify.specs.Places.{bracket, ends_before, loop_end, loop_ends}
 use Rattle.rpl_verify.specs.Budget.{most_from, way_of}
 use Rattle.rpl_verify.specs.Notes.{price_in, stopping}

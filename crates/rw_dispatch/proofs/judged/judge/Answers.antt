@@ -1,4 +1,4 @@
-use Rattle.std.proofs.Common.{◌≡◌, ◌+◌, ◌++◌, ◌∷◌, [], cond, drop, sym, ap, ◌∙◌, rules}
+use Rattle.rw_base.proofs.Common.{◌≡◌, ◌+◌, ◌++◌, ◌∷◌, [], cond, drop, sym, ap, ◌∙◌, rules}
 use Rattle.std.proofs.lemmas.List.{append-nil}
 use Rattle.rw_series.specs.Series.{held}
 use Rattle.rw_dispatch.proofs.Makes.{next-put}

@@ -1,7 +1,5 @@
-use Rattle.std.proofs.Common.{◌==◌, ◌||◌, take}
-use Rattle.std.specs.List.{list_any}
-use Rattle.rw_model.specs.Links.{owner_of}
-use Rattle.rw_model.specs.Kept.{numbers_of}
+use Rattle.rw_base.proofs.Common.{◌==◌, ◌||◌, take, list_any}
+use Rattle.rw_model.proofs.Common.{owner_of, numbers_of}
 use Rattle.rw_dispatch.proofs.Owning.{other-more, others-all}
 use Rattle.rw_dispatch.proofs.owners.nearest_at.Goals as goal
 

@@ -1,7 +1,5 @@
-use Rattle.std.proofs.Common.{ℕ, Bool, ◌==◌, ◌||◌, take}
-use Rattle.std.specs.List.{list_any}
-use Rattle.rw_model.specs.Links.{owner_of}
-use Rattle.rw_model.specs.Kept.{numbers_of}
+use Rattle.rw_base.proofs.Common.{ℕ, Bool, ◌==◌, ◌||◌, take, list_any}
+use Rattle.rw_model.proofs.Common.{owner_of, numbers_of}
 use Rattle.rw_dispatch.specs.Owners.{IsLeastAbove}
 use Rattle.rw_dispatch.proofs.owners.nearest_at.Given as goal
 

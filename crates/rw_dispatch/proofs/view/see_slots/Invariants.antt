@@ -1,5 +1,4 @@
-use Rattle.std.proofs.Common.{◌≡◌}
-use Rattle.std.specs.Prelude.{pos, None}
+use Rattle.rw_base.proofs.Common.{◌≡◌, pos, None}
 use Rattle.rw_series.specs.Series.{held}
 use Rattle.rw_run.specs.Dispatch.{bounds_in_place, content_in}
 use Rattle.rw_dispatch.proofs.Filling.{filled}

@@ -1,8 +1,6 @@
-use Rattle.std.proofs.Common.{◌≡◌, ◌+◌, ◌∷◌, [], sym, ap, ◌∙◌, Option, Some, None, refl, drop}
-use Rattle.std.specs.Option.{option_or}
+use Rattle.rw_base.proofs.Common.{◌≡◌, ◌+◌, ◌∷◌, [], sym, ap, ◌∙◌, Option, Some, None, refl, drop, option_or}
 use Rattle.rw_series.specs.Series.{held}
-use Rattle.rw_run.specs.Log.{last_put}
-use Rattle.rw_run.specs.Dispatch.{asked_by, asked_for}
+use Rattle.rw_run.proofs.Common.{last_put, asked_by, asked_for}
 use Rattle.rw_dispatch.proofs.Makes.{next-put}
 use Rattle.rw_dispatch.proofs.written.make.Goals as goal
 

@@ -1,10 +1,7 @@
-use Rattle.std.proofs.Common.{◌≡◌, ◌++◌, drop, length, All}
-use Rattle.std.specs.Prelude.{take}
+use Rattle.rw_base.proofs.Common.{◌≡◌, ◌++◌, drop, length, All, take}
 use Rattle.rw_base.specs.declared.number.SlotNo.{SlotNo}
-use Rattle.rw_model.specs.Draft.{IsSlot}
-use Rattle.rw_model.specs.Kept.{numbers_of}
-use Rattle.rw_run.specs.Waiting.{slots_at}
-use Rattle.rw_run.specs.Dispatch.{asked_for}
+use Rattle.rw_model.proofs.Common.{IsSlot, numbers_of}
+use Rattle.rw_run.proofs.Common.{slots_at, asked_for}
 use Rattle.rw_dispatch.proofs.written.slots_of.Given as goal
 
 abbrev pub invariant-loop-place : goal.invariant-loop-place

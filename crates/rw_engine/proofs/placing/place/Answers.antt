@@ -1,6 +1,5 @@
 use Rattle.std.proofs.Common.{◌≡◌, ap, ◌∙◌, arith}
-use Rattle.rw_run.specs.Log.{cells_of}
-use Rattle.rw_run.specs.Runs.{placed}
+use Rattle.rw_run.proofs.Common.{cells_of, placed}
 use Rattle.rw_engine.specs.Givens.{givens_to}
 use Rattle.rw_engine.proofs.Places.{slot-more}
 use Rattle.rw_engine.proofs.placing.place.Goals as goal

@@ -1,8 +1,6 @@
-use Rattle.std.proofs.Common.{[], ◌∷◌, sym, ap, ◌∙◌}
-use Rattle.std.specs.Option.{option_or}
+use Rattle.rw_base.proofs.Common.{[], ◌∷◌, sym, ap, ◌∙◌, option_or}
 use Rattle.rw_dispatch.proofs.Makes.{put-set}
-use Rattle.rw_run.specs.Log.{last_put, cells_of, input_content}
-use Rattle.rw_run.specs.Runs.{placed}
+use Rattle.rw_run.proofs.Common.{last_put, cells_of, input_content, placed}
 use Rattle.rw_engine.specs.Givens.{if_given}
 use Rattle.rw_engine.proofs.Places.{given-bounded}
 use Rattle.rw_engine.proofs.placing.place_cell.Goals as goal

@@ -1,7 +1,6 @@
 use Rattle.std.proofs.Common.{◌≡◌, ap, ◌∙◌, arith}
 use Rattle.rw_model.specs.declared.control.RunControl.{RunControl}
-use Rattle.rw_run.specs.Log.{cells_of}
-use Rattle.rw_run.specs.Runs.{placed}
+use Rattle.rw_run.proofs.Common.{cells_of, placed}
 use Rattle.rw_engine.specs.Givens.{givens_of}
 use Rattle.rw_engine.proofs.Places.{one-more}
 use Rattle.rw_engine.proofs.placing.place_slot.Goals as goal

@@ -1,6 +1,4 @@
-use Rattle.std.proofs.Common.{◌≡◌, ◌++◌}
-use Rattle.std.specs.Prelude.{All}
-use Rattle.std.specs.List.{range_with_len}
+use Rattle.rw_base.proofs.Common.{◌≡◌, ◌++◌, All, range_with_len}
 use Rattle.rw_series.specs.Series.{held, IsCell}
 use Rattle.rw_engine.specs.declared.undo.Undone.{Undone}
 use Rattle.rw_engine.specs.Undone.{undone_in}

@@ -1,5 +1,4 @@
-use Rattle.std.proofs.Common.{◌≡◌, ◌++◌, ◌∷◌, [], subst, ◌∙◌}
-use Rattle.std.specs.Prelude.{All}
+use Rattle.rw_base.proofs.Common.{◌≡◌, ◌++◌, ◌∷◌, [], subst, ◌∙◌, All}
 use Rattle.rw_series.specs.Series.{held, IsCell}
 use Rattle.rw_engine.specs.declared.undo.Undone.{Undone}
 use Rattle.rw_engine.proofs.TakenBack.{taken_back-last, all-first, all-last}

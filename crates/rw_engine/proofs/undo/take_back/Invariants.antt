@@ -1,5 +1,4 @@
-use Rattle.std.proofs.Common.{◌≡◌, length}
-use Rattle.std.specs.Prelude.{All}
+use Rattle.rw_base.proofs.Common.{◌≡◌, length, All}
 use Rattle.rw_base.specs.declared.number.Cell.{Cell}
 use Rattle.rw_series.specs.Series.{held, IsCell, IsSeriesOf}
 use Rattle.rw_engine.specs.declared.undo.Undone.{Undone}

@@ -1,5 +1,4 @@
-use Rattle.std.proofs.Common.{◌≡◌, ◌+◌, ◌<◌, ◌≤◌, ◌&&◌, length, Some, if◌then◌else◌, ap, ◌∙◌, arith}
-use Rattle.std.specs.Prelude.{nat_le}
+use Rattle.rw_base.proofs.Common.{◌≡◌, ◌+◌, ◌<◌, ◌≤◌, ◌&&◌, length, Some, if◌then◌else◌, ap, ◌∙◌, arith, nat_le}
 use Rattle.rw_inputs.specs.Column.{given_values, value_in}
 use Rattle.rw_inputs.proofs.Pairs.{more-given}
 use Rattle.rw_inputs.proofs.column.keep.Goals as goal

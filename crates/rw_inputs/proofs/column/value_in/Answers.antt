@@ -1,5 +1,4 @@
-use Rattle.std.proofs.Common.{◌<◌, ◌≤◌, length, Some, sym, ap, ◌∙◌, arith}
-use Rattle.std.specs.Prelude.{slice_index_or}
+use Rattle.rw_base.proofs.Common.{◌<◌, ◌≤◌, length, Some, sym, ap, ◌∙◌, arith, slice_index_or}
 use Rattle.rw_inputs.proofs.Pairs.{is-given, not-given, past-given}
 use Rattle.rw_inputs.proofs.column.value_in.Goals as goal
 

@@ -1,5 +1,4 @@
-use Rattle.std.proofs.Common.{◌≡◌, List, sym, ap, ◌∙◌}
-use Rattle.std.specs.Prelude.{ℕ}
+use Rattle.rw_base.proofs.Common.{◌≡◌, List, sym, ap, ◌∙◌, ℕ}
 use Rattle.csv.specs.Reading.{default_config, strip_bom}
 use Rattle.csv.specs.declared.parser.State.TheVariants as st
 use Rattle.rw_model.specs.Draft.{Draft}

@@ -1,5 +1,4 @@
-use Rattle.std.proofs.Common.{◌≡◌, drop}
-use Rattle.std.specs.List.{list_all}
+use Rattle.rw_base.proofs.Common.{◌≡◌, drop, list_all}
 use Rattle.rw_inputs.specs.Number.{is_digit}
 use Rattle.rw_inputs.proofs.number.has_digits_alone.Given as goal
 

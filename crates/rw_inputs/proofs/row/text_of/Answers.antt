@@ -1,7 +1,4 @@
-use Rattle.std.proofs.Common.{◌≡◌, Bool, true, false, refl}
-use Rattle.std.specs.Prelude.{ℕ, List, IsUtf8}
-use Rattle.std.specs.Str.{is_utf8}
-use Rattle.std.proofs.lemmas.Str.{is_utf8-from_IsUtf8, IsUtf8-from_is_utf8}
+use Rattle.rw_base.proofs.Common.{◌≡◌, Bool, true, false, refl, ℕ, List, IsUtf8, is_utf8, is_utf8-from_IsUtf8, IsUtf8-from_is_utf8}
 use Rattle.rw_inputs.proofs.row.text_of.Goals as goal
 
 no_text : (bytes : List ℕ) → ¬ IsUtf8 bytes → (test : Bool) → is_utf8 bytes ≡ test → is_utf8 bytes ≡ false

@@ -1,5 +1,4 @@
-use Rattle.std.proofs.Common.{◌≡◌, List, Option, Some, None, refl, sym}
-use Rattle.std.specs.Prelude.{ℕ}
+use Rattle.rw_base.proofs.Common.{◌≡◌, List, Option, Some, None, refl, sym, ℕ}
 use Rattle.csv.specs.Records.{fields_of, field_at}
 use Rattle.rw_inputs.specs.Row.{three_fields}
 use Rattle.rw_inputs.specs.Records.{Fields}

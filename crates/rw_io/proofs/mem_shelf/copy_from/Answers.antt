@@ -1,5 +1,4 @@
-use Rattle.std.proofs.lemmas.Grind.{common_steps}
-use Rattle.std.proofs.Common.{◌-◌, length, drop, arith}
+use Rattle.rw_base.proofs.Common.{common_steps, ◌-◌, length, drop, arith}
 use Rattle.rw_io.proofs.ListLemmas.{copied}
 use Rattle.rw_io.proofs.mem_shelf.copy_from.Goals as goal
 

@@ -1,6 +1,5 @@
-use Rattle.std.proofs.Common.{◌-◌, ◌≤◌, length, drop, arith}
-use Rattle.std.proofs.lemmas.List.{take_all, length-drop}
-use Rattle.std.proofs.lemmas.Grind.{common_steps}
+use Rattle.rw_base.proofs.Common.{◌-◌, ◌≤◌, length, drop, arith, take_all, common_steps}
+use Rattle.std.proofs.lemmas.List.{length-drop}
 use Rattle.rw_io.proofs.KnownLemmas.{GrowsBy-next}
 use Rattle.rw_io.proofs.whole_text.write_all.Goals as goal
 

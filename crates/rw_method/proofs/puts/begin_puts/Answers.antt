@@ -1,7 +1,4 @@
-use Rattle.std.proofs.Common.{◌≡◌, ◌∙◌, refl, arith, rules, ℕ, ℤ, Bool, false, List, ◌++◌, None, FitsSigned}
-use Rattle.std.specs.Int.{w128}
-use Rattle.std.proofs.lemmas.Int.{to_z-of_z}
-use Rattle.std.specs.List.{All}
+use Rattle.rw_base.proofs.Common.{◌≡◌, ◌∙◌, refl, arith, rules, ℕ, ℤ, Bool, false, List, ◌++◌, None, FitsSigned, w128, to_z-of_z, All}
 use Rattle.rw_method.specs.declared.put.Put.{Put}
 use Rattle.rw_method.specs.declared.view.View.{View}
 use Rattle.rw_method.specs.declared.balanced.Balanced.{Balanced}

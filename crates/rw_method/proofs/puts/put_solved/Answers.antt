@@ -1,4 +1,4 @@
-use Rattle.std.proofs.Common.{refl, []}
+use Rattle.rw_base.proofs.Common.{refl, []}
 use Rattle.std.proofs.lemmas.List.{append-nil}
 use Rattle.rw_method.specs.Puts.{is_bounded, solved_put}
 use Rattle.rw_method.proofs.puts.put_solved.Goals as goal

@@ -1,6 +1,4 @@
-use Rattle.std.proofs.Common.{rules, arith, ◌≡◌, ℕ, ◌+◌, ◌<◌, ℤ, ◌+ℤ◌, List, length, drop, get_or, drop-cons, add-one, FitsSigned}
-use Rattle.std.specs.Int.{w128}
-use Rattle.std.proofs.lemmas.Int.{ints, to_z-of_z}
+use Rattle.rw_base.proofs.Common.{rules, arith, ◌≡◌, ℕ, ◌+◌, ◌<◌, ℤ, ◌+ℤ◌, List, length, drop, get_or, drop-cons, add-one, FitsSigned, w128, ints, to_z-of_z}
 use Rattle.rw_method.specs.declared.term.Term.{Term}
 use Rattle.rw_method.specs.Term.{brought_by, IsWithin}
 use Rattle.rw_method.specs.Settling.{net_of}

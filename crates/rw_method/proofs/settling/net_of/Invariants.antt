@@ -1,5 +1,4 @@
-use Rattle.std.proofs.Common.{◌≡◌, drop}
-use Rattle.std.specs.Prelude.{◌+ℤ◌}
+use Rattle.rw_base.proofs.Common.{◌≡◌, drop, ◌+ℤ◌}
 use Rattle.rw_method.specs.Term.{IsWithin}
 use Rattle.rw_method.specs.Settling.{net_of}
 use Rattle.rw_method.proofs.settling.net_of.Given as goal

@@ -1,6 +1,4 @@
-use Rattle.std.proofs.Common.{◌≡◌}
-use Rattle.std.specs.Prelude.{map}
-use Rattle.std.specs.List.{range_with_len}
+use Rattle.rw_base.proofs.Common.{◌≡◌, map, range_with_len}
 use Rattle.rw_model.specs.Links.{bounds_in}
 use Rattle.rw_model.proofs.bounds.all_bounds.Given as goal
 

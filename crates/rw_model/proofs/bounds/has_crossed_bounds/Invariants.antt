@@ -1,5 +1,4 @@
-use Rattle.std.proofs.Common.{◌≡◌, false}
-use Rattle.std.specs.List.{list_any, range_with_len}
+use Rattle.rw_base.proofs.Common.{◌≡◌, false, list_any, range_with_len}
 use Rattle.rw_model.specs.Links.{bounds_in}
 use Rattle.rw_model.specs.Basin.{is_crossed}
 use Rattle.rw_model.proofs.bounds.has_crossed_bounds.Given as goal

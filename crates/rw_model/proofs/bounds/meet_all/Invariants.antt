@@ -1,5 +1,4 @@
-use Rattle.std.proofs.Common.{◌≡◌}
-use Rattle.std.specs.Prelude.{drop}
+use Rattle.rw_base.proofs.Common.{◌≡◌, drop}
 use Rattle.rw_model.specs.Links.{meet_all}
 use Rattle.rw_model.specs.Kept.{numbers_of}
 use Rattle.rw_model.proofs.bounds.meet_all.Given as goal

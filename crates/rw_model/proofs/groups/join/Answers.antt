@@ -1,6 +1,4 @@
-use Rattle.std.proofs.Common.{◌∷◌, [], ◌++◌, ◌<◌, length, ap, sym, ◌∙◌, arith}
-use Rattle.std.specs.Prelude.{slice_set}
-use Rattle.std.proofs.lemmas.List.{map-append, map-set, length-map, get_or-map}
+use Rattle.rw_base.proofs.Common.{◌∷◌, [], ◌++◌, ◌<◌, length, ap, sym, ◌∙◌, arith, slice_set, map-append, map-set, length-map, get_or-map}
 use Rattle.rw_base.specs.declared.number.SlotNo.{SlotNo}
 use Rattle.rw_model.specs.Kept.{numbers_of, links_of}
 use Rattle.rw_model.proofs.groups.join.Goals as goal

@@ -1,5 +1,4 @@
-use Rattle.std.proofs.Common.{◌≡◌}
-use Rattle.std.specs.List.{range_with_len}
+use Rattle.rw_base.proofs.Common.{◌≡◌, range_with_len}
 use Rattle.rw_model.specs.Kept.{numbers_of}
 use Rattle.rw_model.proofs.groups.slots_up_to.Given as goal
 

@@ -1,5 +1,4 @@
-use Rattle.std.proofs.Common.{◌≡◌}
-use Rattle.std.specs.Prelude.{drop}
+use Rattle.rw_base.proofs.Common.{◌≡◌, drop}
 use Rattle.rw_model.specs.Draft.{has_distinct_names}
 use Rattle.rw_model.proofs.judge.has_distinct_names.Given as goal
 

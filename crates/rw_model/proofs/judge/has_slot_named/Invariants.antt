@@ -1,5 +1,4 @@
-use Rattle.std.proofs.Common.{◌≡◌}
-use Rattle.std.specs.Prelude.{drop}
+use Rattle.rw_base.proofs.Common.{◌≡◌, drop}
 use Rattle.rw_model.specs.Draft.{has_slot_named}
 use Rattle.rw_model.proofs.judge.has_slot_named.Given as goal
 

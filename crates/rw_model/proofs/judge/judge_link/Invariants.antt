@@ -1,5 +1,4 @@
-use Rattle.std.proofs.Common.{◌≡◌, [], None}
-use Rattle.std.specs.Prelude.{All, take, drop}
+use Rattle.rw_base.proofs.Common.{◌≡◌, [], None, All, take, drop}
 use Rattle.rw_base.specs.declared.number.SlotNo.{SlotNo}
 use Rattle.rw_model.specs.Draft.{IsSlot}
 use Rattle.rw_model.specs.Links.{link_of, joins_refusal}

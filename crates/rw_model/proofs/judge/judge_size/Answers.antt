@@ -1,6 +1,5 @@
-use Rattle.std.proofs.Common.{◌≡◌, ◌+◌, ◌∷◌, ◌++◌, [], true, false, length, refl, arith}
+use Rattle.rw_base.proofs.Common.{◌≡◌, ◌+◌, ◌∷◌, ◌++◌, [], true, false, length, refl, arith, nat_tests}
 use Rattle.std.proofs.lemmas.List.{length-append}
-use Rattle.std.proofs.lemmas.Bool.Decides.{nat_tests}
 use Rattle.rw_model.proofs.ObjectFacts.{length-all_slots-push}
 use Rattle.rw_model.proofs.BuildFacts.{size-is}
 use Rattle.rw_model.proofs.judge.judge_size.Goals as goal

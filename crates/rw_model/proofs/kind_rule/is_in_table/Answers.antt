@@ -1,6 +1,4 @@
-use Rattle.std.proofs.Common.{◌≡◌, rules, FitsSigned}
-use Rattle.std.specs.Int.{w64}
-use Rattle.std.proofs.lemmas.Int.{to_z-of_z}
+use Rattle.rw_base.proofs.Common.{◌≡◌, rules, FitsSigned, w64, to_z-of_z}
 use Rattle.rw_table.specs.Curve.{elev_of}
 use Rattle.rw_model.proofs.Inside.{some-iff-inside}
 use Rattle.rw_model.proofs.kind_rule.is_in_table.Goals as goal

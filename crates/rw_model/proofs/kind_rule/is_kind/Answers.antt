@@ -1,5 +1,4 @@
-use Rattle.std.proofs.Common.{rules}
-use Rattle.std.proofs.lemmas.Bool.Decides.{same_from_decides}
+use Rattle.rw_base.proofs.Common.{rules, same_from_decides}
 use Rattle.rw_model.specs.Kind.{is_kind}
 use Rattle.rw_model.proofs.BuildFacts.{Decides-kind}
 use Rattle.rw_model.proofs.kind_rule.is_kind.Goals as goal

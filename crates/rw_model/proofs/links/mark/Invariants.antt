@@ -1,5 +1,4 @@
-use Rattle.std.proofs.Common.{◌≡◌, ◌+◌, ℕ, vec_len, slice_index_or, if◌then◌else◌, Some, None}
-use Rattle.std.specs.Prelude.{take}
+use Rattle.rw_base.proofs.Common.{◌≡◌, ◌+◌, ℕ, vec_len, slice_index_or, if◌then◌else◌, Some, None, take}
 use Rattle.rw_model.specs.Links.{is_among}
 use Rattle.rw_model.specs.Kept.{numbers_of}
 use Rattle.rw_model.proofs.links.mark.Given as goal

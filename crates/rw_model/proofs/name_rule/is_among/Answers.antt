@@ -1,7 +1,4 @@
-use Rattle.std.proofs.Common.{◌∙◌, refl, sym, below_more}
-use Rattle.std.proofs.lemmas.Bool.{false≢true}
-use Rattle.std.proofs.lemmas.List.{get_or-map, length-map}
-use Rattle.std.proofs.lemmas.Slice.Eq.{bytes_eq-Decides}
+use Rattle.rw_base.proofs.Common.{◌∙◌, refl, sym, below_more, false≢true, get_or-map, length-map, bytes_eq-Decides}
 use Rattle.rw_model.proofs.name_rule.is_among.Goals as goal
 
 pub returns-then-eq : goal.returns-then-eq

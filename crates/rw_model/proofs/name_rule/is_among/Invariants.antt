@@ -1,5 +1,4 @@
-use Rattle.std.proofs.Common.{◌≡◌, ℕ, ◌<◌, slice_index_or}
-use Rattle.std.specs.Prelude.{map}
+use Rattle.rw_base.proofs.Common.{◌≡◌, ℕ, ◌<◌, slice_index_or, map}
 use Rattle.rw_model.proofs.name_rule.is_among.Given as goal
 
 abbrev pub invariant-loop-word : goal.invariant-loop-word

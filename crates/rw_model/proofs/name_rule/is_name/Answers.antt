@@ -1,5 +1,4 @@
-use Rattle.std.proofs.Common.{rules}
-use Rattle.std.proofs.lemmas.Bool.Decides.{same_from_decides}
+use Rattle.rw_base.proofs.Common.{rules, same_from_decides}
 use Rattle.rw_model.specs.Name.{is_name}
 use Rattle.rw_model.proofs.NameFacts.{Decides-name}
 use Rattle.rw_model.proofs.name_rule.is_name.Goals as goal

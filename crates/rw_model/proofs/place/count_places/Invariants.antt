@@ -1,5 +1,4 @@
-use Rattle.std.proofs.Common.{◌≡◌, ◌+◌, ◌≤◌, length}
-use Rattle.std.specs.Prelude.{drop}
+use Rattle.rw_base.proofs.Common.{◌≡◌, ◌+◌, ◌≤◌, length, drop}
 use Rattle.rw_model.specs.Slots.{slots_of}
 use Rattle.rw_model.specs.Objects.{placed_from}
 use Rattle.rw_model.proofs.place.count_places.Given as goal

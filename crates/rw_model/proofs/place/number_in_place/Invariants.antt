@@ -1,5 +1,4 @@
-use Rattle.std.proofs.Common.{◌≡◌, ◌+◌, ◌≤◌}
-use Rattle.std.specs.Prelude.{drop}
+use Rattle.rw_base.proofs.Common.{◌≡◌, ◌+◌, ◌≤◌, drop}
 use Rattle.rw_model.specs.Slots.{slots_of}
 use Rattle.rw_model.specs.Objects.{placed_from, first_from, is_in_place}
 use Rattle.rw_model.proofs.place.number_in_place.Given as goal

@@ -1,5 +1,4 @@
-use Rattle.std.proofs.Common.{◌≡◌, ◌+◌, ◌≤◌}
-use Rattle.std.specs.Prelude.{drop}
+use Rattle.rw_base.proofs.Common.{◌≡◌, ◌+◌, ◌≤◌, drop}
 use Rattle.rw_model.specs.Slots.{slots_of}
 use Rattle.rw_model.specs.Objects.{placed_from, first_from, is_named}
 use Rattle.rw_model.proofs.place.number_of_name.Given as goal

@@ -1,5 +1,4 @@
-use Rattle.std.proofs.Common.{◌≡◌, ◌+◌, ◌-◌, ◌≤◌, ◌++◌}
-use Rattle.std.specs.Prelude.{map, drop, vec_len, vec_capacity}
+use Rattle.rw_base.proofs.Common.{◌≡◌, ◌+◌, ◌-◌, ◌≤◌, ◌++◌, map, drop, vec_len, vec_capacity}
 use Rattle.rw_model.specs.Slots.{slots_of}
 use Rattle.rw_model.specs.Objects.{placed_from}
 use Rattle.rw_model.specs.Kept.{place_of}

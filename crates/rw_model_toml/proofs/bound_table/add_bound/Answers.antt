@@ -1,5 +1,4 @@
-use Rattle.std.proofs.Common.{◌≡◌, to_z, of_z, w64}
-use Rattle.std.proofs.lemmas.Int.{to_z-of_z}
+use Rattle.rw_base.proofs.Common.{◌≡◌, to_z, of_z, w64, to_z-of_z}
 use Rattle.rw_model.specs.Build.{with_bound}
 use Rattle.rw_model_toml.specs.Told.{bound_told}
 use Rattle.rw_model_toml.proofs.bound_table.add_bound.Goals as goal

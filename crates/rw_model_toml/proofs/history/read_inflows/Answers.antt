@@ -1,5 +1,4 @@
-use Rattle.std.proofs.Common.{◌≡◌, string_bytes, to_z, of_z, w64, arith}
-use Rattle.std.proofs.lemmas.Int.{ints, to_z-of_z}
+use Rattle.rw_base.proofs.Common.{◌≡◌, string_bytes, to_z, of_z, w64, arith, ints, to_z-of_z}
 use Rattle.rw_model_toml.specs.Kinds.{inflow_of}
 use Rattle.rw_model_toml.proofs.Lists.{items-next, items-fails, gives-fault}
 use Rattle.rw_model_toml.proofs.history.read_inflows.Goals as goal

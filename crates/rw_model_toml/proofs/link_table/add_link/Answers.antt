@@ -1,5 +1,4 @@
-use Rattle.rw_model.specs.Kept.{numbers_of}
-use Rattle.rw_model.specs.Build.{with_link}
+use Rattle.rw_model.proofs.Common.{numbers_of, with_link}
 use Rattle.rw_model_toml.specs.Told.{link_told}
 use Rattle.rw_model_toml.proofs.link_table.add_link.Goals as goal
 

@@ -1,7 +1,4 @@
-use Rattle.std.proofs.Common.{◌++◌, string_bytes, ℤ, ap₂, ◌∙◌}
-use Rattle.std.proofs.lemmas.Int.{to_z-of_z}
-use Rattle.std.specs.Prelude.{ℕ, List, codes}
-use Rattle.std.specs.Fmt.{signed_decimal}
+use Rattle.rw_base.proofs.Common.{◌++◌, string_bytes, ℤ, ap₂, ◌∙◌, to_z-of_z, ℕ, List, codes, signed_decimal}
 use Rattle.rw_report.specs.Section.{place_words}
 use Rattle.rw_report.proofs.Growing.{both}
 use Rattle.rw_report.proofs.heading.push_conflict.Goals as goal

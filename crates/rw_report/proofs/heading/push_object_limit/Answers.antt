@@ -1,6 +1,4 @@
-use Rattle.std.proofs.Common.{◌++◌, string_bytes, ap, ◌∙◌}
-use Rattle.std.specs.Prelude.{codes}
-use Rattle.std.specs.Fmt.{decimal}
+use Rattle.rw_base.proofs.Common.{◌++◌, string_bytes, ap, ◌∙◌, codes, decimal}
 use Rattle.rw_report.proofs.heading.push_object_limit.Goals as goal
 
 pub returns : goal.returns

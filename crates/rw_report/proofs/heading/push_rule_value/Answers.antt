@@ -1,7 +1,4 @@
-use Rattle.std.proofs.Common.{◌++◌, string_bytes, ap, ◌∙◌}
-use Rattle.std.proofs.lemmas.Int.{to_z-of_z}
-use Rattle.std.specs.Prelude.{codes}
-use Rattle.std.specs.Fmt.{decimal, signed_decimal}
+use Rattle.rw_base.proofs.Common.{◌++◌, string_bytes, ap, ◌∙◌, to_z-of_z, codes, decimal, signed_decimal}
 use Rattle.rw_report.proofs.heading.push_rule_value.Goals as goal
 
 pub returns : goal.returns

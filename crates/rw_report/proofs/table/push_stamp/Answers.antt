@@ -1,6 +1,4 @@
-use Rattle.std.proofs.Common.{◌++◌, string_bytes, ap, ◌∙◌}
-use Rattle.std.specs.Prelude.{codes}
-use Rattle.std.specs.Fmt.{decimal}
+use Rattle.rw_base.proofs.Common.{◌++◌, string_bytes, ap, ◌∙◌, codes, decimal}
 use Rattle.rw_calendar.specs.Stamps.{end_of, stamp_text}
 use Rattle.rw_model.specs.declared.control.RunControl.{RunControl}
 use Rattle.rw_report.proofs.table.push_stamp.Goals as goal

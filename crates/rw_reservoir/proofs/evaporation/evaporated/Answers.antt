@@ -1,5 +1,4 @@
-use Rattle.std.proofs.Common.{◌≤ℤ◌, ◌-◌, pos, ℤ, refl, arith, w64, length, FitsSigned, List}
-use Rattle.std.proofs.lemmas.Int.{ints, to_z-of_z}
+use Rattle.rw_base.proofs.Common.{◌≤ℤ◌, ◌-◌, pos, ℤ, refl, arith, w64, length, FitsSigned, List, ints, to_z-of_z}
 use Rattle.rw_table.specs.Table.{Row, IsTable}
 use Rattle.rw_table.specs.Curve.{IsElevationInside}
 use Rattle.rw_reservoir.proofs.evaporation.evaporated.Goals as goal

@@ -1,5 +1,4 @@
-use Rattle.std.proofs.Common.{rules, arith, ◌∙◌, ◌-ℤ◌, w64, FitsSigned}
-use Rattle.std.proofs.lemmas.Int.{ints, to_z-of_z}
+use Rattle.rw_base.proofs.Common.{rules, arith, ◌∙◌, ◌-ℤ◌, w64, FitsSigned, ints, to_z-of_z}
 use Rattle.rw_reservoir.proofs.evaporation.sunk.Goals as goal
 
 pub returns : goal.returns

@@ -1,6 +1,4 @@
-use Rattle.std.proofs.Common.{◌≡◌, ◌∙◌, ap, rules, w64, FitsSigned, to_z, of_z}
-use Rattle.std.specs.Int.{w128}
-use Rattle.std.proofs.lemmas.Int.{to_z-of_z}
+use Rattle.rw_base.proofs.Common.{◌≡◌, ◌∙◌, ap, rules, w64, FitsSigned, to_z, of_z, w128, to_z-of_z}
 use Rattle.rw_reservoir.proofs.Misfits.{asks_then}
 use Rattle.rw_reservoir.proofs.release.ask_parts.Goals as goal
 

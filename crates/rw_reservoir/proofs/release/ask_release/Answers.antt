@@ -1,6 +1,4 @@
-use Rattle.std.proofs.Common.{rules, w64, FitsSigned}
-use Rattle.std.specs.Int.{w128}
-use Rattle.std.proofs.lemmas.Int.{to_z-of_z}
+use Rattle.rw_base.proofs.Common.{rules, w64, FitsSigned, w128, to_z-of_z}
 use Rattle.rw_reservoir.proofs.release.ask_release.Goals as goal
 
 pub returns-in-Some : goal.returns-in-Some

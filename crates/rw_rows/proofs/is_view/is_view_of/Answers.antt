@@ -1,5 +1,4 @@
-use Rattle.std.proofs.Common.{◌≡◌, refl, ℕ, ◌<◌, ◌+◌, arith, inl, inr}
-use Rattle.std.proofs.lemmas.Bool.{cases_lt}
+use Rattle.rw_base.proofs.Common.{◌≡◌, refl, ℕ, ◌<◌, ◌+◌, arith, inl, inr, cases_lt}
 use Rattle.rw_model.specs.declared.kind.Kind.{Kind}
 use Rattle.rw_method.specs.declared.view.View.{View}
 use Rattle.rw_rows.specs.IsView.{IsPlaced}

@@ -1,6 +1,4 @@
-use Rattle.std.proofs.Common.{◌≡◌, ◌*◌, length, ap, ◌∙◌, arith, rules}
-use Rattle.std.specs.Prelude.{map, slice_set}
-use Rattle.std.proofs.lemmas.List.{map-set, length-map}
+use Rattle.rw_base.proofs.Common.{◌≡◌, ◌*◌, length, ap, ◌∙◌, arith, rules, map, slice_set, map-set, length-map}
 use Rattle.rw_series.specs.Kept.{content_of}
 use Rattle.rw_series.specs.Cells.{position_of, kept_at}
 use Rattle.rw_series.proofs.Places.{Kept-of, within, kept_at-set}

@@ -1,6 +1,4 @@
-use Rattle.std.proofs.Common.{◌∙◌, ◌≡◌, ◌<◌, true, length, sym, ap, arith}
-use Rattle.std.specs.Prelude.{map}
-use Rattle.std.proofs.lemmas.List.{get_or-map, length-map}
+use Rattle.rw_base.proofs.Common.{◌∙◌, ◌≡◌, ◌<◌, true, length, sym, ap, arith, map, get_or-map, length-map}
 use Rattle.rw_series.specs.Kept.{content_of}
 use Rattle.rw_series.specs.Cells.{is_kept}
 use Rattle.rw_series.proofs.Places.{Kept-of, within, kept_at-at}

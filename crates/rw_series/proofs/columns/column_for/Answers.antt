@@ -1,4 +1,4 @@
-use Rattle.std.proofs.Common.{◌∙◌, inl, inr, refl, arith, length}
+use Rattle.std.proofs.Common.{inl, inr, refl, length}
 use Rattle.rw_model.specs.Objects.{all_slots}
 use Rattle.rw_series.proofs.Setting.{all_alone, together_with, from_first}
 use Rattle.rw_series.proofs.columns.column_for.Goals as goal

@@ -1,4 +1,4 @@
-use Rattle.std.proofs.Common.{◌≡◌, ◌+◌, ◌++◌, ◌∷◌, [], ◌∙◌, sym, ap, subst, max}
+use Rattle.std.proofs.Common.{◌+◌, ◌++◌, ◌∷◌, [], sym, subst}
 use Rattle.rw_series.specs.Columns.{AreColumns, IsColumnFor}
 use Rattle.rw_series.proofs.SlotColumns.{columns-more}
 use Rattle.rw_series.proofs.columns.columns_of.Goals as goal

@@ -1,5 +1,4 @@
-use Rattle.std.proofs.Common.{◌<◌, slice_index_or, sym, ap, subst, arith}
-use Rattle.std.proofs.lemmas.List.{get_or_default}
+use Rattle.rw_base.proofs.Common.{◌<◌, subst, arith, get_or_default}
 use Rattle.rw_base.specs.declared.number.SlotNo.{SlotNo}
 use Rattle.rw_series.proofs.Setting.{among_at, one-fresher}
 use Rattle.rw_series.proofs.columns.earlier.Goals as goal

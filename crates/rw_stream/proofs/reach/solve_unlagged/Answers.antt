@@ -1,5 +1,4 @@
-use Rattle.std.proofs.Common.{arith}
-use Rattle.std.proofs.lemmas.Int.{ints}
+use Rattle.rw_base.proofs.Common.{arith, ints}
 use Rattle.rw_stream.proofs.reach.solve_unlagged.Goals as goal
 
 pub settle-requires-clause-bound : goal.settle-requires-clause-bound

@@ -1,5 +1,4 @@
-use Rattle.std.proofs.Common.{◌≡◌, ◌+◌, pos, ◌-ℤ◌, arith}
-use Rattle.std.proofs.lemmas.Int.{ints}
+use Rattle.rw_base.proofs.Common.{◌≡◌, ◌+◌, pos, ◌-ℤ◌, arith, ints}
 use Rattle.rw_table.proofs.Line.{last_on_line}
 use Rattle.rw_table.proofs.interval.elevation_between.Goals as goal
 

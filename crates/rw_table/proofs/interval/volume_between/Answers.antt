@@ -1,5 +1,4 @@
-use Rattle.std.proofs.Common.{◌≡◌, pos, ◌+ℤ◌, ◌-ℤ◌, to_z, of_z, w64, sym, ap, ◌∙◌, arith}
-use Rattle.std.proofs.lemmas.Int.{ints, to_z-of_z}
+use Rattle.rw_base.proofs.Common.{◌≡◌, pos, ◌+ℤ◌, ◌-ℤ◌, to_z, of_z, w64, sym, ap, ◌∙◌, arith, ints, to_z-of_z}
 use Rattle.rw_table.proofs.Line.{between-is}
 use Rattle.rw_table.proofs.interval.volume_between.Goals as goal
 

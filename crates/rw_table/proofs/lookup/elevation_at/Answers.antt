@@ -1,5 +1,4 @@
-use Rattle.std.proofs.Common.{◌<ℤ◌, ◌≡◌, pos, ◌-◌, ◌<◌, w64, FitsSigned, Some, sym, ap, ◌∙◌, length, arith, rules, of_z, inl, inr}
-use Rattle.std.proofs.lemmas.Int.{ints, to_z-of_z}
+use Rattle.rw_base.proofs.Common.{◌<ℤ◌, ◌≡◌, pos, ◌-◌, ◌<◌, w64, FitsSigned, Some, sym, ap, ◌∙◌, length, arith, rules, of_z, inl, inr, ints, to_z-of_z}
 use Rattle.rw_table.specs.Table.{row_at}
 use Rattle.rw_table.proofs.Elevation.{line_elevation, last_elevation, elevation_after}
 use Rattle.rw_table.proofs.Comparison.{below_or_not}

@@ -1,5 +1,4 @@
-use Rattle.std.proofs.Common.{◌≡◌, pos, ◌-◌, ◌<◌, ◌<ℤ◌, w64, of_z, FitsSigned, Some, sym, ap, ◌∙◌, length, arith, rules, inl, inr}
-use Rattle.std.proofs.lemmas.Int.{ints, to_z-of_z}
+use Rattle.rw_base.proofs.Common.{◌≡◌, pos, ◌-◌, ◌<◌, ◌<ℤ◌, w64, of_z, FitsSigned, Some, sym, ap, ◌∙◌, length, arith, rules, inl, inr, ints, to_z-of_z}
 use Rattle.rw_table.specs.Table.{row_at}
 use Rattle.rw_table.proofs.Comparison.{below_or_not}
 use Rattle.rw_table.proofs.Volume.{volume_before, volume_after, line_volume, volume_of_row}

@@ -1,6 +1,5 @@
 use Rattle.std.proofs.Common.{inr, refl, ap}
-use Rattle.rpl_verify.specs.Fits.{refusal}
-use Rattle.rpl_verify.specs.Verified.{refusal_of}
+use Rattle.rpl_verify.proofs.Common.{refusal, refusal_of}
 use Rattle.rw_top.specs.Policy.{Misfit, BadBlocks}
 use Rattle.rw_top.proofs.judging.refusal_of_block.Goals as goal
 

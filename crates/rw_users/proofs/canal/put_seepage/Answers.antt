@@ -1,6 +1,4 @@
-use Rattle.std.proofs.Common.{◌≡◌, ◌∙◌, refl, arith, rules, false, [], FitsSigned}
-use Rattle.std.specs.Int.{w128}
-use Rattle.std.proofs.lemmas.Int.{to_z-of_z}
+use Rattle.rw_base.proofs.Common.{◌≡◌, ◌∙◌, refl, arith, rules, false, [], FitsSigned, w128, to_z-of_z}
 use Rattle.rw_method.specs.Puts.{put, is_bounded}
 use Rattle.rw_method.proofs.PutFacts.{misfit_judged}
 use Rattle.rw_users.proofs.canal.put_seepage.Goals as goal

@@ -1,6 +1,4 @@
-use Rattle.std.proofs.Common.{◌≡◌, ◌∙◌, refl, arith, rules, true, false, FitsSigned}
-use Rattle.std.specs.Int.{w128}
-use Rattle.std.proofs.lemmas.Int.{to_z-of_z}
+use Rattle.rw_base.proofs.Common.{◌≡◌, ◌∙◌, refl, arith, rules, true, false, FitsSigned, w128, to_z-of_z}
 use Rattle.rw_method.specs.Puts.{put, is_bounded}
 use Rattle.rw_method.proofs.PutFacts.{misfit_judged, second_misfit_judged}
 use Rattle.rw_users.proofs.water_user.put_uses.Goals as goal

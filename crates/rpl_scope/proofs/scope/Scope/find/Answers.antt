@@ -1,6 +1,4 @@
-use Rattle.std.proofs.Common.{reverse, sym, ap, ◌∙◌, arith, Some}
-use Rattle.std.specs.Prelude.{get_or}
-use Rattle.std.proofs.lemmas.List.{length-reverse, reverse-reverse}
+use Rattle.rw_base.proofs.Common.{reverse, sym, ap, ◌∙◌, arith, Some, get_or, length-reverse, reverse-reverse}
 use Rattle.rpl_scope.specs.declared.scope.Entry.{Entry}
 use Rattle.rpl_scope.specs.Scope.{first_named}
 use Rattle.rpl_scope.proofs.Kept.{none_found, some_found}

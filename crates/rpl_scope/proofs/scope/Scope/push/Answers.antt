@@ -1,5 +1,4 @@
-use Rattle.std.proofs.Common.{◌≡◌, ◌∷◌, reverse, length, sym, subst, ap, ◌∙◌, arith}
-use Rattle.std.proofs.lemmas.List.{length-reverse}
+use Rattle.rw_base.proofs.Common.{◌≡◌, ◌∷◌, reverse, length, sym, subst, ap, ◌∙◌, arith, length-reverse}
 use Rattle.rpl_scope.specs.declared.scope.Entry.{Entry}
 use Rattle.rpl_scope.specs.Scope.{IsKept, entries_of}
 use Rattle.rpl_scope.proofs.Kept.{kept_push, last_first}

@@ -1,7 +1,6 @@
-use Rattle.std.proofs.Common.{◌≡◌, ◌+◌, ◌<◌, Some, arith, length, map, sym}
-use Rattle.std.proofs.lemmas.List.{length-map}
+use Rattle.rw_base.proofs.Common.{◌≡◌, ◌+◌, Some, arith, sym}
 use Rattle.rpl_budget.specs.Seen.{budget_seen}
-use Rattle.rpl_tree.specs.Seen.{declared_of, rules_of}
+use Rattle.rpl_tree.specs.Seen.{rules_of}
 use Rattle.rpl_types.specs.Checked.{declaration_of_rule, rule_budget}
 use Rattle.rpl_types.proofs.Counting.{as_many, budget_of_rule, its_budget, rule_within}
 use Rattle.rpl_types.proofs.typed.Typed.cost.Goals as goal

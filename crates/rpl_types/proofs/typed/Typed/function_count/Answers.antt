@@ -1,4 +1,4 @@
-use Rattle.std.proofs.Common.{◌≤◌, arith}
+use Rattle.std.proofs.Common.{◌≤◌}
 use Rattle.rpl_parse.proofs.BoundFacts.{bounds_hold}
 use Rattle.rpl_parse.specs.Bounds.{function_count}
 use Rattle.rpl_tree.specs.Seen.{rules_of}

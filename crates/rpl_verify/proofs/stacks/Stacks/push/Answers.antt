@@ -1,6 +1,4 @@
-use Rattle.std.proofs.Common.{◌≡◌, ◌∷◌, suc, ◌-◌, take, ◌+◌, ◌<◌, Some, None, sym, ap, ◌∙◌, subst, arith, length}
-use Rattle.std.specs.Ordering.{nat_cmp}
-use Rattle.std.specs.BTreeMap.{get, Updates}
+use Rattle.rw_base.proofs.Common.{◌≡◌, ◌∷◌, suc, ◌-◌, take, ◌+◌, ◌<◌, Some, None, sym, ap, ◌∙◌, subst, arith, length, nat_cmp, get, Updates}
 use Rattle.rpl_tree.specs.Budget.{capped, limits}
 use Rattle.rpl_verify.specs.declared.stacks.Node.{Node}
 use Rattle.rpl_verify.specs.Kinds.{words_of_all}

@@ -1,5 +1,4 @@
-use Rattle.std.proofs.Common.{arith, rules}
-use Rattle.std.proofs.lemmas.Int.{ints}
+use Rattle.rw_base.proofs.Common.{arith, rules, ints}
 use Rattle.rw_base.proofs.Dimensions.{dimension_from}
 use Rattle.rw_base.proofs.dimension.Dim.of.Goals as goal
 

@@ -1,5 +1,4 @@
-use Rattle.std.proofs.Common.{arith}
-use Rattle.std.proofs.lemmas.Int.{ints}
+use Rattle.rw_base.proofs.Common.{arith, ints}
 use Rattle.rw_base.proofs.Dimensions.{AnswersDimension-same}
 use Rattle.rw_base.proofs.dimension.Dim.times.Goals as goal
 

@@ -1,7 +1,5 @@
 -- The product of two quantities fits 128 bits, so `within` is handed the exact product.
-use Rattle.std.proofs.Common.{rules, arith, ◌≡◌, ◌*ℤ◌, FitsSigned, to_z, of_z}
-use Rattle.std.specs.Int.{w128}
-use Rattle.std.proofs.lemmas.Int.{to_z-of_z, ints}
+use Rattle.rw_base.proofs.Common.{rules, arith, ◌≡◌, ◌*ℤ◌, FitsSigned, to_z, of_z, w128, to_z-of_z, ints}
 use Rattle.rw_base.proofs.quantity.Qty.mul.Goals as goal
 
 pub returns : goal.returns

@@ -1,5 +1,4 @@
-use Rattle.std.proofs.Common.{◌≡◌, ℕ, not, length}
-use Rattle.std.specs.List.{filter}
+use Rattle.rw_base.proofs.Common.{◌≡◌, ℕ, not, length, filter}
 use Rattle.rw_run.specs.Waiting.{is_data, numbers}
 use Rattle.rw_dispatch.proofs.queue.Queue.begin_step.Given as goal
 

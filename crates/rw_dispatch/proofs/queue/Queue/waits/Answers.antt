@@ -1,5 +1,4 @@
-use Rattle.std.proofs.Common.{arith, ◌∙◌, ap, ◌-◌, ◌<◌, length, false}
-use Rattle.std.proofs.lemmas.List.{get_or_default}
+use Rattle.rw_base.proofs.Common.{arith, ◌∙◌, ap, ◌-◌, ◌<◌, length, false, get_or_default}
 use Rattle.rw_dispatch.proofs.Queues.{waits_is}
 use Rattle.rw_dispatch.specs.Queue.{Queue}
 use Rattle.rw_dispatch.proofs.queue.Queue.waits.Goals as goal

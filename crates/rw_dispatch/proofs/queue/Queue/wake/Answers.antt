@@ -1,5 +1,4 @@
-use Rattle.std.proofs.Common.{rules, ◌∙◌, ap, length}
-use Rattle.std.specs.Prelude.{option_map}
+use Rattle.rw_base.proofs.Common.{rules, ◌∙◌, ap, length, option_map}
 use Rattle.rw_base.specs.declared.number.ObjectNo.{ObjectNo}
 use Rattle.rw_model.specs.Kept.{numbers_of}
 use Rattle.rw_run.specs.Waiting.{is_woken}

@@ -1,6 +1,4 @@
-use Rattle.std.proofs.Common.{◌≡◌, ◌≤◌, ◌++◌, ◌-◌, length}
-use Rattle.std.specs.Prelude.{option_map}
-use Rattle.std.specs.List.{filter}
+use Rattle.rw_base.proofs.Common.{◌≡◌, ◌≤◌, ◌++◌, ◌-◌, length, option_map, filter}
 use Rattle.rw_base.specs.declared.number.ObjectNo.{ObjectNo}
 use Rattle.rw_model.specs.Kept.{numbers_of}
 use Rattle.rw_run.specs.Waiting.{is_woken, numbers}

@@ -1,5 +1,4 @@
-use Rattle.std.proofs.Common.{sym, refl}
-use Rattle.std.specs.List.{range_with_len}
+use Rattle.rw_base.proofs.Common.{sym, refl, range_with_len}
 use Rattle.rw_series.specs.Series.{held}
 use Rattle.rw_run.specs.Dispatch.{dispatched, looks_of}
 use Rattle.rw_engine.proofs.After.{counted, keeps_noted, keeps_done, keeps_ended, on_the_way}

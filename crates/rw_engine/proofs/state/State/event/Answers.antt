@@ -1,5 +1,4 @@
-use Rattle.std.proofs.Common.{◌≡◌, ◌∙◌, false}
-use Rattle.std.proofs.lemmas.List.Elements.{All-rest}
+use Rattle.rw_base.proofs.Common.{◌≡◌, ◌∙◌, false, All-rest}
 use Rattle.rw_run.specs.Waiting.{is_data}
 use Rattle.rw_engine.proofs.state.State.event.Goals as goal
 

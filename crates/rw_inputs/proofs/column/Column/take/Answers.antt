@@ -1,5 +1,4 @@
-use Rattle.std.proofs.Common.{◌≡◌, ◌+◌, length, inr, ◌∙◌, arith}
-use Rattle.std.specs.Vec.{with_items}
+use Rattle.rw_base.proofs.Common.{◌≡◌, ◌+◌, length, inr, ◌∙◌, arith, with_items}
 use Rattle.rw_inputs.proofs.Pairs.{length-given}
 use Rattle.rw_inputs.proofs.column.Column.take.Goals as goal
 

@@ -1,5 +1,4 @@
-use Rattle.std.proofs.Common.{◌≡◌, inl, inr, refl, rules, sym, ap, subst, ◌∙◌}
-use Rattle.std.specs.Prelude.{slice_set}
+use Rattle.rw_base.proofs.Common.{◌≡◌, inl, inr, refl, rules, sym, ap, subst, ◌∙◌, slice_set}
 use Rattle.rw_model.specs.Draft.{IsSlot}
 use Rattle.rw_inputs.specs.Inputs.{Inputs, IsInputsOf, Keeps, kept_slot}
 use Rattle.rw_inputs.proofs.Keeping.{Taking, taking}

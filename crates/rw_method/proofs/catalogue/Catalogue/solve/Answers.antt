@@ -1,5 +1,4 @@
-use Rattle.std.proofs.Common.{◌≡◌, ◌∙◌, ap, sym, arith, ℕ, zero, suc, ◌+◌, ◌-◌, ◌<◌, ◌≤◌, rules, List, [], ◌∷◌, map, length, get_or, None}
-use Rattle.std.proofs.lemmas.Grind.{common_steps}
+use Rattle.rw_base.proofs.Common.{◌≡◌, ◌∙◌, ap, sym, arith, ℕ, zero, suc, ◌+◌, ◌-◌, ◌<◌, ◌≤◌, rules, List, [], ◌∷◌, map, length, get_or, None, common_steps}
 use Rattle.rw_method.specs.Catalogue.{first_wrong}
 use Rattle.rw_method.proofs.catalogue.Catalogue.solve.Goals as goal
 

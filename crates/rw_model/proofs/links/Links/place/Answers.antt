@@ -1,5 +1,4 @@
-use Rattle.std.proofs.Common.{◌≡◌, ◌∙◌, ◌-◌, arith}
-use Rattle.std.proofs.lemmas.Grind.{elements}
+use Rattle.rw_base.proofs.Common.{◌≡◌, ◌∙◌, ◌-◌, arith, elements}
 use Rattle.rw_model.specs.Links.{link_of}
 use Rattle.rw_model.proofs.Linking.{link_of-within}
 use Rattle.rw_model.proofs.links.Links.place.Goals as goal

@@ -1,5 +1,4 @@
-use Rattle.std.proofs.Common.{◌≡◌, ◌+◌, ap, sym, ◌∙◌, subst, ◌++◌, ◌∷◌, []}
-use Rattle.std.specs.Prelude.{map, string_bytes, bytes_eq}
+use Rattle.rw_base.proofs.Common.{◌≡◌, ◌+◌, ap, sym, ◌∙◌, subst, ◌++◌, ◌∷◌, [], map, string_bytes, bytes_eq}
 use Rattle.indexmap.specs.IndexMap.{insert_entry}
 use Rattle.rw_model.specs.Slots.{slots_of}
 use Rattle.rw_model.specs.Objects.{placed_from}

@@ -1,5 +1,4 @@
-use Rattle.std.proofs.Common.{◌+◌, ◌∙◌, ap, sym}
-use Rattle.std.specs.Prelude.{option_map}
+use Rattle.rw_base.proofs.Common.{◌+◌, ◌∙◌, ap, sym, option_map}
 use Rattle.rw_model.proofs.EntryFacts.{object_named-entries}
 use Rattle.rw_model.proofs.objects.Objects.find.Goals as goal
 

@@ -1,5 +1,4 @@
-use Rattle.std.proofs.Common.{◌∙◌, ap, sym}
-use Rattle.std.specs.Prelude.{option_and_then}
+use Rattle.rw_base.proofs.Common.{◌∙◌, ap, sym, option_and_then}
 use Rattle.rw_model.specs.Objects.{all_slots, first_from, is_named}
 use Rattle.rw_model.proofs.Numbering.{first_from-all_slots, IsOfOwner-is_named}
 use Rattle.rw_model.proofs.objects.Objects.find_slot.Goals as goal

@@ -1,6 +1,4 @@
-use Rattle.std.proofs.Common.{◌-◌, ap, sym, ◌∙◌, arith}
-use Rattle.std.specs.Prelude.{option_map}
-use Rattle.std.proofs.lemmas.Grind.{elements}
+use Rattle.rw_base.proofs.Common.{◌-◌, ap, sym, ◌∙◌, arith, option_map, elements}
 use Rattle.rw_model.specs.Kept.{place_of}
 use Rattle.rw_model.specs.Objects.{Placed, all_slots}
 use Rattle.rw_model.proofs.Numbered.{numbered-known}

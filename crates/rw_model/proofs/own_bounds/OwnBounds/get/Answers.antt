@@ -1,6 +1,4 @@
-use Rattle.std.proofs.Common.{◌≡◌, ◌∙◌, ap, nat_eq}
-use Rattle.std.specs.Option.{option_copied}
-use Rattle.std.specs.Map.{lookup}
+use Rattle.rw_base.proofs.Common.{◌≡◌, ◌∙◌, ap, nat_eq, option_copied, lookup}
 use Rattle.rw_model.specs.Draft.{bound_of}
 use Rattle.rw_model.proofs.EntryFacts.{bound_of-entries}
 use Rattle.rw_model.proofs.own_bounds.OwnBounds.get.Goals as goal

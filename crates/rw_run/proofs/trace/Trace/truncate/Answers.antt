@@ -1,6 +1,4 @@
-use Rattle.std.proofs.Common.{ap, sym, ◌∙◌, take}
-use Rattle.std.specs.Prelude.{map}
-use Rattle.std.proofs.lemmas.List.{take-map}
+use Rattle.rw_base.proofs.Common.{ap, sym, ◌∙◌, take, map, take-map}
 use Rattle.rw_run.specs.Line.{event_of}
 use Rattle.rw_run.proofs.trace.Trace.truncate.Goals as goal
 

@@ -1,9 +1,7 @@
 use Rattle.std.proofs.Common.{◌∙◌, sym, ap, subst}
 use Rattle.rw_series.specs.Columns.{column_of, AreColumns}
-use Rattle.rw_base.specs.declared.number.Cell.{Cell}
 use Rattle.rw_model.specs.declared.control.RunControl.{RunControl}
 use Rattle.rw_series.specs.Kept.{content_of}
-use Rattle.rw_series.specs.Series.{held}
 use Rattle.rw_series.proofs.Blank.{all-unknown}
 use Rattle.rw_series.proofs.series.Series.sized.Goals as goal
 

@@ -1,5 +1,4 @@
-use Rattle.std.proofs.Common.{w64, sym, ◌∙◌}
-use Rattle.std.proofs.lemmas.Int.{to_z-of_z}
+use Rattle.rw_base.proofs.Common.{w64, sym, ◌∙◌, to_z-of_z}
 use Rattle.rw_table.proofs.Laws.{elevation_inside}
 use Rattle.rw_table.proofs.rating.Rating.elev.Goals as goal
 

@@ -1,5 +1,0 @@
-use Rattle.rw_plain_reservoir.proofs.Whole.{first-run}
-use Rattle.rw_plain_reservoir.proofs.law.first_run.Goals as goal
-
-pub returns : goal.returns
-returns c = first-run

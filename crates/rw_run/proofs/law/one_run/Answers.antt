@@ -1,5 +1,0 @@
-use Rattle.rw_run.proofs.OneRun.{one-run}
-use Rattle.rw_run.proofs.law.one_run.Goals as goal
-
-pub returns : goal.returns
-returns c = one-run

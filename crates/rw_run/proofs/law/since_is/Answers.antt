@@ -1,5 +1,0 @@
-use Rattle.rw_run.proofs.Sinces.{since-is}
-use Rattle.rw_run.proofs.law.since_is.Goals as goal
-
-pub returns : goal.returns
-returns c = since-is
