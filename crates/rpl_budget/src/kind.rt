@@ -10,7 +10,7 @@ use rpl_tree::{OneWord, TwoWord, TypeText};
 use rw_base::NoMemory;
 
 /// The kind of an expression's value; a list has room for so many elements.
-#[derive(Clone, Copy, Debug, PartialEq, Eq)]
+#[derive(Clone, Copy)]
 pub enum TreeKind {
     Number,
     Truth,

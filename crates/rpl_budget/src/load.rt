@@ -7,7 +7,7 @@ ghost use Rattle.rpl_budget.specs.Seen.{kind_seen};
 use crate::kind::{TreeKind, is_same_kind, weight};
 
 /// What evaluating an expression, or executing statements, comes to at most.
-#[derive(Clone, Copy, Debug, PartialEq, Eq)]
+#[derive(Clone, Copy)]
 pub struct Load {
     /// How much it counts.
     pub count: u64,

@@ -11,7 +11,7 @@ use crate::load::{
 use rpl_tree::{Expr, OneWord, TwoWord};
 
 /// An expression's kind, and what it adds to the budgets.
-#[derive(Clone, Copy, Debug)]
+#[derive(Clone, Copy)]
 pub struct Work {
     pub kind: TreeKind,
     pub load: Load,

@@ -1,6 +1,44 @@
-//! Tables of predefined functions that are refused.
-use rpl_predef::{Predef, Predefs, PredefsFault, absolute, clamped, greatest, least, rounded_down};
+//! Tables of predefined functions: one that is whole, and those that are refused.
+use rpl_predef::{
+    Predef, Predefs, PredefsFault, absolute, clamped, greatest, least, rounded_down, sign,
+};
+use rw_base::Qty;
 use std::test::Fail;
+
+fn quantity(value: i64) -> Result<Qty, Fail> {
+    Ok(Qty::of(value).ok_or("no quantity")?)
+}
+
+#[test]
+fn functions_are_called_by_number(rt: HostRuntime) -> Result<(), Fail> {
+    let mut rows = Vec::new(rt.alloc());
+    rows.push(Predef::of(1, least))?;
+    rows.push(Predef::of(2, greatest))?;
+    rows.push(Predef::of(3, absolute))?;
+    rows.push(Predef::of(4, clamped))?;
+    rows.push(Predef::of(5, rounded_down))?;
+    rows.push(Predef::of(6, sign))?;
+    let Ok(predefs) = Predefs::of(rows) else {
+        return Err(Fail::from("a table is refused"));
+    };
+    let (seven, three, zero) = (quantity(7)?, quantity(3)?, quantity(0)?);
+    assert_eq!(rt; predefs.call(5, quantity(-7)?, three, zero).get(), -6);
+    assert_eq!(rt; predefs.call(5, seven, zero, zero).get(), 7);
+    Ok(())
+}
+
+#[test]
+fn exchanged_functions_are_refused(rt: HostRuntime) -> Result<(), Fail> {
+    let mut rows = Vec::new(rt.alloc());
+    rows.push(Predef::of(2, greatest))?;
+    rows.push(Predef::of(1, least))?;
+    rows.push(Predef::of(3, absolute))?;
+    rows.push(Predef::of(4, clamped))?;
+    rows.push(Predef::of(5, rounded_down))?;
+    rows.push(Predef::of(6, sign))?;
+    assert!(rt; matches!(Predefs::of(rows), Err(PredefsFault::WrongPlace(1))));
+    Ok(())
+}
 
 #[test]
 fn five_functions_are_too_few(rt: HostRuntime) -> Result<(), Fail> {

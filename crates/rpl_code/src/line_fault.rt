@@ -2,7 +2,7 @@ use rw_base::NoMemory;
 use std::alloc::{AllocError, AllocFailed};
 
 /// Why a line, or a word of it, isn't read.
-#[derive(Clone, Copy, Debug, PartialEq, Eq)]
+#[derive(Clone, Copy)]
 pub(crate) enum LineFault {
     /// It says nothing.
     Bad,

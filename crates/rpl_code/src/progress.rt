@@ -1,7 +1,7 @@
 use crate::{Block, BlockHead};
 
 /// How far the lines of a text have come that were read.
-#[derive(Debug, Drop)]
+#[derive(Drop)]
 pub(crate) enum Progress {
     /// None was read.
     Top,

@@ -1,7 +1,7 @@
 use crate::{BlockHead, Instruction, Kinds};
 
 /// What a line of a code's text says.
-#[derive(Debug, Drop)]
+#[derive(Drop)]
 pub(crate) enum Said {
     /// The text is code.
     Heading,

@@ -85,33 +85,3 @@ pub fn write_code(alloc: Global, code: &Code) -> Result<Vec<u8>, NoMemory>
     push_blocks(&mut text, code.blocks())?;
     Ok(text.into_bytes())
 }
-
-#[cfg(test)]
-mod tests {
-    use super::write_code;
-    use crate::{Block, BlockHead, Code, Kinds, Lines};
-    use std::alloc::Global;
-    use std::test::Fail;
-
-    // What is written of a code of these blocks.
-    fn written(alloc: Global, blocks: Vec<Block>) -> Result<Vec<u8>, Fail>
-        requires { IsCode blocks.items }
-    {
-        Ok(write_code(alloc, &Code::of(blocks))?)
-    }
-
-    #[test]
-    fn codes_are_written(rt: HostRuntime) -> Result<(), Fail> {
-        let none = written(rt.alloc(), Vec::new(rt.alloc()))?;
-        assert_eq!(rt; none.as_slice(), b"CODE 1\n".as_slice());
-        let mut blocks = Vec::new(rt.alloc());
-        blocks.push(Block {
-            head: BlockHead::Rule,
-            locals: Kinds::of(Vec::new(rt.alloc())),
-            lines: Lines::of(Vec::new(rt.alloc())),
-        })?;
-        let one = written(rt.alloc(), blocks)?;
-        assert_eq!(rt; one.as_slice(), b"CODE 1\nRULE\nLOCALS -\nEND\n".as_slice());
-        Ok(())
-    }
-}

@@ -1,6 +1,6 @@
 /// A loop that is gone through: the place where it begins, the word of the local that takes the list's words, counted from those of
 /// the block, for how many words the list has room, how many are left, and how many a mapping has made.
-#[derive(Clone, Copy, Debug, PartialEq, Eq)]
+#[derive(Clone, Copy)]
 pub(crate) struct Turn {
     pub(crate) start: u32,
     pub(crate) at: u32,

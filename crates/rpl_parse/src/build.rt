@@ -1,42 +1,22 @@
 // Expressions of their parts.
-ghost use Rattle.std.specs.Prelude.{◌≡◌, ◌++◌, ◌∷◌, [], Some, None, IfOk, IfErr, OnOk, map, max};
+ghost use Rattle.std.specs.Prelude.{◌≡◌, Some, None, IfOk, IfErr, map, max};
 ghost use Rattle.rpl_tree.specs.Tree.{name, literal, call, slot, list, two, at, one, brackets, choice, bind, each, mapped, convert};
 ghost use Rattle.rpl_tree.specs.Seen.{tree_of};
 ghost use Rattle.rpl_parse.specs.Reading.{trees_of};
 ghost use Rattle.rpl_parse.specs.Tokens.{bytes_in};
 
 use crate::look::copied;
+use crate::made::{boxed, pair, three};
 use crate::stop::Stop;
 use crate::token::Span;
 use rpl_tree::{ConvertWord, Expr, OneWord, SlotText, TwoWord};
 use std::alloc::Global;
-
-fn boxed(alloc: Global, e: Expr) -> Result<Box<Expr>, Stop>
-    ensures ok { IfOk result (λ b. b.value ≡ e) }
-    ensures err { IfErr result (λ f. f ≡ Stop.NoMemory) }
-{
-    match Box::new(alloc, e) {
-        Ok(b) => Ok(b),
-        Err(_) => Err(Stop::NoMemory),
-    }
-}
 
 /// The greater of two depths.
 pub fn max_of(a: u8, b: u8) -> u8
     ensures { result ≡ max a b }
 {
     if a < b { b } else { a }
-}
-
-/// One expression more.
-pub fn pushed(items: &mut Vec<Expr>, e: Expr) -> Result<(), Stop>
-    ensures ok { OnOk result (items.new.items ≡ items.old.items ++ e ∷ []) }
-    ensures err { IfErr result (λ f. f ≡ Stop.NoMemory) }
-{
-    match items.push(e) {
-        Ok(()) => Ok(()),
-        Err(_) => Err(Stop::NoMemory),
-    }
 }
 
 /// `value "unit"`.
@@ -104,8 +84,7 @@ pub fn two(alloc: Global, word: TwoWord, left: Expr, right: Expr) -> Result<Expr
     ensures ok { IfOk result (λ e. tree_of e ≡ two word (tree_of left) (tree_of right)) }
     ensures err { IfErr result (λ f. f ≡ Stop.NoMemory) }
 {
-    let left = boxed(alloc, left)?;
-    let right = boxed(alloc, right)?;
+    let (left, right) = pair(alloc, left, right)?;
     Ok(Expr::Two { word, left, right })
 }
 
@@ -132,8 +111,7 @@ pub fn at_step(alloc: Global, slot: Expr, step: Expr) -> Result<Expr, Stop>
     ensures ok { IfOk result (λ e. tree_of e ≡ at (tree_of slot) (tree_of step)) }
     ensures err { IfErr result (λ f. f ≡ Stop.NoMemory) }
 {
-    let slot = boxed(alloc, slot)?;
-    let step = boxed(alloc, step)?;
+    let (slot, step) = pair(alloc, slot, step)?;
     Ok(Expr::At { slot, step })
 }
 
@@ -143,9 +121,7 @@ pub fn choice(alloc: Global, condition: Expr, yes: Expr, no: Expr) -> Result<Exp
         (tree_of «no»)) }
     ensures err { IfErr result (λ f. f ≡ Stop.NoMemory) }
 {
-    let condition = boxed(alloc, condition)?;
-    let yes = boxed(alloc, yes)?;
-    let no = boxed(alloc, no)?;
+    let (condition, yes, no) = three(alloc, condition, yes, no)?;
     Ok(Expr::If { condition, yes, no })
 }
 
@@ -162,18 +138,27 @@ pub fn binding(
     ensures err { IfErr result (λ f. f ≡ Stop.NoMemory) }
 {
     let name = copied(alloc, text, named)?;
-    let value = boxed(alloc, value)?;
-    let body = boxed(alloc, body)?;
+    let (value, body) = pair(alloc, value, body)?;
     Ok(Expr::Let { name, value, body })
 }
 
 /// The names of a FOR: of each element, and of the accumulator.
-#[derive(Clone, Copy, PartialEq, Eq, Debug)]
+#[derive(Clone, Copy)]
 pub struct LoopNames {
     /// The variable that stands for each element in turn.
     pub name: Span,
     /// The accumulator.
     pub total: Span,
+}
+
+fn loop_names(alloc: Global, text: &[u8], names: LoopNames) -> Result<(Vec<u8>, Vec<u8>), Stop>
+    ensures name { IfOk result (λ both. both.0.items ≡ bytes_in text.now names.name) }
+    ensures total { IfOk result (λ both. both.1.items ≡ bytes_in text.now names.total) }
+    ensures err { IfErr result (λ f. f ≡ Stop.NoMemory) }
+{
+    let name = copied(alloc, text, names.name)?;
+    let total = copied(alloc, text, names.total)?;
+    Ok((name, total))
 }
 
 /// `FOR name IN list WITH total := first DO body ENDFOR`.
@@ -189,11 +174,8 @@ pub fn for_each(
         (bytes_in text.now names.total) (tree_of first) (tree_of body)) }
     ensures err { IfErr result (λ f. f ≡ Stop.NoMemory) }
 {
-    let name = copied(alloc, text, names.name)?;
-    let total = copied(alloc, text, names.total)?;
-    let list = boxed(alloc, list)?;
-    let first = boxed(alloc, first)?;
-    let body = boxed(alloc, body)?;
+    let (name, total) = loop_names(alloc, text, names)?;
+    let (list, first, body) = three(alloc, list, first, body)?;
     Ok(Expr::For {
         name,
         list,
@@ -216,8 +198,7 @@ pub fn mapping(
     ensures err { IfErr result (λ f. f ≡ Stop.NoMemory) }
 {
     let name = copied(alloc, text, named)?;
-    let list = boxed(alloc, list)?;
-    let body = boxed(alloc, body)?;
+    let (list, body) = pair(alloc, list, body)?;
     Ok(Expr::Map { name, list, body })
 }
 

@@ -2,7 +2,7 @@ ghost use Rattle.std.specs.Prelude.{◌≡◌, ◌≤◌, ◌+◌, length};
 ghost use Rattle.rpl_parse.specs.Scan.{is_of, is_digit, is_letter, is_blank, run, head_is};
 
 /// What a byte may be part of.
-#[derive(Clone, Copy, PartialEq, Eq, Debug)]
+#[derive(Clone, Copy)]
 pub enum Class {
     /// A number.
     Digit,

@@ -7,9 +7,10 @@ ghost use Rattle.rpl_parse.specs.Tokens.{toks, bytes_in};
 
 use crate::build::{
     LoopNames, at_step, binding, brackets, call_of, choice, conversion, for_each, in_unit, list_of,
-    mapping, max_of, one, pushed, slot_of, two, variable,
+    mapping, max_of, one, slot_of, two, variable,
 };
 use crate::look::{behind, behind_name, mark_of_one, name_before, prefix, turn, turns};
+use crate::made::pushed;
 use crate::stop::Stop;
 use crate::token::{Mark, Span, Token, TokenAt};
 use rpl_tree::{ConvertWord, Expr, OneWord, TwoWord};

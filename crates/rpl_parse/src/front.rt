@@ -7,7 +7,7 @@ use crate::reserved::reserved;
 use crate::token::Mark;
 
 /// What stands at the front of some bytes, and of how many.
-#[derive(Clone, Copy, PartialEq, Eq, Debug)]
+#[derive(Clone, Copy)]
 pub enum Piece {
     /// What parts tokens.
     Gap(usize),

@@ -14,6 +14,7 @@ mod fault;
 mod front;
 pub mod law;
 mod look;
+mod made;
 mod reserved;
 mod ruleset;
 mod scan;

@@ -6,6 +6,7 @@ ghost use Rattle.rpl_parse.specs.Tokens.{toks, lined_of};
 use crate::cut::{begins_function, begins_rule, size};
 use crate::declaration::declaration;
 use crate::fault::ParseFault;
+use crate::made;
 use crate::scan::{ScanStop, tokens_of};
 use crate::stop::Stop;
 use crate::token::TokenAt;
@@ -105,7 +106,7 @@ fn pushed(found: &mut Vec<Declaration>, one: Declaration) -> Result<(), ParseFau
     ensures ok { OnOk result (found.new.items ≡ found.old.items ++ one ∷ []) }
     ensures err { IfErr result (λ f. f ≡ ParseFault.NoMemory) }
 {
-    match found.push(one) {
+    match made::pushed(found, one) {
         Ok(()) => Ok(()),
         Err(_) => Err(ParseFault::NoMemory),
     }

@@ -9,7 +9,7 @@ use crate::token::{Span, Token, TokenAt};
 use std::alloc::Global;
 
 /// Why a text has no tokens.
-#[derive(Clone, Copy, PartialEq, Eq, Debug)]
+#[derive(Clone, Copy)]
 pub enum ScanStop {
     /// The line of the first bad token.
     BadToken(u32),
@@ -18,7 +18,7 @@ pub enum ScanStop {
 }
 
 /// What is found at a place.
-#[derive(Clone, Copy, PartialEq, Eq, Debug)]
+#[derive(Clone, Copy)]
 enum Found {
     /// Nothing that stands between tokens, of so many bytes.
     Gap(usize),

@@ -11,13 +11,14 @@ ghost use Rattle.rpl_parse.specs.Tokens.{toks, bytes_in};
 use crate::build::{max_of, slot_text};
 use crate::expression::expression;
 use crate::look::{behind, behind_name, copied, name_before};
+use crate::made::pushed;
 use crate::stop::Stop;
 use crate::token::{Mark, Span, Token, TokenAt};
 use rpl_tree::{Expr, Statement};
 use std::alloc::Global;
 
 /// What an assignment sets, behind the name of its object.
-#[derive(Clone, Copy, PartialEq, Eq, Debug)]
+#[derive(Clone, Copy)]
 struct Target {
     /// The slot.
     slot: Span,
@@ -49,16 +50,6 @@ pub fn statements<'a>(
         rest = after;
     }
     Ok((acts, most, rest))
-}
-
-fn pushed(acts: &mut Vec<Statement>, act: Statement) -> Result<(), Stop>
-    ensures ok { OnOk result (acts.new.items ≡ acts.old.items ++ act ∷ []) }
-    ensures err { IfErr result (λ f. f ≡ Stop.NoMemory) }
-{
-    match acts.push(act) {
-        Ok(()) => Ok(()),
-        Err(_) => Err(Stop::NoMemory),
-    }
 }
 
 /// The statement at the front, if one begins there.

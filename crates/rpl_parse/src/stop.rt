@@ -1,5 +1,5 @@
 /// Why nothing is read.
-#[derive(Clone, Copy, PartialEq, Eq, Debug)]
+#[derive(Clone, Copy)]
 pub enum Stop {
     /// The tokens aren't in the grammar.
     Bad,

@@ -1,7 +1,7 @@
 // The tokens of a ruleset's text.
 
 /// A reserved word or a mark.
-#[derive(Clone, Copy, PartialEq, Eq, Debug)]
+#[derive(Clone, Copy, PartialEq, Eq)]
 pub enum Mark {
     /// `RULE`
     Rule,
@@ -128,7 +128,7 @@ pub enum Mark {
 }
 
 /// Bytes of the text, from a place up to another.
-#[derive(Clone, Copy, PartialEq, Eq, Debug)]
+#[derive(Clone, Copy)]
 pub struct Span {
     /// The place of the first byte.
     pub start: u32,
@@ -137,7 +137,7 @@ pub struct Span {
 }
 
 /// A token, which keeps the places of its bytes.
-#[derive(Clone, Copy, PartialEq, Eq, Debug)]
+#[derive(Clone, Copy)]
 pub enum Token {
     /// A reserved word or a mark.
     Mark(Mark),
@@ -150,7 +150,7 @@ pub enum Token {
 }
 
 /// A token, and the line in which it begins.
-#[derive(Clone, Copy, PartialEq, Eq, Debug)]
+#[derive(Clone, Copy)]
 pub struct TokenAt {
     /// The token.
     pub token: Token,

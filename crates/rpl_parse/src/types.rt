@@ -6,6 +6,7 @@ ghost use Rattle.rpl_parse.specs.GivesDeclared.{GivesUnit, GivesType, GivesParam
 ghost use Rattle.rpl_parse.specs.Tokens.{toks};
 
 use crate::look::{behind, behind_name, copied};
+use crate::made::pushed;
 use crate::statement::behind_number;
 use crate::stop::Stop;
 use crate::token::{Mark, Token, TokenAt};
@@ -108,16 +109,6 @@ fn parameter<'a>(
     };
     let name = copied(alloc, text, named)?;
     Ok((Param { name, kind }, rest))
-}
-
-fn pushed(params: &mut Vec<Param>, param: Param) -> Result<(), Stop>
-    ensures ok { OnOk result (params.new.items ≡ params.old.items ++ param ∷ []) }
-    ensures err { IfErr result (λ f. f ≡ Stop.NoMemory) }
-{
-    match params.push(param) {
-        Ok(()) => Ok(()),
-        Err(_) => Err(Stop::NoMemory),
-    }
 }
 
 /// Parameters, behind the bracket that opens them and up to the one that closes them.

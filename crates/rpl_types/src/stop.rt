@@ -2,7 +2,7 @@ use crate::TypeKind;
 use std::alloc::AllocFailed;
 
 /// Why no types are given of a declaration.
-#[derive(Clone, Copy, Debug, PartialEq, Eq, Drop)]
+#[derive(Clone, Copy, Drop)]
 pub enum Stop {
     /// Something is wrong at a node.
     Refused {

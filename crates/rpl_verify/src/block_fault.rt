@@ -7,7 +7,7 @@ use rw_base::NoMemory;
 use std::alloc::{AllocError, AllocFailed};
 
 /// Why a block is refused.
-#[derive(Clone, Copy, Debug, PartialEq, Eq)]
+#[derive(Clone, Copy)]
 pub(crate) enum BlockFault {
     /// A place has a misfit.
     Misplaced(VerifyKind, u32),

@@ -20,7 +20,7 @@ use crate::walk::Walk;
 use rpl_code::{Block, BlockHead, Instruction, ValueKind};
 
 /// The numbers of a budget.
-#[derive(Clone, Copy, Debug, PartialEq, Eq)]
+#[derive(Clone, Copy)]
 pub(crate) enum Part {
     /// What is counted.
     Count,

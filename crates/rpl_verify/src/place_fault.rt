@@ -3,7 +3,7 @@ use rw_base::NoMemory;
 use std::alloc::{AllocError, AllocFailed};
 
 /// Why a place is refused.
-#[derive(Clone, Copy, Debug, PartialEq, Eq)]
+#[derive(Clone, Copy)]
 pub(crate) enum PlaceFault {
     /// It has a misfit.
     Misfit(VerifyKind),

@@ -126,69 +126,90 @@ fn answers_are_exact_or_have_no_place(rt: HostRuntime) -> Result<(), Fail> {
     Ok(())
 }
 
+// Values, and whether they are quantities.
+const BOUNDS: &[(i64, bool)] = &[
+    (0, true),
+    (Q, true),
+    (-Q, true),
+    (100_000_000_000_000_001, false),
+    (-100_000_000_000_000_001, false),
+    (i64::MAX, false),
+    (i64::MIN, false),
+];
+
 #[test]
 fn quantities_end_at_their_bounds(rt: HostRuntime) {
-    for (v, want) in [
-        (0, true),
-        (Q, true),
-        (-Q, true),
-        (100_000_000_000_000_001, false),
-        (-100_000_000_000_000_001, false),
-        (i64::MAX, false),
-        (i64::MIN, false),
-    ] {
-        assert_eq!(rt;
-            Qty::of(v).map(Qty::get),
-            if want { Some(v) } else { None },
-            "at {v}"
-        );
+    for (v, want) in BOUNDS {
+        let found = Qty::of(*v).map(Qty::get);
+        assert_eq!(rt; found, if *want { Some(*v) } else { None }, "at {v}");
     }
 }
+
+// Words for units, and their exponents of volume, length, step and energy and their factors.
+const UNITS: &[(&str, Option<(i8, i8, i8, i8, i64)>)] = &[
+    ("m3", Some((1, 0, 0, 0, 1))),
+    ("dam3", Some((1, 0, 0, 0, 1000))),
+    ("Mm3", Some((1, 0, 0, 0, 1_000_000))),
+    ("mm", Some((0, 1, 0, 0, 1))),
+    ("m", Some((0, 1, 0, 0, 1000))),
+    ("step", Some((0, 0, 1, 0, 1))),
+    ("m3/step", Some((1, 0, -1, 0, 1))),
+    ("dam3/step", Some((1, 0, -1, 0, 1000))),
+    ("mm/step", Some((0, 1, -1, 0, 1))),
+    ("m3/mm", Some((1, -1, 0, 0, 1))),
+    ("kWh", Some((0, 0, 0, 1, 1))),
+    ("", Some((0, 0, 0, 0, 1))),
+    ("m2", None),
+    ("M3", None),
+    (" m3", None),
+];
 
 #[test]
 fn unit_words_have_their_rows(rt: HostRuntime) {
-    for (word, want) in [
-        ("m3", Some((1, 0, 0, 0, 1))),
-        ("dam3", Some((1, 0, 0, 0, 1000))),
-        ("Mm3", Some((1, 0, 0, 0, 1_000_000))),
-        ("mm", Some((0, 1, 0, 0, 1))),
-        ("m", Some((0, 1, 0, 0, 1000))),
-        ("step", Some((0, 0, 1, 0, 1))),
-        ("m3/step", Some((1, 0, -1, 0, 1))),
-        ("dam3/step", Some((1, 0, -1, 0, 1000))),
-        ("mm/step", Some((0, 1, -1, 0, 1))),
-        ("m3/mm", Some((1, -1, 0, 0, 1))),
-        ("kWh", Some((0, 0, 0, 1, 1))),
-        ("", Some((0, 0, 0, 0, 1))),
-        ("m2", None),
-        ("M3", None),
-        (" m3", None),
-    ] {
-        let found = unit_of(word).map(|(dim, factor)| (
+    for (word, want) in UNITS {
+        let found = unit_of(*word).map(|(dim, factor)| (
             dim.volume, dim.length, dim.step, dim.energy, factor,
         ));
-        assert_eq!(rt; found, want, "at {word}");
+        assert_eq!(rt; found, *want, "at {word}");
+    }
+}
+
+// Exponents of 1, and exponents that are too far from 0.
+const ONES: &[(i8, i8, i8, i8)] = &[(1, 0, 0, 0), (0, 1, 0, 0), (0, 0, 1, 0), (0, 0, 0, 1)];
+
+const OVER: &[i8] = &[-128, -7, 7, 127];
+
+fn dim(rt: &impl Abort, volume: i8, length: i8, step: i8, energy: i8) -> Dim {
+    Dim::of(volume, length, step, energy).expect(rt, "a dimension")
+}
+
+#[test]
+fn products_and_quotients_have_exponents(rt: HostRuntime) {
+    let most = dim(&rt, 6, 6, 6, 6);
+    let least = dim(&rt, -6, -6, -6, -6);
+    let plain = dim(&rt, 0, 0, 0, 0);
+    assert_eq!(rt; most.times(least), Some(plain));
+    assert_eq!(rt; plain.per(most), Some(least));
+    assert_eq!(rt; plain.per(least), Some(most));
+}
+
+#[test]
+fn exponents_end_at_six(rt: HostRuntime) {
+    let most = dim(&rt, 6, 6, 6, 6);
+    let least = dim(&rt, -6, -6, -6, -6);
+    for (volume, length, step, energy) in ONES {
+        let one = dim(&rt, *volume, *length, *step, *energy);
+        assert_eq!(rt; most.times(one), None);
+        assert_eq!(rt; least.per(one), None);
     }
 }
 
 #[test]
-fn exponents_end_at_six(rt: HostRuntime) -> Result<(), Fail> {
-    let most = Dim::of(6, 6, 6, 6).ok_or("no dimension")?;
-    let least = Dim::of(-6, -6, -6, -6).ok_or("no dimension")?;
-    let plain = Dim::of(0, 0, 0, 0).ok_or("no dimension")?;
-    assert_eq!(rt; most.times(least), Some(plain));
-    assert_eq!(rt; plain.per(most), Some(least));
-    assert_eq!(rt; plain.per(least), Some(most));
-    for (volume, length, step, energy) in [(1, 0, 0, 0), (0, 1, 0, 0), (0, 0, 1, 0), (0, 0, 0, 1)] {
-        let one = Dim::of(volume, length, step, energy).ok_or("no dimension")?;
-        assert_eq!(rt; most.times(one), None);
-        assert_eq!(rt; least.per(one), None);
+fn each_exponent_is_bounded(rt: HostRuntime) {
+    for over in OVER {
+        assert_eq!(rt; Dim::of(*over, 0, 0, 0), None);
+        assert_eq!(rt; Dim::of(0, *over, 0, 0), None);
+        assert_eq!(rt; Dim::of(0, 0, *over, 0), None);
+        assert_eq!(rt; Dim::of(0, 0, 0, *over), None);
     }
-    for over in [-128, -7, 7, 127] {
-        assert_eq!(rt; Dim::of(over, 0, 0, 0), None);
-        assert_eq!(rt; Dim::of(0, over, 0, 0), None);
-        assert_eq!(rt; Dim::of(0, 0, over, 0), None);
-        assert_eq!(rt; Dim::of(0, 0, 0, over), None);
-    }
-    Ok(())
 }

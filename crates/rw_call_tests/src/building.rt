@@ -59,25 +59,36 @@ fn lake_and_reach(rt: &impl Abort, alloc: Global) -> Basin {
     builder.finish().expect(rt, "a basin")
 }
 
-fn check(rt: &impl Abort, basin: &Basin) {
+fn check_objects(rt: &impl Abort, basin: &Basin) {
     assert!(rt; basin.object_count() == 2);
-    assert!(rt; basin.slot_count() == 13);
     assert_eq!(rt; basin.object_name(ObjectNo(2)), "Reach");
     assert_eq!(rt; basin.kind_code(ObjectNo(1)), 5);
     assert_eq!(rt; basin.owner(SlotNo(12)), ObjectNo(2));
+}
+
+fn check_slots(rt: &impl Abort, basin: &Basin) {
+    assert!(rt; basin.slot_count() == 13);
     assert_eq!(rt; basin.slot_name(SlotNo(12)), "Inflow");
     assert_eq!(rt; basin.find_slot("Reach", "Outflow"), Some(SlotNo(13)));
     assert!(rt; basin.settable(SlotNo(8)) && !basin.settable(SlotNo(9)));
     assert_eq!(rt; basin.group(SlotNo(12)), &[SlotNo(2), SlotNo(12)][..]);
     assert_eq!(rt; basin.bounds(SlotNo(2)), (0, 40));
-    let value = |slot, step| basin.before(SlotNo(slot), step).map(Qty::get);
-    assert_eq!(rt; value(4, 0), Some(502));
-    assert_eq!(rt; value(12, -1), Some(7));
-    assert_eq!(rt; value(12, -2), None);
+}
+
+// Slots, timesteps up to the first, and the values before the run.
+const BEFORE: &[(u16, i64, Option<i64>)] = &[(4, 0, Some(502)), (12, -1, Some(7)), (12, -2, None)];
+
+fn check_before(rt: &impl Abort, basin: &Basin) {
+    for (slot, step, want) in BEFORE {
+        assert!(rt; 1 <= *slot && *slot <= basin.slot_count());
+        assert_eq!(rt; basin.before(SlotNo(*slot), *step).map(Qty::get), *want);
+    }
 }
 
 #[test]
 fn a_basin_holds_what_was_added(rt: HostRuntime) {
     let basin = lake_and_reach(&rt, rt.alloc());
-    check(&rt, &basin);
+    check_objects(&rt, &basin);
+    check_slots(&rt, &basin);
+    check_before(&rt, &basin);
 }

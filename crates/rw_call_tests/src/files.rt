@@ -25,15 +25,26 @@ fn shelf(alloc: Global, files: &[(&str, &[u8])], failing: &[u64]) -> Result<MemS
     MemShelf::of(alloc, owned, numbers(alloc, failing)?)
 }
 
+// Whether the path is read as the text.
+fn is_read(alloc: Global, shelf: &mut impl Shelf, path: &str, text: &[u8]) -> bool {
+    match read_all(alloc, shelf, path) {
+        Ok(found) => found.as_slice() == text,
+        Err(_) => false,
+    }
+}
+
+// Whether reading the path is a fault.
+fn is_fault(alloc: Global, shelf: &mut impl Shelf, path: &str) -> bool {
+    matches!(read_all(alloc, shelf, path), Err(ReadEnd::ReadFault))
+}
+
 #[test]
 fn the_first_file_of_a_path_is_read(rt: HostRuntime) -> Result<(), Fail> {
     let alloc = rt.alloc();
     let mut shelf = shelf(alloc, &[("a", b"one"), ("b", b""), ("a", b"two")], &[])?;
-    let found = read_all(alloc, &mut shelf, "a").map_err(|_| "not read")?;
-    assert_eq!(rt; found.as_slice(), b"one".as_slice());
-    let found = read_all(alloc, &mut shelf, "b").map_err(|_| "not read")?;
-    assert!(rt; found.is_empty());
-    assert!(rt; matches!(read_all(alloc, &mut shelf, "c"), Err(ReadEnd::ReadFault)));
+    assert!(rt; is_read(alloc, &mut shelf, "a", b"one"));
+    assert!(rt; is_read(alloc, &mut shelf, "b", b""));
+    assert!(rt; is_fault(alloc, &mut shelf, "c"));
     Ok(())
 }
 
@@ -42,11 +53,11 @@ fn calls_of_a_shelf_fail_by_number(rt: HostRuntime) -> Result<(), Fail> {
     // Each `read_all` starts the file, reads its text and reads its end.
     let alloc = rt.alloc();
     let mut shelf = shelf(alloc, &[("a", b"one")], &[1, 3, 7])?;
-    assert!(rt; matches!(read_all(alloc, &mut shelf, "a"), Err(ReadEnd::ReadFault)));
-    assert!(rt; matches!(read_all(alloc, &mut shelf, "a"), Err(ReadEnd::ReadFault)));
-    assert!(rt; read_all(alloc, &mut shelf, "a").is_ok());
-    assert!(rt; matches!(read_all(alloc, &mut shelf, "a"), Err(ReadEnd::ReadFault)));
-    assert!(rt; read_all(alloc, &mut shelf, "a").is_ok());
+    assert!(rt; is_fault(alloc, &mut shelf, "a"));
+    assert!(rt; is_fault(alloc, &mut shelf, "a"));
+    assert!(rt; is_read(alloc, &mut shelf, "a", b"one"));
+    assert!(rt; is_fault(alloc, &mut shelf, "a"));
+    assert!(rt; is_read(alloc, &mut shelf, "a", b"one"));
     Ok(())
 }
 
@@ -121,14 +132,8 @@ fn a_real_file_is_written_and_read(rt: HostRuntime) -> Result<(), Fail> {
     assert_eq!(rt; sink.write(b""), Ok(0));
     assert!(rt; write_all(&mut sink, text).is_ok());
     let mut shelf = FileShelf::of(&rt);
-    let found = read_all(alloc, &mut shelf, "inputs.csv").map_err(|_| "not read")?;
-    assert_eq!(rt; found.as_slice(), text.as_slice());
-    assert!(rt;
-        matches!(
-            read_all(alloc, &mut shelf, "none.csv"),
-            Err(ReadEnd::ReadFault)
-        )
-    );
+    assert!(rt; is_read(alloc, &mut shelf, "inputs.csv", text));
+    assert!(rt; is_fault(alloc, &mut shelf, "none.csv"));
     fs::remove_file(&rt, "inputs.csv")?;
     Ok(())
 }

@@ -1,7 +1,7 @@
 use rw_base::Qty;
 
 /// What a row gives: a value for a slot at each of some timesteps.
-#[derive(Clone, Copy, Debug)]
+#[derive(Clone, Copy)]
 pub struct Given {
     /// The number of the slot.
     pub slot: u16,

@@ -1,5 +1,5 @@
 /// Some timesteps, one after another.
-#[derive(Clone, Copy, Debug)]
+#[derive(Clone, Copy)]
 pub struct Span {
     /// The first one.
     pub first: u16,

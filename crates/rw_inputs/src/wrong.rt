@@ -1,7 +1,7 @@
 use crate::InputKind;
 
 /// What is wrong with a row, and in which column.
-#[derive(Clone, Copy, Debug, PartialEq, Eq)]
+#[derive(Clone, Copy)]
 pub struct Wrong {
     /// What is wrong.
     pub kind: InputKind,

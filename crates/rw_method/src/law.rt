@@ -28,7 +28,6 @@ pub fn solved_term()
 {}
 
 /// A solved term has the greatest number of the others, and 0 where none of them is given.
-#[tactic(auto, using(crate::proofs::SolvedTerm::number_of_solved))]
 pub fn number_of_a_solved_term()
     ensures { (steady : ℤ) (terms : List Term) (place number : ℕ) (value : ℤ)
         → settled (Some steady) terms ≡ Balanced.Solves place value number → IsGreatestBeside place terms number }

@@ -6,7 +6,7 @@ ghost use Rattle.rw_model.specs.Kept.{place_of};
 use crate::Kind;
 
 /// Where a slot stands: with which object, and in which place.
-#[derive(Clone, Copy, Debug, PartialEq, Eq, Drop)]
+#[derive(Clone, Copy, Drop)]
 pub struct Place {
     /// The number of the object.
     pub owner: u16,

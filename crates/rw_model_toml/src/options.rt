@@ -8,7 +8,7 @@ use std::alloc::Global;
 use toml::Table;
 
 /// Which slots a reach or a reservoir has besides.
-#[derive(Clone, Copy, Debug, Drop)]
+#[derive(Clone, Copy, Drop)]
 pub struct Options {
     /// A local inflow.
     pub local_inflow: bool,

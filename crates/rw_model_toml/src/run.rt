@@ -18,7 +18,7 @@ use std::alloc::Global;
 use toml::Table;
 
 /// What the table `run` says.
-#[derive(Clone, Copy, Debug, Drop)]
+#[derive(Clone, Copy, Drop)]
 pub struct Run {
     /// The start of the run, which may be no moment.
     pub start: Start,

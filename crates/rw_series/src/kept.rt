@@ -5,7 +5,7 @@ use rw_base::Qty;
 use rw_model::{Content, Writer};
 
 /// What is kept of a cell. Where nobody wrote it, it is unknown, and the value doesn't count.
-#[derive(Clone, Copy, Debug)]
+#[derive(Clone, Copy)]
 pub struct Kept {
     /// The value.
     pub value: Qty,

@@ -1,0 +1,55 @@
+// What takes memory, for a part of any type: nothing but the want of it is told.
+ghost use Rattle.std.specs.Prelude.{◌≡◌, ◌++◌, ◌∷◌, [], IfOk, IfErr, OnOk};
+
+use crate::stop::Stop;
+use std::alloc::Global;
+
+/// A box.
+pub fn boxed<T: Drop>(alloc: Global, value: T) -> Result<Box<T>, Stop>
+    ensures ok { IfOk result (λ b. b.value ≡ value) }
+    ensures err { IfErr result (λ f. f ≡ Stop.NoMemory) }
+{
+    match Box::new(alloc, value) {
+        Ok(b) => Ok(b),
+        Err(_) => Err(Stop::NoMemory),
+    }
+}
+
+/// Two boxes.
+pub fn pair<T: Drop>(alloc: Global, one: T, other: T) -> Result<(Box<T>, Box<T>), Stop>
+    ensures one { IfOk result (λ both. both.0.value ≡ one) }
+    ensures other { IfOk result (λ both. both.1.value ≡ other) }
+    ensures err { IfErr result (λ f. f ≡ Stop.NoMemory) }
+{
+    let one = boxed(alloc, one)?;
+    let other = boxed(alloc, other)?;
+    Ok((one, other))
+}
+
+/// Three boxes.
+pub fn three<T: Drop>(
+    alloc: Global,
+    one: T,
+    other: T,
+    third: T,
+) -> Result<(Box<T>, Box<T>, Box<T>), Stop>
+    ensures one { IfOk result (λ all. all.0.value ≡ one) }
+    ensures other { IfOk result (λ all. all.1.value ≡ other) }
+    ensures third { IfOk result (λ all. all.2.value ≡ third) }
+    ensures err { IfErr result (λ f. f ≡ Stop.NoMemory) }
+{
+    let (one, other) = pair(alloc, one, other)?;
+    let third = boxed(alloc, third)?;
+    Ok((one, other, third))
+}
+
+/// One item more.
+pub fn pushed<T: Drop>(items: &mut Vec<T>, one: T) -> Result<(), Stop>
+    ensures ok { OnOk result (items.new.items ≡ items.old.items ++ one ∷ []) }
+    ensures err { IfErr result (λ f. f ≡ Stop.NoMemory) }
+{
+    match items.push(one) {
+        Ok(()) => Ok(()),
+        Err(_) => Err(Stop::NoMemory),
+    }
+}
