@@ -6,7 +6,6 @@ ghost use Rattle.rpl_tree.specs.Worked.{both_call, cap_and_base, count_call, sum
 ghost use Rattle.rpl_budget.specs.Budgets.{budgets_of};
 
 /// There is one for each declaration, in order.
-#[tactic(auto, using(crate::proofs::Ordered::budgets_length, crate::proofs::Ordered::budget_at))]
 pub fn one_each()
     ensures length { (rules : List Declared) → length (budgets_of rules) ≡ length rules }
     ensures number { (rules : List Declared) (k : ℕ) → k < length rules

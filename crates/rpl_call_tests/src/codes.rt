@@ -37,7 +37,10 @@ END
 const REFUSED: &[(&str, CodeFault)] = &[
     ("", CodeFault::Truncated),
     ("CODE 1\nRULE\nLOCALS -\nadd\n", CodeFault::Truncated),
-    ("CODE 1\nRULE\nLOCALS -\nnum 01\nplus\nEND\n", CodeFault::BadLine(4)),
+    (
+        "CODE 1\nRULE\nLOCALS -\nnum 01\nplus\nEND\n",
+        CodeFault::BadLine(4),
+    ),
     ("CODE 1\nRULE\nadd\nEND\n", CodeFault::BadLine(3)),
 ];
 
@@ -52,7 +55,10 @@ fn written_again(rt: &impl Abort, alloc: Global, text: &str) -> Vec<u8>
 fn a_text_is_read_and_written_again(rt: HostRuntime) {
     for text in CODES {
         assert!(rt; text.len() <= 16_777_216);
-        assert_eq!(rt; written_again(&rt, rt.alloc(), *text).as_slice(), text.as_bytes());
+        assert_eq!(rt;
+            written_again(&rt, rt.alloc(), *text).as_slice(),
+            text.as_bytes()
+        );
     }
 }
 

@@ -75,7 +75,6 @@ pub fn worked_places()
 {}
 
 /// What is written of a code is read as that code.
-#[tactic(auto, using(crate::proofs::CodeRead::read_spelt))]
 pub fn written_is_read()
     ensures { (blocks : List Block) → IsCode blocks → read (spelt blocks) ≡ Ok blocks }
 {}
@@ -90,7 +89,6 @@ pub fn read_is_written()
 {}
 
 /// A code that was written is read again as that code, or there is no memory.
-#[tactic(auto, using(crate::proofs::ReadingLeft::read_again))]
 pub fn written_code_is_read_again()
     ensures { (blocks : List Block) (result : Result (List Block) CodeFault) → IsCode blocks
         → Answers (read (spelt blocks)) result

@@ -20,7 +20,6 @@ ghost use Rattle.rpl_tree.specs.Worked.{acts_do, ahead, all_cells, basin_of, bot
 
 /// A firing depends on nothing but the cells at which it looks: where others hold something else, the rule does the same.
 /// One that isn't done asks for nothing.
-#[tactic(auto, using(crate::proofs::FramedTrees::framed, crate::proofs::FramedTrees::silent))]
 pub fn firings()
     ensures framed { (rules : List Declared) (basin : Draft) (number step : ℕ)
         (values other : Cell → Option ℤ) (fire : Fire)
@@ -33,7 +32,6 @@ pub fn firings()
 
 /// `<>`, `>` and `>=` are NOT of the opposite test. AND and OR are the IFs that they stand for, where their right side is
 /// a truth. A pair of brackets means what stands in it.
-#[tactic(auto, using(crate::proofs::Standing::or_stands))]
 pub fn stands_for()
     ensures unequal { (world : World) (functions : List Function) (env : Env) (l r : Tree)
         → value_of world functions env (two Unequal l r)

@@ -321,7 +321,6 @@ pub fn stuck_codes()
 {}
 
 /// Code that is accepted fits, and each of its blocks keeps within the limits.
-#[tactic(auto, using(crate::proofs::Rulings::accepted_fits, crate::proofs::Rulings::accepted_within))]
 pub fn accepted_code()
     ensures fits { (basin : Draft) (blocks : List Block) (budgets : List Budget)
         → AreAccepted basin blocks budgets → AreFit basin blocks }
@@ -332,7 +331,6 @@ pub fn accepted_code()
 /// Verified code never goes wrong. However the cells are and at whatever timestep, each rule of accepted code is never stuck and
 /// ends. What it counts, how often it looks, inside the run and outside, the puts that it executes and the words of each
 /// state that it passes are at most those of its budget.
-#[tactic(auto, using(crate::proofs::Accepted::safe))]
 pub fn verified_code_is_safe()
     ensures { (basin : Draft) (blocks : List Block) (budgets : List Budget)
         → AreAccepted basin blocks budgets → AreSafe basin blocks budgets }

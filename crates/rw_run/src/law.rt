@@ -53,7 +53,6 @@ pub fn timesteps()
 {}
 
 /// A basin, a policy and inputs have one run.
-#[tactic(auto, using(crate::proofs::OneRun::one_run))]
 pub fn one_run()
     ensures { (basin : Draft) (policy : Policy) (inputs : List (Cell × ℤ)) (log other : Log)
         → IsRun basin policy inputs log → IsRun basin policy inputs other → log ≡ other }
@@ -141,7 +140,6 @@ pub fn waiting_after()
 {}
 
 /// An object waits since the first event that wakes it, from the opening of the timestep on, and after its last dispatch.
-#[tactic(auto, using(crate::proofs::Sinces::since_is))]
 pub fn since_is()
     ensures { (basin : Draft) (log : Log) (object place : ℕ)
         → (since basin log object ≡ Some place) ↔ WaitsSince basin log object place }
@@ -157,7 +155,6 @@ pub fn frame()
 {}
 
 /// The events of a timestep that was closed lead on in another run, where the cells at which they look are alike.
-#[tactic(auto, using(crate::proofs::Reuses::reuse))]
 pub fn reuse()
     ensures { (basin : Draft) (policy : Policy) (step : ℕ) (old other end : Log)
         (first : Event) (events : List Event)
@@ -169,7 +166,6 @@ pub fn reuse()
 {}
 
 /// Where each rule is marked whose last looks the puts touch, a rule without a mark still isn't due.
-#[tactic(auto, using(crate::proofs::Reuses::index))]
 pub fn index()
     ensures { (basin : Draft) (cells : Cells) (puts : List Asked)
         (looked : ℕ → Option (List Look)) (was_marked is_marked : ℕ → Bool)

@@ -29,7 +29,6 @@ use rw_plain_reservoir::law::first_text;
 use rw_run::law::one_run;
 
 /// A text is read as inputs in one way, and isn't refused where it is read.
-#[tactic(auto, using(crate::proofs::OneReading::same_values, crate::proofs::OneReading::refuses_clash))]
 pub fn one_inputs()
     ensures values { (basin : Draft) (text : List ℕ) (inputs others : Inputs)
         → Reads basin text inputs → Reads basin text others
