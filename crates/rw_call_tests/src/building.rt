@@ -63,11 +63,11 @@ fn check_objects(rt: &impl Abort, basin: &Basin) {
     assert!(rt; basin.object_count() == 2);
     assert_eq!(rt; basin.object_name(ObjectNo(2)), "Reach");
     assert_eq!(rt; basin.kind_code(ObjectNo(1)), 5);
-    assert_eq!(rt; basin.owner(SlotNo(12)), ObjectNo(2));
 }
 
 fn check_slots(rt: &impl Abort, basin: &Basin) {
     assert!(rt; basin.slot_count() == 13);
+    assert_eq!(rt; basin.owner(SlotNo(12)), ObjectNo(2));
     assert_eq!(rt; basin.slot_name(SlotNo(12)), "Inflow");
     assert_eq!(rt; basin.find_slot("Reach", "Outflow"), Some(SlotNo(13)));
     assert!(rt; basin.settable(SlotNo(8)) && !basin.settable(SlotNo(9)));
