@@ -5,20 +5,17 @@
 ghost use Rattle.std.specs.Prelude.{◌≡◌, ◌<◌};
 
 use rw_base::NoMemory;
-use rw_io::{FileShelf, Shelf, Sink, StdSink, write_all};
+use rw_io::{FileShelf, Shelf, Sink, StdSink};
 use rw_method::{Catalogue, Method};
 use rw_reservoir::ReservoirMethod;
 use rw_stream::{BifurcationMethod, ConfluenceMethod, GageMethod, ReachMethod};
-use rw_top::{Blank, Ledger, Steps, basin_main};
+use rw_top::{Blank, Ledger, Steps, basin_main, end_without_memory};
 use rw_users::{CanalMethod, WaterUserMethod};
 use std::alloc::Global;
 use std::env;
 use std::io::ErrorKind;
 use std::marker::Brand;
 use std::process::ExitCode;
-
-// The status of want of memory.
-const NO_MEMORY: u8 = 5;
 
 // The words behind the program's name. Words that are no text are as none: they are refused.
 fn words(rt: &HostRuntime) -> Result<Vec<String>, NoMemory> {
@@ -68,17 +65,16 @@ fn run<L: Ledger>(rt: HostRuntime, blank: Blank) -> ExitCode
     let mut out = StdSink::of(rt.stdout());
     let mut err = StdSink::of(rt.stderr());
     let alloc = rt.alloc();
-    let Ok(words) = words(&rt) else {
-        let _ = write_all(&mut err, b"basin: want of memory\n");
-        return ExitCode::from(NO_MEMORY);
-    };
-    let mut shelf = FileShelf::of(rt);
-    match status(alloc, &words, &mut shelf, &mut out, &mut err, &mut steps) {
-        Ok(status) => ExitCode::from(status),
-        Err(NoMemory) => {
-            let _ = write_all(&mut err, b"basin: want of memory\n");
-            ExitCode::from(NO_MEMORY)
+    let ended = match words(&rt) {
+        Ok(words) => {
+            let mut shelf = FileShelf::of(rt);
+            status(alloc, &words, &mut shelf, &mut out, &mut err, &mut steps)
         }
+        Err(NoMemory) => Err(NoMemory),
+    };
+    match ended {
+        Ok(status) => ExitCode::from(status),
+        Err(NoMemory) => ExitCode::from(end_without_memory(&mut err)),
     }
 }
 

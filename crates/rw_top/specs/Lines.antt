@@ -149,6 +149,10 @@ inputs_line kind row column =
 abbrev pub words_line : List ℕ
 words_line = codes "basin: words refused\n"
 
+-- the line on want of memory
+abbrev pub memory_line : List ℕ
+memory_line = codes "basin: want of memory\n"
+
 -- the path of a file as a line has it
 abbrev pub told_path : Command → File → List ℕ
 told_path command file = unwrap_or (path_of command file) []
@@ -159,7 +163,7 @@ line_of command Words = words_line
 line_of command (CannotRead file) =
     (codes "basin: cannot read " ++ told_path command file) ++ codes "\n"
 line_of command CannotWrite = codes "basin: cannot write\n"
-line_of command NoMemory = codes "basin: want of memory\n"
+line_of command NoMemory = memory_line
 line_of command (Model fault) = model_line fault
 line_of command (Grammar fault) = grammar_line fault
 line_of command (Types kind declaration node) = types_line kind declaration node

@@ -18,4 +18,4 @@ mod top;
 
 pub use refusal::{File, Refusal};
 pub use rw_base::{Blank, Ledger, Steps};
-pub use top::basin_main;
+pub use top::{basin_main, end_without_memory};

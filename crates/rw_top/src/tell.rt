@@ -5,7 +5,7 @@ ghost use Rattle.rw_io.specs.Known.{GrowsBy, PrefixGrew};
 ghost use Rattle.rw_top.specs.Command.{command_of};
 ghost use Rattle.rw_io.specs.Outside.{change};
 ghost use Rattle.rw_top.specs.Written.{Tells};
-ghost use Rattle.rw_top.specs.Lines.{block_line, code_line, grammar_line, inputs_line, line_of, model_line, told_path, types_line, words_line};
+ghost use Rattle.rw_top.specs.Lines.{block_line, code_line, grammar_line, inputs_line, line_of, model_line, told_path, types_line, memory_line, words_line};
 
 use crate::command::Command;
 use crate::fault_words::{
@@ -213,6 +213,13 @@ pub(crate) fn tell_words<E: Sink>(err: &mut E)
     tell_line(err, "basin: words refused", "");
 }
 
+/// Writes the line on want of memory, as far as the sink takes it. It takes no memory.
+pub(crate) fn tell_memory<E: Sink>(err: &mut E)
+    ensures { Tells (change (E.seen err.old) (E.seen err.new)) memory_line }
+{
+    tell_line(err, "basin: want of memory", "");
+}
+
 /// Writes the line on a refusal of the command, as far as the sink takes it. It takes no memory.
 pub(crate) fn tell<E: Sink>(err: &mut E, command: &Command<'_>, refusal: &Refusal)
     ensures { Tells (change (E.seen err.old) (E.seen err.new))
@@ -226,7 +233,7 @@ pub(crate) fn tell<E: Sink>(err: &mut E, command: &Command<'_>, refusal: &Refusa
             told_path(command, *file),
         ),
         Refusal::CannotWrite => tell_line(err, "basin: cannot write", ""),
-        Refusal::NoMemory => tell_line(err, "basin: want of memory", ""),
+        Refusal::NoMemory => tell_memory(err),
         Refusal::Model(fault) => tell_model(err, fault),
         Refusal::Grammar(fault) => tell_grammar(err, fault),
         Refusal::Types(kind, declaration, node) => tell_types(err, *kind, *declaration, *node),

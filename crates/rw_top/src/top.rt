@@ -3,11 +3,13 @@ ghost use Rattle.rw_method.specs.Catalogue.{AreInOrder};
 ghost use Rattle.rw_top.specs.Command.{texts_of};
 ghost use Rattle.rw_io.specs.Outside.{change};
 ghost use Rattle.rw_top.specs.Promise.{Promise};
+ghost use Rattle.rw_top.specs.Lines.{memory_line};
+ghost use Rattle.rw_top.specs.Written.{Tells};
 
 use crate::Refusal;
 use crate::command::read_words;
 use crate::perform::perform;
-use crate::tell::{tell, tell_words};
+use crate::tell::{tell, tell_memory, tell_words};
 use rw_base::{Ledger, Steps};
 use rw_io::{Shelf, Sink};
 use rw_method::Catalogue;
@@ -53,4 +55,14 @@ pub fn basin_main<S: Shelf, K: Sink, E: Sink, L: Ledger>(
             refusal.status()
         }
     }
+}
+
+/// What a program does that has no memory to call `basin_main` with: writes the line on that, as far as `err` takes it, and answers
+/// the status with which it ends. It takes no memory itself.
+pub fn end_without_memory<E: Sink>(err: &mut E) -> u8
+    ensures status { result ≡ 5 }
+    ensures told { Tells (change (E.seen err.old) (E.seen err.new)) memory_line }
+{
+    tell_memory(err);
+    Refusal::NoMemory.status()
 }

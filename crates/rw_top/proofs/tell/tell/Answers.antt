@@ -10,7 +10,7 @@ pub returns-in-CannotWrite : goal.returns-in-CannotWrite
 returns-in-CannotWrite g c = rw c.in-CannotWrite.is c.tell_line-in-CannotWrite.ensures
 
 pub returns-in-NoMemory : goal.returns-in-NoMemory
-returns-in-NoMemory g c = rw c.in-NoMemory.is c.tell_line-in-NoMemory.ensures
+returns-in-NoMemory g c = rw c.in-NoMemory.is c.tell_memory.ensures
 
 pub returns-in-Inputs : goal.returns-in-Inputs
 returns-in-Inputs g c = rw c.in-Inputs.is c.tell_inputs.ensures
