@@ -3,3 +3,4 @@ pub mod Size
 pub mod Site
 pub mod Translate
 pub mod Worked
+pub mod Fires
