@@ -18,7 +18,6 @@ ghost use Rattle.rw_plain_reservoir.specs.Table.{IsFirstText, columns, heading};
 use rw_run::law::one_run;
 
 /// One plain reservoir, whose inflow and outflow are given, has a run.
-#[tactic(auto, using(crate::proofs::Whole::first_run))]
 pub fn first_run()
     ensures { (basin : Draft) (model : FirstModel) (inputs : Inputs) (inflows outflows : List ℤ)
         → IsBasin basin → IsFirstForm basin model → IsFirstFlows inputs model.run.count inflows outflows
