@@ -1,7 +1,7 @@
 -- A basin is in the first form in one way.
 use Rattle.std.proofs.Common.{◌≡◌, ℕ, List, [], ◌∷◌, Option, Some, None, ap, sym, ◌∙◌, ℤ}
 use Rattle.rw_model.specs.declared.kind.Kind.{Kind}
-use Rattle.rw_model.specs.declared.kind.Kind.TheVariants.{DataObject, Gage, Confluence, Bifurcation, Reach, Reservoir, WaterUser, Canal}
+use Rattle.rw_model.specs.declared.kind.Kind.TheVariants.{Reservoir}
 use Rattle.rw_model.proofs.Common.{Object, Draft}
 use Rattle.rw_plain_reservoir.specs.FirstForm.{plain_reservoir, FirstModel, IsFirstForm}
 
@@ -10,14 +10,8 @@ name_in [] = []
 name_in (object ∷ objects) = object.name
 
 abbrev initial_of : Kind → Option ℤ
-initial_of (DataObject slots) = None
-initial_of Gage = None
-initial_of Confluence = None
-initial_of Bifurcation = None
-initial_of (Reach lag history local_inflow diversion return_flow) = None
 initial_of (Reservoir initial_storage table local_inflow diversion return_flow evaporation max_release) = Some initial_storage
-initial_of (WaterUser depletion supply) = None
-initial_of (Canal seepage) = None
+initial_of kind = None
 
 abbrev storage_in : List Object → Option ℤ
 storage_in [] = None

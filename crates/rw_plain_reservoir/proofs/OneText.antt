@@ -1,8 +1,8 @@
 -- A run has one end and one text.
-use Rattle.rw_base.proofs.Common.{◌≡◌, ℕ, ◌+◌, ◌<◌, ◌≤◌, ℤ, List, ◌++◌, refl, ap, sym, ◌∙◌, subst, arith, None, Some, Option}
+use Rattle.rw_base.proofs.Common.{◌≡◌, ℕ, ◌<◌, ◌≤◌, ℤ, List, ◌++◌, refl, ap, sym, ◌∙◌, subst, arith, None, Some, Option}
 use Rattle.rw_plain_reservoir.specs.FirstForm.{FirstModel}
 use Rattle.rw_model.specs.Kind.{IsAmount}
-use Rattle.rw_plain_reservoir.specs.Reservoir.{IsReservoirRun, storage_at}
+use Rattle.rw_plain_reservoir.specs.Reservoir.{IsReservoirRun}
 use Rattle.rw_plain_reservoir.specs.Table.{IsFirstText, heading, columns, rows}
 
 -- the steps of a run are its end at most
@@ -10,16 +10,15 @@ at_most : (steps : ℕ) (i : ℤ) (ins outs : List ℤ) (closed : ℕ) (fault : 
 at_most steps i ins outs closed None h = omega (arith, h.ends)
 at_most steps i ins outs closed (Some v) h = omega (arith, h.ends.0)
 
--- a run that has ended goes no further
-no_further : (steps : ℕ) (i : ℤ) (ins outs : List ℤ) (closed more : ℕ) (fault : Option ℤ) → IsReservoirRun steps i ins outs closed fault → more ≤ steps → ((t : ℕ) → t < more → IsAmount (storage_at i ins outs (t + 1))) → closed < more → ⊥
-no_further steps i ins outs closed more None h le inside lt = omega (arith, h.ends)
-no_further steps i ins outs closed more (Some v) h le inside lt =
-    h.ends.2 (subst IsAmount (sym h.ends.1) (inside closed lt))
+-- of two runs of the same flows neither goes further
+no_further : (steps : ℕ) (i : ℤ) (ins outs : List ℤ) (a b : ℕ) (f g : Option ℤ) → IsReservoirRun steps i ins outs a f → IsReservoirRun steps i ins outs b g → a < b → ⊥
+no_further steps i ins outs a b None g h k lt = let most = at_most steps i ins outs b g k in omega (arith, h.ends, lt, most)
+no_further steps i ins outs a b (Some v) g h k lt = h.ends.2 (subst IsAmount (sym h.ends.1) (k.inside a lt))
 
 same_closed : (steps : ℕ) (i : ℤ) (ins outs : List ℤ) (a b : ℕ) (f g : Option ℤ) → IsReservoirRun steps i ins outs a f → IsReservoirRun steps i ins outs b g → a ≡ b
 same_closed steps i ins outs a b f g h k =
-    let up = no_further steps i ins outs a b f h (at_most steps i ins outs b g k) k.inside in
-    let down = no_further steps i ins outs b a g k (at_most steps i ins outs a f h) h.inside in
+    let up = no_further steps i ins outs a b f g h k in
+    let down = no_further steps i ins outs b a g f k h in
     grind (arith, up, down)
 
 same_fault : (steps : ℕ) (i : ℤ) (ins outs : List ℤ) (a : ℕ) (f g : Option ℤ) → IsReservoirRun steps i ins outs a f → IsReservoirRun steps i ins outs a g → f ≡ g

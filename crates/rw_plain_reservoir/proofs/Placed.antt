@@ -1,160 +1,102 @@
 -- What the cells hold once the inputs are placed.
-use Rattle.rw_base.proofs.Common.{◌≡◌, ◌≤◌, ◌==◌, ◌≢◌, ℕ, zero, suc, ℤ, Bool, true, false, List, [], ◌∷◌, ◌++◌, Option, Some, None, refl, sym, ap, ◌∙◌, arith, if◌then◌else◌, option_or, nat_tests}
+use Rattle.rw_base.proofs.Common.{◌≡◌, ◌≤◌, ◌==◌, ℕ, zero, suc, ℤ, Bool, true, false, List, [], ◌∷◌, ◌++◌, Option, Some, None, refl, ap, ◌∙◌, arith, if◌then◌else◌, option_map, option_or, nat_tests}
 use Rattle.rw_base.specs.declared.number.Cell.{Cell}
-use Rattle.rw_model.specs.declared.content.Content.{Content}
-use Rattle.rw_model.specs.declared.control.RunControl.{RunControl}
-use Rattle.rw_model.specs.Draft.{Bound, Draft}
+use Rattle.rw_model.specs.Draft.{Draft}
 use Rattle.rw_series.specs.Series.{is_shared}
 use Rattle.rw_inputs.specs.Inputs.{Inputs, value_at}
-use Rattle.rw_run.proofs.Common.{Log, given, cells_of, input_content, cell_at, end_of, last_closed, placed, standing, rests}
-use Rattle.rw_run.specs.declared.run.RunEnd.TheVariants.{Settled}
+use Rattle.rw_run.proofs.Common.{Log, given, cells_of, input_content, cell_at, placed}
 use Rattle.rw_engine.specs.Givens.{if_given, givens_of, givens_to}
-use Rattle.rw_plain_reservoir.proofs.Alone.{lone}
-
--- what these inputs leave in a cell
-abbrev last_given : Draft → List (Cell × ℤ) → Cell → Option Content
-last_given basin [] cell = None
-last_given basin (input ∷ inputs) cell =
-    option_or (last_given basin inputs cell) (if is_shared basin input.0 cell then Some (input_content input.1) else None)
-
-or_assoc : {A : Type 0} → (a b c : Option A) → option_or a (option_or b c) ≡ option_or (option_or a b) c
-or_assoc None b c = refl
-or_assoc (Some x) b c = refl
+use Rattle.rw_plain_reservoir.proofs.Alone.{Case, basin_of}
 
 or_none : {A : Type 0} → (a : Option A) → option_or a None ≡ a
 or_none None = refl
 or_none (Some x) = refl
 
-holds_given : (basin : Draft) (inputs : List (Cell × ℤ)) (log : Log) (cell : Cell)
-    → cells_of basin (placed log inputs) cell ≡ option_or (last_given basin inputs cell) (cells_of basin log cell)
-holds_given basin [] log cell = refl
-holds_given basin (input ∷ inputs) log cell =
-    holds_given basin inputs (given input.0 input.1 ∷ log) cell
-    ∙ or_assoc (last_given basin inputs cell) (if is_shared basin input.0 cell then Some (input_content input.1) else None) (cells_of basin log cell)
+placed-append : (log : Log) (xs ys : List (Cell × ℤ)) → placed log (xs ++ ys) ≡ placed (placed log xs) ys
+placed-append log [] ys = refl
+placed-append log (x ∷ xs) ys = placed-append (given x.0 x.1 ∷ log) xs ys
 
-pub rests-placed : (log : Log) (inputs : List (Cell × ℤ)) → standing log ≡ rests 0 → standing (placed log inputs) ≡ rests 0
-rests-placed log [] e = e
-rests-placed log (input ∷ inputs) e = rests-placed _ inputs refl
+-- ---- the inputs of one slot, behind a log
 
-pub end-placed : (log : Log) (inputs : List (Cell × ℤ)) → end_of log ≡ Settled → end_of (placed log inputs) ≡ Settled
-end-placed log [] e = e
-end-placed log (input ∷ inputs) e = end-placed (given input.0 input.1 ∷ log) inputs refl
+module _ (basin : Draft) (inputs : Inputs) (log : Log) (slot : ℕ) where
+  abbrev behind : ℕ → Log
+  behind n = placed log (givens_of inputs slot n)
 
-pub closed-placed : (log : Log) (inputs : List (Cell × ℤ)) → last_closed (placed log inputs) ≡ last_closed log
-closed-placed log [] = refl
-closed-placed log (input ∷ inputs) = closed-placed (given input.0 input.1 ∷ log) inputs
+  -- one timestep more, whose value the cell shares or not
+  one_more : (cell : Cell) (n : ℕ) (shared : Bool) → is_shared basin (cell_at slot (suc n)) cell ≡ shared
+      → cells_of basin (behind (suc n)) cell
+      ≡ option_or (if shared then option_map input_content (value_at inputs slot (suc n)) else None) (cells_of basin (behind n) cell)
+  one_more cell n shared e =
+      ap (λ l. cells_of basin l cell) (placed-append log (givens_of inputs slot n) (if_given slot (suc n) (value_at inputs slot (suc n))))
+      ∙ at_once (value_at inputs slot (suc n)) shared e
+    where
+      at_once : (value : Option ℤ) (shared : Bool) → is_shared basin (cell_at slot (suc n)) cell ≡ shared
+          → cells_of basin (placed (behind n) (if_given slot (suc n) value)) cell
+          ≡ option_or (if shared then option_map input_content value else None) (cells_of basin (behind n) cell)
+      at_once None true is = refl
+      at_once None false is = refl
+      at_once (Some v) shared is = ap (λ t. option_or (if t then Some (input_content v) else None) (cells_of basin (behind n) cell)) is
 
-given-append : (basin : Draft) (xs ys : List (Cell × ℤ)) (cell : Cell)
-    → last_given basin (xs ++ ys) cell ≡ option_or (last_given basin ys cell) (last_given basin xs cell)
-given-append basin [] ys cell = sym (or_none (last_given basin ys cell))
-given-append basin (x ∷ xs) ys cell =
-    let last = (if is_shared basin x.0 cell then Some (input_content x.1) else None) in
-    ap (λ o. option_or o last) (given-append basin xs ys cell)
-    ∙ sym (or_assoc (last_given basin ys cell) (last_given basin xs cell) last)
+  -- they leave nothing where none of them is
+  nothing : (cell : Cell) (n : ℕ) → ((step : ℕ) → step ≤ n → is_shared basin (cell_at slot step) cell ≡ false)
+      → cells_of basin (behind n) cell ≡ cells_of basin log cell
+  nothing cell zero apart = refl
+  nothing cell (suc n) apart = one_more cell n false (apart (suc n) (omega arith)) ∙ nothing cell n (λ step le. apart step (omega (arith, le)))
 
--- of one slot
-other_value : (basin : Draft) (slot step : ℕ) (cell : Cell) (value : Option ℤ) → is_shared basin (cell_at slot step) cell ≡ false
-    → last_given basin (if_given slot step value) cell ≡ None
-other_value basin slot step cell None e = refl
-other_value basin slot step cell (Some v) e = ap (λ t. if t then Some (input_content v) else None) e
-
-same_value : (basin : Draft) (slot step : ℕ) (cell : Cell) (value : ℤ) → is_shared basin (cell_at slot step) cell ≡ true
-    → last_given basin (if_given slot step (Some value)) cell ≡ Some (input_content value)
-same_value basin slot step cell v e = ap (λ t. if t then Some (input_content v) else None) e
-
--- the inputs of another slot leave nothing
-pub other_slot : (basin : Draft) (inputs : Inputs) (slot : ℕ) (cell : Cell) (n : ℕ) → ((step : ℕ) → is_shared basin (cell_at slot step) cell ≡ false)
-    → last_given basin (givens_of inputs slot n) cell ≡ None
-other_slot basin inputs slot cell zero apart = refl
-other_slot basin inputs slot cell (suc n) apart =
-    let here = if_given slot (suc n) (value_at inputs slot (suc n)) in
-    given-append basin (givens_of inputs slot n) here cell
-    ∙ ap (λ o. option_or o (last_given basin (givens_of inputs slot n) cell)) (other_value basin slot (suc n) cell (value_at inputs slot (suc n)) (apart (suc n)))
-    ∙ other_slot basin inputs slot cell n apart
-
--- nor does a slot for which nothing is given at that timestep
-none_here : (basin : Draft) (inputs : Inputs) (slot other step at : ℕ) (t : Bool) → (step == at) ≡ t
-    → ((k : ℕ) → is_shared basin (cell_at slot k) (cell_at other step) ≡ (step == k))
-    → value_at inputs slot step ≡ None → last_given basin (if_given slot at (value_at inputs slot at)) (cell_at other step) ≡ None
-none_here basin inputs slot other step at true e same none =
-    let here : at ≡ step = grind (arith, nat_tests, e) in
-    ap (λ v. last_given basin (if_given slot at v) (cell_at other step)) (ap (value_at inputs slot) here ∙ none)
-none_here basin inputs slot other step at false e same none = other_value basin slot at (cell_at other step) (value_at inputs slot at) (same at ∙ e)
-
-pub no_value : (basin : Draft) (inputs : Inputs) (slot other step n : ℕ) → ((k : ℕ) → is_shared basin (cell_at slot k) (cell_at other step) ≡ (step == k))
-    → value_at inputs slot step ≡ None → last_given basin (givens_of inputs slot n) (cell_at other step) ≡ None
-no_value basin inputs slot other step zero same none = refl
-no_value basin inputs slot other step (suc n) same none =
-    let here = if_given slot (suc n) (value_at inputs slot (suc n)) in
-    given-append basin (givens_of inputs slot n) here (cell_at other step)
-    ∙ ap (λ o. option_or o (last_given basin (givens_of inputs slot n) (cell_at other step))) (none_here basin inputs slot other step (suc n) _ refl same none)
-    ∙ no_value basin inputs slot other step n same none
-
--- and what is given there stays
-some_here : (basin : Draft) (inputs : Inputs) (slot other step n : ℕ) (value : ℤ) (before : Option Content) (t : Bool) → (step == suc n) ≡ t
-    → ((k : ℕ) → is_shared basin (cell_at slot k) (cell_at other step) ≡ (step == k))
-    → value_at inputs slot step ≡ Some value → step ≤ suc n → (step ≤ n → before ≡ Some (input_content value))
-    → option_or (last_given basin (if_given slot (suc n) (value_at inputs slot (suc n))) (cell_at other step)) before ≡ Some (input_content value)
-some_here basin inputs slot other step n value before true e same is high earlier =
-    let here : suc n ≡ step = grind (arith, nat_tests, e) in
-    ap (λ v. option_or (last_given basin (if_given slot (suc n) v) (cell_at other step)) before) (ap (value_at inputs slot) here ∙ is)
-    ∙ ap (λ o. option_or o before) (same_value basin slot (suc n) (cell_at other step) value (same (suc n) ∙ e))
-some_here basin inputs slot other step n value before false e same is high earlier =
-    let apart : step ≢ suc n = grind (arith, nat_tests, e) in
-    ap (λ o. option_or o before) (other_value basin slot (suc n) (cell_at other step) (value_at inputs slot (suc n)) (same (suc n) ∙ e))
-    ∙ earlier (omega (arith, apart, high))
-
-pub its_value : (basin : Draft) (inputs : Inputs) (slot other step n : ℕ) (value : ℤ) → ((k : ℕ) → is_shared basin (cell_at slot k) (cell_at other step) ≡ (step == k))
-    → value_at inputs slot step ≡ Some value → 1 ≤ step → step ≤ n → last_given basin (givens_of inputs slot n) (cell_at other step) ≡ Some (input_content value)
-its_value basin inputs slot other step zero value same is low high = absurd (omega (arith, low, high))
-its_value basin inputs slot other step (suc n) value same is low high =
-    given-append basin (givens_of inputs slot n) (if_given slot (suc n) (value_at inputs slot (suc n))) (cell_at other step)
-    ∙ some_here basin inputs slot other step n value (last_given basin (givens_of inputs slot n) (cell_at other step)) _ refl same is high
-    (λ le. its_value basin inputs slot other step n value same is low le)
+  -- and in a cell that shares with none but itself what is given there
+  own : (step n : ℕ) → ((k : ℕ) → is_shared basin (cell_at slot k) (cell_at slot step) ≡ (step == k)) → 1 ≤ step → step ≤ n
+      → cells_of basin (behind n) (cell_at slot step)
+      ≡ option_or (option_map input_content (value_at inputs slot step)) (cells_of basin log (cell_at slot step))
+  own step zero alone low high = absurd (omega (arith, low, high))
+  own step (suc n) alone low high = newest (step == suc n) refl (λ le. own step n alone low le)
+    where
+      newest : (same : Bool) → (step == suc n) ≡ same
+          → (step ≤ n → cells_of basin (behind n) (cell_at slot step) ≡ option_or (option_map input_content (value_at inputs slot step)) (cells_of basin log (cell_at slot step)))
+          → cells_of basin (behind (suc n)) (cell_at slot step)
+          ≡ option_or (option_map input_content (value_at inputs slot step)) (cells_of basin log (cell_at slot step))
+      newest true e earlier =
+          let here : suc n ≡ step = grind (arith, nat_tests, e) in
+          one_more (cell_at slot step) n true (alone (suc n) ∙ e)
+          ∙ ap (λ k. option_or (option_map input_content (value_at inputs slot k)) (cells_of basin (behind n) (cell_at slot step))) here
+          ∙ ap (option_or (option_map input_content (value_at inputs slot step)))
+          (nothing (cell_at slot step) n (λ k le. alone k ∙ grind (arith, nat_tests, le, here)))
+      newest false e earlier = one_more (cell_at slot step) n false (alone (suc n) ∙ e) ∙ earlier (grind (arith, nat_tests, e, high))
 
 -- ---- the three slots of a plain reservoir
 
--- after all three, a cell holds what the last of them left
-three : (basin : Draft) (inputs : Inputs) (n : ℕ) (cell : Cell)
-    → cells_of basin (placed [] (givens_to inputs 3 n)) cell
-    ≡ option_or (last_given basin (givens_of inputs 3 n) cell) (option_or (last_given basin (givens_of inputs 2 n) cell) (last_given basin (givens_of inputs 1 n) cell))
-three basin inputs n cell =
-    let one = givens_of inputs 1 n in
-    let two = givens_of inputs 2 n in
-    let last = givens_of inputs 3 n in
-    holds_given basin (givens_to inputs 3 n) [] cell
-    ∙ or_none (last_given basin (givens_to inputs 3 n) cell)
-    ∙ given-append basin (one ++ two) last cell
-    ∙ ap (option_or (last_given basin last cell)) (given-append basin one two cell)
+module _ (s : Case) (inputs : Inputs) (step n : ℕ) (low : 1 ≤ step) (high : step ≤ n) where
+  abbrev after_inflows : Log
+  after_inflows = placed [] (givens_of inputs 1 n)
 
-pub inflow-placed : (control : RunControl) (name : List ℕ) (initial : ℤ) (bounds : List Bound) (inputs : Inputs) (step n : ℕ) (value : ℤ)
-    → value_at inputs 1 step ≡ Some value → 1 ≤ step → step ≤ n
-    → cells_of (lone control name initial bounds) (placed [] (givens_to inputs 3 n)) (cell_at 1 step) ≡ Some (input_content value)
-inflow-placed control name initial bounds inputs step n value is low high =
-    let basin = lone control name initial bounds in
-    let cell = cell_at 1 step in
-    three basin inputs n cell
-    ∙ ap (λ o. option_or o (option_or (last_given basin (givens_of inputs 2 n) cell) (last_given basin (givens_of inputs 1 n) cell))) (other_slot basin inputs 3 cell n (λ k. refl))
-    ∙ ap (λ o. option_or o (last_given basin (givens_of inputs 1 n) cell)) (other_slot basin inputs 2 cell n (λ k. refl))
-    ∙ its_value basin inputs 1 1 step n value (λ k. refl) is low high
+  abbrev after_flows : Log
+  after_flows = placed after_inflows (givens_of inputs 2 n)
 
-pub outflow-placed : (control : RunControl) (name : List ℕ) (initial : ℤ) (bounds : List Bound) (inputs : Inputs) (step n : ℕ) (value : ℤ)
-    → value_at inputs 2 step ≡ Some value → 1 ≤ step → step ≤ n
-    → cells_of (lone control name initial bounds) (placed [] (givens_to inputs 3 n)) (cell_at 2 step) ≡ Some (input_content value)
-outflow-placed control name initial bounds inputs step n value is low high =
-    let basin = lone control name initial bounds in
-    let cell = cell_at 2 step in
-    three basin inputs n cell
-    ∙ ap (λ o. option_or o (option_or (last_given basin (givens_of inputs 2 n) cell) (last_given basin (givens_of inputs 1 n) cell))) (other_slot basin inputs 3 cell n (λ k. refl))
-    ∙ ap (λ o. option_or o (last_given basin (givens_of inputs 1 n) cell)) (its_value basin inputs 2 2 step n value (λ k. refl) is low high)
+  in_turn : (cell : Cell) → cells_of (basin_of s) (placed [] (givens_to inputs 3 n)) cell ≡ cells_of (basin_of s) (placed after_flows (givens_of inputs 3 n)) cell
+  in_turn cell =
+      ap (λ l. cells_of (basin_of s) l cell) (placed-append [] (givens_of inputs 1 n ++ givens_of inputs 2 n) (givens_of inputs 3 n)
+      ∙ ap (λ l. placed l (givens_of inputs 3 n)) (placed-append [] (givens_of inputs 1 n) (givens_of inputs 2 n)))
 
-pub storage-placed : (control : RunControl) (name : List ℕ) (initial : ℤ) (bounds : List Bound) (inputs : Inputs) (step n : ℕ)
-    → value_at inputs 3 step ≡ None
-    → cells_of (lone control name initial bounds) (placed [] (givens_to inputs 3 n)) (cell_at 3 step) ≡ None
-storage-placed control name initial bounds inputs step n none =
-    let basin = lone control name initial bounds in
-    let cell = cell_at 3 step in
-    three basin inputs n cell
-    ∙ ap (λ o. option_or o (option_or (last_given basin (givens_of inputs 2 n) cell) (last_given basin (givens_of inputs 1 n) cell))) (no_value basin inputs 3 3 step n (λ k. refl) none)
-    ∙ ap (λ o. option_or o (last_given basin (givens_of inputs 1 n) cell)) (other_slot basin inputs 2 cell n (λ k. refl))
-    ∙ other_slot basin inputs 1 cell n (λ k. refl)
+  -- the cell of a slot holds what is given there
+  abbrev HoldsGiven : ℕ → Type 0
+  HoldsGiven slot = cells_of (basin_of s) (placed [] (givens_to inputs 3 n)) (cell_at slot step) ≡ option_map input_content (value_at inputs slot step)
+
+  pub inflow-placed : HoldsGiven 1
+  inflow-placed =
+      in_turn (cell_at 1 step)
+      ∙ nothing (basin_of s) inputs after_flows 3 (cell_at 1 step) n (λ k le. refl)
+      ∙ nothing (basin_of s) inputs after_inflows 2 (cell_at 1 step) n (λ k le. refl)
+      ∙ own (basin_of s) inputs [] 1 step n (λ k. refl) low high ∙ or_none _
+
+  pub outflow-placed : HoldsGiven 2
+  outflow-placed =
+      in_turn (cell_at 2 step)
+      ∙ nothing (basin_of s) inputs after_flows 3 (cell_at 2 step) n (λ k le. refl)
+      ∙ own (basin_of s) inputs after_inflows 2 step n (λ k. refl) low high
+      ∙ ap (option_or _) (nothing (basin_of s) inputs [] 1 (cell_at 2 step) n (λ k le. refl)) ∙ or_none _
+
+  pub storage-placed : HoldsGiven 3
+  storage-placed =
+      in_turn (cell_at 3 step)
+      ∙ own (basin_of s) inputs after_flows 3 step n (λ k. refl) low high
+      ∙ ap (option_or _) (nothing (basin_of s) inputs after_inflows 2 (cell_at 3 step) n (λ k le. refl)
+      ∙ nothing (basin_of s) inputs [] 1 (cell_at 3 step) n (λ k le. refl)) ∙ or_none _

@@ -1,46 +1,19 @@
 -- The run of a plain reservoir, event by event.
-use Rattle.rw_base.proofs.Common.{◌≡◌, ◌≢◌, ◌≤◌, ◌<◌, ◌+◌, ◌-◌, ◌==◌, ℕ, zero, suc, ℤ, pos, ◌-ℤ◌, Bool, true, false, List, [], ◌∷◌, length, Option, Some, None, nat_lt, refl, sym, ap, subst, ◌∙◌, arith, inl, inr, below_more, if◌then◌else◌, nat_le, option_map, option_or, slice_index_or, find, nat_tests}
+use Rattle.rw_base.proofs.Common.{◌≡◌, ◌≢◌, ◌≤◌, ◌<◌, ◌+◌, ◌-◌, ◌==◌, ℕ, zero, suc, ℤ, pos, ◌-ℤ◌, Bool, true, false, List, [], ◌∷◌, length, Option, Some, None, nat_lt, refl, sym, ap, subst, ◌∙◌, arith, inl, inr, below_more, if◌then◌else◌, nat_le, option_map, option_or, find, nat_tests}
 use Rattle.rw_model.specs.declared.content.Content.{Content}
 use Rattle.rw_model.specs.declared.control.AgendaOrder.{AgendaOrder}
 use Rattle.rw_model.specs.declared.control.AgendaOrder.TheVariants.{HighFirst, LowFirst}
-use Rattle.rw_model.specs.declared.control.RunControl.{RunControl}
-use Rattle.rw_model.proofs.Common.{before_of, Bound, Draft, IsAmount, bounds_in, from_zero}
+use Rattle.rw_model.proofs.Common.{before_of, IsAmount, bounds_in, from_zero}
 use Rattle.rw_series.specs.declared.look.Look.{Look}
 use Rattle.rw_run.specs.declared.fault.RunFault.TheVariants.{ObjectLimit, ObjectOutOfRange}
 use Rattle.rw_run.specs.declared.run.RunEnd.{RunEnd}
 use Rattle.rw_run.specs.declared.run.RunEnd.TheVariants.{Settled, Fault}
-use Rattle.rw_run.proofs.Common.{Cells, Event, Log, opened, closed, solved, fault, cells_of, input_content, value_in, first_waiting, first_of, cell_at, dispatched, looked_cells, looks_at, past_value, no_rules, next_of, after_objects, agenda_of, is_due, first_due, Leads, IsOver, follows, follows_in, standing, rests, end_of, last_closed, opens, solves}
+use Rattle.rw_run.proofs.Common.{Cells, Event, Log, opened, closed, solved, fault, cells_of, input_content, value_in, first_waiting, first_of, cell_at, dispatched, past_value, no_rules, next_of, after_objects, agenda_of, is_due, first_due, Leads, IsOver, follows, follows_in, standing, rests, end_of, last_closed, opens, solves}
 use Rattle.rw_plain_reservoir.specs.FirstForm.{plain_reservoir}
-use Rattle.rw_plain_reservoir.specs.Reservoir.{IsReservoirRun, storage_at}
-use Rattle.rw_plain_reservoir.proofs.Alone.{lone}
-use Rattle.rw_plain_reservoir.proofs.Solves.{after, stores, stores_at, storing, leaves_range, storage_or_not}
+use Rattle.rw_plain_reservoir.specs.Reservoir.{IsReservoirRun}
+use Rattle.rw_plain_reservoir.proofs.Alone.{Case, HasValues, basin_of, count_of, inflow_at, outflow_at, storage_of}
+use Rattle.rw_plain_reservoir.proofs.Solves.{amount_or_not, dispatches, event_of, is_amount, leaves_range, looked_by, stores_at, storing}
 use Rattle.rw_plain_reservoir.proofs.Storages.{next-storage, first-storage}
-
--- ---- the case
-
--- a plain reservoir alone, and its flows
-pub record Case : Type 0 where
-  pub control : RunControl
-  pub name : List ℕ
-  pub initial : ℤ
-  pub bounds : List Bound
-  pub inflows : List ℤ
-  pub outflows : List ℤ
-
-abbrev pub basin_of : Case → Draft
-basin_of s = lone s.control s.name s.initial s.bounds
-
-abbrev pub count_of : Case → ℕ
-count_of s = s.control.stamps.count
-
-abbrev pub inflow_at : Case → ℕ → ℤ
-inflow_at s t = slice_index_or s.inflows t (pos 0)
-
-abbrev pub outflow_at : Case → ℕ → ℤ
-outflow_at s t = slice_index_or s.outflows t (pos 0)
-
-abbrev pub storage_of : Case → ℕ → ℤ
-storage_of s t = storage_at s.initial s.inflows s.outflows t
 
 pub record IsCase (s : Case) : Type 0 where
   pub limit : 16 ≤ s.control.object_limit
@@ -66,9 +39,6 @@ opens_next : (s : Case) (step : ℕ) (log : Log) → standing log ≡ rests step
 opens_next s step log at lt =
     let more : nat_lt step (count_of s) ≡ true = grind (arith, nat_tests, lt) in
     ap (follows_in (basin_of s) no_rules log) at ∙ ap (λ t. if t then Some (opened (step + 1)) else None) more
-
-is_over : (s : Case) (step : ℕ) (log : Log) → standing log ≡ rests step → count_of s ≤ step → IsOver (basin_of s) (standing log)
-is_over s step log at le = subst (IsOver (basin_of s)) (sym at) le
 
 -- ---- the reservoir is dispatched
 
@@ -164,9 +134,14 @@ pub record Ends (s : Case) (log : Log) : Type 0 where
   pub run : IsReservoirRun (count_of s) s.initial s.inflows s.outflows closed fault
   pub end : end_of log ≡ run_end closed fault
   pub last : last_closed log ≡ closed
-  pub inflow : (t : ℕ) → t < closed → value_in (cells_of (basin_of s) log) (cell_at 1 (t + 1)) ≡ Some (inflow_at s t)
-  pub outflow : (t : ℕ) → t < closed → value_in (cells_of (basin_of s) log) (cell_at 2 (t + 1)) ≡ Some (outflow_at s t)
-  pub storage : (t : ℕ) → t < closed → value_in (cells_of (basin_of s) log) (cell_at 3 (t + 1)) ≡ Some (storage_of s (t + 1))
+  pub values : HasValues s (cells_of (basin_of s) log) closed
+
+values_after : (s : Case) (step : ℕ) (log : Log) → Stands s step log → step ≤ count_of s → HasValues s (cells_of (basin_of s) log) step
+values_after s step log h le = record {
+  inflow = λ t lt. ap (option_map (λ (content : Content). content.value)) (h.inflow t (omega (arith, lt, le)));
+  outflow = λ t lt. ap (option_map (λ (content : Content). content.value)) (h.outflow t (omega (arith, lt, le)));
+  storage = h.stored;
+}
 
 -- after the last timestep it settles
 settles : (s : Case) (step : ℕ) (log : Log) → Stands s step log → step ≡ count_of s → Ends s log
@@ -176,56 +151,42 @@ settles s step log h all = record {
   run = record { inside = h.inside; ends = all };
   end = h.end;
   last = h.closed;
-  inflow = λ t lt. ap (option_map (λ (content : Content). content.value)) (h.inflow t (omega (arith, lt, all)));
-  outflow = λ t lt. ap (option_map (λ (content : Content). content.value)) (h.outflow t (omega (arith, lt, all)));
-  storage = h.stored;
+  values = values_after s step log h (omega (arith, all));
 }
 
 -- a storage out of range ends it
 faults : (s : Case) (step : ℕ) (log : Log) → Stands s step log → step < count_of s → ¬ IsAmount (storage_of s (step + 1))
-    → Ends s (fault (ObjectOutOfRange (record { 0 = 1 }) (record { 0 = 3 }) (record { 0 = step + 1 }) (storage_of s (step + 1))) ∷ opened (step + 1) ∷ log)
+    → Ends s (leaves_range (step + 1) (storage_of s (step + 1)) ∷ opened (step + 1) ∷ log)
 faults s step log h more beyond = record {
   fault = Some (storage_of s (step + 1));
   closed = step;
   run = record { inside = h.inside; ends = (more, refl, beyond) };
   end = refl;
   last = h.closed;
-  inflow = λ t lt. ap (option_map (λ (content : Content). content.value)) (h.inflow t (omega (arith, lt, more)));
-  outflow = λ t lt. ap (option_map (λ (content : Content). content.value)) (h.outflow t (omega (arith, lt, more)));
-  storage = h.stored;
+  values = values_after s step log h (omega (arith, more));
 }
 
 -- ---- all timesteps
 
--- the storage that follows, as the dispatch finds it
-found : (s : Case) (step : ℕ) → IsCase s → step < count_of s
-    → storage_of s (step + 1) ≡ after (storage_of s step) (inflow_at s step) (outflow_at s step)
-found s step is more =
+abbrev looked_at : Case → ℕ → Log → List Look
+looked_at s step log = looked_by s (cells_of (basin_of s) log) step
+
+moves_next : (s : Case) (step : ℕ) (log : Log) → IsCase s → Stands s step log → step < count_of s
+    → follows (basin_of s) no_rules (opened (step + 1) ∷ log)
+    ≡ Some (event_of (is_amount (storage_of s (step + 1))) (looked_at s (step + 1) log) (step + 1) (storage_of s (step + 1)))
+moves_next s step log is h more =
     let ins = is.inflows in
     let outs = is.outflows in
-    next-storage s.initial s.inflows s.outflows step (omega (arith, more, ins)) (omega (arith, more, outs))
-
-abbrev looked_at : Case → ℕ → Log → List Look
-looked_at s step log = looks_at (cells_of (basin_of s) log) (looked_cells (basin_of s) 1 step)
-
-stores_next : (s : Case) (step : ℕ) (log : Log) → IsCase s → Stands s step log → step < count_of s → IsAmount (storage_of s (step + 1))
-    → follows (basin_of s) no_rules (opened (step + 1) ∷ log) ≡ Some (solved (stores_at (looked_at s (step + 1) log) (step + 1) (storage_of s (step + 1))))
-stores_next s step log is h more fits =
-    let same = found s step is more in
+    let same = next-storage s.initial s.inflows s.outflows step (omega (arith, more, ins)) (omega (arith, more, outs)) in
     dispatches_next s (step + 1) log is
-    ∙ ap Some (stores s.control s.name s.initial s.bounds (cells_of (basin_of s) log) (step + 1) (inflow_at s step) (outflow_at s step) (storage_of s step)
-    (h.inflow step more) (h.outflow step more) (h.unknown step (omega arith) more) (past_is s step log h) is.usual (subst IsAmount same fits))
-    ∙ ap (λ z. Some (solved (stores_at (looked_at s (step + 1) log) (step + 1) z))) (sym same)
-
-faults_next : (s : Case) (step : ℕ) (log : Log) → IsCase s → Stands s step log → step < count_of s → ¬ IsAmount (storage_of s (step + 1))
-    → follows (basin_of s) no_rules (opened (step + 1) ∷ log)
-    ≡ Some (fault (ObjectOutOfRange (record { 0 = 1 }) (record { 0 = 3 }) (record { 0 = step + 1 }) (storage_of s (step + 1))))
-faults_next s step log is h more beyond =
-    let same = found s step is more in
-    dispatches_next s (step + 1) log is
-    ∙ ap Some (leaves_range s.control s.name s.initial s.bounds (cells_of (basin_of s) log) (step + 1) (inflow_at s step) (outflow_at s step) (storage_of s step)
-    (h.inflow step more) (h.outflow step more) (h.unknown step (omega arith) more) (past_is s step log h) is.usual (λ fits. beyond (subst IsAmount (sym same) fits)))
-    ∙ ap (λ z. Some (fault (ObjectOutOfRange (record { 0 = 1 }) (record { 0 = 3 }) (record { 0 = step + 1 }) z))) (sym same)
+    ∙ ap Some (dispatches s (cells_of (basin_of s) log) (step + 1) (inflow_at s step) (outflow_at s step) (storage_of s step) (record {
+      is_inflow = h.inflow step more;
+      is_outflow = h.outflow step more;
+      is_unknown = h.unknown step (omega arith) more;
+      is_past = past_is s step log h;
+      usual = is.usual;
+    }))
+    ∙ ap (λ z. Some (event_of (is_amount z) (looked_at s (step + 1) log) (step + 1) z)) (sym same)
 
 -- the run from a log on
 pub record Comes (s : Case) (old : Log) : Type 0 where
@@ -240,31 +201,31 @@ runs_on s zero step log is all h = record {
   events = [];
   log = log;
   leads = refl;
-  over = is_over s step log h.standing (omega (arith, all));
+  over = subst (IsOver (basin_of s)) (sym h.standing) (omega (arith, all));
   ends = settles s step log h (omega (arith, all));
 }
 runs_on s (suc left) step log is all h =
     let more : step < count_of s = omega (arith, all) in
-    let opening = opens_next s step log h.standing more in
     let z : ℤ = storage_of s (step + 1) in
     let looked : List Look = looked_at s (step + 1) log in
-    elim (storage_or_not z) [
+    let opening = opens_next s step log h.standing more in
+    let moving : ((fit : Bool) → is_amount z ≡ fit → follows (basin_of s) no_rules (opened (step + 1) ∷ log) ≡ Some (event_of fit looked (step + 1) z)) =
+    λ fit is_fit. moves_next s step log is h more ∙ ap (λ t. Some (event_of t looked (step + 1) z)) is_fit in
+    elim (amount_or_not z) [
       | inl fits ↦
-          let rest = runs_on s left (step + 1) (log_after looked (step + 1) z log) is (omega (arith, all)) (stands_on s looked step log h fits) in
+          let rest = runs_on s left (step + 1) (log_after looked (step + 1) z log) is (omega (arith, all)) (stands_on s looked step log h fits.0) in
           record {
             events = opened (step + 1) ∷ solved (stores_at looked (step + 1) z) ∷ closed (step + 1) ∷ rest.events;
             log = rest.log;
-            leads = (opening, (stores_next s step log is h more fits, (closes_next s (step + 1) log looked z, rest.leads)));
+            leads = (opening, (moving true fits.1, (closes_next s (step + 1) log looked z, rest.leads)));
             over = rest.over;
             ends = rest.ends;
           }
-      | inr beyond ↦
-          let why : Event = fault (ObjectOutOfRange (record { 0 = 1 }) (record { 0 = 3 }) (record { 0 = step + 1 }) z) in
-          record {
-            events = opened (step + 1) ∷ why ∷ [];
-            log = why ∷ opened (step + 1) ∷ log;
-            leads = (opening, (faults_next s step log is h more beyond, refl));
-            over = tt;
-            ends = faults s step log h more beyond;
-          }
+      | inr beyond ↦ record {
+        events = opened (step + 1) ∷ leaves_range (step + 1) z ∷ [];
+        log = leaves_range (step + 1) z ∷ opened (step + 1) ∷ log;
+        leads = (opening, (moving false beyond.1, refl));
+        over = tt;
+        ends = faults s step log h more beyond.0;
+      }
     ]

@@ -1,15 +1,10 @@
 -- The text of the run of a plain reservoir.
-use Rattle.rw_base.proofs.Common.{◌≡◌, ◌≤◌, ◌<◌, ◌+◌, ℕ, zero, suc, ℤ, pos, List, [], ◌∷◌, ◌++◌, Option, Some, None, refl, sym, ap, ap₂, ◌∙◌, arith, append_assoc, codes, decimal, signed_decimal, decimal_digit, slice_index_or, suc-eq-add-one}
+use Rattle.rw_base.proofs.Common.{◌≡◌, ◌≤◌, ◌<◌, ◌+◌, ℕ, zero, suc, ℤ, List, [], ◌∷◌, ◌++◌, Option, Some, None, refl, sym, ap, ap₂, ◌∙◌, arith, append_assoc, codes, decimal, signed_decimal, decimal_digit, suc-eq-add-one}
 use Rattle.rw_calendar.specs.Stamps.{end_of, stamp_text}
-use Rattle.rw_model.specs.declared.control.RunControl.{RunControl}
-use Rattle.rw_model.specs.Draft.{Bound}
-use Rattle.rw_run.specs.declared.run.RunEnd.TheVariants.{Settled, Fault}
-use Rattle.rw_run.specs.declared.fault.RunFault.TheVariants.{ObjectOutOfRange}
-use Rattle.rw_report.specs.Section.{heading as heading_of, columns as columns_of, row as row_of, rows as rows_of, value_words, section_of}
-use Rattle.rw_plain_reservoir.specs.FirstForm.{FirstModel}
-use Rattle.rw_plain_reservoir.specs.Reservoir.{storage_at}
+use Rattle.rw_run.specs.Log.{Cells}
+use Rattle.rw_report.specs.Section.{heading as heading_of, columns as columns_of, row as row_of, rows as rows_of, value_words, section_of, values_in}
 use Rattle.rw_plain_reservoir.specs.Table.{heading, columns, row, rows}
-use Rattle.rw_plain_reservoir.proofs.Alone.{lone}
+use Rattle.rw_plain_reservoir.proofs.Alone.{Case, HasValues, basin_of, inflow_at, model_of, outflow_at, storage_of}
 use Rattle.rw_plain_reservoir.proofs.Steps.{run_end}
 
 list_fault : (hash nought space fault out object name slot storage step number value quantity end : List ℕ)
@@ -30,71 +25,48 @@ list_row step comma stamp inflow outflow storage end = simp append_assoc refl
 zero_written : decimal 0 ≡ 48 ∷ []
 zero_written = decimal_digit 0 (omega arith)
 
-settled_heading : (control : RunControl) (name : List ℕ) (initial : ℤ) (bounds : List Bound) (closed : ℕ)
-    → heading_of (lone control name initial bounds) 0 Settled ≡ heading name closed None
-settled_heading control name initial bounds closed = ap (λ d. codes "# batch " ++ (d ++ codes " settled\n")) zero_written
-
-fault_heading : (control : RunControl) (name : List ℕ) (initial : ℤ) (bounds : List Bound) (closed : ℕ) (value : ℤ)
-    → heading_of (lone control name initial bounds) 0 (Fault (ObjectOutOfRange (record { 0 = 1 }) (record { 0 = 3 }) (record { 0 = closed + 1 }) value))
-    ≡ heading name closed (Some value)
-fault_heading control name initial bounds closed value =
-    list_fault (codes "# batch ") (decimal 0) (codes " ") (codes "fault ") (codes "out of range") (codes " object ") name (codes " slot ") (codes ".Storage") (codes " step ")
+same_heading : (s : Case) (closed : ℕ) (fault : Option ℤ) → heading_of (basin_of s) 0 (run_end closed fault) ≡ heading s.name closed fault
+same_heading s closed None = ap (λ d. codes "# batch " ++ (d ++ codes " settled\n")) zero_written
+same_heading s closed (Some value) =
+    list_fault (codes "# batch ") (decimal 0) (codes " ") (codes "fault ") (codes "out of range") (codes " object ") s.name (codes " slot ") (codes ".Storage") (codes " step ")
     (decimal (closed + 1)) (codes " value ") (signed_decimal value) (codes "\n")
-    ∙ ap (λ d. codes "# batch " ++ (d ++ (codes " fault out of range object " ++ (name ++ (codes " slot " ++ (name ++ (codes ".Storage step "
+    ∙ ap (λ d. codes "# batch " ++ (d ++ (codes " fault out of range object " ++ (s.name ++ (codes " slot " ++ (s.name ++ (codes ".Storage step "
     ++ (decimal (closed + 1) ++ (codes " value " ++ (signed_decimal value ++ codes "\n")))))))))) zero_written
 
-same_columns : (control : RunControl) (name : List ℕ) (initial : ℤ) (bounds : List Bound)
-    → columns_of (lone control name initial bounds) ≡ columns name
-same_columns control name initial bounds =
-    list_columns (codes "step,stamp") (codes ",") name (codes ".Inflow") (codes ".Outflow") (codes ".Storage") (codes "\n")
+same_columns : (s : Case) → columns_of (basin_of s) ≡ columns s.name
+same_columns s = list_columns (codes "step,stamp") (codes ",") s.name (codes ".Inflow") (codes ".Outflow") (codes ".Storage") (codes "\n")
 
-same_row : (control : RunControl) (name : List ℕ) (initial : ℤ) (bounds : List Bound) (values : ℕ → ℕ → Option ℤ) (step : ℕ) (inflow outflow storage : ℤ)
+abbrev line : ℕ → List ℕ → Option ℤ → Option ℤ → Option ℤ → List ℕ
+line step stamp inflow outflow storage =
+    decimal step ++ (codes "," ++ (stamp ++ (codes "," ++ (value_words inflow ++ (codes "," ++ (value_words outflow ++ (codes "," ++ (value_words storage ++ codes "\n"))))))))
+
+same_row : (s : Case) (values : ℕ → ℕ → Option ℤ) (step : ℕ) (inflow outflow storage : ℤ)
     → values 1 step ≡ Some inflow → values 2 step ≡ Some outflow → values 3 step ≡ Some storage
-    → row_of (lone control name initial bounds) values step ≡ row step (stamp_text (end_of control.stamps step)) inflow outflow storage
-same_row control name initial bounds values step inflow outflow storage is_inflow is_outflow is_storage =
-    let stamp = stamp_text (end_of control.stamps step) in
+    → row_of (basin_of s) values step ≡ row step (stamp_text (end_of s.control.stamps step)) inflow outflow storage
+same_row s values step inflow outflow storage is_inflow is_outflow is_storage =
+    let stamp = stamp_text (end_of s.control.stamps step) in
     list_row (decimal step) (codes ",") stamp (value_words (values 1 step)) (value_words (values 2 step)) (value_words (values 3 step)) (codes "\n")
-    ∙ ap (λ v. decimal step ++ (codes "," ++ (stamp ++ (codes "," ++ (value_words v ++ (codes "," ++ (value_words (values 2 step) ++ (codes "," ++ (value_words (values 3 step) ++ codes "\n")))))))))
-    is_inflow
-    ∙ ap (λ v. decimal step ++ (codes "," ++ (stamp ++ (codes "," ++ (signed_decimal inflow ++ (codes "," ++ (value_words v ++ (codes "," ++ (value_words (values 3 step) ++ codes "\n")))))))))
-    is_outflow
-    ∙ ap (λ v. decimal step ++ (codes "," ++ (stamp ++ (codes "," ++ (signed_decimal inflow ++ (codes "," ++ (signed_decimal outflow ++ (codes "," ++ (value_words v ++ codes "\n")))))))))
-    is_storage
+    ∙ ap (λ v. line step stamp v (values 2 step) (values 3 step)) is_inflow
+    ∙ ap (λ v. line step stamp (Some inflow) v (values 3 step)) is_outflow
+    ∙ ap (line step stamp (Some inflow) (Some outflow)) is_storage
 
-pub record HasValues (model : FirstModel) (inflows outflows : List ℤ) (values : ℕ → ℕ → Option ℤ) (closed : ℕ) : Type 0 where
-  pub inflow : (t : ℕ) → t < closed → values 1 (t + 1) ≡ Some (slice_index_or inflows t (pos 0))
-  pub outflow : (t : ℕ) → t < closed → values 2 (t + 1) ≡ Some (slice_index_or outflows t (pos 0))
-  pub storage : (t : ℕ) → t < closed → values 3 (t + 1) ≡ Some (storage_at model.initial inflows outflows (t + 1))
-
-abbrev pub model_of : RunControl → List ℕ → ℤ → FirstModel
-model_of control name initial = record { name = name; initial = initial; run = control.stamps }
-
-same_rows : (control : RunControl) (name : List ℕ) (initial : ℤ) (bounds : List Bound) (inflows outflows : List ℤ) (values : ℕ → ℕ → Option ℤ) (closed all : ℕ)
-    → HasValues (model_of control name initial) inflows outflows values all → closed ≤ all
-    → rows_of (lone control name initial bounds) values closed ≡ rows (model_of control name initial) inflows outflows closed
-same_rows control name initial bounds inflows outflows values zero all h le = refl
-same_rows control name initial bounds inflows outflows values (suc t) all h le =
+same_rows : (s : Case) (cells : Cells) (closed all : ℕ) → HasValues s cells all → closed ≤ all
+    → rows_of (basin_of s) (values_in cells) closed ≡ rows (model_of s) s.inflows s.outflows closed
+same_rows s cells zero all h le = refl
+same_rows s cells (suc t) all h le =
     let more : suc t ≡ t + 1 = suc-eq-add-one t in
     let lt : t < all = omega (arith, le) in
-    let before = same_rows control name initial bounds inflows outflows values t all h (omega (arith, le)) in
-    ap₂ (λ a b. a ++ b) before
-    (same_row control name initial bounds values (suc t) (slice_index_or inflows t (pos 0)) (slice_index_or outflows t (pos 0)) (storage_at initial inflows outflows (suc t))
-    (ap (values 1) more ∙ h.inflow t lt) (ap (values 2) more ∙ h.outflow t lt)
-    (ap (values 3) more ∙ h.storage t lt ∙ ap (λ n. Some (storage_at initial inflows outflows n)) (sym more)))
+    let values = values_in cells in
+    ap₂ (λ a b. a ++ b) (same_rows s cells t all h (omega (arith, le)))
+    (same_row s values (suc t) (inflow_at s t) (outflow_at s t) (storage_of s (suc t)) (ap (values 1) more ∙ h.inflow t lt)
+    (ap (values 2) more ∙ h.outflow t lt) (ap (values 3) more ∙ h.storage t lt ∙ ap (λ n. Some (storage_of s n)) (sym more)))
 
 -- the whole section
-ended_heading : (control : RunControl) (name : List ℕ) (initial : ℤ) (bounds : List Bound) (steps : ℕ) (fault : Option ℤ)
-    → heading_of (lone control name initial bounds) 0 (run_end steps fault) ≡ heading name steps fault
-ended_heading control name initial bounds steps None = settled_heading control name initial bounds steps
-ended_heading control name initial bounds steps (Some value) = fault_heading control name initial bounds steps value
-
-pub same-text : (control : RunControl) (name : List ℕ) (initial : ℤ) (bounds : List Bound) (inflows outflows : List ℤ) (values : ℕ → ℕ → Option ℤ) (steps : ℕ) (fault : Option ℤ)
-    → HasValues (model_of control name initial) inflows outflows values steps
-    → section_of (lone control name initial bounds) 0 (run_end steps fault) steps values
-    ≡ (heading name steps fault ++ columns name) ++ rows (model_of control name initial) inflows outflows steps
-same-text control name initial bounds inflows outflows values steps fault h =
-    let basin = lone control name initial bounds in
-    ap (λ x. x ++ (columns_of basin ++ rows_of basin values steps)) (ended_heading control name initial bounds steps fault)
-    ∙ ap (λ x. heading name steps fault ++ (x ++ rows_of basin values steps)) (same_columns control name initial bounds)
-    ∙ ap (λ x. heading name steps fault ++ (columns name ++ x)) (same_rows control name initial bounds inflows outflows values steps steps h (omega arith))
-    ∙ sym (append_assoc (heading name steps fault) (columns name) (rows (model_of control name initial) inflows outflows steps))
+pub same-text : (s : Case) (cells : Cells) (steps : ℕ) (fault : Option ℤ) → HasValues s cells steps
+    → section_of (basin_of s) 0 (run_end steps fault) steps (values_in cells)
+    ≡ (heading s.name steps fault ++ columns s.name) ++ rows (model_of s) s.inflows s.outflows steps
+same-text s cells steps fault h =
+    ap (λ x. x ++ (columns_of (basin_of s) ++ rows_of (basin_of s) (values_in cells) steps)) (same_heading s steps fault)
+    ∙ ap (λ x. heading s.name steps fault ++ (x ++ rows_of (basin_of s) (values_in cells) steps)) (same_columns s)
+    ∙ ap (λ x. heading s.name steps fault ++ (columns s.name ++ x)) (same_rows s cells steps steps h (omega arith))
+    ∙ sym (append_assoc (heading s.name steps fault) (columns s.name) (rows (model_of s) s.inflows s.outflows steps))

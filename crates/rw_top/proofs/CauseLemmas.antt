@@ -37,24 +37,17 @@ tells_why None tells = absurd (tells refl)
 tells_why (Some why) tells = (why, refl)
 
 -- a refusal that tells a reason has the status of the reason
-told_model : (why : Option ModelRefusal) (reason : Reason) → option_map (λ bad. BadModel bad) why ≡ Some reason → 6 ≡ status_by reason
-told_model None reason tells = absurd cc
-told_model (Some why) reason tells = let same : BadModel why ≡ reason = cc in ap status_by same
-
-told_rules : (why : Option RulesRefusal) (reason : Reason) → option_map (λ bad. BadPolicy (BadRules bad)) why ≡ Some reason → 7 ≡ status_by reason
-told_rules None reason tells = absurd cc
-told_rules (Some why) reason tells = let same : BadPolicy (BadRules why) ≡ reason = cc in ap status_by same
-
-told_code : (why : Option CodeRefusal) (reason : Reason) → option_map (λ bad. BadPolicy (BadBlocks (Unread bad))) why ≡ Some reason → 9 ≡ status_by reason
-told_code None reason tells = absurd cc
-told_code (Some why) reason tells = let same : BadPolicy (BadBlocks (Unread why)) ≡ reason = cc in ap status_by same
+told_by : {A : Type 0} (wrap : A → Reason) (status : ℕ) → ((bad : A) → status ≡ status_by (wrap bad)) → (why : Option A) (reason : Reason)
+    → option_map wrap why ≡ Some reason → status ≡ status_by reason
+told_by wrap status same None reason tells = absurd cc
+told_by wrap status same (Some bad) reason tells = let is : wrap bad ≡ reason = cc in same bad ∙ ap status_by is
 
 pub told_status : (why : Refusal) (reason : Reason) → reason_of why ≡ Some reason → status_of why ≡ status_by reason
-told_status (Model fault) reason tells = told_model (refusal_of fault) reason tells
-told_status (Grammar fault) reason tells = told_rules (refusal_of_grammar fault) reason tells
+told_status (Model fault) reason tells = told_by (λ bad. BadModel bad) 6 (λ bad. refl) (refusal_of fault) reason tells
+told_status (Grammar fault) reason tells = told_by (λ bad. BadPolicy (BadRules bad)) 7 (λ bad. refl) (refusal_of_grammar fault) reason tells
 told_status (Types kind declaration node) reason tells =
     let same : BadPolicy (BadRules (BadNode (refusal kind declaration node))) ≡ reason = cc in ap status_by same
-told_status (Code fault) reason tells = told_code (refusal_of_code fault) reason tells
+told_status (Code fault) reason tells = told_by (λ bad. BadPolicy (BadBlocks (Unread bad))) 9 (λ bad. refl) (refusal_of_code fault) reason tells
 told_status (BlockAt kind block place) reason tells =
     let same : BadPolicy (BadBlocks (Misfit (block_refusal kind block place))) ≡ reason = cc in ap status_by same
 told_status (Inputs kind row column) reason tells = let same : BadInputs (Refused kind row column) ≡ reason = cc in ap status_by same
