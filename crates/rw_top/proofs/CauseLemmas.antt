@@ -1,5 +1,5 @@
 -- Causes as the code comes to them, step by step.
-use Rattle.std.proofs.Common.{◌≡◌, inr, ℕ, ◌<◌, List, refl, sym, ap, arith, subst, Some, None, true, false, Option, option_map, Result, Ok, Err, IsErrOf, MatchResult, IsSomeAnd}
+use Rattle.std.proofs.Common.{◌≡◌, ◌∙◌, inr, ℕ, ◌<◌, List, refl, sym, ap, arith, subst, Some, None, true, false, Option, option_map, Result, Ok, Err, IsErrOf, MatchResult, IsSomeAnd}
 use Rattle.rw_inputs.specs.declared.fault.InputFault.TheVariants.{Refused}
 use Rattle.rw_io.specs.Causes.{NoneFell, Rose}
 use Rattle.rw_io.specs.Outside.{Change, Holds, ShelfView, SinkView, change}
@@ -17,13 +17,13 @@ use Rattle.rpl_parse.specs.Declarations.{IsReading, spelt}
 use Rattle.rpl_types.specs.Checked.{Checked, checked, with_types}
 use Rattle.rpl_types.specs.Judged.{Refusal as NodeRefusal, judged, refusal}
 use Rattle.rpl_code.specs.Answers.{Answers as AnswersCode}
-use Rattle.rpl_code.specs.Reading.{CodeRefusal, bad_line, truncated, read}
+use Rattle.rpl_code.specs.Reading.{bad_line, truncated, read}
 use Rattle.rpl_code.specs.declared.fault.CodeFault.{CodeFault}
 use Rattle.rpl_code.specs.declared.fault.CodeFault.TheVariants as C
 use Rattle.rpl_verify.specs.Fits.{refusal as block_refusal}
 use Rattle.rpl_types.specs.Nodes.{Types as NodeTypes}
 use Rattle.rw_top.specs.Command.{Command, path_of}
-use Rattle.rw_top.specs.Policy.{Unread, Misfit, Policy, BadRules, BadBlocks, RulesRefusal, BadToken, BadDeclaration, TooMany, BadNode, IsRulesetOf, RefusesNode, is_code}
+use Rattle.rw_top.specs.Policy.{Unread, Misfit, Policy, BadRules, BadBlocks, BadToken, BadDeclaration, TooMany, BadNode, IsRulesetOf, RefusesNode, is_code}
 use Rattle.rw_top.specs.Reason.{Reason, BadModel, BadPolicy, BadInputs, LongFile, status_by}
 use Rattle.rw_top.specs.Reading.{IsTooLong, Reaches, ReadsPolicy}
 use Rattle.rw_top.specs.Refusal.{Cause, FileCause, IsPolicyRefusal, WasFound, reason_of, refusal_after, refusal_of_code, refusal_of_grammar, status_of}

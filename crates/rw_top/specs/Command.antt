@@ -4,7 +4,6 @@ use Rattle.std.specs.declared.alloc.Global.{Global}
 use Rattle.rw_top.specs.declared.refusal.File.{File}
 use Rattle.rw_top.specs.declared.refusal.File.TheVariants.{Model, Policy, Inputs}
 use Rattle.rw_top.specs.declared.command.Command.{Command as Named}
-use Rattle.rw_top.specs.declared.command.Command.TheVariants as Named
 
 -- the words, as bytes
 abbrev pub texts_of : List (String Global) → List (List ℕ)
