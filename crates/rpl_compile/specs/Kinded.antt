@@ -1,6 +1,6 @@
 -- What the code of a ruleset asks of it: that its names are there, and that its parts are of the kinds that their forms take. Units and the
 -- order of refusals are left out.
-use Rattle.std.specs.Prelude.{◌≡◌, ◌⊎◌, ℕ, ◌+◌, ◌<◌, ◌≤◌, ℤ, pos, ◌*ℤ◌, IsTrue, List, [], ◌∷◌, Option, Some, None, IsSome, IsSomeAnd, unwrap_or, bytes_eq}
+use Rattle.std.specs.Prelude.{◌≡◌, ◌⊎◌, ℕ, ◌<◌, ◌≤◌, ℤ, pos, ◌*ℤ◌, IsTrue, List, [], ◌∷◌, Option, IsSome, IsSomeAnd, unwrap_or, bytes_eq}
 use Rattle.std.specs.List.{list_any}
 use Rattle.rw_base.specs.Dimension.{Dimension}
 use Rattle.rw_base.specs.Unit.{units, unit_in}
