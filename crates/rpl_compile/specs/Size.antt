@@ -1,5 +1,5 @@
 -- How many lines the code of an expression or statement takes, by the kinds of the names that it uses.
-use Rattle.std.specs.Prelude.{ℕ, ◌+◌, List, [], ◌∷◌}
+use Rattle.std.specs.Prelude.{ℕ, ◌+◌, List, ◌∷◌}
 use Rattle.rpl_tree.specs.Value.{Kind, element_of}
 use Rattle.rpl_tree.specs.Tree.{Tree, Trees, call, brackets, list, choice, bind, each, mapped, one, two, convert, at, no_trees, tree, Act, Acts, assign, branch, with_name, no_acts, act}
 use Rattle.rpl_tree.specs.Kinds.{Head, Names, takes_named, tree_kind}

@@ -167,7 +167,7 @@ module _ (callees : List Callee) where
 abbrev pub predefined_callees : List Callee
 predefined_callees = map (λ (head : Head). record { head = head; block = None }) (heads_of predefined_functions)
 
--- of the declarations from a number on, where these functions may be called
+-- of the declarations from a number on, where these functions may be called, the last one first
 abbrev pub blocks_from : List Callee → ℕ → List Declared → List Block
 blocks_from callees number [] = []
 blocks_from callees number (rule called_so body ∷ rest) = rule_block callees body ∷ blocks_from callees (number + 1) rest
@@ -177,7 +177,7 @@ blocks_from callees number (function called_so params result body ∷ rest) =
       head = record { name = called_so; takes = param_kinds params; result = kind };
       block = Some number;
     } in
-    function_block callees params kind body ∷ blocks_from (callees ++ callee ∷ []) (number + 1) rest
+    function_block callees params kind body ∷ blocks_from (callee ∷ callees) (number + 1) rest
 
 abbrev pub translate : List Declared → List Block
 translate rules = blocks_from predefined_callees 1 rules
