@@ -2,5 +2,8 @@
 //! worked rules, line by line (`law`), and that their code does what they mean (`firings`). No call makes code yet.
 #![tactic(auto)]
 
+mod compiling;
 pub mod firings;
 pub mod law;
+
+pub use compiling::compile;

@@ -23,7 +23,7 @@ use Rattle.rpl_code.specs.declared.fault.CodeFault.TheVariants as C
 use Rattle.rpl_verify.specs.Fits.{refusal as block_refusal}
 use Rattle.rpl_types.specs.Nodes.{Types as NodeTypes}
 use Rattle.rw_top.specs.Command.{Command, path_of}
-use Rattle.rw_top.specs.Policy.{Unread, Misfit, Policy, BadRules, BadBlocks, BadToken, BadDeclaration, TooMany, BadNode, IsRulesetOf, RefusesNode, is_code}
+use Rattle.rw_top.specs.Policy.{Unread, Misfit, Policy, BadRules, BadBlocks, BadToken, BadDeclaration, TooMany, BadNode, IsRulesetOf, RefusesNode}
 use Rattle.rw_top.specs.Reason.{Reason, BadModel, BadPolicy, BadInputs, LongFile, status_by}
 use Rattle.rw_top.specs.Reading.{IsTooLong, Reaches, ReadsPolicy}
 use Rattle.rw_top.specs.Refusal.{Cause, FileCause, IsPolicyRefusal, WasFound, reason_of, refusal_after, refusal_of_code, refusal_of_grammar, status_of}
@@ -79,19 +79,19 @@ read_cause command shelf file path EndTooLong result is named reached fault long
 read_cause command shelf file path EndNoMemory result is named reached fault long longer = tt
 
 -- why a text is no ruleset
-pub grammar_refusal : (basin : Draft) (text : List ℕ) (fault : ParseFault) → is_code text ≡ false → ¬ (fault ≡ P.NoMemory)
-    → Parses (Err fault) text → IsPolicyRefusal basin text (Grammar fault)
-grammar_refusal basin text (P.BadToken line) rules some is = inr (BadRules (BadToken line), refl, (rules, is))
-grammar_refusal basin text (P.BadDeclaration declaration line) rules some is = inr (BadRules (BadDeclaration declaration line), refl, (rules, is))
-grammar_refusal basin text (P.TooMany declaration) rules some is = inr (BadRules (TooMany declaration), refl, (rules, is))
-grammar_refusal basin text P.NoMemory rules some is = absurd (some refl)
+pub grammar_refusal : (basin : Draft) (text : List ℕ) (fault : ParseFault) → ¬ (fault ≡ P.NoMemory)
+    → Parses (Err fault) text → IsPolicyRefusal false basin text (Grammar fault)
+grammar_refusal basin text (P.BadToken line) some is = inr (BadRules (BadToken line), refl, (refl, is))
+grammar_refusal basin text (P.BadDeclaration declaration line) some is = inr (BadRules (BadDeclaration declaration line), refl, (refl, is))
+grammar_refusal basin text (P.TooMany declaration) some is = inr (BadRules (TooMany declaration), refl, (refl, is))
+grammar_refusal basin text P.NoMemory some is = absurd (some refl)
 
 -- or no code
-pub code_refusal : (basin : Draft) (text : List ℕ) (fault : CodeFault) → is_code text ≡ true → ¬ (fault ≡ C.NoMemory)
-    → AnswersCode (read text) (Err fault) → IsPolicyRefusal basin text (Code fault)
-code_refusal basin text (C.BadLine line) code some is = inr (BadBlocks (Unread (bad_line line)), refl, (code, is))
-code_refusal basin text C.Truncated code some is = inr (BadBlocks (Unread truncated), refl, (code, is))
-code_refusal basin text C.NoMemory code some is = absurd (some refl)
+pub code_refusal : (basin : Draft) (text : List ℕ) (fault : CodeFault) → ¬ (fault ≡ C.NoMemory)
+    → AnswersCode (read text) (Err fault) → IsPolicyRefusal true basin text (Code fault)
+code_refusal basin text (C.BadLine line) some is = inr (BadBlocks (Unread (bad_line line)), refl, (refl, is))
+code_refusal basin text C.Truncated some is = inr (BadBlocks (Unread truncated), refl, (refl, is))
+code_refusal basin text C.NoMemory some is = absurd (some refl)
 
 -- and why a ruleset is refused
 judged_err : (rules : List Declared) (result : Result (List NodeTypes) NodeRefusal) (why : NodeRefusal) → with_types rules result ≡ Err why → result ≡ Err why
@@ -149,6 +149,15 @@ cause_earlier command first later now why same fell cause =
     let one : later.holds ≡ first.holds = λ i path. same path i in
     let P : Holds → Type 0 = λ holds. FileCause command (change (record later { holds = holds }) now) why in
     since command first later now why fell (subst P one cause)
+
+-- what is found later on, of a shelf that holds the same
+pub found_later : {A : Type 0} (P : Holds → A → Type 0) (command : Command) (first later now : ShelfView) (result : Result A Refusal)
+    → ((path : List ℕ) → later.holds path ≡ first.holds path) → NoneFell first.faults later.faults
+    → MatchResult result (P later.holds) (FileCause command (change later now))
+    → MatchResult result (P first.holds) (FileCause command (change first now))
+found_later P command first later now (Ok x) same fell found =
+    let one : later.holds ≡ first.holds = λ i path. same path i in subst (λ holds. P holds x) one found
+found_later P command first later now (Err why) same fell cause = cause_earlier command first later now why same fell cause
 
 -- a policy that is read later on
 pub read_later : {A : Type 0} (seen : A → Policy) (command : Command) (first later now : ShelfView) (basin : Draft) (result : Result A Refusal)

@@ -2,7 +2,8 @@
 use Rattle.rw_base.proofs.Common.{◌≡◌, inl, inr, ℕ, List, refl, ◌∙◌, Option, None, Some, IfSome, IsSome, IsSomeAnd, cases_lt}
 use Rattle.rw_io.specs.Causes.{Rose}
 use Rattle.rw_io.specs.Outside.{Change, Holds, ShelfView, SinkView}
-use Rattle.rw_top.specs.Command.{Command, Simulate, Check, order, path_of}
+use Rattle.rw_top.specs.Command.{Command, Simulate, Check, Compile, order, path_of}
+use Rattle.rw_top.specs.Policy.{Ruleset}
 use Rattle.rw_top.specs.Reason.{Reason, LongFile, IsFound, IsHonestFor, file_of, status_by}
 use Rattle.rw_top.specs.Reading.{AcceptsAll, IsHonest, IsHonestOfAll, IsHonestUpTo}
 use Rattle.rw_top.specs.Refusal.{Cause, EndsWith, FailsToRead, WasFound, status_of}
@@ -22,6 +23,9 @@ accepts_all (Simulate model inputs) holds status text is InputsFile named = (is.
 accepts_all (Check model policy) holds status text is ModelFile named = (is.1.basin, is.1.read.model)
 accepts_all (Check model policy) holds status text is PolicyFile named = (is.1.basin, is.1.policy, is.1.read)
 accepts_all (Check model policy) holds status text is InputsFile named = absurd cc
+accepts_all (Compile model rules) holds status text is ModelFile named = (is.1.basin, is.1.read.model)
+accepts_all (Compile model rules) holds status text is PolicyFile named = (is.1.basin, Ruleset is.1.rules, is.1.read)
+accepts_all (Compile model rules) holds status text is InputsFile named = absurd cc
 
 -- a path of which the shelf is honest is told, and had no fault
 told_at : (shelf : Change ShelfView) (o : Option (List ℕ)) → IfSome o (IsHonest shelf) → IfSome o (λ path. IsSome (shelf.before.holds path))

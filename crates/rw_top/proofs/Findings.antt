@@ -12,7 +12,7 @@ use Rattle.rw_io.specs.declared.whole_file.TheConstants.{FILE_MAX}
 use Rattle.rw_top.specs.Command.{Command, Names, order, path_of}
 use Rattle.rw_top.specs.Policy.{Policy as Rules, PolicyRefusal, RefusesText}
 use Rattle.rw_top.specs.Reason.{Reason, BadModel, BadPolicy, BadInputs, LongFile, IsFound, file_of, policy_status, status_by}
-use Rattle.rw_top.specs.Reading.{Accepts, HoldsTooLong, IsTextAt, IsTooLong, Reaches, ReadsBoth, ReadsModel, ReadsPolicy, RefusesInputs, RefusesModel, RefusesPolicy, WasRead}
+use Rattle.rw_top.specs.Reading.{Accepts, HoldsTooLong, IsTextAt, IsTooLong, Reaches, ReadsBoth, ReadsModel, ReadsPolicy, RefusesInputs, RefusesModel, RefusesPolicy, WasRead, reads_code}
 use Rattle.rw_top.specs.declared.refusal.File.{File}
 use Rattle.rw_top.specs.declared.refusal.File.TheVariants.{Model, Policy, Inputs}
 use Rattle.rw_top.proofs.CommandLemmas.{inputs_alone, is_there}
@@ -91,8 +91,9 @@ module _ (command : Command) (holds : Holds) where
   refused_policy why b rules model policy r h =
       let basin = one_basin r.basin b model r.model h.model in
       let text = same_text command holds Policy r.text h.text policy r.read h.read in
-      let there : RefusesText b h.text why = subst (λ t. RefusesText b t why) text (subst (λ d. RefusesText d r.text why) basin r.is) in
-      policy_clash b h.text rules why h.is there
+      let there : RefusesText (reads_code command h.text) b h.text why =
+      subst (λ t. RefusesText (reads_code command t) b t why) text (subst (λ d. RefusesText (reads_code command r.text) d r.text why) basin r.is) in
+      policy_clash (reads_code command h.text) b h.text rules why h.is there
 
   -- the file is refused, with this status
   abbrev IsBad : File → ℕ → Type 0
@@ -116,8 +117,8 @@ module _ (command : Command) (holds : Holds) where
   one_status Model a b told bad other = bad.0 ∙ sym other.0
   one_status Policy a b told bad other =
       let text = same_text command holds Policy bad.2.text other.2.text (told Policy (omega arith)) bad.2.read other.2.read in
-      bad.1 ∙ one_policy_status bad.2.basin other.2.basin other.2.text bad.0 other.0
-      (subst (λ t. RefusesText bad.2.basin t bad.0) text bad.2.is) other.2.is ∙ sym other.1
+      bad.1 ∙ one_policy_status (reads_code command other.2.text) bad.2.basin other.2.basin other.2.text bad.0 other.0
+      (subst (λ t. RefusesText (reads_code command t) bad.2.basin t bad.0) text bad.2.is) other.2.is ∙ sym other.1
   one_status Inputs a b told bad other = bad.0 ∙ sym other.0
 
   bad_clash : (file : File) (status : ℕ) → IsToldUpTo command holds file

@@ -1,5 +1,5 @@
 -- What is read of a text is one thing.
-use Rattle.std.proofs.Common.{◌≡◌, ℕ, List, Ok, Err, true, false, refl, sym, ap, ◌∙◌}
+use Rattle.std.proofs.Common.{◌≡◌, Bool, ℕ, List, Ok, Err, true, false, refl, sym, ap, ◌∙◌}
 use Rattle.rpl_parse.specs.Declarations.{IsReading, spelt, bad_token, bad_declaration, too_many}
 use Rattle.rpl_parse.proofs.CutFacts.{one_reading_holds}
 use Rattle.rpl_tree.specs.Tree.{Declared}
@@ -10,7 +10,7 @@ use Rattle.rw_inputs.specs.declared.fault.InputFault.{InputFault}
 use Rattle.rw_inputs.specs.Inputs.{Inputs, value_at, given_at}
 use Rattle.rw_inputs.specs.Reading.{Reads, Refuses, read_records}
 use Rattle.rpl_verify.specs.Verified.{Accepted, verified}
-use Rattle.rw_top.specs.Policy.{BadCode, Unread, Misfit, Policy, Ruleset, Code, PolicyRefusal, BadRules, BadBlocks, RulesRefusal, BadToken, BadDeclaration, TooMany, BadNode, IsCodeOf, IsPolicyOf, IsRulesetOf, RefusesCode, RefusesRules, RefusesText, is_code}
+use Rattle.rw_top.specs.Policy.{BadCode, Unread, Misfit, Policy, Ruleset, Code, PolicyRefusal, BadRules, BadBlocks, RulesRefusal, BadToken, BadDeclaration, TooMany, BadNode, IsCodeOf, IsPolicyOf, IsRulesetOf, RefusesCode, RefusesRules, RefusesText}
 use Rattle.rw_top.specs.Reason.{policy_status}
 
 -- inputs that are refused aren't read
@@ -58,21 +58,21 @@ code_clash basin text code (Misfit why) h k =
     let same : h.blocks ≡ k.blocks = cc in
     let both : Ok code ≡ Err why = sym h.fits ∙ ap (verified basin) same ∙ k.refused in cc
 
--- a text is a ruleset's or code's
-pub one_kind : (text : List ℕ) → is_code text ≡ true → is_code text ≡ false → ⊥
-one_kind text h k = let both : true ≡ false = sym h ∙ k in cc
+-- a text is read as a ruleset or as code
+pub one_kind : (as_code : Bool) → as_code ≡ true → as_code ≡ false → ⊥
+one_kind as_code h k = let both : true ≡ false = sym h ∙ k in cc
 
-pub policy_clash : (basin : Draft) (text : List ℕ) (policy : Policy) (why : PolicyRefusal)
-    → IsPolicyOf basin text policy → RefusesText basin text why → ⊥
-policy_clash basin text (Ruleset rules) (BadRules why) h k = rules_clash basin text rules why h.1 k.1
-policy_clash basin text (Ruleset rules) (BadBlocks why) h k = one_kind text k.0 h.0
-policy_clash basin text (Code code) (BadRules why) h k = one_kind text h.0 k.0
-policy_clash basin text (Code code) (BadBlocks why) h k = code_clash basin text code why h.1 k.1
+pub policy_clash : (as_code : Bool) (basin : Draft) (text : List ℕ) (policy : Policy) (why : PolicyRefusal)
+    → IsPolicyOf as_code basin text policy → RefusesText as_code basin text why → ⊥
+policy_clash as_code basin text (Ruleset rules) (BadRules why) h k = rules_clash basin text rules why h.1 k.1
+policy_clash as_code basin text (Ruleset rules) (BadBlocks why) h k = one_kind as_code k.0 h.0
+policy_clash as_code basin text (Code code) (BadRules why) h k = one_kind as_code h.0 k.0
+policy_clash as_code basin text (Code code) (BadBlocks why) h k = code_clash basin text code why h.1 k.1
 
 -- what is refused of it brings one status
-pub one_policy_status : (basin others : Draft) (text : List ℕ) (a b : PolicyRefusal) → RefusesText basin text a → RefusesText others text b
-    → policy_status a ≡ policy_status b
-one_policy_status basin others text (BadRules why) (BadRules other) h k = refl
-one_policy_status basin others text (BadRules why) (BadBlocks other) h k = absurd (one_kind text k.0 h.0)
-one_policy_status basin others text (BadBlocks why) (BadRules other) h k = absurd (one_kind text h.0 k.0)
-one_policy_status basin others text (BadBlocks why) (BadBlocks other) h k = refl
+pub one_policy_status : (as_code : Bool) (basin others : Draft) (text : List ℕ) (a b : PolicyRefusal)
+    → RefusesText as_code basin text a → RefusesText as_code others text b → policy_status a ≡ policy_status b
+one_policy_status as_code basin others text (BadRules why) (BadRules other) h k = refl
+one_policy_status as_code basin others text (BadRules why) (BadBlocks other) h k = absurd (one_kind as_code k.0 h.0)
+one_policy_status as_code basin others text (BadBlocks why) (BadRules other) h k = absurd (one_kind as_code h.0 k.0)
+one_policy_status as_code basin others text (BadBlocks why) (BadBlocks other) h k = refl

@@ -4,7 +4,7 @@ use Rattle.rw_io.specs.Outside.{Holds}
 use Rattle.rw_run.specs.declared.run.RunEnd.{RunEnd}
 use Rattle.rw_run.specs.declared.run.RunEnd.TheVariants.{Settled, Fault}
 use Rattle.rw_top.specs.Call.{Call}
-use Rattle.rw_top.specs.Command.{Asks, Command, Simulate, Check}
+use Rattle.rw_top.specs.Command.{Asks, Command, Simulate, Check, Compile}
 use Rattle.rw_top.specs.Promise.{Promise, RefusedCommand, RefusedWords, WasRefused, Wrote}
 use Rattle.rw_top.specs.Refusal.{Cause, status_of}
 use Rattle.rw_top.specs.Written.{HasText, WritesAll, status_of_end}
@@ -20,6 +20,7 @@ at_most_1 (Fault why) = omega arith
 status_at_most_1 : (command : Command) (holds : Holds) (status : ℕ) (text : List ℕ) → HasText command holds status text → status ≤ 1
 status_at_most_1 (Simulate model inputs) holds status text is = let most = at_most_1 is.0 in omega (arith, most, is.1)
 status_at_most_1 (Check model policy) holds status text is = omega (arith, is.0)
+status_at_most_1 (Compile model rules) holds status text is = omega (arith, is.0)
 
 at_least_2 : (why : Refusal) → 2 ≤ status_of why
 at_least_2 Words = omega arith

@@ -8,9 +8,9 @@ use Rattle.rw_run.specs.declared.run.RunEnd.{RunEnd}
 use Rattle.rw_run.specs.declared.run.RunEnd.TheVariants.{Settled, Fault}
 use Rattle.rw_model_toml.specs.Refusal.{ModelRefusal}
 use Rattle.rw_top.specs.Call.{Call}
-use Rattle.rw_top.specs.Command.{AskFor, AskNothing, Asks, Command, Simulate, Check}
+use Rattle.rw_top.specs.Command.{AskFor, AskNothing, Asks, Command, Simulate, Check, Compile}
 use Rattle.rw_top.specs.Reason.{Reason, BadModel, BadPolicy, BadInputs, LongFile, status_by}
-use Rattle.rw_top.specs.Promise.{Promise, RefusedCommand, WasRefused, WroteCheck, WroteRun}
+use Rattle.rw_top.specs.Promise.{Promise, RefusedCommand, WasRefused, WroteCheck, WroteCode, WroteRun}
 use Rattle.rw_top.specs.Policy.{BadCode, RulesRefusal, BadRules, BadBlocks}
 use Rattle.rw_top.specs.Reading.{RefusesInputs, RefusesModel, RefusesPolicy}
 use Rattle.rw_top.specs.Refusal.{FailsToRead, FindsTooLong, WasFound, status_of}
@@ -30,19 +30,22 @@ faults call (Fault why) is wrote = (why, wrote)
 
 module _ (call : Call) (text : List ℕ) (grew : GrowsBy call.out.before.contents call.out.after.contents text) where
   settled_by : (command : Command) → Asks call.words command → HasText command call.shelf.before.holds 0 text
-      → WroteRun call Settled ⊎ WroteCheck call
+      → WroteRun call Settled ⊎ WroteCheck call ⊎ WroteCode call
   settled_by (Simulate model inputs) asked is =
-      inl (settles call is.0 is.1 (record { command = Simulate model inputs; asked = asked; text = text; is = is.2; grew = grew }))
+      inl (inl (settles call is.0 is.1 (record { command = Simulate model inputs; asked = asked; text = text; is = is.2; grew = grew })))
   settled_by (Check model policy) asked is =
-      inr (record { command = Check model policy; asked = asked; text = text; is = is.1; grew = grew })
+      inl (inr (record { command = Check model policy; asked = asked; text = text; is = is.1; grew = grew }))
+  settled_by (Compile model rules) asked is =
+      inr (record { command = Compile model rules; asked = asked; text = text; is = is.1; grew = grew })
 
   faulted_by : (command : Command) → Asks call.words command → HasText command call.shelf.before.holds 1 text
       → (why : RunFault) × WroteRun call (Fault why)
   faulted_by (Simulate model inputs) asked is =
       faults call is.0 is.1 (record { command = Simulate model inputs; asked = asked; text = text; is = is.2; grew = grew })
   faulted_by (Check model policy) asked is = absurd (omega (arith, is.0))
+  faulted_by (Compile model rules) asked is = absurd (omega (arith, is.0))
 
-pub settled : (call : Call) → Promise call 0 → WroteRun call Settled ⊎ WroteCheck call
+pub settled : (call : Call) → Promise call 0 → WroteRun call Settled ⊎ WroteCheck call ⊎ WroteCode call
 settled call promise =
     let wrote = promise.done (omega arith) in
     settled_by call wrote.text.text wrote.text.grew wrote.command wrote.asked wrote.text.is

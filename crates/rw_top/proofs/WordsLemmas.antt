@@ -1,6 +1,6 @@
 -- The words of a command are three.
 use Rattle.rw_base.proofs.Common.{◌≡◌, ◌⊎◌, inl, inr, ℕ, ◌<◌, ◌≤◌, List, [], ◌∷◌, length, get_or, codes, slice_index_or, refl, sym, subst, arith, IfSome}
-use Rattle.rw_top.specs.Command.{Asks, Command, IsPath, Simulate, Check, path_of}
+use Rattle.rw_top.specs.Command.{Asks, Command, IsPath, Simulate, Check, Compile, path_of}
 use Rattle.rw_top.specs.declared.refusal.File.{File}
 use Rattle.rw_top.specs.declared.refusal.File.TheVariants.{Model, Policy, Inputs}
 
@@ -16,7 +16,8 @@ three (x ∷ y ∷ z ∷ w ∷ ws) a b c low high ea eb ec = absurd (omega arith
 -- word by word, what it takes for words to ask for something
 pub record IsCommand (words : List (List ℕ)) : Type 0 where
   pub three : length words ≡ 3
-  pub named : (slice_index_or words 0 [] ≡ codes "simulate") ⊎ (slice_index_or words 0 [] ≡ codes "check")
+  pub named : (slice_index_or words 0 [] ≡ codes "simulate")
+      ⊎ ((slice_index_or words 0 [] ≡ codes "check") ⊎ (slice_index_or words 0 [] ≡ codes "compile"))
   pub model : IsPath (slice_index_or words 1 [])
   pub second : IsPath (slice_index_or words 2 [])
 
@@ -24,7 +25,9 @@ pub asks_words : (words : List (List ℕ)) (command : Command) → Asks words co
 asks_words words (Simulate model inputs) asks =
     subst IsCommand (sym asks.are) (record { three = refl; named = inl refl; model = asks.paths Model; second = asks.paths Inputs })
 asks_words words (Check model policy) asks =
-    subst IsCommand (sym asks.are) (record { three = refl; named = inr refl; model = asks.paths Model; second = asks.paths Policy })
+    subst IsCommand (sym asks.are) (record { three = refl; named = inr (inl refl); model = asks.paths Model; second = asks.paths Policy })
+asks_words words (Compile model rules) asks =
+    subst IsCommand (sym asks.are) (record { three = refl; named = inr (inr refl); model = asks.paths Model; second = asks.paths Policy })
 
 pub simulate_paths : (model inputs : List ℕ) → IsPath model → IsPath inputs → (file : File)
     → IfSome (path_of (Simulate model inputs) file) IsPath
@@ -37,6 +40,12 @@ pub check_paths : (model policy : List ℕ) → IsPath model → IsPath policy �
 check_paths model policy is are Model = is
 check_paths model policy is are Policy = are
 check_paths model policy is are Inputs = tt
+
+pub compile_paths : (model rules : List ℕ) → IsPath model → IsPath rules → (file : File)
+    → IfSome (path_of (Compile model rules) file) IsPath
+compile_paths model rules is are Model = is
+compile_paths model rules is are Policy = are
+compile_paths model rules is are Inputs = tt
 
 pub spelt : (name model second word a b : List ℕ) → name ≡ word → model ≡ a → second ≡ b
     → name ∷ model ∷ second ∷ [] ≡ word ∷ a ∷ b ∷ []

@@ -1,5 +1,5 @@
 -- The words of the command line, and the command that they ask for.
-use Rattle.std.specs.Prelude.{◌≡◌, ◌≢◌, ℕ, ◌≤◌, List, [], ◌∷◌, length, map, codes, slice_index, string_bytes, String, Option, Some, None, IfSome, IsSome}
+use Rattle.std.specs.Prelude.{◌≡◌, ◌≢◌, ℕ, ◌≤◌, List, [], ◌∷◌, length, map, codes, slice_index, string_bytes, String, Option, Some, None, IfSome, IsSome, Bool, true, false}
 use Rattle.std.specs.declared.alloc.Global.{Global}
 use Rattle.rw_top.specs.declared.refusal.File.{File}
 use Rattle.rw_top.specs.declared.refusal.File.TheVariants.{Model, Policy, Inputs}
@@ -13,11 +13,13 @@ texts_of words = map string_bytes words
 pub data Command : Type 0 where
   Simulate : List ℕ → List ℕ → Command
   Check : List ℕ → List ℕ → Command
+  Compile : List ℕ → List ℕ → Command
 
 -- the words that ask for it
 abbrev pub words_of : Command → List (List ℕ)
 words_of (Simulate model inputs) = codes "simulate" ∷ model ∷ inputs ∷ []
 words_of (Check model policy) = codes "check" ∷ model ∷ policy ∷ []
+words_of (Compile model rules) = codes "compile" ∷ model ∷ rules ∷ []
 
 -- the path of a file, where the command reads it
 abbrev pub path_of : Command → File → Option (List ℕ)
@@ -27,6 +29,15 @@ path_of (Simulate model inputs) Inputs = Some inputs
 path_of (Check model policy) Model = Some model
 path_of (Check model policy) Policy = Some policy
 path_of (Check model policy) Inputs = None
+path_of (Compile model rules) Model = Some model
+path_of (Compile model rules) Policy = Some rules
+path_of (Compile model rules) Inputs = None
+
+-- its policy may be code. What is compiled is always read as a ruleset
+abbrev pub takes_code : Command → Bool
+takes_code (Simulate model inputs) = true
+takes_code (Check model policy) = true
+takes_code (Compile model rules) = false
 
 -- the command reads the file
 abbrev pub Names : Command → File → Type 0
@@ -60,3 +71,4 @@ AskFor words P = (command : Command) × Asks words command × P command
 abbrev pub command_of : Named → Command
 command_of (Named.Simulate model inputs) = Simulate model.now inputs.now
 command_of (Named.Check model policy) = Check model.now policy.now
+command_of (Named.Compile model rules) = Compile model.now rules.now

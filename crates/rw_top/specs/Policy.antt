@@ -77,12 +77,12 @@ pub data PolicyRefusal : Type 0 where
   BadRules : RulesRefusal → PolicyRefusal
   BadBlocks : BadCode → PolicyRefusal
 
--- the text is that of this policy, which is accepted
-abbrev pub IsPolicyOf : Draft → List ℕ → Policy → Type 0
-IsPolicyOf basin text (Ruleset rules) = (is_code text ≡ false) × IsRulesetOf basin text rules
-IsPolicyOf basin text (Code code) = (is_code text ≡ true) × IsCodeOf basin text code
+-- the text, which is read as code or as a ruleset, is that of this policy, which is accepted
+abbrev pub IsPolicyOf : Bool → Draft → List ℕ → Policy → Type 0
+IsPolicyOf as_code basin text (Ruleset rules) = (as_code ≡ false) × IsRulesetOf basin text rules
+IsPolicyOf as_code basin text (Code code) = (as_code ≡ true) × IsCodeOf basin text code
 
--- the text is refused for this
-abbrev pub RefusesText : Draft → List ℕ → PolicyRefusal → Type 0
-RefusesText basin text (BadRules why) = (is_code text ≡ false) × RefusesRules basin text why
-RefusesText basin text (BadBlocks why) = (is_code text ≡ true) × RefusesCode basin text why
+-- the text, which is read so, is refused for this
+abbrev pub RefusesText : Bool → Draft → List ℕ → PolicyRefusal → Type 0
+RefusesText as_code basin text (BadRules why) = (as_code ≡ false) × RefusesRules basin text why
+RefusesText as_code basin text (BadBlocks why) = (as_code ≡ true) × RefusesCode basin text why

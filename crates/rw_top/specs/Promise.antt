@@ -9,7 +9,7 @@ use Rattle.rw_top.specs.Reason.{Reason, IsFound, IsHonestFor, status_by}
 use Rattle.rw_top.specs.Lines.{line_of, words_line}
 use Rattle.rw_top.specs.Reading.{AcceptsAll, IsHonestOfAll}
 use Rattle.rw_top.specs.Refusal.{Cause, EndsWith, status_of}
-use Rattle.rw_top.specs.Written.{HasCheckText, HasRunText, Tells, WritesAll}
+use Rattle.rw_top.specs.Written.{HasCheckText, HasCodeText, HasRunText, Tells, WritesAll}
 use Rattle.rw_top.specs.declared.refusal.Refusal.{Refusal}
 use Rattle.rw_top.specs.declared.refusal.Refusal.TheVariants.{Words}
 
@@ -78,4 +78,12 @@ pub record WroteCheck (call : Call) : Type 0 where
   pub asked : Asks call.words command
   pub text : List ℕ
   pub is : HasCheckText command call.shelf.before.holds text
+  pub grew : GrowsBy call.out.before.contents call.out.after.contents text
+
+-- the code of a ruleset that is accepted
+pub record WroteCode (call : Call) : Type 0 where
+  pub command : Command
+  pub asked : Asks call.words command
+  pub text : List ℕ
+  pub is : HasCodeText command call.shelf.before.holds text
   pub grew : GrowsBy call.out.before.contents call.out.after.contents text

@@ -1,5 +1,5 @@
 -- What the files that a command names are found to be.
-use Rattle.std.specs.Prelude.{◌≡◌, ℕ, ◌<◌, ◌≤◌, List, Ok, Err, length, IfSome, IsSome, IsSomeAnd}
+use Rattle.std.specs.Prelude.{◌≡◌, Bool, ◌&&◌, ℕ, ◌<◌, ◌≤◌, List, Ok, Err, length, IfSome, IsSome, IsSomeAnd}
 use Rattle.rw_io.specs.Causes.{Rose}
 use Rattle.rw_io.specs.declared.whole_file.TheConstants.{FILE_MAX}
 use Rattle.rw_model.specs.Draft.{Draft}
@@ -9,8 +9,8 @@ use Rattle.rw_inputs.specs.declared.fault.InputFault.{InputFault}
 use Rattle.rw_inputs.specs.Inputs.{Inputs as Given}
 use Rattle.rw_inputs.specs.Reading.{Reads, Refuses}
 use Rattle.rw_io.specs.Outside.{Change, Holds, ShelfView}
-use Rattle.rw_top.specs.Command.{Command, Names, order, path_of}
-use Rattle.rw_top.specs.Policy.{IsPolicyOf, Policy as Rules, PolicyRefusal, RefusesText}
+use Rattle.rw_top.specs.Command.{Command, Names, order, path_of, takes_code}
+use Rattle.rw_top.specs.Policy.{is_code, IsPolicyOf, Policy as Rules, PolicyRefusal, RefusesText}
 use Rattle.rw_top.specs.declared.refusal.File.{File}
 use Rattle.rw_top.specs.declared.refusal.File.TheVariants.{Model, Policy, Inputs}
 
@@ -33,12 +33,16 @@ pub record ReadsModel (command : Command) (holds : Holds) (basin : Draft) : Type
   pub read : WasRead command holds Model text
   pub is : model_of text ≡ Ok basin
 
+-- whether the command reads the text of its policy as code
+abbrev pub reads_code : Command → List ℕ → Bool
+reads_code command text = takes_code command && is_code text
+
 -- the command names a model of this basin, and this policy for it
 pub record ReadsPolicy (command : Command) (holds : Holds) (basin : Draft) (policy : Rules) : Type 0 where
   pub model : ReadsModel command holds basin
   pub text : List ℕ
   pub read : WasRead command holds Policy text
-  pub is : IsPolicyOf basin text policy
+  pub is : IsPolicyOf (reads_code command text) basin text policy
 
 -- the command names a model of this basin, and these inputs for it
 pub record ReadsBoth (command : Command) (holds : Holds) (basin : Draft) (inputs : Given) : Type 0 where
@@ -59,7 +63,7 @@ pub record RefusesPolicy (command : Command) (holds : Holds) (why : PolicyRefusa
   pub model : ReadsModel command holds basin
   pub text : List ℕ
   pub read : WasRead command holds Policy text
-  pub is : RefusesText basin text why
+  pub is : RefusesText (reads_code command text) basin text why
 
 -- the command names a model, and inputs that are refused for this
 pub record RefusesInputs (command : Command) (holds : Holds) (why : InputFault) : Type 0 where

@@ -1,5 +1,5 @@
 -- Why a command isn't done, and with which status the call says so.
-use Rattle.std.specs.Prelude.{◌≡◌, ◌⊎◌, ℕ, ◌<◌, List, Option, option_map, None, Some, IsSomeAnd, Err, ⊤}
+use Rattle.std.specs.Prelude.{◌≡◌, ◌⊎◌, Bool, ℕ, ◌<◌, List, Option, option_map, None, Some, IsSomeAnd, Err, ⊤}
 use Rattle.rw_io.specs.Causes.{Rose}
 use Rattle.rw_io.specs.Outside.{Change, ShelfView, SinkView}
 use Rattle.rw_io.specs.declared.whole_file.TheConstants.{FILE_MAX}
@@ -119,7 +119,7 @@ abbrev pub IsInputRefusal : Draft → List ℕ → Refusal → Type 0
 IsInputRefusal basin text why =
     (why ≡ NoMemory) ⊎ ((bad : InputFault) × (reason_of why ≡ Some (BadInputs bad)) × Refuses basin text bad)
 
--- why the bytes of a policy's file give no policy for the basin
-abbrev pub IsPolicyRefusal : Draft → List ℕ → Refusal → Type 0
-IsPolicyRefusal basin text why =
-    (why ≡ NoMemory) ⊎ ((bad : PolicyRefusal) × (reason_of why ≡ Some (BadPolicy bad)) × RefusesText basin text bad)
+-- why the bytes of a policy's file, which are read as code or as a ruleset, give no policy for the basin
+abbrev pub IsPolicyRefusal : Bool → Draft → List ℕ → Refusal → Type 0
+IsPolicyRefusal as_code basin text why =
+    (why ≡ NoMemory) ⊎ ((bad : PolicyRefusal) × (reason_of why ≡ Some (BadPolicy bad)) × RefusesText as_code basin text bad)

@@ -7,9 +7,12 @@ use Rattle.rw_io.specs.Outside.{Change, Holds, SinkView}
 use Rattle.rw_run.specs.declared.run.RunEnd.{RunEnd}
 use Rattle.rw_run.specs.declared.run.RunEnd.TheVariants.{Settled, Fault}
 use Rattle.rw_model.specs.Draft.{Draft}
+use Rattle.rpl_tree.specs.Tree.{Declared}
+use Rattle.rpl_code.specs.Spelling.{spelt}
+use Rattle.rpl_compile.specs.Translate.{translate}
 use Rattle.rw_top.specs.Budgets.{check_text}
-use Rattle.rw_top.specs.Command.{Command, Simulate, Check}
-use Rattle.rw_top.specs.Policy.{Policy}
+use Rattle.rw_top.specs.Command.{Command, Simulate, Check, Compile}
+use Rattle.rw_top.specs.Policy.{Policy, Ruleset}
 use Rattle.rw_top.specs.Reading.{ReadsBoth, ReadsPolicy}
 use Rattle.rw_top.specs.RunText.{IsRunText}
 
@@ -32,11 +35,19 @@ pub record HasCheckText (command : Command) (holds : Holds) (text : List ℕ) : 
   pub read : ReadsPolicy command holds basin policy
   pub text_is : text ≡ check_text policy
 
+-- model and ruleset are read, and this is the text of the ruleset's code
+pub record HasCodeText (command : Command) (holds : Holds) (text : List ℕ) : Type 0 where
+  pub basin : Draft
+  pub rules : List Declared
+  pub read : ReadsPolicy command holds basin (Ruleset rules)
+  pub text_is : text ≡ spelt (translate rules)
+
 -- the files of the command are read, and this is what it writes, with this status
 abbrev pub HasText : Command → Holds → ℕ → List ℕ → Type 0
 HasText (Simulate model inputs) holds status text =
     (end : RunEnd) × (status ≡ status_of_end end) × HasRunText (Simulate model inputs) holds end text
 HasText (Check model policy) holds status text = (status ≡ 0) × HasCheckText (Check model policy) holds text
+HasText (Compile model rules) holds status text = (status ≡ 0) × HasCodeText (Compile model rules) holds text
 
 -- the whole text of the command was appended
 pub record WritesAll (command : Command) (holds : Holds) (out : Change SinkView) (status : ℕ) : Type 0 where

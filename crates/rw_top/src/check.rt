@@ -1,8 +1,8 @@
-ghost use Rattle.std.specs.Prelude.{◌≡◌, ℕ, ◌++◌, ◌<◌, ◌≤◌, Some, List, OnOk, IfOk, MatchResult, string_bytes};
+ghost use Rattle.std.specs.Prelude.{◌≡◌, true, ℕ, ◌++◌, ◌<◌, ◌≤◌, Some, List, OnOk, IfOk, MatchResult, string_bytes};
 ghost use Rattle.rpl_budget.specs.Seen.{budget_seen};
 ghost use Rattle.rw_io.specs.Outside.{change};
 ghost use Rattle.rw_top.specs.Budgets.{budget_line, check_text, counts_line};
-ghost use Rattle.rw_top.specs.Command.{Names, command_of};
+ghost use Rattle.rw_top.specs.Command.{Names, command_of, takes_code};
 ghost use Rattle.rw_model.specs.Draft.{Draft};
 ghost use Rattle.rw_top.specs.Reading.{ReadsPolicy};
 ghost use Rattle.rw_top.specs.Refusal.{FileCause};
@@ -61,6 +61,7 @@ fn read_files<S: Shelf>(
     shelf: &mut S,
 ) -> Result<Policy, Refusal>
     requires named { Names (command_of command.now) F.Policy }
+    requires code { takes_code (command_of command.now) ≡ true }
     ensures read { MatchResult result
         (λ policy. (basin : Draft) × ReadsPolicy (command_of command.now)
         (S.seen shelf.old).holds basin (policy_of policy))
@@ -81,6 +82,7 @@ pub(crate) fn check_policy<S: Shelf>(
     shelf: &mut S,
 ) -> Result<Vec<u8>, Refusal>
     requires named { Names (command_of command.now) F.Policy }
+    requires code { takes_code (command_of command.now) ≡ true }
     ensures text { MatchResult result (λ text. HasCheckText (command_of command.now)
         (S.seen shelf.old).holds text.items)
         (FileCause (command_of command.now) (change (S.seen shelf.old) (S.seen shelf.new))) }

@@ -8,6 +8,7 @@ use crate::File;
 pub(crate) enum Command<'w> {
     Simulate { model: &'w str, inputs: &'w str },
     Check { model: &'w str, policy: &'w str },
+    Compile { model: &'w str, rules: &'w str },
 }
 
 impl<'w> Command<'w> {
@@ -24,6 +25,11 @@ impl<'w> Command<'w> {
             Command::Check { model, policy } => match file {
                 File::Model => Some(*model),
                 File::Policy => Some(*policy),
+                File::Inputs => None,
+            },
+            Command::Compile { model, rules } => match file {
+                File::Model => Some(*model),
+                File::Policy => Some(*rules),
                 File::Inputs => None,
             },
         }
@@ -61,6 +67,11 @@ pub(crate) fn read_words(words: &[String]) -> Option<Command<'_>>
         Some(Command::Check {
             model,
             policy: second,
+        })
+    } else if name.as_str() == "compile" {
+        Some(Command::Compile {
+            model,
+            rules: second,
         })
     } else {
         None

@@ -1,18 +1,21 @@
 // The files of a command, read and judged, each before the next.
-ghost use Rattle.std.specs.Prelude.{◌≡◌, ℕ, ◌≤◌, List, MatchResult, IfOk, length};
+ghost use Rattle.std.specs.Prelude.{◌≡◌, true, false, ℕ, ◌≤◌, List, MatchResult, IfOk, length};
 ghost use Rattle.rw_io.specs.Causes.{NoneFell};
 ghost use Rattle.rw_io.specs.Outside.{change};
-ghost use Rattle.rw_top.specs.Command.{Names, command_of};
+ghost use Rattle.rw_top.specs.Command.{Names, command_of, takes_code};
+ghost use Rattle.rpl_tree.specs.Seen.{rules_of};
+ghost use Rattle.rw_top.specs.Policy.{Ruleset};
 ghost use Rattle.rw_top.specs.Reading.{Reaches, ReadsBoth, ReadsModel, ReadsPolicy, WasRead};
 ghost use Rattle.rw_top.specs.Refusal.{FileCause};
 ghost use Rattle.rw_top.specs.Seen.{policy_of};
 ghost use Rattle.rw_top.specs.declared.refusal.File.TheVariants as F;
 
 use crate::command::Command;
-use crate::judging::{judge_inputs, judge_model, judge_policy};
+use crate::judging::{judge_inputs, judge_model, judge_policy, judge_rules};
 use crate::policy::Policy;
 use crate::{File, Refusal};
 use rw_inputs::Inputs;
+use rpl_types::Typed;
 use rw_io::{Shelf, read_all};
 use rw_model::Basin;
 use std::alloc::Global;
@@ -89,6 +92,7 @@ pub(crate) fn read_policy<S: Shelf>(
     shelf: &mut S,
 ) -> Result<Policy, Refusal>
     requires named { Names (command_of command.now) F.Policy }
+    requires code { takes_code (command_of command.now) ≡ true }
     requires model { ReadsModel (command_of command.now) (S.seen shelf.old).holds basin.now }
     ensures read { MatchResult result
         (λ policy. ReadsPolicy (command_of command.now)
@@ -98,6 +102,28 @@ pub(crate) fn read_policy<S: Shelf>(
 {
     match read_file(alloc, command, File::Policy, shelf) {
         Ok(text) => judge_policy(alloc, basin, &text),
+        Err(refusal) => Err(refusal),
+    }
+}
+
+/// Reads and judges the ruleset of the command, for the basin that its model describes.
+pub(crate) fn read_rules<S: Shelf>(
+    alloc: Global,
+    command: &Command<'_>,
+    basin: &Basin,
+    shelf: &mut S,
+) -> Result<Typed, Refusal>
+    requires named { Names (command_of command.now) F.Policy }
+    requires rules { takes_code (command_of command.now) ≡ false }
+    requires model { ReadsModel (command_of command.now) (S.seen shelf.old).holds basin.now }
+    ensures read { MatchResult result
+        (λ typed. ReadsPolicy (command_of command.now)
+        (S.seen shelf.old).holds basin.now (Ruleset (rules_of typed.rules)))
+        (FileCause (command_of command.now) (change (S.seen shelf.old) (S.seen shelf.new))) }
+    ensures held { (p : List ℕ) → (S.seen shelf.new).holds p ≡ (S.seen shelf.old).holds p }
+{
+    match read_file(alloc, command, File::Policy, shelf) {
+        Ok(text) => judge_rules(alloc, basin, &text),
         Err(refusal) => Err(refusal),
     }
 }

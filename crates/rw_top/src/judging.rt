@@ -67,9 +67,8 @@ fn is_code(text: &[u8]) -> bool
 }
 
 fn refusal_of_grammar(_text: &[u8], fault: ParseFault) -> Refusal
-    requires rules { is_code _text.now ≡ false }
-    requires why { Parses (Err fault) _text.now }
-    ensures { (basin : Draft) → IsPolicyRefusal basin _text.now result }
+    requires { Parses (Err fault) _text.now }
+    ensures { (basin : Draft) → IsPolicyRefusal false basin _text.now result }
 {
     match fault {
         ParseFault::NoMemory => Refusal::NoMemory,
@@ -78,10 +77,9 @@ fn refusal_of_grammar(_text: &[u8], fault: ParseFault) -> Refusal
 }
 
 fn parse_rules(alloc: Global, text: &[u8]) -> Result<ParsedRules, Refusal>
-    requires short { length text.now ≤ 16_777_216 }
-    requires rules { is_code text.now ≡ false }
+    requires { length text.now ≤ 16_777_216 }
     ensures read { MatchResult result (λ rules. IsReading text.now (spelt (rules_of rules)))
-        (λ why. (basin : Draft) → IsPolicyRefusal basin text.now why) }
+        (λ why. (basin : Draft) → IsPolicyRefusal false basin text.now why) }
     ensures ruleset { IfOk result (λ rules. IsRuleset rules) }
 {
     match parse(alloc, text) {
@@ -91,9 +89,8 @@ fn parse_rules(alloc: Global, text: &[u8]) -> Result<ParsedRules, Refusal>
 }
 
 fn refusal_of_types(_basin: &Basin, _text: &[u8], fault: TypeFault) -> Refusal
-    requires rules { is_code _text.now ≡ false }
-    requires why { ForSome (refusal_of fault) (RefusesNode _basin.now _text.now) }
-    ensures { IsPolicyRefusal _basin.now _text.now result }
+    requires { ForSome (refusal_of fault) (RefusesNode _basin.now _text.now) }
+    ensures { IsPolicyRefusal false _basin.now _text.now result }
 {
     match fault {
         TypeFault::NoMemory => Refusal::NoMemory,
@@ -105,11 +102,11 @@ fn refusal_of_types(_basin: &Basin, _text: &[u8], fault: TypeFault) -> Refusal
     }
 }
 
-fn judge_rules(alloc: Global, basin: &Basin, text: &[u8]) -> Result<Typed, Refusal>
-    requires short { length text.now ≤ 16_777_216 }
-    requires rules { is_code text.now ≡ false }
+/// The ruleset of a text, for the basin.
+pub(crate) fn judge_rules(alloc: Global, basin: &Basin, text: &[u8]) -> Result<Typed, Refusal>
+    requires { length text.now ≤ 16_777_216 }
     ensures { MatchResult result (λ typed. IsRulesetOf basin.now text.now (rules_of typed.rules))
-        (IsPolicyRefusal basin.now text.now) }
+        (IsPolicyRefusal false basin.now text.now) }
 {
     let rules = match parse_rules(alloc, text) {
         Ok(rules) => rules,
@@ -122,9 +119,8 @@ fn judge_rules(alloc: Global, basin: &Basin, text: &[u8]) -> Result<Typed, Refus
 }
 
 fn refusal_of_code(_text: &[u8], fault: CodeFault) -> Refusal
-    requires code { is_code _text.now ≡ true }
-    requires why { AnswersCode (read _text.now) (Err fault) }
-    ensures { (basin : Draft) → IsPolicyRefusal basin _text.now result }
+    requires { AnswersCode (read _text.now) (Err fault) }
+    ensures { (basin : Draft) → IsPolicyRefusal true basin _text.now result }
 {
     match fault {
         CodeFault::NoMemory => Refusal::NoMemory,
@@ -133,10 +129,9 @@ fn refusal_of_code(_text: &[u8], fault: CodeFault) -> Refusal
 }
 
 fn read_blocks(alloc: Global, text: &[u8]) -> Result<Code, Refusal>
-    requires short { length text.now ≤ 16_777_216 }
-    requires code { is_code text.now ≡ true }
+    requires { length text.now ≤ 16_777_216 }
     ensures { MatchResult result (λ code. read text.now ≡ Ok code)
-        (λ why. (basin : Draft) → IsPolicyRefusal basin text.now why) }
+        (λ why. (basin : Draft) → IsPolicyRefusal true basin text.now why) }
 {
     match read_code(alloc, text) {
         Ok(code) => Ok(code),
@@ -145,9 +140,8 @@ fn read_blocks(alloc: Global, text: &[u8]) -> Result<Code, Refusal>
 }
 
 fn refusal_of_block(_basin: &Basin, _text: &[u8], fault: VerifyFault) -> Refusal
-    requires code { is_code _text.now ≡ true }
-    requires why { ForSome (refusal_of_verify fault) (RefusesBlock _basin.now _text.now) }
-    ensures { IsPolicyRefusal _basin.now _text.now result }
+    requires { ForSome (refusal_of_verify fault) (RefusesBlock _basin.now _text.now) }
+    ensures { IsPolicyRefusal true _basin.now _text.now result }
 {
     match fault {
         VerifyFault::NoMemory => Refusal::NoMemory,
@@ -156,9 +150,9 @@ fn refusal_of_block(_basin: &Basin, _text: &[u8], fault: VerifyFault) -> Refusal
 }
 
 fn judge_code(alloc: Global, basin: &Basin, text: &[u8]) -> Result<Verified, Refusal>
-    requires short { length text.now ≤ 16_777_216 }
-    requires code { is_code text.now ≡ true }
-    ensures { MatchResult result (IsCodeOf basin.now text.now) (IsPolicyRefusal basin.now text.now) }
+    requires { length text.now ≤ 16_777_216 }
+    ensures { MatchResult result (IsCodeOf basin.now text.now)
+        (IsPolicyRefusal true basin.now text.now) }
 {
     let code = match read_blocks(alloc, text) {
         Ok(code) => code,
@@ -172,9 +166,10 @@ fn judge_code(alloc: Global, basin: &Basin, text: &[u8]) -> Result<Verified, Ref
 
 /// The policy of a text, for the basin.
 pub(crate) fn judge_policy(alloc: Global, basin: &Basin, text: &[u8]) -> Result<Policy, Refusal>
-    requires short { length text.now ≤ 16_777_216 }
-    ensures { MatchResult result (λ policy. IsPolicyOf basin.now text.now (policy_of policy))
-        (IsPolicyRefusal basin.now text.now) }
+    requires { length text.now ≤ 16_777_216 }
+    ensures { MatchResult result
+        (λ policy. IsPolicyOf (is_code text.now) basin.now text.now (policy_of policy))
+        (IsPolicyRefusal (is_code text.now) basin.now text.now) }
 {
     if is_code(text) {
         match judge_code(alloc, basin, text) {

@@ -17,7 +17,7 @@ ghost use Rattle.rw_top.specs.Call.{Call};
 ghost use Rattle.rw_top.specs.Command.{AskFor, AskNothing};
 ghost use Rattle.rw_top.specs.FirstCall.{IsFirstCall};
 ghost use Rattle.rw_top.specs.Policy.{BadCode, RulesRefusal, BadRules, BadBlocks};
-ghost use Rattle.rw_top.specs.Promise.{Promise, WroteCheck, WroteRun};
+ghost use Rattle.rw_top.specs.Promise.{Promise, WroteCheck, WroteCode, WroteRun};
 ghost use Rattle.rw_top.specs.Reading.{RefusesInputs, RefusesModel, RefusesPolicy};
 ghost use Rattle.rw_top.specs.Refusal.{FailsToRead, FindsTooLong};
 ghost use Rattle.rw_top.specs.Written.{WritesFront};
@@ -75,7 +75,8 @@ pub fn first_call()
 
 /// What each status says of a call that keeps its promise. 5 says nothing: want of memory may always come.
 pub fn statuses()
-    ensures settled { (call : Call) → Promise call 0 → WroteRun call Settled ⊎ WroteCheck call }
+    ensures settled { (call : Call) → Promise call 0
+        → WroteRun call Settled ⊎ WroteCheck call ⊎ WroteCode call }
     ensures faulted { (call : Call) → Promise call 1
         → (why : RunFault) × WroteRun call (Fault why) }
     ensures words { (call : Call) → Promise call 2 → AskNothing call.words }

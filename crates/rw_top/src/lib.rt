@@ -1,10 +1,11 @@
-//! The top call: the words, the files that they name, and the text of the command: the table of a run, or the budgets of a
-//! ruleset. With status 0 or 1 it has written exactly the text that the definitions give for these files; every other
+//! The top call: the words, the files that they name, and the text of the command: the table of a run, the budgets of a
+//! policy, or the code of a ruleset. With status 0 or 1 it has written exactly the text that the definitions give for these files; every other
 //! status has its cause, and one line that says so.
 #![tactic(auto)]
 
 mod check;
 mod command;
+mod compile;
 mod fault_words;
 mod files;
 mod judging;

@@ -8,6 +8,7 @@ ghost use Rattle.rw_top.specs.Written.{HasText, WritesAll, status_of_end};
 use crate::Refusal;
 use crate::check::check_policy;
 use crate::command::Command;
+use crate::compile::compile_rules;
 use crate::simulate::simulate;
 use rw_engine::RunEnd;
 use rw_io::{Shelf, Sink, WriteFault, write_all};
@@ -43,6 +44,10 @@ fn text_of<S: Shelf>(
             Err(refusal) => Err(refusal),
         },
         Command::Check { .. } => match check_policy(alloc, command, shelf) {
+            Ok(text) => Ok((text, 0)),
+            Err(refusal) => Err(refusal),
+        },
+        Command::Compile { .. } => match compile_rules(alloc, command, shelf) {
             Ok(text) => Ok((text, 0)),
             Err(refusal) => Err(refusal),
         },

@@ -22,7 +22,8 @@ use std::alloc::Global;
 /// of its kind, and writes the table to `out`. The methods are one for each kind, in the order of the kinds' numbers. The
 /// status is 0 where the run settled and 1 where it ended in a fault. `check MODEL POLICY` reads both files, judges the
 /// ruleset, or the code where the policy's first line is `CODE 1`, with the basin, and writes what a firing of each rule
-/// comes to at most. The status is 0.
+/// comes to at most. The status is 0. `compile MODEL RULES` reads both files, judges the ruleset with the basin, and writes
+/// the text of its code. The status is 0.
 ///
 /// With each other status one line on `err` says why: 2 the words, 3 a file that can't be read, 4 an output that can't be
 /// written, 5 want of memory, 6 the model, 7 the ruleset, 8 the inputs, 9 the code, 10 a file of more than 16,777,216

@@ -1,8 +1,8 @@
 use Rattle.rw_top.proofs.CauseLemmas.{accepted_rules, refused_rules}
 use Rattle.rw_top.proofs.judging.judge_rules.Goals as goal
 
-pub refusal_of_types-requires-clause-why : goal.refusal_of_types-requires-clause-why
-refusal_of_types-requires-clause-why c = λ why tells. refused_rules _ _ _ why c.in-Ok.ensures.read (c.in-Err-check.ensures.answers.0 why tells)
+pub refusal_of_types-requires : goal.refusal_of_types-requires
+refusal_of_types-requires c = λ why tells. refused_rules _ _ _ why c.in-Ok.ensures.read (c.in-Err-check.ensures.answers.0 why tells)
 
 pub returns-in-Err : goal.returns-in-Err
 returns-in-Err c = c.in-Err.ensures.read c.args.basin.now

@@ -6,4 +6,4 @@ use Rattle.rw_top.proofs.judging.refusal_of_block.Goals as goal
 pub returns-in-Refused : goal.returns-in-Refused
 returns-in-Refused c =
     let why = refusal c.in-Refused.kind c.in-Refused.block c.in-Refused.place in
-    inr (BadBlocks (Misfit why), refl, (c.requires.code, c.requires.why why (ap refusal_of c.in-Refused.is)))
+    inr (BadBlocks (Misfit why), refl, (refl, c.requires why (ap refusal_of c.in-Refused.is)))
