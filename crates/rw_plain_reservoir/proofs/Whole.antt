@@ -62,7 +62,7 @@ tells s log h =
         closed = h.closed;
         run = h.run;
         text_is = ap (λ e. section_of basin 0 e (last_closed log) values) h.end ∙ ap (λ n. section_of basin 0 (run_end h.closed h.fault) n values) h.last
-        ∙ same-text s (cells_of basin log) h.closed h.fault h.values;
+            ∙ same-text s (cells_of basin log) h.closed h.fault h.values;
       },
       subst (λ e. (h.fault ≡ None) ↔ (e ≡ Settled)) (sym h.end) (settled_where h.closed h.fault),
     )
