@@ -32,11 +32,11 @@ module _ (call : Call) (text : List ℕ) (grew : GrowsBy call.out.before.content
   settled_by : (command : Command) → Asks call.words command → HasText command call.shelf.before.holds 0 text
       → WroteRun call Settled ⊎ WroteCheck call ⊎ WroteCode call
   settled_by (Simulate model inputs) asked is =
-      inl (inl (settles call is.0 is.1 (record { command = Simulate model inputs; asked = asked; text = text; is = is.2; grew = grew })))
+      inl (settles call is.0 is.1 (record { command = Simulate model inputs; asked = asked; text = text; is = is.2; grew = grew }))
   settled_by (Check model policy) asked is =
-      inl (inr (record { command = Check model policy; asked = asked; text = text; is = is.1; grew = grew }))
+      inr (inl (record { command = Check model policy; asked = asked; text = text; is = is.1; grew = grew }))
   settled_by (Compile model rules) asked is =
-      inr (record { command = Compile model rules; asked = asked; text = text; is = is.1; grew = grew })
+      inr (inr (record { command = Compile model rules; asked = asked; text = text; is = is.1; grew = grew }))
 
   faulted_by : (command : Command) → Asks call.words command → HasText command call.shelf.before.holds 1 text
       → (why : RunFault) × WroteRun call (Fault why)
