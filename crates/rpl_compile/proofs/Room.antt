@@ -1,17 +1,24 @@
 -- A value is given the room of its place.
-use Rattle.rw_base.proofs.Common.{◌≡◌, ◌⊎◌, inl, inr, ℕ, ◌+◌, ◌<◌, ◌==◌, Bool, true, false, nat_lt, nat_le, nat_tests, List, [], ◌∷◌, Some, None, refl, sym, ap, ◌∙◌, subst, arith, slice_get, if◌then◌else◌}
+use Rattle.rw_base.proofs.Common.{◌≡◌, ◌⊎◌, inl, inr, ℕ, ◌+◌, ◌<◌, ◌==◌, Bool, true, false, nat_lt, nat_le, nat_tests, List, [], ◌∷◌, ◌++◌, Some, None, refl, sym, ap, ◌∙◌, subst, arith, slice_get, if◌then◌else◌}
 use Rattle.rpl_code.specs.declared.kind.ValueKind.TheVariants as K
 use Rattle.rpl_code.specs.declared.instruction.Instruction.TheVariants as I
 use Rattle.rpl_tree.specs.Value.{Kind, numbers_kind, slots_kind, Value, a_number, a_truth, a_date, a_slot, numbers, slots, kind_of, is_same_kind}
-use Rattle.rpl_tree.specs.Outcome.{gives, is_stuck}
+use Rattle.rpl_tree.specs.Outcome.{gives, is_stuck, ◌>>=◌}
 use Rattle.rpl_tree.specs.Operators.{roomier, widened}
+use Rattle.rpl_tree.specs.Tree.{Tree}
+use Rattle.rpl_tree.specs.Mean.{Env, value_of}
+use Rattle.rpl_tree.specs.Locals.{local_kinds}
 use Rattle.rpl_verify.specs.Table.{or_wrong}
 use Rattle.rpl_verify.specs.Machine.{Frame, Running}
 use Rattle.rpl_compile.specs.Operations.{widening, widening_size}
-use Rattle.rpl_compile.specs.Kinded.{FitsIn}
+use Rattle.rpl_compile.specs.Size.{size}
+use Rattle.rpl_compile.specs.Site.{Site, kind_at, names_in}
+use Rattle.rpl_compile.specs.Translate.{code_of, room_lines}
+use Rattle.rpl_compile.specs.Kinded.{FitsIn, IsKinded}
 use Rattle.rpl_compile.proofs.Goes.{Goes, goes_none}
-use Rattle.rpl_compile.proofs.OfKind.{At, HasKind, at_head, same_kind_refl}
-use Rattle.rpl_compile.proofs.Setting.{Left, Setting, fr, left, same_kept}
+use Rattle.rpl_compile.proofs.OfKind.{At, HasKind, at_back, at_front, at_head, same_kind_refl}
+use Rattle.rpl_compile.proofs.Sizes.{code-size}
+use Rattle.rpl_compile.proofs.Setting.{Claim, H, Here, Left, Setting, fr, goes_left, left, part, same_kept}
 use Rattle.rpl_compile.proofs.Steps.{operates}
 
 different : (m n : ℕ) → n < m → (m == n) ≡ false
@@ -88,3 +95,21 @@ module _ (g : Setting) where
   pub widens : (place kind : Kind) → FitsIn place kind → Widens place kind
   widens place kind (inl e) = subst (λ p. Widens p kind) (sym e) (as_it_is kind)
   widens place kind (inr w) = by_wider place kind w.0 w.1 w.2 w.3
+
+  -- a tree and its room, at a site
+  pub in_room : (place : Kind) (t : Tree) (site : Site) (env : Env) (ls ops : List Value) (lo : List Running) (rest : List Frame) → Claim g t
+      → At g.block.lines site.place (code_of g.callees site t ++ room_lines g.callees place site t) → At g.kinds site.free (local_kinds (H g) (names_in site.scope) t)
+      → IsKinded g.world.basin (H g) (names_in site.scope) t → FitsIn place (kind_at (H g) site t) → Here g site env ls ops
+      → Goes g.code g.world (fr g site.place ls ops lo ∷ rest) (value_of g.world g.functions env t >>= widened place)
+        (Left g place site.free (site.place + (size (H g) (names_in site.scope) t + widening_size place (kind_at (H g) site t))) ls ops lo rest)
+  in_room place t site env ls ops lo rest c placed loc kinded fits h =
+      let n = size (H g) (names_in site.scope) t in
+      let k = kind_at (H g) site t in
+      let w = widening_size place k in
+      let Q = Left g place site.free (site.place + (n + w)) ls ops lo rest in
+      part g k site.free (site.place + n) ls ops lo rest (fr g site.place ls ops lo ∷ rest) (value_of g.world g.functions env t) (widened place) Q
+      (c site env ls ops lo rest (at_front g.block.lines site.place (code_of g.callees site t) (room_lines g.callees place site t) placed, loc, kinded) h)
+      (λ v us hv ku.
+      goes_left g place site.free site.free (site.place + n + w) (site.place + (n + w)) ls us ops lo rest (fr g (site.place + n) us (v ∷ ops) lo ∷ rest) (widened place v) (omega arith) (omega arith) ku
+      (widens place k fits site.free (site.place + n) us ops lo rest v
+        (at_back g.block.lines site.place n (code_of g.callees site t) (room_lines g.callees place site t) (code-size g.world.basin g.callees site t kinded) placed) hv))
