@@ -104,7 +104,7 @@ module _ (g : Setting) where
   abbrev pub our_scope : Scope
   our_scope = scope_of g.world.basin g.code g.own g.block
 
-  step_does : (p : ℕ) (ls vs ops : List Value) (lo : List Running) (rest : List Frame) (i : Instruction) (leaves : List ValueKind)
+  pub step_does : (p : ℕ) (ls vs ops : List Value) (lo : List Running) (rest : List Frame) (i : Instruction) (leaves : List ValueKind)
       → slice_get g.block.lines p ≡ Some i → length vs ≡ operand_count (Row_of i) → left_of (Row_of i) (kinds_of vs) ≡ Ok leaves
       → step g.code g.world (fr g p ls (vs ++ ops) lo) rest ≡ step_by g.code g.world g.block i (fr g p ls (vs ++ ops) lo) rest
   step_does p ls vs ops lo rest i leaves at many h = does g.code g.world (fr g p ls (vs ++ ops) lo) rest g.block i vs ops leaves g.stands at refl many h
