@@ -61,7 +61,7 @@ row_ready r ks below left e h =
 
 -- ---- an operation after an operation
 
-two_binds : {A B C : Type 0} (m : Outcome A) (f : A → B) (h : B → C) → (m >>= (λ v. gives (f v) 0) >>= (λ w. gives (h w) 0)) ≡ (m >>= (λ v. gives (h (f v)) 0))
+pub two_binds : {A B C : Type 0} (m : Outcome A) (f : A → B) (h : B → C) → (m >>= (λ v. gives (f v) 0) >>= (λ w. gives (h w) 0)) ≡ (m >>= (λ v. gives (h (f v)) 0))
 two_binds {A = A} {B = B} {C = C} m f h = by m.answer m.trail
   where
     by : (a : Answer A) (t : Trail) → (goes_on a t (λ v. gives (f v) 0) >>= (λ w. gives (h w) 0)) ≡ goes_on a t (λ v. gives (h (f v)) 0)
