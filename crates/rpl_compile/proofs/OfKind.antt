@@ -108,6 +108,19 @@ as_many (k ∷ ks) (v ∷ vs) h = ap suc (as_many ks vs h.1)
 as_many [] (v ∷ vs) h = absurd h
 as_many (k ∷ ks) [] h = absurd h
 
+-- any kinds of code are those of kinds
+pub coded_kinds : (ks : List ValueKind) → (ls : List Kind) × (ks ≡ code_kinds ls)
+coded_kinds [] = ([], refl)
+coded_kinds (k ∷ ks) = let r = coded_kinds ks in (plain_kind k ∷ r.0, ap₂ (λ a b. a ∷ b) (by k) r.1)
+  where
+    by : (k : ValueKind) → k ≡ code_kind (plain_kind k)
+    by K.N = refl
+    by K.B = refl
+    by K.D = refl
+    by K.S = refl
+    by (K.NList m) = refl
+    by (K.SList m) = refl
+
 -- ---- what stands in a list from a place on
 
 abbrev pub At : {A : Type 0} → List A → ℕ → List A → Type 0

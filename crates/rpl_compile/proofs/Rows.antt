@@ -33,7 +33,7 @@ abbrev pub AllHave : Kind → List Value → Type 0
 AllHave k [] = Unit {0}
 AllHave k (v ∷ vs) = HasKind k v × AllHave k vs
 
-all_turned : (k : Kind) (vs us : List Value) → AllHave k vs → AllHave k us → AllHave k (reverse_aux vs us)
+pub all_turned : (k : Kind) (vs us : List Value) → AllHave k vs → AllHave k us → AllHave k (reverse_aux vs us)
 all_turned k [] us h i = i
 all_turned k (v ∷ vs) us h i = all_turned k vs (v ∷ us) h.1 (h.0, i)
 

@@ -1,5 +1,5 @@
 -- One step of each instruction.
-use Rattle.rw_base.proofs.Common.{◌≡◌, ℕ, zero, suc, ◌+◌, ◌≤◌, Bool, true, false, nat_lt, nat_tests, List, [], ◌∷◌, ◌++◌, length, take, drop, set, reverse, reverse-reverse, Option, Some, None, Result, Ok, Err, refl, sym, ap, ap₂, ◌∙◌, arith, slice_get, is_ok, if◌then◌else◌, option_and_then, length-append}
+use Rattle.rw_base.proofs.Common.{◌≡◌, ℕ, zero, suc, ◌+◌, ◌≤◌, Bool, true, false, nat_lt, nat_tests, List, [], ◌∷◌, ◌++◌, length, take, drop, set, reverse, reverse-reverse, Option, Some, None, Result, Ok, Err, refl, sym, ap, ap₂, ◌∙◌, subst, arith, slice_get, is_ok, if◌then◌else◌, option_and_then, length-append}
 use Rattle.rw_model.specs.Objects.{numbered}
 use Rattle.rpl_code.specs.declared.kind.ValueKind.{ValueKind}
 use Rattle.rpl_code.specs.declared.instruction.Instruction.{Instruction}
@@ -16,12 +16,12 @@ use Rattle.rpl_verify.specs.Places.{declared_by}
 use Rattle.rpl_verify.specs.Names.{Scope, name_misfit}
 use Rattle.rpl_verify.specs.Fits.{locals_of, scope_of}
 use Rattle.rpl_verify.specs.Operations.{kind_of as code_kind_of, kinds_of, operation}
-use Rattle.rpl_verify.specs.Machine.{Frame, Running, are_declared, jumped, loaded, onward, operated, row_in, step, step_at, step_by, step_in}
+use Rattle.rpl_verify.specs.Machine.{Frame, Running, State, are_declared, jumped, loaded, onward, operated, row_in, step, step_at, step_by, step_in}
 use Rattle.rpl_verify.proofs.KindFacts.{AreRoomy, same_kinds_refl}
 use Rattle.rpl_verify.proofs.Operating.{MadeOn}
 use Rattle.rpl_verify.proofs.Operated.{IsOperation, operation_made}
 use Rattle.rpl_compile.specs.Operations.{code_kind, code_kinds, target}
-use Rattle.rpl_compile.proofs.Goes.{Goes, Made, goes_as, goes_one, nothing_last, same_outcome}
+use Rattle.rpl_compile.proofs.Goes.{Goes, Made, goes_as, goes_one, goes_weaker, nothing_last, same_outcome}
 use Rattle.rpl_compile.proofs.OfKind.{HasKind, kind_coded, kind_from_code, value_words}
 use Rattle.rpl_compile.proofs.Setting.{Left, Setting, fr, left, same_kept}
 
@@ -30,14 +30,14 @@ use Rattle.rpl_compile.proofs.Setting.{Left, Setting, fr, left, same_kept}
 enough : (ks below : List ValueKind) (n : ℕ) → length ks ≡ n → nat_lt (length (ks ++ below)) n ≡ false
 enough ks below n e = let l : n ≤ length (ks ++ below) = omega (arith, length-append ks below, e) in grind (arith, nat_tests, l)
 
-take_front : {A : Type 0} (a b : List A) (n : ℕ) → length a ≡ n → take n (a ++ b) ≡ a
+pub take_front : {A : Type 0} (a b : List A) (n : ℕ) → length a ≡ n → take n (a ++ b) ≡ a
 take_front {A = A} a b n e = ap (λ m. take m (a ++ b)) (sym e) ∙ by a
   where
     by : (a : List A) → take (length a) (a ++ b) ≡ a
     by [] = refl
     by (x ∷ a) = ap (λ l. x ∷ l) (by a)
 
-drop_front : {A : Type 0} (a b : List A) (n : ℕ) → length a ≡ n → drop n (a ++ b) ≡ b
+pub drop_front : {A : Type 0} (a b : List A) (n : ℕ) → length a ≡ n → drop n (a ++ b) ≡ b
 drop_front {A = A} a b n e = ap (λ m. drop m (a ++ b)) (sym e) ∙ by a
   where
     by : (a : List A) → drop (length a) (a ++ b) ≡ b
@@ -109,24 +109,30 @@ module _ (g : Setting) where
       → step g.code g.world (fr g p ls (vs ++ ops) lo) rest ≡ step_by g.code g.world g.block i (fr g p ls (vs ++ ops) lo) rest
   step_does p ls vs ops lo rest i leaves at many h = does g.code g.world (fr g p ls (vs ++ ops) lo) rest g.block i vs ops leaves g.stands at refl many h
 
-  -- an operation on the operands on top
-  pub operates : (K : Kind) (free p : ℕ) (ls vs ops : List Value) (lo : List Running) (rest : List Frame) (i : Instruction)
+  -- an operation on the operands on top changes nothing but them
+  pub operates_as : (K : Kind) (p : ℕ) (ls vs ops : List Value) (lo : List Running) (rest : List Frame) (i : Instruction)
       → IsOperation i → name_misfit our_scope i ≡ None → slice_get g.block.lines p ≡ Some i → AreRoomy vs → length vs ≡ operand_count (Row_of i) → left_of (Row_of i) (kinds_of vs) ≡ Ok (code_kind K ∷ [])
-      → Goes g.code g.world (fr g p ls (vs ++ ops) lo ∷ rest) (operation g.world i (reverse vs)) (Left g K free (p + 1) ls ops lo rest)
-  operates K free p ls vs ops lo rest i is there at roomy many h =
-      goes_as g.code g.world (fr g p ls (vs ++ ops) lo) rest (operation g.world i (reverse vs)) (λ v. fr g (suc p) ls (v ∷ ops) lo ∷ rest) (Left g K free (p + 1) ls ops lo rest)
+      → Goes g.code g.world (fr g p ls (vs ++ ops) lo ∷ rest) (operation g.world i (reverse vs)) (λ v s1. (s1 ≡ fr g (suc p) ls (v ∷ ops) lo ∷ rest) × HasKind K v)
+  operates_as K p ls vs ops lo rest i is there at roomy many h =
+      goes_as g.code g.world (fr g p ls (vs ++ ops) lo) rest (operation g.world i (reverse vs)) (λ v. fr g (suc p) ls (v ∷ ops) lo ∷ rest) (λ v s1. (s1 ≡ fr g (suc p) ls (v ∷ ops) lo ∷ rest) × HasKind K v)
       (step_does p ls vs ops lo rest i (code_kind K ∷ []) at many h ∙ by_operation g.code g.world g.block i (fr g p ls (vs ++ ops) lo) rest is
       ∙ ap₂ (λ (us us1 : List Value). operation g.world i (reverse us) >>= (λ v. gives (onward (v ∷ us1) (fr g p ls (vs ++ ops) lo)) 0) >>= (λ h. gives (h ∷ rest) 0))
         (take_front vs ops (operand_count (Row_of i)) many) (drop_front vs ops (operand_count (Row_of i)) many)
       ∙ two_binds (operation g.world i (reverse vs)) (λ v. onward (v ∷ ops) (fr g p ls (vs ++ ops) lo)) (λ (h : Frame). h ∷ rest))
       (by (operation g.world i (reverse vs)).answer (operation_made g.world our_scope refl i vs (code_kind K ∷ []) is there many roomy h).answer)
     where
-      by : (a : Answer Value) → MadeOn (code_kind K ∷ []) a → Made a (λ v. Left g K free (p + 1) ls ops lo rest v (fr g (suc p) ls (v ∷ ops) lo ∷ rest))
-      by (value v) m =
-          let e : code_kind_of v ≡ code_kind K = cc m.0 in
-          left g K free (p + 1) (suc p) ls ls ops lo rest v (omega arith) (kind_from_code K v e, m.1) (same_kept free ls)
+      by : (a : Answer Value) → MadeOn (code_kind K ∷ []) a → Made a (λ v. (◌≡◌ {A = State} (fr g (suc p) ls (v ∷ ops) lo ∷ rest) (fr g (suc p) ls (v ∷ ops) lo ∷ rest)) × HasKind K v)
+      by (value v) m = let e : code_kind_of v ≡ code_kind K = cc m.0 in (refl, (kind_from_code K v e, m.1))
       by (ended e) m = tt
       by stuck m = m
+
+  pub operates : (K : Kind) (free p : ℕ) (ls vs ops : List Value) (lo : List Running) (rest : List Frame) (i : Instruction)
+      → IsOperation i → name_misfit our_scope i ≡ None → slice_get g.block.lines p ≡ Some i → AreRoomy vs → length vs ≡ operand_count (Row_of i) → left_of (Row_of i) (kinds_of vs) ≡ Ok (code_kind K ∷ [])
+      → Goes g.code g.world (fr g p ls (vs ++ ops) lo ∷ rest) (operation g.world i (reverse vs)) (Left g K free (p + 1) ls ops lo rest)
+  operates K free p ls vs ops lo rest i is there at roomy many h =
+      goes_weaker g.code g.world (fr g p ls (vs ++ ops) lo ∷ rest) (operation g.world i (reverse vs)) (λ v s1. (s1 ≡ fr g (suc p) ls (v ∷ ops) lo ∷ rest) × HasKind K v) (Left g K free (p + 1) ls ops lo rest)
+      (λ v s1 w. subst (λ s. Left g K free (p + 1) ls ops lo rest v s) (sym w.0) (left g K free (p + 1) (suc p) ls ls ops lo rest v (omega arith) w.1 (same_kept free ls)))
+      (operates_as K p ls vs ops lo rest i is there at roomy many h)
 
   -- ---- locals
 
