@@ -25,39 +25,51 @@ pub record IsShut (n : ℕ) (is : List Instruction) : Type 0 where
   pub passes : (p : ℕ) (rest : List Instruction) → loop_ends p (is ++ rest) ≡ suc (p + n) ∷ loop_ends (p + length is) rest
 
 pub no_lines : IsBalanced []
-no_lines = record { passes = λ p rest.
-    let z : p ≡ p + 0 = omega arith in ap (λ n. loop_ends n rest) z }
+no_lines = record {
+  passes = λ p rest.
+      let z : p ≡ p + 0 = omega arith in ap (λ n. loop_ends n rest) z;
+}
 
 moved : (p q : ℕ) (rest : List Instruction) → p ≡ q → loop_ends p rest ≡ loop_ends q rest
 moved p q rest e = ap (λ n. loop_ends n rest) e
 
 pub both_balanced : (a b : List Instruction) → IsBalanced a → IsBalanced b → IsBalanced (a ++ b)
-both_balanced a b ba bb = record { passes = λ p rest.
-    let e : p + length a + length b ≡ p + length (a ++ b) = omega (arith, length-append a b) in
-    ap (loop_ends p) (append_assoc a b rest) ∙ ba.passes p (b ++ rest) ∙ bb.passes (p + length a) rest ∙ moved (p + length a + length b) (p + length (a ++ b)) rest e }
+both_balanced a b ba bb = record {
+  passes = λ p rest.
+      let e : p + length a + length b ≡ p + length (a ++ b) = omega (arith, length-append a b) in
+      ap (loop_ends p) (append_assoc a b rest) ∙ ba.passes p (b ++ rest) ∙ bb.passes (p + length a) rest ∙ moved (p + length a + length b) (p + length (a ++ b)) rest e;
+}
 
 pub level_first : (i : Instruction) (b : List Instruction) → bracket i ≡ level → IsBalanced b → IsBalanced (i ∷ b)
-level_first i b e bb = record { passes = λ p rest.
-    let z : suc p + length b ≡ p + suc (length b) = omega arith in
-    ap (λ (k : Bracket). ends_before k p (loop_ends (suc p) (b ++ rest))) e ∙ bb.passes (suc p) rest ∙ moved (suc p + length b) (p + suc (length b)) rest z }
+level_first i b e bb = record {
+  passes = λ p rest.
+      let z : suc p + length b ≡ p + suc (length b) = omega arith in
+      ap (λ (k : Bracket). ends_before k p (loop_ends (suc p) (b ++ rest))) e ∙ bb.passes (suc p) rest ∙ moved (suc p + length b) (p + suc (length b)) rest z;
+}
 
 pub loop_balanced : (loop : Loop) (i : Instruction) (n : ℕ) (b : List Instruction) → bracket i ≡ opening loop → IsShut n b → IsBalanced (i ∷ b)
-loop_balanced loop i n b e sb = record { passes = λ p rest.
-    let z : suc p + length b ≡ p + suc (length b) = omega arith in
-    ap (λ (k : Bracket). ends_before k p (loop_ends (suc p) (b ++ rest))) e ∙ ap rest_of (sb.passes (suc p) rest) ∙ moved (suc p + length b) (p + suc (length b)) rest z }
+loop_balanced loop i n b e sb = record {
+  passes = λ p rest.
+      let z : suc p + length b ≡ p + suc (length b) = omega arith in
+      ap (λ (k : Bracket). ends_before k p (loop_ends (suc p) (b ++ rest))) e ∙ ap rest_of (sb.passes (suc p) rest) ∙ moved (suc p + length b) (p + suc (length b)) rest z;
+}
 
 pub shut_behind : (a b : List Instruction) (m n : ℕ) → length a ≡ m → IsBalanced a → IsShut n b → IsShut (m + n) (a ++ b)
-shut_behind a b m n l ba sb = record { passes = λ p rest.
-    let e : p + length a + length b ≡ p + length (a ++ b) = omega (arith, length-append a b) in
-    let z : suc (p + length a + n) ≡ suc (p + (m + n)) = omega (arith, l) in
-    ap (loop_ends p) (append_assoc a b rest) ∙ ba.passes p (b ++ rest) ∙ sb.passes (p + length a) rest
-    ∙ ap₂ (λ (x : ℕ) (ends : List ℕ). x ∷ ends) z (moved (p + length a + length b) (p + length (a ++ b)) rest e) }
+shut_behind a b m n l ba sb = record {
+  passes = λ p rest.
+      let e : p + length a + length b ≡ p + length (a ++ b) = omega (arith, length-append a b) in
+      let z : suc (p + length a + n) ≡ suc (p + (m + n)) = omega (arith, l) in
+      ap (loop_ends p) (append_assoc a b rest) ∙ ba.passes p (b ++ rest) ∙ sb.passes (p + length a) rest
+      ∙ ap₂ (λ (x : ℕ) (ends : List ℕ). x ∷ ends) z (moved (p + length a + length b) (p + length (a ++ b)) rest e);
+}
 
 pub shut_here : (loop : Loop) (j : Instruction) (b : List Instruction) → bracket j ≡ closing loop → IsBalanced b → IsShut 0 (j ∷ b)
-shut_here loop j b e bb = record { passes = λ p rest.
-    let z : suc p + length b ≡ p + suc (length b) = omega arith in
-    let y : suc p ≡ suc (p + 0) = omega arith in
-    ap (λ (k : Bracket). ends_before k p (loop_ends (suc p) (b ++ rest))) e ∙ ap₂ (λ (x : ℕ) (ends : List ℕ). x ∷ ends) y (bb.passes (suc p) rest ∙ moved (suc p + length b) (p + suc (length b)) rest z) }
+shut_here loop j b e bb = record {
+  passes = λ p rest.
+      let z : suc p + length b ≡ p + suc (length b) = omega arith in
+      let y : suc p ≡ suc (p + 0) = omega arith in
+      ap (λ (k : Bracket). ends_before k p (loop_ends (suc p) (b ++ rest))) e ∙ ap₂ (λ (x : ℕ) (ends : List ℕ). x ∷ ends) y (bb.passes (suc p) rest ∙ moved (suc p + length b) (p + suc (length b)) rest z);
+}
 
 -- where a loop ends that begins before these lines
 pub ends_there : (lines : List Instruction) (p n : ℕ) (is : List Instruction) → At lines p is → IsShut n is → loop_end p (drop p lines) ≡ suc (p + n)
@@ -145,7 +157,7 @@ module _ (callees : List Callee) where
   -- from behind the beginning of a FOR
   pub each_shut : (total : Kind) (n : ℕ) (inside : Site) (b : Tree) → IsBalanced (code_of callees inside b)
       → IsShut (length (code_of callees inside b) + (length (room_lines callees total inside b) + 1))
-        (code_of callees inside b ++ (room_lines callees total inside b ++ (I.Store (n + 1) ∷ I.Next ∷ I.Load (n + 1) ∷ [])))
+      (code_of callees inside b ++ (room_lines callees total inside b ++ (I.Store (n + 1) ∷ I.Next ∷ I.Load (n + 1) ∷ [])))
   each_shut total n inside b h =
       shut_behind (code_of callees inside b) _ _ _ refl h
       (shut_behind (room_lines callees total inside b) _ _ _ refl (room_level total (kind_of_tree callees inside b))

@@ -29,10 +29,18 @@ module _ (g : Setting) where
       → Here g (knowing (bound x k site.free) (keeping (suc n) site)) ((x, v) ∷ env) (set us site.free v) ops
   here_known site env ls us ops x k v n hv has h ku =
       let long : length us ≡ length g.kinds = ku.0 ∙ h.1 in
-      let there : site.free < length us = omega (arith, within g.kinds site.free k has, long) in
-      ((refl, hv, set_here us site.free v there, omega arith, has,
-        holds_kept g.kinds site.scope env ls (set us site.free v) site.free (site.free + suc n) h.0 (omega arith) (kept_set site.free site.free ls us v (omega arith) ku)),
-        set_long us site.free v ∙ long, h.2)
+      let there : site.free < length us = omega (arith, within g.kinds site.free k has, long) in (
+        (
+          refl,
+          hv,
+          set_here us site.free v there,
+          omega arith,
+          has,
+          holds_kept g.kinds site.scope env ls (set us site.free v) site.free (site.free + suc n) h.0 (omega arith) (kept_set site.free site.free ls us v (omega arith) ku),
+        ),
+        set_long us site.free v ∙ long,
+        h.2,
+      )
 
   -- where the value stands among the lines, and what comes behind it
   pub record BoundAt (e : Tree) (site : Site) (lines : List Instruction) (kinds : List Kind) : Type 0 where
@@ -64,7 +72,7 @@ module _ (g : Setting) where
   pub binds : {A : Type 0} (x : List ℕ) (e : Tree) (site : Site) (env : Env) (ls ops : List Value) (lo : List Running) (rest : List Frame) (lines : List Instruction) (kinds : List Kind) (go : Value → Outcome A) (Q : A → State → Type 0)
       → Claim g e → IsKinded g.world.basin (H g) (names_in site.scope) e → Here g site env ls ops → BoundAt e site lines kinds
       → ((v : Value) (us : List Value) → Kept site.free ls us → Here g (knowing (bound x (kind_at (H g) site e) site.free) (on 1 (after_tree g.callees e (keeping 1 site)))) ((x, v) ∷ env) us ops
-        → Goes g.code g.world (fr g (site.place + size (H g) (names_in site.scope) e + 1) us ops lo ∷ rest) (go v) Q)
+      → Goes g.code g.world (fr g (site.place + size (H g) (names_in site.scope) e + 1) us ops lo ∷ rest) (go v) Q)
       → Goes g.code g.world (fr g site.place ls ops lo ∷ rest) (value_of g.world g.functions env e >>= (λ v. after (spent (weight (kind_of v))) (go v))) Q
   binds x e site env ls ops lo rest lines kinds go Q c kinded h b inside =
       let k = kind_at (H g) site e in
@@ -79,7 +87,7 @@ module _ (g : Setting) where
       goes_first g.code g.world (fr g q us (v ∷ ops) lo) rest (fr g (suc q) (set us site.free v) ops lo ∷ rest) (spent (weight (kind_of v))) (go v) Q (stores g q site.free us ops lo rest v k b.keeps b.local hv)
       (goes_at g (q + 1) (suc q) (set us site.free v) ops lo rest (go v) Q z
       (inside v (set us site.free v) (kept_set site.free site.free ls us v (omega arith) k1)
-        (subst (λ n. Here g (knowing (bound x k site.free) (record { scope = site.scope; free = n; place = site.place; below = site.below })) ((x, v) ∷ env) (set us site.free v) ops) m there))))
+      (subst (λ n. Here g (knowing (bound x k site.free) (record { scope = site.scope; free = n; place = site.place; below = site.below })) ((x, v) ∷ env) (set us site.free v) ops) m there))))
 
   pub on_bind : (x : List ℕ) (e b : Tree) → Claim g e → Claim g b → Claim g (bind x e b)
   on_bind x e b ce cb site env ls ops lo rest w h =

@@ -70,9 +70,14 @@ holds_arguments : (kinds : List Kind) (n : ℕ) (params : List Parameter) (args 
 holds_arguments kinds n [] [] ls free a b h le = tt
 holds_arguments kinds n [] (v ∷ vs) ls free a b h le = absurd h
 holds_arguments kinds n (p ∷ ps) [] ls free a b h le = absurd h
-holds_arguments kinds n (p ∷ ps) (v ∷ vs) ls free a b h le =
-    (refl, h.0, at_head ls n v vs a, omega (arith, le), at_head kinds n (kind_of_type p.of_type) (param_kinds ps) b,
-      holds_arguments kinds (n + 1) ps vs ls free (at_tail ls n v vs a) (at_tail kinds n (kind_of_type p.of_type) (param_kinds ps) b) h.1 (omega (arith, le)))
+holds_arguments kinds n (p ∷ ps) (v ∷ vs) ls free a b h le = (
+  refl,
+  h.0,
+  at_head ls n v vs a,
+  omega (arith, le),
+  at_head kinds n (kind_of_type p.of_type) (param_kinds ps) b,
+  holds_arguments kinds (n + 1) ps vs ls free (at_tail ls n v vs a) (at_tail kinds n (kind_of_type p.of_type) (param_kinds ps) b) h.1 (omega (arith, le)),
+)
 
 module _ (code : List Block) (world : World) where
   -- a block returns behind its last line
@@ -88,7 +93,6 @@ module _ (code : List Block) (world : World) where
   module _ (callees : List Callee) (functions : List Function) (same_heads : heads_of functions ≡ callee_heads callees) (calls : CanCall code world callees functions)
       (number : ℕ) (called_so : List ℕ) (params : List Parameter) (result : Kind) (body : Tree) (at : numbered code number ≡ Some (function_block callees params result body))
       (kinded : IsKindedBody world.basin (callee_heads callees) (param_names params) result body) where
-
     abbrev scope : List Bound
     scope = parameters_from 0 params
 
@@ -131,21 +135,26 @@ module _ (code : List Block) (world : World) where
     -- from the beginning of the block to behind the call
     body_goes : (args : List Value) (f : Frame) (callers : List Frame) → HaveKinds (param_kinds params) args
         → Goes code world (begin number block args ∷ f ∷ callers) (value_of world functions (with_arguments params args) body >>= widened result)
-          (λ v s1. (s1 ≡ at_place f.place (v ∷ f.operands) f ∷ callers) × HasKind result v)
+        (λ v s1. (s1 ≡ at_place f.place (v ∷ f.operands) f ∷ callers) × HasKind result v)
     body_goes args f callers have =
         let ls : List Value = args ++ map blank block.locals in
         let env : Env = with_arguments params args in
         let m : Outcome Value = value_of world functions env body >>= widened result in
         let many : length ls ≡ length (param_kinds params ++ own_kinds) =
-            omega (arith, length-append args (map blank block.locals), length-append (param_kinds params) own_kinds, as_many (param_kinds params) args have, as_long blank block.locals, as_long code_kind own_kinds) in
+        omega (arith, length-append args (map blank block.locals), length-append (param_kinds params) own_kinds, as_many (param_kinds params) args have, as_long blank block.locals, as_long code_kind own_kinds) in
         let here : Here g site env ls [] =
-            (holds_arguments g.kinds 0 params args ls (length params) (at_front ls 0 args (map blank block.locals) (at_all ls)) (at_front g.kinds 0 (param_kinds params) own_kinds (at_all g.kinds)) have (omega arith), many, refl) in
+        (holds_arguments g.kinds 0 params args ls (length params) (at_front ls 0 args (map blank block.locals) (at_all ls)) (at_front g.kinds 0 (param_kinds params) own_kinds (at_all g.kinds)) have (omega arith), many, refl) in
         goes_free code world (begin number block args ∷ f ∷ callers) m (Left g result (length params) end ls [] [] (f ∷ callers)) (λ v s1. (s1 ≡ at_place f.place (v ∷ f.operands) f ∷ callers) × HasKind result v)
         (in_room g result body site env ls [] [] (f ∷ callers) (tree_goes g body) (at_all block.lines)
-          (at_moved g.kinds (0 + length params) (length params) own_kinds (omega arith) (at_back g.kinds 0 (length params) (param_kinds params) own_kinds (many_params params) (at_all g.kinds))) body_kinded body_fits here)
-        (λ v s1 w.
-          (fr g end w.locals1 (v ∷ []) [], f ∷ callers, at_place f.place (v ∷ f.operands) f ∷ callers, w.is,
-            returns number block end w.locals1 (v ∷ []) (f ∷ callers) at end_is (ap (λ k. k ∷ []) (kind_coded result v w.of_kind)), (refl, w.of_kind)))
+        (at_moved g.kinds (0 + length params) (length params) own_kinds (omega arith) (at_back g.kinds 0 (length params) (param_kinds params) own_kinds (many_params params) (at_all g.kinds))) body_kinded body_fits here)
+        (λ v s1 w. (
+          fr g end w.locals1 (v ∷ []) [],
+          f ∷ callers,
+          at_place f.place (v ∷ f.operands) f ∷ callers,
+          w.is,
+          returns number block end w.locals1 (v ∷ []) (f ∷ callers) at end_is (ap (λ k. k ∷ []) (kind_coded result v w.of_kind)),
+          (refl, w.of_kind),
+        ))
 
     pub function_does : DoesCall code world (I.Invoke number) (function_of world functions called_so params result body)
     function_does own x q ls args ops lo rest stands placed have =
@@ -157,12 +166,12 @@ module _ (code : List Block) (world : World) where
         let kinds : kinds_of (reverse args) ≡ reverse (code_kinds takes) = kinds_turned args [] ∙ ap reverse (kinds_are takes args have) in
         let enough : length (reverse args) ≡ operand_count (row_in code world x (I.Invoke number)) = many ∙ sym (length-reverse (code_kinds takes)) ∙ ap (λ o. operand_count (invoke_row o)) (sym head) in
         let leaves : left_of (row_in code world x (I.Invoke number)) (kinds_of (reverse args)) ≡ Ok (code_kind result ∷ []) =
-            ap₂ (λ o l. left_of (invoke_row o) l) head kinds ∙ ap (λ (t : Bool). if t then Ok (code_kind result ∷ []) else Err WrongOperand) (same_kinds_refl (reverse (code_kinds takes))) in
+        ap₂ (λ o l. left_of (invoke_row o) l) head kinds ∙ ap (λ (t : Bool). if t then Ok (code_kind result ∷ []) else Err WrongOperand) (same_kinds_refl (reverse (code_kinds takes))) in
         let z : 1 + words_of_all (code_kinds takes) ≡ weights takes + 1 = omega (arith, all_words_coded takes) in
         let s : step code world f rest ≡ gives (begin number block args ∷ onto ∷ rest) (weights takes + 1) =
-            does code world f rest x (I.Invoke number) (reverse args) ops (code_kind result ∷ []) stands placed refl enough leaves
-            ∙ ap (λ o. invoked number o f rest) at
-            ∙ ap₂ (λ (vs us : List Value). gives (begin number block (reverse vs) ∷ onward us f ∷ rest) (1 + words_of_all (code_kinds takes))) (take_front (reverse args) ops (length (code_kinds takes)) many) (drop_front (reverse args) ops (length (code_kinds takes)) many)
-            ∙ ap₂ (λ (vs : List Value) (n : ℕ). gives (begin number block vs ∷ onto ∷ rest) n) (reverse-reverse args) z in
+        does code world f rest x (I.Invoke number) (reverse args) ops (code_kind result ∷ []) stands placed refl enough leaves
+        ∙ ap (λ o. invoked number o f rest) at
+        ∙ ap₂ (λ (vs us : List Value). gives (begin number block (reverse vs) ∷ onward us f ∷ rest) (1 + words_of_all (code_kinds takes))) (take_front (reverse args) ops (length (code_kinds takes)) many) (drop_front (reverse args) ops (length (code_kinds takes)) many)
+        ∙ ap₂ (λ (vs : List Value) (n : ℕ). gives (begin number block vs ∷ onto ∷ rest) n) (reverse-reverse args) z in
         goes_first code world f rest (begin number block args ∷ onto ∷ rest) (spent (weights takes + 1)) (value_of world functions (with_arguments params args) body >>= widened result)
         (λ v s1. (s1 ≡ record { block = own; place = suc q; locals = ls; operands = v ∷ ops; loops = lo } ∷ rest) × HasKind result v) s (body_goes args onto rest have)

@@ -112,8 +112,8 @@ module _ (code : List Block) (world : World) where
       let there : unless_there (function_named predefined_functions f) ≡ None = ap unless_there named in
       let s : State = record { block = own; place = q; locals = ls; operands = reverse args ++ ops; loops = lo } ∷ rest in
       let leaves : left_of (call_row (function_named predefined_functions f)) (kinds_of (reverse args)) ≡ Ok (K.N ∷ []) =
-          ap₂ (λ o l. left_of (call_row o) l) named (kinds_alike number_kind (reverse args) turned ∙ ap (λ m. replicate m K.N) many)
-          ∙ ap (λ (t : Bool). if t then Ok (K.N ∷ []) else or_wrong None) (same_kinds_refl (replicate n K.N)) in
+      ap₂ (λ o l. left_of (call_row o) l) named (kinds_alike number_kind (reverse args) turned ∙ ap (λ m. replicate m K.N) many)
+      ∙ ap (λ (t : Bool). if t then Ok (K.N ∷ []) else or_wrong None) (same_kinds_refl (replicate n K.N)) in
       let e : of_function (function_named predefined_functions f) (reverse (reverse args)) ≡ known.does args = ap₂ of_function named (reverse-reverse args) in
       let P : Value → State → Type 0 = λ v s1. (s1 ≡ record { block = own; place = suc q; locals = ls; operands = v ∷ ops; loops = lo } ∷ rest) × HasKind number_kind v in
       subst (λ k. Goes code world s (known.does args) (λ v s1. (s1 ≡ record { block = own; place = suc q; locals = ls; operands = v ∷ ops; loops = lo } ∷ rest) × HasKind k v)) (sym numeric.1)

@@ -79,10 +79,12 @@ module _ (g : Setting) where
           subst (λ s. Goes g.code g.world s (gives v 2) Q) (sym w.2)
           (goes_first g.code g.world (fr g mid w.0 w.1 lo) rest (fr g last w.0 w.1 lo ∷ rest) (spent 1) (gives v 1) Q (jumps g mid last w.0 w.1 lo rest result hj he w.3)
           (goes_one g.code g.world (fr g last w.0 w.1 lo) rest (fr g (suc last) w.0 w.1 lo ∷ rest) (spent 1) v Q (meets g last w.0 w.1 lo rest result he w.3) w.4))
+
       after_second : (v : A) (s : State) → EndsAt last (suc last) result lo rest Q v s → Goes g.code g.world s (gives v 1) Q
       after_second v s w =
           subst (λ s. Goes g.code g.world s (gives v 1) Q) (sym w.2)
           (goes_one g.code g.world (fr g last w.0 w.1 lo) rest (fr g (suc last) w.0 w.1 lo ∷ rest) (spent 1) v Q (meets g last w.0 w.1 lo rest result he w.3) w.4)
+
       by : (b : Bool) → Goes g.code g.world (fr g qc us (a_truth b ∷ ops) lo ∷ rest) (chosen (a_truth b) first second) Q
       by true =
           let z : qc + 1 ≡ suc qc = omega arith in
@@ -104,8 +106,13 @@ module _ (g : Setting) where
       → Goes g.code g.world s m (EndsAt mid (suc last) (K ∷ below) lo rest (Left g K free r ls ops lo rest))
   left_ends K below free more q mid last r ls us ops lo rest s m e f le k h go =
       goes_weaker g.code g.world s m (Left g K more q us ops lo rest) (EndsAt mid (suc last) (K ∷ below) lo rest (Left g K free r ls ops lo rest))
-      (λ v s1 w. (w.locals1, v ∷ ops, w.is ∙ ap (λ n. fr g n w.locals1 (v ∷ ops) lo ∷ rest) e, ap₂ (λ a b. a ∷ b) (kind_coded K v w.of_kind) h,
-        left g K free r (suc last) ls w.locals1 ops lo rest v f w.of_kind (then_kept free more ls us w.locals1 le k w.kept))) go
+      (λ v s1 w. (
+        w.locals1,
+        v ∷ ops,
+        w.is ∙ ap (λ n. fr g n w.locals1 (v ∷ ops) lo ∷ rest) e,
+        ap₂ (λ a b. a ∷ b) (kind_coded K v w.of_kind) h,
+        left g K free r (suc last) ls w.locals1 ops lo rest v f w.of_kind (then_kept free more ls us w.locals1 le k w.kept),
+      )) go
 
   -- ---- the forms
 
@@ -121,11 +128,11 @@ module _ (g : Setting) where
       let sf : ℕ = size (H g) names y + widening_size K (kind_at (H g) site y) in
       let ss : ℕ = size (H g) names n + widening_size K (kind_at (H g) site n) in
       let a = choice_at site.place sc sf ss middle last (K ∷ site.below) (code_of g.callees site c)
-          (code_of g.callees first y ++ room_lines g.callees K first y) (code_of g.callees second n ++ room_lines g.callees K second n)
-          (code-size g.world.basin g.callees site c w.2.0)
-          (beside _ _ (code-size g.world.basin g.callees first y w.2.2) (widening-size K (kind_at (H g) site y)))
-          (beside _ _ (code-size g.world.basin g.callees second n w.2.4) (widening-size K (kind_at (H g) site n)))
-          (omega arith) (omega arith) w.0 in
+      (code_of g.callees first y ++ room_lines g.callees K first y) (code_of g.callees second n ++ room_lines g.callees K second n)
+      (code-size g.world.basin g.callees site c w.2.0)
+      (beside _ _ (code-size g.world.basin g.callees first y w.2.2) (widening-size K (kind_at (H g) site y)))
+      (beside _ _ (code-size g.world.basin g.callees second n w.2.4) (widening-size K (kind_at (H g) site n)))
+      (omega arith) (omega arith) w.0 in
       let lc = local_kinds (H g) names c in
       let ly = local_kinds (H g) names y in
       let ln = local_kinds (H g) names n in
@@ -135,24 +142,24 @@ module _ (g : Setting) where
       let Q = Left g K site.free past ls ops lo rest in
       let e : K ≡ kind_in g.world g.functions env (choice c y n) = ap₂ (λ hs ns. tree_kind hs ns (choice c y n)) (sym g.same_heads) (sym (names_same g.kinds site.scope env ls site.free h.0)) in
       subst (λ k. Goes g.code g.world (fr g site.place ls ops lo ∷ rest)
-        (value_of g.world g.functions env c >>= (λ x. chosen x (value_of g.world g.functions env y >>= widened k) (value_of g.world g.functions env n >>= widened k))) Q) e
+      (value_of g.world g.functions env c >>= (λ x. chosen x (value_of g.world g.functions env y >>= widened k) (value_of g.world g.functions env n >>= widened k))) Q) e
       (part g (kind_at (H g) site c) site.free (site.place + sc) ls ops lo rest (fr g site.place ls ops lo ∷ rest) (value_of g.world g.functions env c)
-        (λ x. chosen x (value_of g.world g.functions env y >>= widened K) (value_of g.world g.functions env n >>= widened K)) Q
-        (cc1 site env ls ops lo rest (a.cond, at_front g.kinds site.free lc (ly ++ ln) w.1, w.2.0) h)
-        (λ x us hx ku.
-        let there = here_on g site env ls us ops (local_count c) h ku in
-        chosen_goes (site.place + sc) middle.place last.place site.below (K ∷ site.below) x us ops lo rest
-          (value_of g.world g.functions env y >>= widened K) (value_of g.world g.functions env n >>= widened K) Q a.forks a.jump a.landing a.end h.2 (subst (λ k. HasKind k x) w.2.1 hx)
-          (left_ends K site.below site.free first.free (first.place + sf) middle.place last.place past ls us ops lo rest _ _ (omega arith) (omega arith) (omega arith) ku h.2
-            (in_room g K y first env us ops lo rest cy a.first_at (at_front g.kinds first.free ly ln b1) w.2.2 w.2.3 there))
-          (left_ends K site.below site.free second.free (second.place + ss) last.place last.place past ls us ops lo rest _ _ (omega arith) (omega arith) (omega arith) ku h.2
-            (in_room g K n second env us ops lo rest cn a.second_at b2 w.2.4 w.2.5 (here_on g (keeping (local_count c) site) env us us ops (local_count y) there (same_kept first.free us))))))
+      (λ x. chosen x (value_of g.world g.functions env y >>= widened K) (value_of g.world g.functions env n >>= widened K)) Q
+      (cc1 site env ls ops lo rest (a.cond, at_front g.kinds site.free lc (ly ++ ln) w.1, w.2.0) h)
+      (λ x us hx ku.
+      let there = here_on g site env ls us ops (local_count c) h ku in
+      chosen_goes (site.place + sc) middle.place last.place site.below (K ∷ site.below) x us ops lo rest
+      (value_of g.world g.functions env y >>= widened K) (value_of g.world g.functions env n >>= widened K) Q a.forks a.jump a.landing a.end h.2 (subst (λ k. HasKind k x) w.2.1 hx)
+      (left_ends K site.below site.free first.free (first.place + sf) middle.place last.place past ls us ops lo rest _ _ (omega arith) (omega arith) (omega arith) ku h.2
+      (in_room g K y first env us ops lo rest cy a.first_at (at_front g.kinds first.free ly ln b1) w.2.2 w.2.3 there))
+      (left_ends K site.below site.free second.free (second.place + ss) last.place last.place past ls us ops lo rest _ _ (omega arith) (omega arith) (omega arith) ku h.2
+      (in_room g K n second env us ops lo rest cn a.second_at b2 w.2.4 w.2.5 (here_on g (keeping (local_count c) site) env us us ops (local_count y) there (same_kept first.free us))))))
 
   -- a truth needs no room
   truth_part : (t : Tree) (site : Site) (env : Env) (ls ops : List Value) (lo : List Running) (rest : List Frame) → Claim g t
       → At g.block.lines site.place (code_of g.callees site t) → At g.kinds site.free (local_kinds (H g) (names_in site.scope) t) → IsKinded g.world.basin (H g) (names_in site.scope) t → kind_at (H g) site t ≡ truth_kind → Here g site env ls ops
       → Goes g.code g.world (fr g site.place ls ops lo ∷ rest) (value_of g.world g.functions env t >>= widened truth_kind)
-        (Left g truth_kind site.free (site.place + size (H g) (names_in site.scope) t) ls ops lo rest)
+      (Left g truth_kind site.free (site.place + size (H g) (names_in site.scope) t) ls ops lo rest)
   truth_part t site env ls ops lo rest c placed loc kinded is_truth h =
       let q : ℕ = site.place + size (H g) (names_in site.scope) t in
       let Q = Left g truth_kind site.free q ls ops lo rest in
@@ -174,7 +181,7 @@ module _ (g : Setting) where
       let second : Site = on 2 middle in
       let last : Site = after_tree g.callees r second in
       let a = choice_at site.place sl 1 sr middle last (truth_kind ∷ site.below) (code_of g.callees site l) (I.Bool true ∷ []) (code_of g.callees second r)
-          (code-size g.world.basin g.callees site l w.2.0) refl (code-size g.world.basin g.callees second r w.2.1) refl refl w.0 in
+      (code-size g.world.basin g.callees site l w.2.0) refl (code-size g.world.basin g.callees second r w.2.1) refl refl w.0 in
       let ll = local_kinds (H g) names l in
       let lr = local_kinds (H g) names r in
       let past : ℕ = site.place + size (H g) names (two Or l r) in
@@ -184,11 +191,11 @@ module _ (g : Setting) where
       (cl site env ls ops lo rest (a.cond, at_front g.kinds site.free ll lr w.1, w.2.0) h)
       (λ x us hx ku.
       chosen_goes (site.place + sl) middle.place last.place site.below (truth_kind ∷ site.below) x us ops lo rest
-        (gives (a_truth true) 1) (value_of g.world g.functions env r >>= widened truth_kind) Q a.forks a.jump a.landing a.end h.2 (subst (λ k. HasKind k x) w.2.2.0 hx)
-        (left_ends truth_kind site.below site.free first.free middle.place middle.place last.place past ls us ops lo rest (fr g first.place us ops lo ∷ rest) (gives (a_truth true) 1) refl (omega arith) (omega arith) ku h.2
-          (operates g truth_kind first.free first.place us [] ops lo rest (I.Bool true) tt refl (at_head g.block.lines first.place (I.Bool true) [] a.first_at) tt refl refl))
-        (left_ends truth_kind site.below site.free second.free last.place last.place last.place past ls us ops lo rest _ _ refl (omega arith) (omega arith) ku h.2
-          (truth_part r second env us ops lo rest cr a.second_at (at_back g.kinds site.free (local_count l) ll lr (locals_size (H g) l names) w.1) w.2.1 w.2.2.1 (here_on g site env ls us ops (local_count l) h ku))))
+      (gives (a_truth true) 1) (value_of g.world g.functions env r >>= widened truth_kind) Q a.forks a.jump a.landing a.end h.2 (subst (λ k. HasKind k x) w.2.2.0 hx)
+      (left_ends truth_kind site.below site.free first.free middle.place middle.place last.place past ls us ops lo rest (fr g first.place us ops lo ∷ rest) (gives (a_truth true) 1) refl (omega arith) (omega arith) ku h.2
+      (operates g truth_kind first.free first.place us [] ops lo rest (I.Bool true) tt refl (at_head g.block.lines first.place (I.Bool true) [] a.first_at) tt refl refl))
+      (left_ends truth_kind site.below site.free second.free last.place last.place last.place past ls us ops lo rest _ _ refl (omega arith) (omega arith) ku h.2
+      (truth_part r second env us ops lo rest cr a.second_at (at_back g.kinds site.free (local_count l) ll lr (locals_size (H g) l names) w.1) w.2.1 w.2.2.1 (here_on g site env ls us ops (local_count l) h ku))))
 
   pub on_and : (l r : Tree) → Claim g l → Claim g r → Claim g (two And l r)
   on_and l r cl cr site env ls ops lo rest w h =
@@ -199,7 +206,7 @@ module _ (g : Setting) where
       let middle : Site = after_tree g.callees r first in
       let last : Site = on 3 middle in
       let a = choice_at site.place sl sr 1 middle last (truth_kind ∷ site.below) (code_of g.callees site l) (code_of g.callees first r) (I.Bool false ∷ [])
-          (code-size g.world.basin g.callees site l w.2.0) (code-size g.world.basin g.callees first r w.2.1) refl refl (omega arith) w.0 in
+      (code-size g.world.basin g.callees site l w.2.0) (code-size g.world.basin g.callees first r w.2.1) refl refl (omega arith) w.0 in
       let ll = local_kinds (H g) names l in
       let lr = local_kinds (H g) names r in
       let past : ℕ = site.place + size (H g) names (two And l r) in
@@ -209,8 +216,8 @@ module _ (g : Setting) where
       (cl site env ls ops lo rest (a.cond, at_front g.kinds site.free ll lr w.1, w.2.0) h)
       (λ x us hx ku.
       chosen_goes (site.place + sl) middle.place last.place site.below (truth_kind ∷ site.below) x us ops lo rest
-        (value_of g.world g.functions env r >>= widened truth_kind) (gives (a_truth false) 1) Q a.forks a.jump a.landing a.end h.2 (subst (λ k. HasKind k x) w.2.2.0 hx)
-        (left_ends truth_kind site.below site.free first.free middle.place middle.place last.place past ls us ops lo rest _ _ refl (omega arith) (omega arith) ku h.2
-          (truth_part r first env us ops lo rest cr a.first_at (at_back g.kinds site.free (local_count l) ll lr (locals_size (H g) l names) w.1) w.2.1 w.2.2.1 (here_on g site env ls us ops (local_count l) h ku)))
-        (left_ends truth_kind site.below site.free site.free (middle.place + 2 + 1) last.place last.place past ls us ops lo rest (fr g (middle.place + 2) us ops lo ∷ rest) (gives (a_truth false) 1) (omega arith) (omega arith) (omega arith) ku h.2
-          (operates g truth_kind site.free (middle.place + 2) us [] ops lo rest (I.Bool false) tt refl (at_head g.block.lines (middle.place + 2) (I.Bool false) [] a.second_at) tt refl refl)))
+      (value_of g.world g.functions env r >>= widened truth_kind) (gives (a_truth false) 1) Q a.forks a.jump a.landing a.end h.2 (subst (λ k. HasKind k x) w.2.2.0 hx)
+      (left_ends truth_kind site.below site.free first.free middle.place middle.place last.place past ls us ops lo rest _ _ refl (omega arith) (omega arith) ku h.2
+      (truth_part r first env us ops lo rest cr a.first_at (at_back g.kinds site.free (local_count l) ll lr (locals_size (H g) l names) w.1) w.2.1 w.2.2.1 (here_on g site env ls us ops (local_count l) h ku)))
+      (left_ends truth_kind site.below site.free site.free (middle.place + 2 + 1) last.place last.place past ls us ops lo rest (fr g (middle.place + 2) us ops lo ∷ rest) (gives (a_truth false) 1) (omega arith) (omega arith) (omega arith) ku h.2
+      (operates g truth_kind site.free (middle.place + 2) us [] ops lo rest (I.Bool false) tt refl (at_head g.block.lines (middle.place + 2) (I.Bool false) [] a.second_at) tt refl refl)))

@@ -111,18 +111,22 @@ module _ (basin : Draft) (rules : List Declared) (kinded : AreKinded basin rules
   runs_on n more e = stays code world n more (n + more) first refl (subst (λ (m : Outcome (Unit {0})). IsSettled m.answer) (sym e) run_ends.0) ∙ e
 
   pub ends_alike : EndsAlike rules basin number step_no values
-  ends_alike =
-      (run_ends.1.0, λ more.
-      ap (fired_in (run_ends.1.0 + more) code world) begins
-      ∙ ap (λ (m : Outcome (Unit {0})). fire_of m.answer m.trail) (runs_on run_ends.1.0 more run_ends.1.1))
+  ends_alike = (
+    run_ends.1.0,
+    λ more.
+        ap (fired_in (run_ends.1.0 + more) code world) begins
+        ∙ ap (λ (m : Outcome (Unit {0})). fire_of m.answer m.trail) (runs_on run_ends.1.0 more run_ends.1.1),
+  )
 
   pub fires_alike : (a : Accepted) → verified basin code ≡ Ok a → FiresAlike rules basin number step_no values
   fires_alike a h = by run_ends.1.0 run_ends.1.1 most_steps (is_safe.fires)
     where
       accepted : AreSafe basin code a.budgets
       accepted = subst (λ blocks. AreSafe basin blocks a.budgets) (same_blocks basin code a h) (safe basin a.blocks a.budgets (answered basin code a h))
+
       is_safe : IsSafe code basin number step_no values (accepted number the_rule.at step_no values the_rule.rule_is).0
       is_safe = (accepted number the_rule.at step_no values the_rule.rule_is).2
+
       by : (n : ℕ) → run code world n first ≡ done → (most : ℕ) → fired_in most code world (first_frame code number) ≡ Some is_safe.fire → fired_in most code world (first_frame code number) ≡ mean rules basin number step_no values
       by n e most fires =
           let settled = fire_settled (run code world most first).answer (run code world most first).trail is_safe.fire (sym (ap (fired_in most code world) begins) ∙ fires) in

@@ -112,10 +112,13 @@ module _ (code : List Block) (world : World) where
   free_on : {A : Type 0} (s : State) (a : Answer A) (t : Trail) (P Q : A → State → Type 0) → GoesOn a t s P
       → ((v : A) (s1 : State) → P v s1 → (f : Frame) × (fs : List Frame) × (s2 : State) × (s1 ≡ f ∷ fs) × (step code world f fs ≡ gives s2 0) × Q v s2) → GoesOn a t s Q
   free_on s (value v) t P Q g h =
-      let q = h v g.0 g.1 in
-      (q.2, q.5, λ k.
-      let y = g.2 (suc k) in
-      (y.0, y.1 ∙ ap (after t) (ap (run code world (suc k)) q.3 ∙ ap (λ m. m >>= run code world k) q.4 ∙ after_nothing (run code world k q.2))))
+      let q = h v g.0 g.1 in (
+        q.2,
+        q.5,
+        λ k.
+            let y = g.2 (suc k) in
+            (y.0, y.1 ∙ ap (after t) (ap (run code world (suc k)) q.3 ∙ ap (λ m. m >>= run code world k) q.4 ∙ after_nothing (run code world k q.2))),
+      )
   free_on s (ended e) t P Q g h = g
   free_on s stuck t P Q g h = g
 

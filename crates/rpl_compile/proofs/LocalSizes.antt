@@ -17,8 +17,12 @@ module _ (heads : List Head) where
     locals_size (bind x e b) names =
         simp length-append (omega (arith, locals_size e names, locals_size b ((x, tree_kind heads names e) ∷ names)))
     locals_size (each x l a f b) names =
-        simp length-append (omega (arith, locals_size l names, locals_size f names,
-        locals_size b ((a, tree_kind heads names f) ∷ (x, element_of (tree_kind heads names l)) ∷ names)))
+        simp length-append (omega (
+          arith,
+          locals_size l names,
+          locals_size f names,
+          locals_size b ((a, tree_kind heads names f) ∷ (x, element_of (tree_kind heads names l)) ∷ names),
+        ))
     locals_size (mapped x l b) names =
         simp length-append (omega (arith, locals_size l names, locals_size b ((x, element_of (tree_kind heads names l)) ∷ names)))
     locals_size (one word e) names = locals_size e names

@@ -106,25 +106,25 @@ module _ (g : Setting) where
           let P = Mapped g (room_of list) site.free end [] (length e.all) us ops lo rest in
           let m : Outcome Value = numbers_for body e.all >>= (λ zs. gives (numbers (room_of list) zs) 0) in
           goes_first g.code g.world (fr g q us (lv ∷ ops) lo) rest (turn g end r e.all us ops lo ∷ rest) (spent 1) m Q
-            (map_step g q site.free list us ops lo rest lv e at.begins at.has)
+          (map_step g q site.free list us ops lo rest lv e at.begins at.has)
           (goes_bind g.code g.world (turn g end r e.all us ops lo ∷ rest) (numbers_for body e.all) (λ zs. gives (numbers (room_of list) zs) 0) P Q
-            (subst (λ (f : Frame). Goes g.code g.world (f ∷ rest) (numbers_for body e.all) P) (turn_left g end r e.all [] us ops lo)
-            (map_goes g (element_of list) site.free inside.free q n end (room_of list) us ops lo rest body (ku.0 ∙ h.1) at.has (omega arith) at.yields ends
-              (λ v vs lo1 hv kv hold.
-              let kv1 = then_kept site.free site.free ls us vs (omega arith) ku kv in
-              let there : Here g inside ((x, v) ∷ env) vs ops =
-                  ((refl, hv, hold, omega arith, at.has, holds_kept g.kinds site.scope env ls vs site.free inside.free h.0 (omega arith) kv1), kv1.0 ∙ h.1, h.2) in
-              let y : inside.place ≡ suc q = omega arith in
-              goes_at g inside.place (suc q) vs ops lo1 rest (body v) (Left g number_kind inside.free (suc q + n) vs ops lo1 rest) y
-              (subst (λ k. Goes g.code g.world (fr g inside.place vs ops lo1 ∷ rest) (body v) (Left g k inside.free (suc q + n) vs ops lo1 rest)) w.2.3
-              (goes_left g (kind_at (H g) inside b) inside.free inside.free (inside.place + n) (suc q + n) vs vs ops lo1 rest (fr g inside.place vs ops lo1 ∷ rest) (body v) (omega arith) (omega arith) (same_kept inside.free vs)
-              (cb inside ((x, v) ∷ env) vs ops lo1 rest (at.body_at, at.body_kinds, w.2.2) there))))
-              e.all us [] e.have (same_kept site.free us)))
+          (subst (λ (f : Frame). Goes g.code g.world (f ∷ rest) (numbers_for body e.all) P) (turn_left g end r e.all [] us ops lo)
+          (map_goes g (element_of list) site.free inside.free q n end (room_of list) us ops lo rest body (ku.0 ∙ h.1) at.has (omega arith) at.yields ends
+          (λ v vs lo1 hv kv hold.
+          let kv1 = then_kept site.free site.free ls us vs (omega arith) ku kv in
+          let there : Here g inside ((x, v) ∷ env) vs ops =
+          ((refl, hv, hold, omega arith, at.has, holds_kept g.kinds site.scope env ls vs site.free inside.free h.0 (omega arith) kv1), kv1.0 ∙ h.1, h.2) in
+          let y : inside.place ≡ suc q = omega arith in
+          goes_at g inside.place (suc q) vs ops lo1 rest (body v) (Left g number_kind inside.free (suc q + n) vs ops lo1 rest) y
+          (subst (λ k. Goes g.code g.world (fr g inside.place vs ops lo1 ∷ rest) (body v) (Left g k inside.free (suc q + n) vs ops lo1 rest)) w.2.3
+          (goes_left g (kind_at (H g) inside b) inside.free inside.free (inside.place + n) (suc q + n) vs vs ops lo1 rest (fr g inside.place vs ops lo1 ∷ rest) (body v) (omega arith) (omega arith) (same_kept inside.free vs)
+          (cb inside ((x, v) ∷ env) vs ops lo1 rest (at.body_at, at.body_kinds, w.2.2) there))))
+          e.all us [] e.have (same_kept site.free us)))
           (λ zs s1 c.
           subst (λ s. Goes g.code g.world s (gives (numbers (room_of list) zs) 0) Q) (sym c.is)
           (goes_none g.code g.world (fr g end c.locals1 (numbers (room_of list) zs ∷ ops) lo ∷ rest) (numbers (room_of list) zs) Q
           (left g (numbers_kind (room_of list)) site.free past end ls c.locals1 ops lo rest (numbers (room_of list) zs) (omega (arith, ends)) (refl, omega (arith, c.as_many, e.few))
-            (then_kept site.free site.free ls us c.locals1 (omega arith) ku c.kept)))))
+          (then_kept site.free site.free ls us c.locals1 (omega arith) ku c.kept)))))
 
       mapped_here : MapAt → Claim g l → Goes g.code g.world (fr g site.place ls ops lo ∷ rest) (value_of g.world g.functions env (mapped x l b)) Q
       mapped_here at cl =

@@ -69,7 +69,7 @@ module _ (g : Setting) where
       → At g.block.lines site.place (code_of g.callees site e ++ i ∷ []) → At g.kinds site.free (local_kinds (H g) (names_in site.scope) e) → IsKinded g.world.basin (H g) (names_in site.scope) e → Here g site env ls ops
       → kind_at (H g) site e ≡ k → IsOperation i → name_misfit (our_scope g) i ≡ None → 1 ≡ operand_count (Row_of g i) → left_of (Row_of g i) (code_kind k ∷ []) ≡ Ok (code_kind K ∷ [])
       → Goes g.code g.world (fr g site.place ls ops lo ∷ rest) (value_of g.world g.functions env e >>= (λ x. operation g.world i (x ∷ [])))
-        (Left g K site.free (site.place + (size (H g) (names_in site.scope) e + 1)) ls ops lo rest)
+      (Left g K site.free (site.place + (size (H g) (names_in site.scope) e + 1)) ls ops lo rest)
   one_of e site env ls ops lo rest k K i c placed loc kinded h is_k is there many leaves =
       let n = size (H g) (names_in site.scope) e in
       let q : ℕ = site.place + n in
@@ -89,7 +89,7 @@ module _ (g : Setting) where
       → IsKinded g.world.basin (H g) (names_in site.scope) l → IsKinded g.world.basin (H g) (names_in site.scope) r → Here g site env ls ops
       → Does (kind_at (H g) site l) (kind_at (H g) site r) K i does
       → Goes g.code g.world (fr g site.place ls ops lo ∷ rest) (both (value_of g.world g.functions env l) (value_of g.world g.functions env r) does)
-        (Left g K site.free (site.place + (size (H g) (names_in site.scope) l + (size (H g) (names_in site.scope) r + 1))) ls ops lo rest)
+      (Left g K site.free (site.place + (size (H g) (names_in site.scope) l + (size (H g) (names_in site.scope) r + 1))) ls ops lo rest)
   both_of l r site env ls ops lo rest does K i others cl cr placed loc kl kr h go =
       let n = size (H g) (names_in site.scope) l in
       let m = size (H g) (names_in site.scope) r in
@@ -100,13 +100,19 @@ module _ (g : Setting) where
       let a1 = at_back lines site.place n (code_of g.callees site l) (code_of g.callees second r ++ i ∷ others) (code-size g.world.basin g.callees site l kl) placed in
       let a2 = at_back lines (site.place + n) m (code_of g.callees second r) (i ∷ others) (code-size g.world.basin g.callees second r kr) a1 in
       part g k site.free (site.place + n) ls ops lo rest (fr g site.place ls ops lo ∷ rest) (value_of g.world g.functions env l) (λ x. value_of g.world g.functions env r >>= (λ y. does x y)) Q
-      (cl site env ls ops lo rest (at_front lines site.place (code_of g.callees site l) (code_of g.callees second r ++ i ∷ others) placed,
-        at_front g.kinds site.free (local_kinds (H g) (names_in site.scope) l) (local_kinds (H g) (names_in site.scope) r) loc, kl) h)
+      (cl site env ls ops lo rest (
+        at_front lines site.place (code_of g.callees site l) (code_of g.callees second r ++ i ∷ others) placed,
+        at_front g.kinds site.free (local_kinds (H g) (names_in site.scope) l) (local_kinds (H g) (names_in site.scope) r) loc,
+        kl,
+      ) h)
       (λ x us hx ku.
       part g (kind_at (H g) site r) (site.free + local_count l) (site.place + n + m) us (x ∷ ops) lo rest (fr g (site.place + n) us (x ∷ ops) lo ∷ rest) (value_of g.world g.functions env r) (λ y. does x y) Q
-      (cr second env us (x ∷ ops) lo rest (at_front lines (site.place + n) (code_of g.callees second r) (i ∷ others) a1,
-        at_back g.kinds site.free (local_count l) (local_kinds (H g) (names_in site.scope) l) (local_kinds (H g) (names_in site.scope) r) (locals_size (H g) l (names_in site.scope)) loc, kr)
-        (here_over g (keeping (local_count l) site) env us ops k x hx (here_on g site env ls us ops (local_count l) h ku)))
+      (cr second env us (x ∷ ops) lo rest (
+        at_front lines (site.place + n) (code_of g.callees second r) (i ∷ others) a1,
+        at_back g.kinds site.free (local_count l) (local_kinds (H g) (names_in site.scope) l) (local_kinds (H g) (names_in site.scope) r) (locals_size (H g) l (names_in site.scope)) loc,
+        kr,
+      )
+      (here_over g (keeping (local_count l) site) env us ops k x hx (here_on g site env ls us ops (local_count l) h ku)))
       (λ y vs hy kv.
       goes_left g K site.free site.free (site.place + n + m + 1) (site.place + (n + (m + 1))) ls vs ops lo rest (fr g (site.place + n + m) vs (y ∷ x ∷ ops) lo ∷ rest) (does x y) (omega arith) (omega arith)
       (then_kept site.free (site.free + local_count l) ls us vs (omega arith) ku kv)
@@ -119,7 +125,7 @@ module _ (g : Setting) where
       → IsKinded g.world.basin (H g) (names_in site.scope) l → IsKinded g.world.basin (H g) (names_in site.scope) r → Here g site env ls ops
       → Does (kind_at (H g) site l) (kind_at (H g) site r) truth_kind i does
       → Goes g.code g.world (fr g site.place ls ops lo ∷ rest) (both (value_of g.world g.functions env l) (value_of g.world g.functions env r) does >>= not_of)
-        (Left g truth_kind site.free (site.place + (size (H g) (names_in site.scope) l + (size (H g) (names_in site.scope) r + 2))) ls ops lo rest)
+      (Left g truth_kind site.free (site.place + (size (H g) (names_in site.scope) l + (size (H g) (names_in site.scope) r + 2))) ls ops lo rest)
   not_of_both l r site env ls ops lo rest does i cl cr placed loc kl kr h go =
       let n = size (H g) (names_in site.scope) l in
       let m = size (H g) (names_in site.scope) r in
@@ -250,7 +256,7 @@ module _ (g : Setting) where
   asks_at s d cs cd site env ls ops lo rest a placed loc w h =
       let second : Site = over (kind_at (H g) site s) (after_tree g.callees s site) in
       let line : At g.block.lines site.place (code_of g.callees site s ++ (code_of g.callees second d ++ I.Known ∷ [])) =
-          subst (λ l. At g.block.lines site.place l) (append_assoc (code_of g.callees site s) (code_of g.callees second d) (I.Known ∷ [])) placed in
+      subst (λ l. At g.block.lines site.place l) (append_assoc (code_of g.callees site s) (code_of g.callees second d) (I.Known ∷ [])) placed in
       both_of s d site env ls ops lo rest (known_of g.world) truth_kind I.Known [] cs cd line loc w.0 w.2 h
       (by_both (λ k l. Does k l truth_kind I.Known (known_of g.world)) slot_kind date_kind _ _ (w.1, w.3) (operator slot_kind date_kind truth_kind I.Known tt refl refl refl))
 

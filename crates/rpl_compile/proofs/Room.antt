@@ -101,7 +101,7 @@ module _ (g : Setting) where
       → At g.block.lines site.place (code_of g.callees site t ++ room_lines g.callees place site t) → At g.kinds site.free (local_kinds (H g) (names_in site.scope) t)
       → IsKinded g.world.basin (H g) (names_in site.scope) t → FitsIn place (kind_at (H g) site t) → Here g site env ls ops
       → Goes g.code g.world (fr g site.place ls ops lo ∷ rest) (value_of g.world g.functions env t >>= widened place)
-        (Left g place site.free (site.place + (size (H g) (names_in site.scope) t + widening_size place (kind_at (H g) site t))) ls ops lo rest)
+      (Left g place site.free (site.place + (size (H g) (names_in site.scope) t + widening_size place (kind_at (H g) site t))) ls ops lo rest)
   in_room place t site env ls ops lo rest c placed loc kinded fits h =
       let n = size (H g) (names_in site.scope) t in
       let k = kind_at (H g) site t in
@@ -112,4 +112,4 @@ module _ (g : Setting) where
       (λ v us hv ku.
       goes_left g place site.free site.free (site.place + n + w) (site.place + (n + w)) ls us ops lo rest (fr g (site.place + n) us (v ∷ ops) lo ∷ rest) (widened place v) (omega arith) (omega arith) ku
       (widens place k fits site.free (site.place + n) us ops lo rest v
-        (at_back g.block.lines site.place n (code_of g.callees site t) (room_lines g.callees place site t) (code-size g.world.basin g.callees site t kinded) placed) hv))
+      (at_back g.block.lines site.place n (code_of g.callees site t) (room_lines g.callees place site t) (code-size g.world.basin g.callees site t kinded) placed) hv))

@@ -56,8 +56,9 @@ listed_is k n (v ∷ vs) e h le =
     alike [] i = refl
     alike (u ∷ us) i =
         let t : is_same_kind (code_kind_of v) (code_kind_of u) ≡ true =
-            ap₂ (λ a b. is_same_kind a b) (kind_coded k v h.0) (kind_coded k u i.0) ∙ same_kind_refl (code_kind k) in
+        ap₂ (λ a b. is_same_kind a b) (kind_coded k v h.0) (kind_coded k u i.0) ∙ same_kind_refl (code_kind k) in
         rw (t, alike us i.1) refl
+
     by : IsElement k → or_wrong (option_map (λ kind. kind ∷ []) (code_list_kind n (code_kind k))) ≡ Ok (code_kind (list_kind n k) ∷ [])
     by (inl e) = subst (λ k. or_wrong (option_map (λ kind. kind ∷ []) (code_list_kind n (code_kind k))) ≡ Ok (code_kind (list_kind n k) ∷ [])) (sym e) refl
     by (inr e) = subst (λ k. or_wrong (option_map (λ kind. kind ∷ []) (code_list_kind n (code_kind k))) ≡ Ok (code_kind (list_kind n k) ∷ [])) (sym e) refl
@@ -95,7 +96,7 @@ module _ (g : Setting) where
       → At g.block.lines site.place (all_code g.callees site ts) → At g.kinds site.free (all_local_kinds (H g) (names_in site.scope) ts)
       → AreOfKind g.world.basin (H g) (names_in site.scope) K ts → Here g site env ls ops
       → Goes g.code g.world (fr g site.place ls ops lo ∷ rest) (values_of g.world g.functions env ts)
-        (LeftAll (λ vs. AllHave K vs × (length vs ≡ count_of ts)) site.free (site.place + sizes (H g) (names_in site.scope) ts) ls ops lo rest)
+      (LeftAll (λ vs. AllHave K vs × (length vs ≡ count_of ts)) site.free (site.place + sizes (H g) (names_in site.scope) ts) ls ops lo rest)
 
   pub no_elements : ClaimAll no_trees
   no_elements K site env ls ops lo rest placed loc kinded h = none (λ vs. AllHave K vs × (length vs ≡ 0)) site.free site.place (site.place + 0) ls ops lo rest (omega arith) (tt, refl)
@@ -115,8 +116,8 @@ module _ (g : Setting) where
       (ct site env ls ops lo rest (at_front g.block.lines site.place c cs placed, at_front g.kinds site.free lt lts loc, kinded.0) h)
       (λ v us hv ku.
       cts K second env us (v ∷ ops) lo rest (at_back g.block.lines site.place n c cs (code-size g.world.basin g.callees site t kinded.0) placed)
-        (at_back g.kinds site.free (local_count t) lt lts (locals_size (H g) t names) loc) kinded.2
-        (here_over g (keeping (local_count t) site) env us ops k v hv (here_on g site env ls us ops (local_count t) h ku)))
+      (at_back g.kinds site.free (local_count t) lt lts (locals_size (H g) t names) loc) kinded.2
+      (here_over g (keeping (local_count t) site) env us ops k v hv (here_on g site env ls us ops (local_count t) h ku)))
       (λ v vs hv w. let e : suc (length vs) ≡ count_of ts + 1 = omega (arith, w.1) in ((subst (λ k. HasKind k v) kinded.1 hv, w.0), e))
 
   pub on_list : (ts : Trees) → ClaimAll ts → Claim g (list ts)
@@ -140,8 +141,8 @@ module _ (g : Setting) where
       (goes_left g (list_kind n K) site.free site.free (q + 1) past ls us ops lo rest (fr g q us (reverse vs ++ ops) lo ∷ rest) (list_of vs) (omega arith) (omega arith) a.kept
       (subst (λ l. Goes g.code g.world (fr g q us (reverse vs ++ ops) lo ∷ rest) (list_of l) (Left g (list_kind n K) site.free (q + 1) us ops lo rest)) (reverse-reverse vs)
       (operates g (list_kind n K) site.free q us (reverse vs) ops lo rest (I.List n) tt refl
-        (at_head g.block.lines q (I.List n) [] (at_back g.block.lines site.place (sizes (H g) names ts) c (I.List n ∷ []) (all-size g.world.basin g.callees site K ts w.2.3) w.0))
-        (all_roomy K (reverse vs) all) t (listed_is K n (reverse vs) w.2.2 all (omega (arith, w.2.0, t)))))))
+      (at_head g.block.lines q (I.List n) [] (at_back g.block.lines site.place (sizes (H g) names ts) c (I.List n ∷ []) (all-size g.world.basin g.callees site K ts w.2.3) w.0))
+      (all_roomy K (reverse vs) all) t (listed_is K n (reverse vs) w.2.2 all (omega (arith, w.2.0, t)))))))
 
   -- ---- arguments
 
@@ -150,7 +151,7 @@ module _ (g : Setting) where
       → At g.block.lines site.place (arguments_code g.callees site kinds ts) → At g.kinds site.free (all_local_kinds (H g) (names_in site.scope) ts)
       → AreArguments g.world.basin (H g) (names_in site.scope) kinds ts → Here g site env ls ops
       → Goes g.code g.world (fr g site.place ls ops lo ∷ rest) (arguments_of g.world g.functions env kinds ts)
-        (LeftAll (HaveKinds kinds) site.free (site.place + sizes_of_arguments (H g) (names_in site.scope) kinds ts) ls ops lo rest)
+      (LeftAll (HaveKinds kinds) site.free (site.place + sizes_of_arguments (H g) (names_in site.scope) kinds ts) ls ops lo rest)
 
   pub no_arguments : ClaimArguments no_trees
   no_arguments [] site env ls ops lo rest placed loc kinded h = none (HaveKinds []) site.free site.place (site.place + 0) ls ops lo rest (omega arith) tt
@@ -175,9 +176,9 @@ module _ (g : Setting) where
       (λ v us hv ku.
       goes_at g second.place (site.place + n) us (v ∷ ops) lo rest (arguments_of g.world g.functions env kinds ts) (LeftAll (HaveKinds kinds) second.free (second.place + sizes_of_arguments (H g) names kinds ts) us (v ∷ ops) lo rest) (sym e)
       (cts kinds second env us (v ∷ ops) lo rest
-        (at_moved g.block.lines (site.place + n) second.place cs e (at_back g.block.lines site.place n c cs (beside _ _ (code-size g.world.basin g.callees site t kinded.0) (widening-size kind (kind_at (H g) site t))) line))
-        (at_back g.kinds site.free (local_count t) lt lts (locals_size (H g) t names) loc) kinded.2
-        (here_over g (keeping (local_count t) site) env us ops kind v hv (here_on g site env ls us ops (local_count t) h ku))))
+      (at_moved g.block.lines (site.place + n) second.place cs e (at_back g.block.lines site.place n c cs (beside _ _ (code-size g.world.basin g.callees site t kinded.0) (widening-size kind (kind_at (H g) site t))) line))
+      (at_back g.kinds site.free (local_count t) lt lts (locals_size (H g) t names) loc) kinded.2
+      (here_over g (keeping (local_count t) site) env us ops kind v hv (here_on g site env ls us ops (local_count t) h ku))))
       (λ v vs hv w. (hv, w))
 
   pub on_call : (f : List ℕ) (ts : Trees) → ClaimArguments ts → Claim g (call f ts)
@@ -192,8 +193,8 @@ module _ (g : Setting) where
       let c = arguments_code g.callees site kinds ts in
       let i : Instruction = call_line g.callees f in
       let means : called g.functions f (λ (known : Function). arguments_of g.world g.functions env known.head.takes ts >>= known.does) ≡ (arguments_of g.world g.functions env kinds ts >>= k.known.does) =
-          k.found (λ (known : Function). arguments_of g.world g.functions env known.head.takes ts >>= known.does)
-          ∙ ap (λ (ks : List Kind). arguments_of g.world g.functions env ks ts >>= k.known.does) (sym k.takes) in
+      k.found (λ (known : Function). arguments_of g.world g.functions env known.head.takes ts >>= known.does)
+      ∙ ap (λ (ks : List Kind). arguments_of g.world g.functions env ks ts >>= k.known.does) (sym k.takes) in
       subst (λ m. Goes g.code g.world (fr g site.place ls ops lo ∷ rest) m Q) (sym means)
       (goes_bind g.code g.world (fr g site.place ls ops lo ∷ rest) (arguments_of g.world g.functions env kinds ts) k.known.does (LeftAll (HaveKinds kinds) site.free q ls ops lo rest) Q
       (cts kinds site env ls ops lo rest (at_front g.block.lines site.place c (i ∷ []) w.0) w.1 w.2.1 h)
@@ -203,6 +204,6 @@ module _ (g : Setting) where
       let placed = at_head g.block.lines q i [] (at_back g.block.lines site.place (sizes_of_arguments (H g) names kinds ts) c (i ∷ []) (arguments-size g.world.basin g.callees site kinds ts w.2.1) w.0) in
       subst (λ s. Goes g.code g.world s (k.known.does args) Q) (sym is)
       (goes_weaker g.code g.world (fr g q us (reverse args ++ ops) lo ∷ rest) (k.known.does args)
-        (λ v s1. (s1 ≡ fr g (suc q) us (v ∷ ops) lo ∷ rest) × HasKind k.known.head.result v) Q
+      (λ v s1. (s1 ≡ fr g (suc q) us (v ∷ ops) lo ∷ rest) × HasKind k.known.head.result v) Q
       (λ v s1 r. subst (λ s. Q v s) (sym r.0) (left g K site.free past (suc q) ls us ops lo rest v (omega arith) (subst (λ k. HasKind k v) (sym k.result) r.1) a.kept))
       (k.does g.own g.block q us args ops lo rest g.stands placed (subst (λ ks. HaveKinds ks args) k.takes a.of_kinds)))))

@@ -60,8 +60,11 @@ module _ (code : List Block) (world : World) where
       let end : ℕ = 0 + size_of_acts (callee_heads callees) [] body in
       let here : Here g (start [] 0) [] ls [] = (tt, as_long blank (code_kinds kinds) ∙ as_long code_kind kinds, refl) in
       goes_weaker code world (begin number x [] ∷ []) (acts_done world functions [] body) (Behind g 0 end ls [] [] []) Over
-      (λ d s1 w. (record { block = number; place = end; locals = w.locals1; operands = []; loops = [] }, w.is,
-        returns code world number x end w.locals1 [] [] at (omega (arith, acts-size world.basin callees (start [] 0) body kinded)) refl))
+      (λ d s1 w. (
+        record { block = number; place = end; locals = w.locals1; operands = []; loops = [] },
+        w.is,
+        returns code world number x end w.locals1 [] [] at (omega (arith, acts-size world.basin callees (start [] 0) body kinded)) refl,
+      ))
       (acts_go g body (start [] 0) [] ls [] [] [] (at_all x.lines) (at_all kinds) kinded here)
 
   -- the rule of a number among declarations, whose first has the number n
@@ -112,8 +115,8 @@ module _ (code : List Block) (world : World) where
       let blocks = blocks_from (callee ∷ callees) (p + 1 + 1) rest in
       let there = numbered_at code p x (at_head code p x blocks placed) in
       let calls1 : CanCall code world (callee ∷ callees) (known ∷ functions) =
-          λ f h. known_first code world callee known callees functions f refl
-          (λ e. function_does code world callees functions same calls (p + 1) called_so params kind body there kinded.0) (λ e m. calls f m) h in
+      λ f h. known_first code world callee known callees functions f refl
+      (λ e. function_does code world callees functions same calls (p + 1) called_so params kind body there kinded.0) (λ e m. calls f m) h in
       let r = found rest (callee ∷ callees) (known ∷ functions) (p + 1) number (at_tail code p x blocks placed) (ap (λ (l : List Head). head ∷ l) same) calls1 kinded.1 low high in
       let z : suc (p + 1) ≡ p + 1 + 1 = omega arith in
       record { at = r.at; block = r.block; rule_is = ap (λ n. rule_from n blocks number) z ∙ r.rule_is; there = r.there; goes = r.goes }

@@ -29,7 +29,7 @@ DoesCall code world i known =
     (own : ℕ) (x : Block) (q : ℕ) (ls args ops : List Value) (lo : List Running) (rest : List Frame)
     → numbered code own ≡ Some x → slice_get x.lines q ≡ Some i → HaveKinds known.head.takes args
     → Goes code world (record { block = own; place = q; locals = ls; operands = reverse args ++ ops; loops = lo } ∷ rest) (known.does args)
-      (λ v s1. (s1 ≡ record { block = own; place = suc q; locals = ls; operands = v ∷ ops; loops = lo } ∷ rest) × HasKind known.head.result v)
+    (λ v s1. (s1 ≡ record { block = own; place = suc q; locals = ls; operands = v ∷ ops; loops = lo } ∷ rest) × HasKind known.head.result v)
 
 -- a function that is called so
 pub record Known (code : List Block) (world : World) (callees : List Callee) (functions : List Function) (f : List ℕ) : Type 0 where
@@ -121,7 +121,7 @@ module _ (g : Setting) where
   abbrev pub Claim : Tree → Type 0
   Claim t = (site : Site) (env : Env) (ls ops : List Value) (lo : List Running) (rest : List Frame) → Wants site t → Here site env ls ops
       → Goes g.code g.world (fr site.place ls ops lo ∷ rest) (value_of g.world g.functions env t)
-        (Left (kind_at H site t) site.free (site.place + size H (names_in site.scope) t) ls ops lo rest)
+      (Left (kind_at H site t) site.free (site.place + size H (names_in site.scope) t) ls ops lo rest)
 
   pub left : (K : Kind) (free q p : ℕ) (ls us ops : List Value) (lo : List Running) (rest : List Frame) (v : Value) → p ≡ q → HasKind K v → Kept free ls us → Left K free q ls ops lo rest v (fr p us (v ∷ ops) lo ∷ rest)
   left K free q p ls us ops lo rest v e h k = record { locals1 = us; is = ap (λ n. fr n us (v ∷ ops) lo ∷ rest) e; of_kind = h; kept = k }

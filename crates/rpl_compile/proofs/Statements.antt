@@ -41,14 +41,14 @@ module _ (g : Setting) where
       → At g.block.lines site.place (act_code g.callees site a) → At g.kinds site.free (act_local_kinds (H g) (names_in site.scope) a)
       → IsKindedAct g.world.basin (H g) (names_in site.scope) a → Here g site env ls ops
       → Goes g.code g.world (fr g site.place ls ops lo ∷ rest) (act_done g.world g.functions env a)
-        (Behind site.free (site.place + size_of_act (H g) (names_in site.scope) a) ls ops lo rest)
+      (Behind site.free (site.place + size_of_act (H g) (names_in site.scope) a) ls ops lo rest)
 
   abbrev pub ClaimActs : Acts → Type 0
   ClaimActs acts = (site : Site) (env : Env) (ls ops : List Value) (lo : List Running) (rest : List Frame)
       → At g.block.lines site.place (acts_code g.callees site acts) → At g.kinds site.free (acts_local_kinds (H g) (names_in site.scope) acts)
       → AreKindedActs g.world.basin (H g) (names_in site.scope) acts → Here g site env ls ops
       → Goes g.code g.world (fr g site.place ls ops lo ∷ rest) (acts_done g.world g.functions env acts)
-        (Behind site.free (site.place + size_of_acts (H g) (names_in site.scope) acts) ls ops lo rest)
+      (Behind site.free (site.place + size_of_acts (H g) (names_in site.scope) acts) ls ops lo rest)
 
   behind : (free more q r : ℕ) (ls us ops : List Value) (lo : List Running) (rest : List Frame) (s : State) (m : Outcome (Unit {0}))
       → q ≡ r → free ≤ more → Kept free ls us → Goes g.code g.world s m (Behind more q us ops lo rest) → Goes g.code g.world s m (Behind free r ls ops lo rest)
@@ -86,12 +86,12 @@ module _ (g : Setting) where
       let z = number_is v (subst (λ k. HasKind k v) kinded.1 hv) in
       subst (λ v. Goes g.code g.world (fr g q us (v ∷ ops) lo ∷ rest) (put_of g.world.basin found ahead v) Q) (sym z.1)
       (goes_as g.code g.world (fr g q us (a_number z.0 ∷ ops) lo) rest (put_of g.world.basin found ahead (a_number z.0)) (λ d. fr g (suc q) us ops lo ∷ rest) Q
-        (step_does g q us (a_number z.0 ∷ []) ops lo rest i []
-          (at_head g.block.lines q i [] (at_back g.block.lines site.place n (code_of g.callees site e) (i ∷ []) (code-size g.world.basin g.callees site e kinded.0) placed)) refl refl
-        ∙ ap (λ d. put_of g.world.basin found d (a_number z.0) >>= (λ (u : Unit {0}). gives (fr g (suc q) us ops lo) 0) >>= (λ (f : Frame). gives (f ∷ rest) 0)) (same_ahead found ahead kinded.2)
-        ∙ two_binds (put_of g.world.basin found ahead (a_number z.0)) (λ d. fr g (suc q) us ops lo) (λ (f : Frame). f ∷ rest))
-        (put_made (λ d. Q d (fr g (suc q) us ops lo ∷ rest)) found ahead z.0 kinded.2
-          (record { locals1 = us; is = (let y : suc q ≡ past = omega arith in ap (λ n. fr g n us ops lo ∷ rest) y); kept = ku }))))
+      (step_does g q us (a_number z.0 ∷ []) ops lo rest i []
+      (at_head g.block.lines q i [] (at_back g.block.lines site.place n (code_of g.callees site e) (i ∷ []) (code-size g.world.basin g.callees site e kinded.0) placed)) refl refl
+      ∙ ap (λ d. put_of g.world.basin found d (a_number z.0) >>= (λ (u : Unit {0}). gives (fr g (suc q) us ops lo) 0) >>= (λ (f : Frame). gives (f ∷ rest) 0)) (same_ahead found ahead kinded.2)
+      ∙ two_binds (put_of g.world.basin found ahead (a_number z.0)) (λ d. fr g (suc q) us ops lo) (λ (f : Frame). f ∷ rest))
+      (put_made (λ d. Q d (fr g (suc q) us ops lo ∷ rest)) found ahead z.0 kinded.2
+      (record { locals1 = us; is = (let y : suc q ≡ past = omega arith in ap (λ n. fr g n us ops lo ∷ rest) y); kept = ku }))))
 
   -- ---- an IF
 
@@ -100,8 +100,13 @@ module _ (g : Setting) where
       → Goes g.code g.world s m (EndsAt g mid (suc last) below lo rest (Behind free r ls ops lo rest))
   ends_at below free more q mid last r ls us ops lo rest s m e f le k h go =
       goes_weaker g.code g.world s m (Behind more q us ops lo rest) (EndsAt g mid (suc last) below lo rest (Behind free r ls ops lo rest))
-      (λ d s1 w. (w.locals1, ops, w.is ∙ ap (λ n. fr g n w.locals1 ops lo ∷ rest) e, h,
-        record { locals1 = w.locals1; is = ap (λ n. fr g n w.locals1 ops lo ∷ rest) f; kept = then_kept free more ls us w.locals1 le k w.kept })) go
+      (λ d s1 w. (
+        w.locals1,
+        ops,
+        w.is ∙ ap (λ n. fr g n w.locals1 ops lo ∷ rest) e,
+        h,
+        record { locals1 = w.locals1; is = ap (λ n. fr g n w.locals1 ops lo ∷ rest) f; kept = then_kept free more ls us w.locals1 le k w.kept },
+      )) go
 
   on_branch : (c : Tree) (first second : Acts) → ClaimActs first → ClaimActs second → ClaimAct (branch c first second)
   on_branch c first second cf cs site env ls ops lo rest placed loc kinded h =
@@ -115,7 +120,7 @@ module _ (g : Setting) where
       let last : Site = after_acts g.callees second other in
       let past : ℕ = site.place + size_of_act (H g) names (branch c first second) in
       let a = choice_at g site.place sc sf ss middle last site.below (code_of g.callees site c) (acts_code g.callees ahead first) (acts_code g.callees other second)
-          (code-size g.world.basin g.callees site c kinded.0) (acts-size g.world.basin g.callees ahead first kinded.2) (acts-size g.world.basin g.callees other second kinded.3) refl refl placed in
+      (code-size g.world.basin g.callees site c kinded.0) (acts-size g.world.basin g.callees ahead first kinded.2) (acts-size g.world.basin g.callees other second kinded.3) refl refl placed in
       let lc = local_kinds (H g) names c in
       let lf = acts_local_kinds (H g) names first in
       let lr = acts_local_kinds (H g) names second in
@@ -128,11 +133,11 @@ module _ (g : Setting) where
       (λ x us hx ku.
       let there = here_on g site env ls us ops (local_count c) h ku in
       chosen_goes g (site.place + sc) middle.place last.place site.below site.below x us ops lo rest (acts_done g.world g.functions env first) (acts_done g.world g.functions env second) Q
-        a.forks a.jump a.landing a.end h.2 (subst (λ k. HasKind k x) kinded.1 hx)
-        (ends_at site.below site.free ahead.free (ahead.place + sf) middle.place last.place past ls us ops lo rest (fr g ahead.place us ops lo ∷ rest) (acts_done g.world g.functions env first) refl (omega arith) (omega arith) ku h.2
-          (cf ahead env us ops lo rest a.first_at (at_front g.kinds ahead.free lf lr b1) kinded.2 there))
-        (ends_at site.below site.free other.free (other.place + ss) last.place last.place past ls us ops lo rest (fr g other.place us ops lo ∷ rest) (acts_done g.world g.functions env second) refl (omega arith) (omega arith) ku h.2
-          (cs other env us ops lo rest a.second_at b2 kinded.3 (here_on g (keeping (local_count c) site) env us us ops (acts_locals first) there (same_kept ahead.free us)))))
+      a.forks a.jump a.landing a.end h.2 (subst (λ k. HasKind k x) kinded.1 hx)
+      (ends_at site.below site.free ahead.free (ahead.place + sf) middle.place last.place past ls us ops lo rest (fr g ahead.place us ops lo ∷ rest) (acts_done g.world g.functions env first) refl (omega arith) (omega arith) ku h.2
+      (cf ahead env us ops lo rest a.first_at (at_front g.kinds ahead.free lf lr b1) kinded.2 there))
+      (ends_at site.below site.free other.free (other.place + ss) last.place last.place past ls us ops lo rest (fr g other.place us ops lo ∷ rest) (acts_done g.world g.functions env second) refl (omega arith) (omega arith) ku h.2
+      (cs other env us ops lo rest a.second_at b2 kinded.3 (here_on g (keeping (local_count c) site) env us us ops (acts_locals first) there (same_kept ahead.free us)))))
 
   -- ---- a name, and several statements
 
@@ -170,7 +175,7 @@ module _ (g : Setting) where
       subst (λ s. Goes g.code g.world s (acts_done g.world g.functions env acts) Q) (sym w.is)
       (behind site.free second.free (second.place + size_of_acts (H g) names acts) past ls us ops lo rest (fr g second.place us ops lo ∷ rest) (acts_done g.world g.functions env acts) (omega arith) (omega arith) w.kept
       (cs second env us ops lo rest (at_back g.block.lines site.place n c cr (act-size g.world.basin g.callees site a kinded.0) placed)
-        (at_back g.kinds site.free (act_locals a) la lr (act_locals_size (H g) a names) loc) kinded.1 (here_on g site env ls us ops (act_locals a) h w.kept))))
+      (at_back g.kinds site.free (act_locals a) la lr (act_locals_size (H g) a names) loc) kinded.1 (here_on g site env ls us ops (act_locals a) h w.kept))))
 
   mutual
     pub act_goes : (a : Act) → ClaimAct a

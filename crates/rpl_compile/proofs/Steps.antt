@@ -92,8 +92,8 @@ module _ (code : List Block) (world : World) where
       ap (λ o. step_in code world o f callers) own
       ∙ ap (λ o. step_at code world o x f callers) at
       ∙ ap (λ (t : Bool). if t then step_by code world x i f callers else record { answer = stuck; trail = spent 0 })
-        (ap (λ l. is_ok (operands_behind (row_in code world x i) l)) (ap kinds_of are ∙ kinds_front vs ops)
-        ∙ row_ready (row_in code world x i) (kinds_of vs) (kinds_of ops) leaves (many_kinds vs ∙ many) h)
+      (ap (λ l. is_ok (operands_behind (row_in code world x i) l)) (ap kinds_of are ∙ kinds_front vs ops)
+      ∙ row_ready (row_in code world x i) (kinds_of vs) (kinds_of ops) leaves (many_kinds vs ∙ many) h)
 
 -- ---- in a block
 
@@ -117,7 +117,7 @@ module _ (g : Setting) where
       goes_as g.code g.world (fr g p ls (vs ++ ops) lo) rest (operation g.world i (reverse vs)) (λ v. fr g (suc p) ls (v ∷ ops) lo ∷ rest) (λ v s1. (s1 ≡ fr g (suc p) ls (v ∷ ops) lo ∷ rest) × HasKind K v)
       (step_does p ls vs ops lo rest i (code_kind K ∷ []) at many h ∙ by_operation g.code g.world g.block i (fr g p ls (vs ++ ops) lo) rest is
       ∙ ap₂ (λ (us us1 : List Value). operation g.world i (reverse us) >>= (λ v. gives (onward (v ∷ us1) (fr g p ls (vs ++ ops) lo)) 0) >>= (λ h. gives (h ∷ rest) 0))
-        (take_front vs ops (operand_count (Row_of i)) many) (drop_front vs ops (operand_count (Row_of i)) many)
+      (take_front vs ops (operand_count (Row_of i)) many) (drop_front vs ops (operand_count (Row_of i)) many)
       ∙ two_binds (operation g.world i (reverse vs)) (λ v. onward (v ∷ ops) (fr g p ls (vs ++ ops) lo)) (λ (h : Frame). h ∷ rest))
       (by (operation g.world i (reverse vs)).answer (operation_made g.world our_scope refl i vs (code_kind K ∷ []) is there many roomy h).answer)
     where

@@ -119,7 +119,7 @@ module _ (g : Setting) where
     ends_behind : Wants g site (each x l a f b) → EachAt → suc (q + 1) + n + 2 ≡ past_of g (q + 1)
     ends_behind w at =
         let e = ends_there g.block.lines (suc (q + 1)) (length (code_of g.callees inside b) + (length (room_lines g.callees total inside b) + 1)) turns_lines at.turns_at
-            (each_shut g.callees total site.free inside b (code_balanced g.callees b inside)) in
+        (each_shut g.callees total site.free inside b (code_balanced g.callees b inside)) in
         omega (arith, e, code-size g.world.basin g.callees inside b w.2.3, widening-size total (kind_at (H g) inside b))
 
     module _ (env : Env) (ls ops : List Value) (lo : List Running) (rest : List Frame) (w : Wants g site (each x l a f b)) (h : Here g site env ls ops) (cb : Claim g b) where
@@ -148,28 +148,44 @@ module _ (g : Setting) where
           let long : length us1 ≡ length g.kinds = k1.0 ∙ h.1 in
           subst (λ m. Goes g.code g.world (fr g q us (v ∷ lv ∷ ops) lo ∷ rest) m Q) (after_after (spent W) (spent 1) m)
           (goes_first g.code g.world (fr g q us (v ∷ lv ∷ ops) lo) rest (fr g (suc q) us1 (lv ∷ ops) lo ∷ rest) (spent W) (after (spent 1) m) Q
-            (stores g q (site.free + 1) us (lv ∷ ops) lo rest v total at.sets at.has_total hv ∙ ap (λ k. gives (fr g (suc q) us1 (lv ∷ ops) lo ∷ rest) (weight k)) hv.0)
+          (stores g q (site.free + 1) us (lv ∷ ops) lo rest v total at.sets at.has_total hv ∙ ap (λ k. gives (fr g (suc q) us1 (lv ∷ ops) lo ∷ rest) (weight k)) hv.0)
           (goes_at g (q + 1) (suc q) us1 (lv ∷ ops) lo rest (after (spent 1) m) Q z
           (goes_first g.code g.world (fr g (q + 1) us1 (lv ∷ ops) lo) rest (turn g end r e.all us1 ops lo ∷ rest) (spent 1) m Q
-            (foreach_step g (q + 1) site.free list us1 ops lo rest lv e at.begins at.has)
+          (foreach_step g (q + 1) site.free list us1 ops lo rest lv e at.begins at.has)
           (goes_bind g.code g.world (turn g end r e.all us1 ops lo ∷ rest) (turns W body v e.all) (λ last. gives last W) (Looped g total site.free end us1 ops lo rest) Q
-            (each_goes g (element_of list) total site.free inside.free (q + 1) n end r us1 ops lo rest body long at.has at.has_total (omega arith) refl refl refl at.keeps at.back ends
-              (λ v acc vs left hv ha kv hold hold_total.
-              let lo1 : List Running = with_left left r ∷ lo in
-              let kv1 = then_kept site.free site.free ls us1 vs (omega arith) k1 kv in
-              let there : Here g inside ((a, acc) ∷ (x, v) ∷ env) vs ops =
-                  ((refl, ha, hold_total, omega arith, at.has_total, (refl, hv, hold, omega arith, at.has,
-                    holds_kept g.kinds site.scope env ls vs site.free inside.free h.0 (omega arith) kv1)), kv1.0 ∙ h.1, h.2) in
-              let y : inside.place ≡ suc (q + 1) = omega arith in
-              goes_at g inside.place (suc (q + 1)) vs ops lo1 rest (body v acc) (Left g total inside.free (suc (q + 1) + n) vs ops lo1 rest) y
-              (goes_left g total inside.free inside.free (inside.place + n) (suc (q + 1) + n) vs vs ops lo1 rest (fr g inside.place vs ops lo1 ∷ rest) (body v acc) (omega arith) (omega arith) (same_kept inside.free vs)
-              (in_room g total b inside ((a, acc) ∷ (x, v) ∷ env) vs ops lo1 rest cb at.body_at at.body_kinds w.2.3 w.2.4 there)))
-              e.all us1 v e.have hv (same_kept site.free us1) (set_here us (site.free + 1) v far))
+          (each_goes g (element_of list) total site.free inside.free (q + 1) n end r us1 ops lo rest body long at.has at.has_total (omega arith) refl refl refl at.keeps at.back ends
+          (λ v acc vs left hv ha kv hold hold_total.
+          let lo1 : List Running = with_left left r ∷ lo in
+          let kv1 = then_kept site.free site.free ls us1 vs (omega arith) k1 kv in
+          let there : Here g inside ((a, acc) ∷ (x, v) ∷ env) vs ops = (
+            (
+              refl,
+              ha,
+              hold_total,
+              omega arith,
+              at.has_total,
+              (
+                refl,
+                hv,
+                hold,
+                omega arith,
+                at.has,
+                holds_kept g.kinds site.scope env ls vs site.free inside.free h.0 (omega arith) kv1,
+              ),
+            ),
+            kv1.0 ∙ h.1,
+            h.2,
+          ) in
+          let y : inside.place ≡ suc (q + 1) = omega arith in
+          goes_at g inside.place (suc (q + 1)) vs ops lo1 rest (body v acc) (Left g total inside.free (suc (q + 1) + n) vs ops lo1 rest) y
+          (goes_left g total inside.free inside.free (inside.place + n) (suc (q + 1) + n) vs vs ops lo1 rest (fr g inside.place vs ops lo1 ∷ rest) (body v acc) (omega arith) (omega arith) (same_kept inside.free vs)
+          (in_room g total b inside ((a, acc) ∷ (x, v) ∷ env) vs ops lo1 rest cb at.body_at at.body_kinds w.2.3 w.2.4 there)))
+          e.all us1 v e.have hv (same_kept site.free us1) (set_here us (site.free + 1) v far))
           (λ last s1 c.
           subst (λ s. Goes g.code g.world s (gives last W) Q) (sym c.is)
           (subst (λ k. Goes g.code g.world (fr g end c.locals1 ops lo ∷ rest) (gives last (weight k)) Q) c.of_kind.0
           (goes_left g total site.free site.free (end + 1) past ls c.locals1 ops lo rest (fr g end c.locals1 ops lo ∷ rest) (gives last (weight (kind_of last))) (omega (arith, ends)) (omega arith)
-            (then_kept site.free site.free ls us1 c.locals1 (omega arith) k1 c.kept)
+          (then_kept site.free site.free ls us1 c.locals1 (omega arith) k1 c.kept)
           (loads g total site.free end (site.free + 1) c.locals1 ops lo rest last total (subst (λ n. slice_get g.block.lines n ≡ Some (I.Load (site.free + 1))) ends at.gets) at.has_total c.total c.of_kind))))))))
 
       each_here : EachAt → Claim g l → Claim g f
@@ -182,12 +198,12 @@ module _ (g : Setting) where
           (λ lv us hl ku.
           part g total first.free q us (lv ∷ ops) lo rest (fr g (site.place + sl) us (lv ∷ ops) lo ∷ rest) (value_of g.world g.functions env f) _ Q
           (cf first env us (lv ∷ ops) lo rest (at.first_at, at.first_kinds, w.2.2)
-            (here_over g (keeping (local_count l) items) env us ops list lv hl (here_on g items env ls us ops (local_count l) (here_on g site env ls ls ops 2 h (same_kept site.free ls)) ku)))
+          (here_over g (keeping (local_count l) items) env us ops list lv hl (here_on g items env ls us ops (local_count l) (here_on g site env ls ls ops 2 h (same_kept site.free ls)) ku)))
           (λ v vs hv kv.
           let e = elements list lv w.2.1 hl in
           let k1 = kept_less site.free (site.free + 2) ls vs (omega arith) (then_kept (site.free + 2) first.free ls us vs (omega arith) ku kv) in
           subst (λ k. Goes g.code g.world (fr g q vs (v ∷ lv ∷ ops) lo ∷ rest)
-            (after (spent (weight k + 1)) (with_elements (elements_of lv) (turns (weight k) (λ v t. value_of g.world g.functions ((a, t) ∷ (x, v) ∷ env) b >>= widened k) v) >>= (λ last. gives last (weight k)))) Q) (sym hv.0)
+          (after (spent (weight k + 1)) (with_elements (elements_of lv) (turns (weight k) (λ v t. value_of g.world g.functions ((a, t) ∷ (x, v) ∷ env) b >>= widened k) v) >>= (λ last. gives last (weight k)))) Q) (sym hv.0)
           (subst (λ o. Goes g.code g.world (fr g q vs (v ∷ lv ∷ ops) lo ∷ rest) (after (spent (weight total + 1)) (with_elements o (turns (weight total) body v) >>= (λ last. gives last (weight total)))) Q) (sym e.are)
           (from_list at lv v vs e hv k1))))
 
