@@ -1,5 +1,5 @@
 -- A value that is kept in a local, with a name.
-use Rattle.rw_base.proofs.Common.{◌≡◌, ℕ, suc, ◌+◌, ◌<◌, ◌≤◌, List, ◌∷◌, ◌++◌, length, set, Some, refl, ◌∙◌, subst, arith, slice_get}
+use Rattle.rw_base.proofs.Common.{◌≡◌, ℕ, suc, ◌+◌, ◌<◌, ◌≤◌, List, ◌∷◌, ◌++◌, length, set, Some, refl, ◌∙◌, subst, arith, slice_get, slice_get_within}
 use Rattle.rpl_code.specs.declared.instruction.Instruction.{Instruction}
 use Rattle.rpl_code.specs.declared.instruction.Instruction.TheVariants as I
 use Rattle.rpl_tree.specs.Value.{Kind, Value, kind_of, weight}
@@ -14,7 +14,7 @@ use Rattle.rpl_compile.specs.Site.{Site, bound, keeping, kind_at, knowing, names
 use Rattle.rpl_compile.specs.Translate.{after_tree, code_of}
 use Rattle.rpl_compile.specs.Kinded.{IsKinded}
 use Rattle.rpl_compile.proofs.Goes.{Goes, goes_first}
-use Rattle.rpl_compile.proofs.OfKind.{At, HasKind, at_back, at_front, at_head, at_tail, set_before, set_here, set_long, within}
+use Rattle.rpl_compile.proofs.OfKind.{At, HasKind, at_back, at_front, at_head, at_tail, set_before, set_here, set_long}
 use Rattle.rpl_compile.proofs.Sizes.{code-size}
 use Rattle.rpl_compile.proofs.LocalSizes.{locals_size}
 use Rattle.rpl_compile.proofs.Setting.{Claim, H, Here, Kept, Left, Setting, fr, goes_at, goes_left, here_on, holds_kept, kept_less, part, same_kept}
@@ -29,7 +29,7 @@ module _ (g : Setting) where
       → Here g (knowing (bound x k site.free) (keeping (suc n) site)) ((x, v) ∷ env) (set us site.free v) ops
   here_known site env ls us ops x k v n hv has h ku =
       let long : length us ≡ length g.kinds = ku.0 ∙ h.1 in
-      let there : site.free < length us = omega (arith, within g.kinds site.free k has, long) in (
+      let there : site.free < length us = omega (arith, slice_get_within g.kinds site.free k has, long) in (
         (
           refl,
           hv,

@@ -1,5 +1,5 @@
 -- A function of the ruleset: its block does what its body means, and a call of it does what the function does.
-use Rattle.rw_base.proofs.Common.{◌≡◌, ℕ, zero, suc, ◌+◌, ◌-◌, ◌≤◌, ◌==◌, Bool, true, false, nat_le, nat_tests, List, [], ◌∷◌, ◌++◌, length, map, reverse, reverse-reverse, length-reverse, length-append, map-append, Some, None, Ok, Err, refl, sym, ap, ap₂, ◌∙◌, subst, arith, slice_get, slice_get-map, option_map, if◌then◌else◌}
+use Rattle.rw_base.proofs.Common.{◌≡◌, ℕ, suc, ◌+◌, ◌-◌, ◌≤◌, Bool, true, false, nat_le, List, [], ◌∷◌, ◌++◌, length, map, reverse, reverse-reverse, length-reverse, length-append, map-append, Some, None, Ok, Err, refl, sym, ap, ap₂, ◌∙◌, subst, arith, slice_get, slice_get-map, option_map, if◌then◌else◌, eq-eqb, length-map}
 use Rattle.rw_model.specs.Objects.{numbered}
 use Rattle.rpl_code.specs.declared.instruction.Instruction.TheVariants as I
 use Rattle.rpl_code.specs.declared.block.Block.{Block}
@@ -26,26 +26,15 @@ use Rattle.rpl_compile.specs.Site.{Bound, Site, kind_at, names_in, parameters_fr
 use Rattle.rpl_compile.specs.Translate.{Callee, callee_heads, code_of, function_block, room_lines}
 use Rattle.rpl_compile.specs.Kinded.{FitsIn, IsKinded, IsKindedBody}
 use Rattle.rpl_compile.proofs.Goes.{Goes, goes_first, goes_free}
-use Rattle.rpl_compile.proofs.OfKind.{At, HasKind, HaveKinds, all_words_coded, as_many, at_all, at_back, at_front, at_head, at_moved, at_tail, kind_coded, kinds_are}
+use Rattle.rpl_compile.proofs.OfKind.{At, HasKind, HaveKinds, all_words_coded, as_many, at_all, at_back, at_front, at_head, at_moved, at_tail, kind_coded, kinds_are, drop_front, take_front}
 use Rattle.rpl_compile.proofs.Sizes.{beside, code-size, widening-size}
 use Rattle.rpl_compile.proofs.Setting.{CanCall, DoesCall, Here, Holds, Left, Setting, fr}
-use Rattle.rpl_compile.proofs.Steps.{does, drop_front, take_front}
+use Rattle.rpl_compile.proofs.Steps.{does}
 use Rattle.rpl_compile.proofs.Room.{in_room}
 use Rattle.rpl_compile.proofs.Trees.{tree_goes}
+use Rattle.std.proofs.lemmas.Option.{slice_get_past}
 
 -- ---- lists
-
-pub nothing_past : {A : Type 0} (xs : List A) (n : ℕ) → n ≡ length xs → slice_get xs n ≡ None
-nothing_past [] n e = refl
-nothing_past (x ∷ xs) zero e = absurd (omega (arith, e))
-nothing_past (x ∷ xs) (suc n) e = nothing_past xs n (omega (arith, e))
-
-pub same_numbers : (m n : ℕ) → m ≡ n → (m == n) ≡ true
-same_numbers m n e = grind (arith, nat_tests, e)
-
-pub as_long : {A B : Type 0} (f : A → B) (xs : List A) → length (map f xs) ≡ length xs
-as_long f [] = refl
-as_long f (x ∷ xs) = ap suc (as_long f xs)
 
 numbered_heads : (code : List Block) (n : ℕ) (x : Block) → numbered code n ≡ Some x → numbered (block_heads code) n ≡ Some x.head
 numbered_heads code n x h = by (nat_le 1 n) h
@@ -86,8 +75,8 @@ module _ (code : List Block) (world : World) where
   returns own x q ls vs callers at e h =
       let f : Frame = record { block = own; place = q; locals = ls; operands = vs; loops = [] } in
       ap (λ o. step_in code world o f callers) at
-      ∙ ap (λ o. step_at code world o x f callers) (nothing_past x.lines q e)
-      ∙ ap (λ (t : Bool). if t then returned x f callers else is_stuck) (same_numbers q (length x.lines) e)
+      ∙ ap (λ o. step_at code world o x f callers) (slice_get_past x.lines q (omega (arith, e)))
+      ∙ ap (λ (t : Bool). if t then returned x f callers else is_stuck) (eq-eqb q (length x.lines) e)
       ∙ ap (λ (t : Bool). if t then gives (handed_back vs callers) 0 else is_stuck) (ap (are_same_kinds (end_kinds x.head)) h ∙ same_kinds_refl (end_kinds x.head))
 
   module _ (callees : List Callee) (functions : List Function) (same_heads : heads_of functions ≡ callee_heads callees) (calls : CanCall code world callees functions)
@@ -141,7 +130,7 @@ module _ (code : List Block) (world : World) where
         let env : Env = with_arguments params args in
         let m : Outcome Value = value_of world functions env body >>= widened result in
         let many : length ls ≡ length (param_kinds params ++ own_kinds) =
-        omega (arith, length-append args (map blank block.locals), length-append (param_kinds params) own_kinds, as_many (param_kinds params) args have, as_long blank block.locals, as_long code_kind own_kinds) in
+        omega (arith, length-append args (map blank block.locals), length-append (param_kinds params) own_kinds, as_many (param_kinds params) args have, length-map block.locals blank, length-map own_kinds code_kind) in
         let here : Here g site env ls [] =
         (holds_arguments g.kinds 0 params args ls (length params) (at_front ls 0 args (map blank block.locals) (at_all ls)) (at_front g.kinds 0 (param_kinds params) own_kinds (at_all g.kinds)) have (omega arith), many, refl) in
         goes_free code world (begin number block args ∷ f ∷ callers) m (Left g result (length params) end ls [] [] (f ∷ callers)) (λ v s1. (s1 ≡ at_place f.place (v ∷ f.operands) f ∷ callers) × HasKind result v)
@@ -162,7 +151,7 @@ module _ (code : List Block) (world : World) where
         let f : Frame = record { block = own; place = q; locals = ls; operands = reverse args ++ ops; loops = lo } in
         let onto : Frame = record { block = own; place = suc q; locals = ls; operands = ops; loops = lo } in
         let head = numbered_heads code number block at in
-        let many : length (reverse args) ≡ length (code_kinds takes) = length-reverse args ∙ as_many takes args have ∙ sym (as_long code_kind takes) in
+        let many : length (reverse args) ≡ length (code_kinds takes) = length-reverse args ∙ as_many takes args have ∙ sym (length-map takes code_kind) in
         let kinds : kinds_of (reverse args) ≡ reverse (code_kinds takes) = kinds_turned args [] ∙ ap reverse (kinds_are takes args have) in
         let enough : length (reverse args) ≡ operand_count (row_in code world x (I.Invoke number)) = many ∙ sym (length-reverse (code_kinds takes)) ∙ ap (λ o. operand_count (invoke_row o)) (sym head) in
         let leaves : left_of (row_in code world x (I.Invoke number)) (kinds_of (reverse args)) ≡ Ok (code_kind result ∷ []) =

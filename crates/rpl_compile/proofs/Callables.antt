@@ -1,5 +1,5 @@
 -- Functions that can be called: the predefined ones, and one more.
-use Rattle.rw_base.proofs.Common.{◌≡◌, ℕ, zero, suc, Bool, true, false, ◌||◌, List, [], ◌∷◌, ◌++◌, length, map, reverse, reverse-reverse, length-reverse, replicate, Some, None, Ok, IsTrue, refl, sym, ap, ap₂, ◌∙◌, subst, bytes_eq, list_any, if◌then◌else◌}
+use Rattle.rw_base.proofs.Common.{◌≡◌, ℕ, zero, suc, Bool, true, false, ◌||◌, List, [], ◌∷◌, ◌++◌, length, map, reverse, reverse-reverse, length-reverse, replicate, Some, None, Ok, IsTrue, refl, sym, ap, ap₂, ◌∙◌, subst, bytes_eq, list_any, if◌then◌else◌, length-replicate}
 use Rattle.rw_model.specs.Objects.{numbered}
 use Rattle.rpl_code.specs.declared.kind.ValueKind.TheVariants as K
 use Rattle.rpl_code.specs.declared.instruction.Instruction.TheVariants as I
@@ -13,13 +13,13 @@ use Rattle.rpl_verify.specs.Names.{unless_there}
 use Rattle.rpl_verify.specs.Fits.{locals_of}
 use Rattle.rpl_verify.specs.Operations.{kinds_of, of_function}
 use Rattle.rpl_verify.specs.Machine.{State}
-use Rattle.rpl_verify.proofs.KindFacts.{AreRoomy, same_kinds_refl}
+use Rattle.rpl_verify.proofs.KindFacts.{same_kinds_refl}
 use Rattle.rpl_compile.specs.Operations.{code_kind}
 use Rattle.rpl_compile.specs.Kinded.{HasHead}
 use Rattle.rpl_compile.specs.Translate.{Callee, call_by, call_line, callee_heads, predefined_callees}
 use Rattle.rpl_compile.proofs.Goes.{Goes}
 use Rattle.rpl_compile.proofs.OfKind.{HasKind, HaveKinds, coded_kinds, kind_coded}
-use Rattle.rpl_compile.proofs.Rows.{AllHave, all_turned}
+use Rattle.rpl_compile.proofs.Rows.{AllHave, all_turned, all_roomy}
 use Rattle.rpl_compile.proofs.Setting.{CanCall, DoesCall, Known, Setting}
 use Rattle.rpl_compile.proofs.Steps.{operates_as}
 
@@ -79,14 +79,6 @@ all_have zero k (v ∷ vs) h = absurd h
 all_have (suc n) k [] h = absurd h
 all_have (suc n) k (v ∷ vs) h = let r = all_have n k vs h.1 in ((h.0, r.0), ap suc r.1)
 
-all_roomy : (k : Kind) (vs : List Value) → AllHave k vs → AreRoomy vs
-all_roomy k [] h = tt
-all_roomy k (v ∷ vs) h = (h.0.1, all_roomy k vs h.1)
-
-copies : (n : ℕ) → n ≡ length (replicate n K.N)
-copies zero = refl
-copies (suc n) = ap suc (copies n)
-
 kinds_alike : (k : Kind) (vs : List Value) → AllHave k vs → kinds_of vs ≡ replicate (length vs) (code_kind k)
 kinds_alike k [] h = refl
 kinds_alike k (v ∷ vs) h = ap₂ (λ a b. a ∷ b) (kind_coded k v h.0) (kinds_alike k vs h.1)
@@ -118,7 +110,7 @@ module _ (code : List Block) (world : World) where
       let P : Value → State → Type 0 = λ v s1. (s1 ≡ record { block = own; place = suc q; locals = ls; operands = v ∷ ops; loops = lo } ∷ rest) × HasKind number_kind v in
       subst (λ k. Goes code world s (known.does args) (λ v s1. (s1 ≡ record { block = own; place = suc q; locals = ls; operands = v ∷ ops; loops = lo } ∷ rest) × HasKind k v)) (sym numeric.1)
       (subst (λ m. Goes code world s m P) e
-      (operates_as g number_kind q ls (reverse args) ops lo rest (I.Call f) tt there placed (all_roomy number_kind (reverse args) turned) (many ∙ copies n ∙ ap (λ o. operand_count (call_row o)) (sym named)) leaves))
+      (operates_as g number_kind q ls (reverse args) ops lo rest (I.Call f) tt there placed (all_roomy number_kind (reverse args) turned) (many ∙ sym (length-replicate n K.N) ∙ ap (λ o. operand_count (call_row o)) (sym named)) leaves))
 
   named_known : (fs : List Function) (f : List ℕ) → ((known : Function) → function_named fs f ≡ Some known → DoesCall code world (I.Call f) known)
       → HasHead (callee_heads (map (λ (head : Head). record { head = head; block = None }) (heads_of fs))) f → Known code world (map (λ (head : Head). record { head = head; block = None }) (heads_of fs)) fs f

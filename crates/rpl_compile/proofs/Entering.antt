@@ -1,5 +1,5 @@
 -- Elements of a list, and the beginning and the turns of a loop over them.
-use Rattle.rw_base.proofs.Common.{◌≡◌, ◌⊎◌, inl, inr, ℕ, suc, ◌≤◌, ℤ, Bool, List, [], ◌∷◌, length, map, drop, Some, Ok, refl, sym, ap, ap₂, ◌∙◌, subst, arith, slice_get, if◌then◌else◌}
+use Rattle.rw_base.proofs.Common.{◌≡◌, ◌⊎◌, inl, inr, ℕ, suc, ◌≤◌, ℤ, Bool, List, [], ◌∷◌, length, map, drop, Some, Ok, refl, sym, ap, ap₂, ◌∙◌, subst, arith, slice_get, if◌then◌else◌, length-map}
 use Rattle.rpl_code.specs.declared.instruction.Instruction.TheVariants as I
 use Rattle.rpl_tree.specs.Value.{Kind, number_kind, slot_kind, numbers_kind, slots_kind, Value, a_number, a_truth, a_date, a_slot, numbers, slots, element_of, room_of}
 use Rattle.rpl_tree.specs.Outcome.{Outcome, gives, spent, stuck, value, ◌>>=◌}
@@ -38,14 +38,10 @@ slots_have : (ss : List ℕ) → AllHave slot_kind (map a_slot ss)
 slots_have [] = tt
 slots_have (s ∷ ss) = ((refl, tt), slots_have ss)
 
-as_long : {A B : Type 0} (f : A → B) (xs : List A) → length (map f xs) ≡ length xs
-as_long f [] = refl
-as_long f (x ∷ xs) = ap suc (as_long f xs)
-
 numbers_elements : (m : ℕ) (v : Value) → HasKind (numbers_kind m) v → Elements (numbers_kind m) v
 numbers_elements m (numbers n zs) h =
     let e : n ≡ m = cc h.0 in
-    record { all = map a_number zs; are = refl; have = numbers_have zs; few = omega (arith, as_long a_number zs, h.1, e); element = refl; room = e; row = refl }
+    record { all = map a_number zs; are = refl; have = numbers_have zs; few = omega (arith, length-map zs a_number, h.1, e); element = refl; room = e; row = refl }
 numbers_elements m (a_number z) h = absurd (cc h.0)
 numbers_elements m (a_truth z) h = absurd (cc h.0)
 numbers_elements m (a_date z) h = absurd (cc h.0)
@@ -55,7 +51,7 @@ numbers_elements m (slots n zs) h = absurd (cc h.0)
 slots_elements : (m : ℕ) (v : Value) → HasKind (slots_kind m) v → Elements (slots_kind m) v
 slots_elements m (slots n ss) h =
     let e : n ≡ m = cc h.0 in
-    record { all = map a_slot ss; are = refl; have = slots_have ss; few = omega (arith, as_long a_slot ss, h.1, e); element = refl; room = e; row = refl }
+    record { all = map a_slot ss; are = refl; have = slots_have ss; few = omega (arith, length-map ss a_slot, h.1, e); element = refl; room = e; row = refl }
 slots_elements m (a_number z) h = absurd (cc h.0)
 slots_elements m (a_truth z) h = absurd (cc h.0)
 slots_elements m (a_date z) h = absurd (cc h.0)

@@ -1,5 +1,5 @@
 -- FOR and MAP.
-use Rattle.rw_base.proofs.Common.{◌≡◌, ℕ, suc, ◌+◌, ◌<◌, ◌≤◌, ℤ, List, [], ◌∷◌, ◌++◌, length, set, Some, refl, sym, ap, ap₂, ◌∙◌, subst, arith, append_assoc, append-nil, slice_get}
+use Rattle.rw_base.proofs.Common.{◌≡◌, ℕ, suc, ◌+◌, ◌<◌, ◌≤◌, ℤ, List, [], ◌∷◌, ◌++◌, length, set, Some, refl, sym, ap, ap₂, ◌∙◌, subst, arith, append_assoc, append-nil, slice_get, slice_get_within}
 use Rattle.rpl_code.specs.declared.instruction.Instruction.TheVariants as I
 use Rattle.rpl_tree.specs.Value.{Kind, number_kind, Value, a_number, numbers, weight}
 use Rattle.rpl_tree.specs.Outcome.{Outcome, after, gives, spent, ◌>>=◌}
@@ -7,7 +7,7 @@ use Rattle.rpl_tree.specs.Mean.{numbers_for, turns, with_number}
 use Rattle.rpl_verify.specs.Places.{visiting, mapping}
 use Rattle.rpl_verify.specs.Machine.{Frame, Running, State, behind_loop, with_left}
 use Rattle.rpl_compile.proofs.Goes.{Goes, after_after, goes_bind, goes_first, goes_none}
-use Rattle.rpl_compile.proofs.OfKind.{HasKind, number_is, set_behind, set_here, set_long, within}
+use Rattle.rpl_compile.proofs.OfKind.{HasKind, number_is, set_behind, set_here, set_long}
 use Rattle.rpl_compile.proofs.Setting.{Kept, Left, Setting, fr, goes_at, part, then_kept}
 use Rattle.rpl_compile.proofs.Steps.{stores}
 use Rattle.rpl_compile.proofs.Bindings.{kept_set}
@@ -41,7 +41,7 @@ module _ (g : Setting) where
         (record { locals1 = us; is = ap (λ l. fr g past us (behind_loop l r.room r.made ops) lo ∷ rest) is_for; of_kind = ha; kept = ku; total = hu })
     each_goes (v ∷ vs) us acc hv ha ku hu =
         let us1 : List Value = set us free v in
-        let there : free < length us = omega (arith, within g.kinds free E has, ku.0, long) in
+        let there : free < length us = omega (arith, slice_get_within g.kinds free E has, ku.0, long) in
         let hu1 : slice_get us1 (free + 1) ≡ Some acc = set_behind us free (free + 1) v (omega arith) ∙ hu in
         let q : ℕ = suc p + n in
         let Q = Looped K free past ls ops lo rest in
@@ -51,7 +51,7 @@ module _ (g : Setting) where
         (λ new ws hn kw.
         let ws1 : List Value = set ws (free + 1) new in
         let kw1 = kept_set free (free + 1) ls ws new (omega arith) (then_kept free next ls us1 ws (omega (arith, le)) (kept_set free free ls us v (omega arith) ku) kw) in
-        let far : free + 1 < length ws = omega (arith, within g.kinds (free + 1) K has_total, kw.0, set_long us free v, ku.0, long) in
+        let far : free + 1 < length ws = omega (arith, slice_get_within g.kinds (free + 1) K has_total, kw.0, set_long us free v, ku.0, long) in
         let z : q + 1 ≡ suc q = omega arith in
         let y : suc (q + 1) ≡ past = omega (arith, ends) in
         let m : Outcome Value = turns (weight K) body new vs in
@@ -87,7 +87,7 @@ module _ (g : Setting) where
         (record { locals1 = us; is = ap (λ l. fr g past us (numbers room l ∷ ops) lo ∷ rest) (sym (append-nil made)); kept = ku; as_many = refl })
     map_goes (v ∷ vs) us made hv ku =
         let us1 : List Value = set us free v in
-        let there : free < length us = omega (arith, within g.kinds free E has, ku.0, long) in
+        let there : free < length us = omega (arith, slice_get_within g.kinds free E has, ku.0, long) in
         let q : ℕ = suc p + n in
         let lo1 : List Running = running vs made ∷ lo in
         let Q = Mapped room free past made (suc (length vs)) ls ops lo rest in

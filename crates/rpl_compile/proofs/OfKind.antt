@@ -1,12 +1,12 @@
 -- Values of a kind, and lists that stand in others from a place on.
-use Rattle.rw_base.proofs.Common.{◌≡◌, ℕ, zero, suc, ◌+◌, ◌<◌, ℤ, Bool, true, List, [], ◌∷◌, ◌++◌, length, drop, set, Some, refl, sym, ap, ap₂, ◌∙◌, subst, arith, rules, append_assoc, append-nil, slice_get, drop-drop}
+use Rattle.rw_base.proofs.Common.{◌≡◌, ℕ, zero, suc, ◌+◌, ◌<◌, ℤ, Bool, true, List, [], ◌∷◌, ◌++◌, length, drop, set, Some, refl, sym, ap, ap₂, ◌∙◌, subst, arith, rules, append_assoc, append-nil, slice_get, drop-drop, take}
 use Rattle.rpl_code.specs.Weight.{words_of}
 use Rattle.rpl_code.specs.declared.kind.ValueKind.{ValueKind}
 use Rattle.rpl_code.specs.declared.kind.ValueKind.TheVariants as K
 use Rattle.rpl_tree.specs.Value.{Kind, number_kind, truth_kind, date_kind, slot_kind, numbers_kind, slots_kind, Value, a_number, a_truth, a_date, a_slot, numbers, slots, kind_of, is_same_kind, weight, weights}
 use Rattle.rpl_verify.specs.Kinds.{words_of_all}
 use Rattle.rpl_verify.specs.Operations.{kind_of as code_kind_of, kinds_of}
-use Rattle.rpl_verify.proofs.KindFacts.{IsRoomy, AreRoomy}
+use Rattle.rpl_verify.proofs.KindFacts.{IsRoomy, number_is as number_of, truth_is as truth_of}
 use Rattle.rpl_compile.specs.Operations.{code_kind, code_kinds}
 
 -- ---- kinds
@@ -75,32 +75,16 @@ same_kind_refl (numbers_kind m) = search rules
 same_kind_refl (slots_kind m) = search rules
 
 pub number_is : (v : Value) → HasKind number_kind v → (z : ℤ) × (v ≡ a_number z)
-number_is (a_number z) h = (z, refl)
-number_is (a_truth b) h = absurd (cc h.0)
-number_is (a_date d) h = absurd (cc h.0)
-number_is (a_slot s) h = absurd (cc h.0)
-number_is (numbers m zs) h = absurd (cc h.0)
-number_is (slots m ss) h = absurd (cc h.0)
+number_is v h = number_of v (kind_coded number_kind v h)
 
 pub truth_is : (v : Value) → HasKind truth_kind v → (b : Bool) × (v ≡ a_truth b)
-truth_is (a_truth b) h = (b, refl)
-truth_is (a_number z) h = absurd (cc h.0)
-truth_is (a_date d) h = absurd (cc h.0)
-truth_is (a_slot s) h = absurd (cc h.0)
-truth_is (numbers m zs) h = absurd (cc h.0)
-truth_is (slots m ss) h = absurd (cc h.0)
+truth_is v h = truth_of v (kind_coded truth_kind v h)
 
 pub kinds_are : (ks : List Kind) (vs : List Value) → HaveKinds ks vs → kinds_of vs ≡ code_kinds ks
 kinds_are [] [] h = refl
 kinds_are (k ∷ ks) (v ∷ vs) h = ap₂ (λ a b. a ∷ b) (kind_coded k v h.0) (kinds_are ks vs h.1)
 kinds_are [] (v ∷ vs) h = absurd h
 kinds_are (k ∷ ks) [] h = absurd h
-
-pub all_roomy : (ks : List Kind) (vs : List Value) → HaveKinds ks vs → AreRoomy vs
-all_roomy [] [] h = tt
-all_roomy (k ∷ ks) (v ∷ vs) h = (h.0.1, all_roomy ks vs h.1)
-all_roomy [] (v ∷ vs) h = absurd h
-all_roomy (k ∷ ks) [] h = absurd h
 
 pub as_many : (ks : List Kind) (vs : List Value) → HaveKinds ks vs → length vs ≡ length ks
 as_many [] [] h = refl
@@ -129,13 +113,18 @@ At {A} xs p ys = (rest : List A) × (drop p xs ≡ ys ++ rest)
 pub at_front : {A : Type 0} (xs : List A) (p : ℕ) (a b : List A) → At xs p (a ++ b) → At xs p a
 at_front xs p a b h = (b ++ h.0, h.1 ∙ append_assoc a b h.0)
 
-drop_front : {A : Type 0} (a b : List A) → drop (length a) (a ++ b) ≡ b
-drop_front [] b = refl
-drop_front (x ∷ a) b = drop_front a b
+pub take_front : {A : Type 0} (a b : List A) (n : ℕ) → length a ≡ n → take n (a ++ b) ≡ a
+take_front [] b n e = ap (λ m. take m b) (sym e)
+take_front (x ∷ a) b zero e = absurd (omega (arith, e))
+take_front (x ∷ a) b (suc n) e = ap (λ l. x ∷ l) (take_front a b n (omega (arith, e)))
+
+pub drop_front : {A : Type 0} (a b : List A) (n : ℕ) → length a ≡ n → drop n (a ++ b) ≡ b
+drop_front [] b n e = ap (λ m. drop m b) (sym e)
+drop_front (x ∷ a) b zero e = absurd (omega (arith, e))
+drop_front (x ∷ a) b (suc n) e = drop_front a b n (omega (arith, e))
 
 pub at_back : {A : Type 0} (xs : List A) (p n : ℕ) (a b : List A) → length a ≡ n → At xs p (a ++ b) → At xs (p + n) b
-at_back xs p n a b e h =
-    (h.0, sym (drop-drop n p xs) ∙ ap (drop n) (h.1 ∙ append_assoc a b h.0) ∙ ap (λ m. drop m (a ++ (b ++ h.0))) (sym e) ∙ drop_front a (b ++ h.0))
+at_back xs p n a b e h = (h.0, sym (drop-drop n p xs) ∙ ap (drop n) (h.1 ∙ append_assoc a b h.0) ∙ drop_front a (b ++ h.0) n e)
 
 pub at_tail : {A : Type 0} (xs : List A) (p : ℕ) (y : A) (ys : List A) → At xs p (y ∷ ys) → At xs (p + 1) ys
 at_tail xs p y ys h = at_back xs p 1 (y ∷ []) ys refl h
@@ -184,8 +173,3 @@ pub set_long : {A : Type 0} (xs : List A) (n : ℕ) (x : A) → length (set xs n
 set_long [] n x = refl
 set_long (y ∷ xs) zero x = refl
 set_long (y ∷ xs) (suc n) x = ap suc (set_long xs n x)
-
-pub within : {A : Type 0} (xs : List A) (n : ℕ) (x : A) → slice_get xs n ≡ Some x → n < length xs
-within [] n x h = absurd (cc h)
-within (y ∷ xs) zero x h = omega arith
-within (y ∷ xs) (suc n) x h = omega (arith, within xs n x h)

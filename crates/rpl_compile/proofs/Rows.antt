@@ -37,7 +37,7 @@ pub all_turned : (k : Kind) (vs us : List Value) → AllHave k vs → AllHave k 
 all_turned k [] us h i = i
 all_turned k (v ∷ vs) us h i = all_turned k vs (v ∷ us) h.1 (h.0, i)
 
-all_roomy : (k : Kind) (vs : List Value) → AllHave k vs → AreRoomy vs
+pub all_roomy : (k : Kind) (vs : List Value) → AllHave k vs → AreRoomy vs
 all_roomy k [] h = tt
 all_roomy k (v ∷ vs) h = (h.0.1, all_roomy k vs h.1)
 

@@ -1,5 +1,5 @@
 -- The block of a rule does what the rule does, wherever it is declared.
-use Rattle.rw_base.proofs.Common.{◌≡◌, ℕ, suc, ◌+◌, ◌-◌, ◌≤◌, ◌==◌, Bool, true, false, nat_le, nat_tests, List, [], ◌∷◌, map, Some, None, refl, sym, ap, ap₂, ◌∙◌, subst, arith, slice_get, if◌then◌else◌}
+use Rattle.rw_base.proofs.Common.{◌≡◌, ℕ, suc, ◌+◌, ◌-◌, ◌≤◌, ◌==◌, Bool, true, false, nat_tests, List, [], ◌∷◌, map, Some, refl, sym, ap, ◌∙◌, subst, arith, slice_get, if◌then◌else◌, length-map}
 use Rattle.rw_model.specs.Objects.{numbered}
 use Rattle.rpl_code.specs.declared.block.Block.{Block}
 use Rattle.rpl_tree.specs.Value.{Kind, Value}
@@ -23,14 +23,12 @@ use Rattle.rpl_compile.proofs.Sizes.{acts-size}
 use Rattle.rpl_compile.proofs.Setting.{CanCall, Here, Setting}
 use Rattle.rpl_compile.proofs.Statements.{Behind, acts_go}
 use Rattle.rpl_compile.proofs.Callables.{known_first}
-use Rattle.rpl_compile.proofs.Bodies.{as_long, function_does, returns}
+use Rattle.rpl_compile.proofs.Bodies.{function_does, returns}
+use Rattle.rpl_verify.proofs.Accepted.{numbered_by}
 
 -- the block of a number behind others
 numbered_at : {A : Type 0} (xs : List A) (p : ℕ) (x : A) → slice_get xs p ≡ Some x → numbered xs (p + 1) ≡ Some x
-numbered_at xs p x h =
-    let t : nat_le 1 (p + 1) ≡ true = grind (arith, nat_tests) in
-    let z : p + 1 - 1 ≡ p = omega arith in
-    ap₂ (λ (t : Bool) (n : ℕ). if t then slice_get xs n else None) t z ∙ h
+numbered_at xs p x h = let z : p + 1 - 1 ≡ p = omega arith in numbered_by xs (p + 1) x (ap (slice_get xs) z ∙ h) (omega arith)
 
 module _ (code : List Block) (world : World) where
   -- one step more, which counts nothing, and no block is left
@@ -58,7 +56,7 @@ module _ (code : List Block) (world : World) where
       } in
       let ls : List Value = map blank (code_kinds kinds) in
       let end : ℕ = 0 + size_of_acts (callee_heads callees) [] body in
-      let here : Here g (start [] 0) [] ls [] = (tt, as_long blank (code_kinds kinds) ∙ as_long code_kind kinds, refl) in
+      let here : Here g (start [] 0) [] ls [] = (tt, length-map (code_kinds kinds) blank ∙ length-map kinds code_kind, refl) in
       goes_weaker code world (begin number x [] ∷ []) (acts_done world functions [] body) (Behind g 0 end ls [] [] []) Over
       (λ d s1 w. (
         record { block = number; place = end; locals = w.locals1; operands = []; loops = [] },

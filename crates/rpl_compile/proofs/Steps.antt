@@ -17,40 +17,18 @@ use Rattle.rpl_verify.specs.Names.{Scope, name_misfit}
 use Rattle.rpl_verify.specs.Fits.{locals_of, scope_of}
 use Rattle.rpl_verify.specs.Operations.{kind_of as code_kind_of, kinds_of, operation}
 use Rattle.rpl_verify.specs.Machine.{Frame, Running, State, are_declared, jumped, loaded, onward, operated, row_in, step, step_at, step_by, step_in}
-use Rattle.rpl_verify.proofs.KindFacts.{AreRoomy, same_kinds_refl}
+use Rattle.rpl_verify.proofs.KindFacts.{AreRoomy, same_kinds_refl, kinds_append, kinds_length}
 use Rattle.rpl_verify.proofs.Operating.{MadeOn}
 use Rattle.rpl_verify.proofs.Operated.{IsOperation, operation_made}
 use Rattle.rpl_compile.specs.Operations.{code_kind, code_kinds, target}
 use Rattle.rpl_compile.proofs.Goes.{Goes, Made, goes_as, goes_one, goes_weaker, nothing_last, same_outcome}
-use Rattle.rpl_compile.proofs.OfKind.{HasKind, kind_coded, kind_from_code, value_words}
+use Rattle.rpl_compile.proofs.OfKind.{HasKind, kind_coded, kind_from_code, value_words, drop_front, take_front}
 use Rattle.rpl_compile.proofs.Setting.{Left, Setting, fr, left, same_kept}
 
 -- ---- operands of a row
 
 enough : (ks below : List ValueKind) (n : ℕ) → length ks ≡ n → nat_lt (length (ks ++ below)) n ≡ false
 enough ks below n e = let l : n ≤ length (ks ++ below) = omega (arith, length-append ks below, e) in grind (arith, nat_tests, l)
-
-pub take_front : {A : Type 0} (a b : List A) (n : ℕ) → length a ≡ n → take n (a ++ b) ≡ a
-take_front {A = A} a b n e = ap (λ m. take m (a ++ b)) (sym e) ∙ by a
-  where
-    by : (a : List A) → take (length a) (a ++ b) ≡ a
-    by [] = refl
-    by (x ∷ a) = ap (λ l. x ∷ l) (by a)
-
-pub drop_front : {A : Type 0} (a b : List A) (n : ℕ) → length a ≡ n → drop n (a ++ b) ≡ b
-drop_front {A = A} a b n e = ap (λ m. drop m (a ++ b)) (sym e) ∙ by a
-  where
-    by : (a : List A) → drop (length a) (a ++ b) ≡ b
-    by [] = refl
-    by (x ∷ a) = by a
-
-kinds_front : (vs ops : List Value) → kinds_of (vs ++ ops) ≡ kinds_of vs ++ kinds_of ops
-kinds_front [] ops = refl
-kinds_front (v ∷ vs) ops = ap (λ l. code_kind_of v ∷ l) (kinds_front vs ops)
-
-many_kinds : (vs : List Value) → length (kinds_of vs) ≡ length vs
-many_kinds [] = refl
-many_kinds (v ∷ vs) = ap suc (many_kinds vs)
 
 -- what a row takes is on top
 row_ready : (r : Row) (ks below left : List ValueKind) → length ks ≡ operand_count r → left_of r ks ≡ Ok left → is_ok (operands_behind r (ks ++ below)) ≡ true
@@ -92,8 +70,8 @@ module _ (code : List Block) (world : World) where
       ap (λ o. step_in code world o f callers) own
       ∙ ap (λ o. step_at code world o x f callers) at
       ∙ ap (λ (t : Bool). if t then step_by code world x i f callers else record { answer = stuck; trail = spent 0 })
-      (ap (λ l. is_ok (operands_behind (row_in code world x i) l)) (ap kinds_of are ∙ kinds_front vs ops)
-      ∙ row_ready (row_in code world x i) (kinds_of vs) (kinds_of ops) leaves (many_kinds vs ∙ many) h)
+      (ap (λ l. is_ok (operands_behind (row_in code world x i) l)) (ap kinds_of are ∙ kinds_append vs ops)
+      ∙ row_ready (row_in code world x i) (kinds_of vs) (kinds_of ops) leaves (kinds_length vs ∙ many) h)
 
 -- ---- in a block
 

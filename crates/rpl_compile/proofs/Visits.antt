@@ -1,5 +1,5 @@
 -- The forms FOR and MAP.
-use Rattle.rw_base.proofs.Common.{◌≡◌, ℕ, suc, ◌+◌, ◌<◌, List, [], ◌∷◌, ◌++◌, length, set, Some, refl, sym, ap, ◌∙◌, subst, arith, append_assoc, slice_get}
+use Rattle.rw_base.proofs.Common.{◌≡◌, ℕ, suc, ◌+◌, ◌<◌, List, [], ◌∷◌, ◌++◌, length, set, Some, refl, sym, ap, ◌∙◌, subst, arith, append_assoc, slice_get, slice_get_within}
 use Rattle.rpl_code.specs.declared.instruction.Instruction.{Instruction}
 use Rattle.rpl_code.specs.declared.instruction.Instruction.TheVariants as I
 use Rattle.rpl_tree.specs.Value.{Kind, Value, kind_of, element_of, room_of, weight}
@@ -16,7 +16,7 @@ use Rattle.rpl_compile.specs.Size.{size}
 use Rattle.rpl_compile.specs.Site.{Site, bound, keeping, kind_at, knowing, names_in, on, over}
 use Rattle.rpl_compile.specs.Translate.{after_tree, code_of, room_lines}
 use Rattle.rpl_compile.proofs.Goes.{Goes, after_after, goes_bind, goes_first}
-use Rattle.rpl_compile.proofs.OfKind.{At, HasKind, at_back, at_front, at_head, at_moved, at_second, at_tail, set_here, within}
+use Rattle.rpl_compile.proofs.OfKind.{At, HasKind, at_back, at_front, at_head, at_moved, at_second, at_tail, set_here}
 use Rattle.rpl_compile.proofs.Sizes.{beside, code-size, widening-size}
 use Rattle.rpl_compile.proofs.LocalSizes.{locals_size}
 use Rattle.rpl_compile.proofs.Setting.{Claim, H, Here, Kept, Left, Setting, Wants, fr, goes_at, goes_left, here_on, here_over, holds_kept, kept_less, part, same_kept, then_kept}
@@ -139,7 +139,7 @@ module _ (g : Setting) where
           let W = weight total in
           let us1 : List Value = set us (site.free + 1) v in
           let k1 = kept_set site.free (site.free + 1) ls us v (omega arith) ku in
-          let far : site.free + 1 < length us = omega (arith, within g.kinds (site.free + 1) total at.has_total, ku.0, h.1) in
+          let far : site.free + 1 < length us = omega (arith, slice_get_within g.kinds (site.free + 1) total at.has_total, ku.0, h.1) in
           let r : Running = loop_at (q + 1) visiting (room_of list) site.free e.all [] in
           let m : Outcome Value = turns W body v e.all >>= (λ last. gives last W) in
           let z : q + 1 ≡ suc q = omega arith in
