@@ -37,21 +37,24 @@ pub both_balanced : (a b : List Instruction) → IsBalanced a → IsBalanced b �
 both_balanced a b ba bb = record {
   passes = λ p rest.
       let e : p + length a + length b ≡ p + length (a ++ b) = omega (arith, length-append a b) in
-      ap (loop_ends p) (append_assoc a b rest) ∙ ba.passes p (b ++ rest) ∙ bb.passes (p + length a) rest ∙ moved (p + length a + length b) (p + length (a ++ b)) rest e;
+      ap (loop_ends p) (append_assoc a b rest) ∙ ba.passes p (b ++ rest) ∙ bb.passes (p + length a) rest
+      ∙ moved (p + length a + length b) (p + length (a ++ b)) rest e;
 }
 
 pub level_first : (i : Instruction) (b : List Instruction) → bracket i ≡ level → IsBalanced b → IsBalanced (i ∷ b)
 level_first i b e bb = record {
   passes = λ p rest.
       let z : suc p + length b ≡ p + suc (length b) = omega arith in
-      ap (λ (k : Bracket). ends_before k p (loop_ends (suc p) (b ++ rest))) e ∙ bb.passes (suc p) rest ∙ moved (suc p + length b) (p + suc (length b)) rest z;
+      ap (λ (k : Bracket). ends_before k p (loop_ends (suc p) (b ++ rest))) e ∙ bb.passes (suc p) rest
+      ∙ moved (suc p + length b) (p + suc (length b)) rest z;
 }
 
 pub loop_balanced : (loop : Loop) (i : Instruction) (n : ℕ) (b : List Instruction) → bracket i ≡ opening loop → IsShut n b → IsBalanced (i ∷ b)
 loop_balanced loop i n b e sb = record {
   passes = λ p rest.
       let z : suc p + length b ≡ p + suc (length b) = omega arith in
-      ap (λ (k : Bracket). ends_before k p (loop_ends (suc p) (b ++ rest))) e ∙ ap rest_of (sb.passes (suc p) rest) ∙ moved (suc p + length b) (p + suc (length b)) rest z;
+      ap (λ (k : Bracket). ends_before k p (loop_ends (suc p) (b ++ rest))) e ∙ ap rest_of (sb.passes (suc p) rest)
+      ∙ moved (suc p + length b) (p + suc (length b)) rest z;
 }
 
 pub shut_behind : (a b : List Instruction) (m n : ℕ) → length a ≡ m → IsBalanced a → IsShut n b → IsShut (m + n) (a ++ b)
@@ -68,7 +71,8 @@ shut_here loop j b e bb = record {
   passes = λ p rest.
       let z : suc p + length b ≡ p + suc (length b) = omega arith in
       let y : suc p ≡ suc (p + 0) = omega arith in
-      ap (λ (k : Bracket). ends_before k p (loop_ends (suc p) (b ++ rest))) e ∙ ap₂ (λ (x : ℕ) (ends : List ℕ). x ∷ ends) y (bb.passes (suc p) rest ∙ moved (suc p + length b) (p + suc (length b)) rest z);
+      ap (λ (k : Bracket). ends_before k p (loop_ends (suc p) (b ++ rest))) e
+      ∙ ap₂ (λ (x : ℕ) (ends : List ℕ). x ∷ ends) y (bb.passes (suc p) rest ∙ moved (suc p + length b) (p + suc (length b)) rest z);
 }
 
 -- where a loop ends that begins before these lines
@@ -145,7 +149,8 @@ word_balanced : (word : OneWord) (e asked : List Instruction) → IsBalanced e �
 word_balanced Known e asked b a = both_balanced asked _ a (one_level I.Known refl)
 word_balanced word e asked b a = both_balanced e _ b (one_level (one_line word) (word_level word))
 
-choice_level : (middle last : Site) (result : List Kind) (c first second : List Instruction) → IsBalanced c → IsBalanced first → IsBalanced second → IsBalanced (choice_lines middle last result c first second)
+choice_level : (middle last : Site) (result : List Kind) (c first second : List Instruction) → IsBalanced c → IsBalanced first → IsBalanced second
+    → IsBalanced (choice_lines middle last result c first second)
 choice_level middle last result c first second bc bf bs =
     both_balanced c _ bc (level_first (I.Branch (middle.place + 1)) _ refl
     (both_balanced first _ bf (level_first (I.Jump last.place) _ refl (level_first (target middle.below) _ refl
@@ -161,10 +166,12 @@ module _ (callees : List Callee) where
   each_shut total n inside b h =
       shut_behind (code_of callees inside b) _ _ _ refl h
       (shut_behind (room_lines callees total inside b) _ _ _ refl (room_level total (kind_of_tree callees inside b))
-      (shut_behind (I.Store (n + 1) ∷ []) (I.Next ∷ I.Load (n + 1) ∷ []) 1 0 refl (one_level (I.Store (n + 1)) refl) (shut_here visiting I.Next (I.Load (n + 1) ∷ []) refl (one_level (I.Load (n + 1)) refl))))
+      (shut_behind (I.Store (n + 1) ∷ []) (I.Next ∷ I.Load (n + 1) ∷ []) 1 0 refl (one_level (I.Store (n + 1)) refl)
+      (shut_here visiting I.Next (I.Load (n + 1) ∷ []) refl (one_level (I.Load (n + 1)) refl))))
 
   -- from behind the beginning of a MAP
-  pub mapped_shut : (inside : Site) (b : Tree) → IsBalanced (code_of callees inside b) → IsShut (length (code_of callees inside b) + 0) (code_of callees inside b ++ I.Yield ∷ [])
+  pub mapped_shut : (inside : Site) (b : Tree) → IsBalanced (code_of callees inside b)
+      → IsShut (length (code_of callees inside b) + 0) (code_of callees inside b ++ I.Yield ∷ [])
   mapped_shut inside b h = shut_behind (code_of callees inside b) (I.Yield ∷ []) _ 0 refl h (shut_here mapping I.Yield [] refl no_lines)
 
   mutual
@@ -182,29 +189,35 @@ module _ (callees : List Callee) where
         let first : Site = on 1 (after_tree callees c site) in
         let middle : Site = after_room callees K first y in
         let second : Site = on 2 middle in
-        choice_level middle (after_room callees K second n) (K ∷ site.below) (code_of callees site c) (code_of callees first y ++ room_lines callees K first y) (code_of callees second n ++ room_lines callees K second n)
-        (code_balanced c site) (both_balanced _ _ (code_balanced y first) (room_level K (kind_of_tree callees first y))) (both_balanced _ _ (code_balanced n second) (room_level K (kind_of_tree callees second n)))
+        choice_level middle (after_room callees K second n) (K ∷ site.below) (code_of callees site c)
+        (code_of callees first y ++ room_lines callees K first y) (code_of callees second n ++ room_lines callees K second n)
+        (code_balanced c site) (both_balanced _ _ (code_balanced y first) (room_level K (kind_of_tree callees first y)))
+        (both_balanced _ _ (code_balanced n second) (room_level K (kind_of_tree callees second n)))
     code_balanced (bind x e b) site = both_balanced _ _ (code_balanced e _) (level_first _ _ refl (code_balanced b _))
     code_balanced (each x l a f b) site =
         let total = kind_of_tree callees site f in
         let items : Site = keeping 2 site in
-        let inside : Site = knowing (bound a total (site.free + 1)) (knowing (bound x (element_of (kind_of_tree callees site l)) site.free) (on 2 (after_tree callees f (after_tree callees l items)))) in
+        let inside : Site = knowing (bound a total (site.free + 1))
+        (knowing (bound x (element_of (kind_of_tree callees site l)) site.free) (on 2 (after_tree callees f (after_tree callees l items)))) in
         both_balanced _ _ (code_balanced l items) (both_balanced _ _ (code_balanced f _) (level_first (I.Store (site.free + 1)) _ refl
         (loop_balanced visiting (I.Foreach site.free) _ _ refl (each_shut total site.free inside b (code_balanced b inside)))))
     code_balanced (mapped x l b) site =
         both_balanced _ _ (code_balanced l _) (loop_balanced mapping (I.Map site.free) _ _ refl (mapped_shut _ b (code_balanced b _)))
-    code_balanced (one word e) site = word_balanced word (code_of callees site e) (asked_code callees site e) (code_balanced e site) (asked_balanced e site)
+    code_balanced (one word e) site = word_balanced word (code_of callees site e) (asked_code callees site e) (code_balanced e site)
+        (asked_balanced e site)
     code_balanced (two Or l r) site =
         let middle : Site = on 1 (on 1 (after_tree callees l site)) in
         let second : Site = on 2 middle in
-        choice_level middle (after_tree callees r second) (truth_kind ∷ site.below) (code_of callees site l) (I.Bool true ∷ []) (code_of callees second r)
+        choice_level middle (after_tree callees r second) (truth_kind ∷ site.below) (code_of callees site l) (I.Bool true ∷ [])
+        (code_of callees second r)
         (code_balanced l site) (one_level (I.Bool true) refl) (code_balanced r second)
     code_balanced (two And l r) site =
         let first : Site = on 1 (after_tree callees l site) in
         let middle : Site = after_tree callees r first in
         choice_level middle (on 3 middle) (truth_kind ∷ site.below) (code_of callees site l) (code_of callees first r) (I.Bool false ∷ [])
         (code_balanced l site) (code_balanced r first) (one_level (I.Bool false) refl)
-    code_balanced (two word l r) site = both_balanced _ _ (code_balanced l site) (both_balanced _ _ (code_balanced r _) (operator_level word (kind_of_tree callees site l) (kind_of_tree callees site r)))
+    code_balanced (two word l r) site = both_balanced _ _ (code_balanced l site)
+        (both_balanced _ _ (code_balanced r _) (operator_level word (kind_of_tree callees site l) (kind_of_tree callees site r)))
     code_balanced (convert word o e) site = both_balanced _ _ (code_balanced e site) (one_level _ (convert_level word o))
     code_balanced (at s d) site = both_balanced _ _ (code_balanced s site) (both_balanced _ _ (code_balanced d _) (one_level I.Read refl))
 
@@ -220,4 +233,5 @@ module _ (callees : List Callee) where
     arguments_balanced no_trees [] site = no_lines
     arguments_balanced no_trees (kind ∷ kinds) site = no_lines
     arguments_balanced (tree t ts) [] site = no_lines
-    arguments_balanced (tree t ts) (kind ∷ kinds) site = both_balanced _ _ (code_balanced t site) (both_balanced _ _ (room_level kind (kind_of_tree callees site t)) (arguments_balanced ts kinds (over kind (after_room callees kind site t))))
+    arguments_balanced (tree t ts) (kind ∷ kinds) site = both_balanced _ _ (code_balanced t site)
+        (both_balanced _ _ (room_level kind (kind_of_tree callees site t)) (arguments_balanced ts kinds (over kind (after_room callees kind site t))))

@@ -54,7 +54,8 @@ many_params [] = refl
 many_params (p ∷ ps) = ap suc (many_params ps)
 
 -- the parameters stand for the arguments
-holds_arguments : (kinds : List Kind) (n : ℕ) (params : List Parameter) (args ls : List Value) (free : ℕ) → At ls n args → At kinds n (param_kinds params) → HaveKinds (param_kinds params) args → n + length params ≤ free
+holds_arguments : (kinds : List Kind) (n : ℕ) (params : List Parameter) (args ls : List Value) (free : ℕ) → At ls n args
+    → At kinds n (param_kinds params) → HaveKinds (param_kinds params) args → n + length params ≤ free
     → Holds kinds (parameters_from n params) (with_arguments params args) ls free
 holds_arguments kinds n [] [] ls free a b h le = tt
 holds_arguments kinds n [] (v ∷ vs) ls free a b h le = absurd h
@@ -65,22 +66,27 @@ holds_arguments kinds n (p ∷ ps) (v ∷ vs) ls free a b h le = (
   at_head ls n v vs a,
   omega (arith, le),
   at_head kinds n (kind_of_type p.of_type) (param_kinds ps) b,
-  holds_arguments kinds (n + 1) ps vs ls free (at_tail ls n v vs a) (at_tail kinds n (kind_of_type p.of_type) (param_kinds ps) b) h.1 (omega (arith, le)),
+  holds_arguments kinds (n + 1) ps vs ls free (at_tail ls n v vs a) (at_tail kinds n (kind_of_type p.of_type) (param_kinds ps) b) h.1
+      (omega (arith, le)),
 )
 
 module _ (code : List Block) (world : World) where
   -- a block returns behind its last line
-  pub returns : (own : ℕ) (x : Block) (q : ℕ) (ls vs : List Value) (callers : List Frame) → numbered code own ≡ Some x → q ≡ length x.lines → kinds_of vs ≡ end_kinds x.head
+  pub returns : (own : ℕ) (x : Block) (q : ℕ) (ls vs : List Value) (callers : List Frame) → numbered code own ≡ Some x → q ≡ length x.lines
+      → kinds_of vs ≡ end_kinds x.head
       → step code world (record { block = own; place = q; locals = ls; operands = vs; loops = [] }) callers ≡ gives (handed_back vs callers) 0
   returns own x q ls vs callers at e h =
       let f : Frame = record { block = own; place = q; locals = ls; operands = vs; loops = [] } in
       ap (λ o. step_in code world o f callers) at
       ∙ ap (λ o. step_at code world o x f callers) (slice_get_past x.lines q (omega (arith, e)))
       ∙ ap (λ (t : Bool). if t then returned x f callers else is_stuck) (eq-eqb q (length x.lines) e)
-      ∙ ap (λ (t : Bool). if t then gives (handed_back vs callers) 0 else is_stuck) (ap (are_same_kinds (end_kinds x.head)) h ∙ same_kinds_refl (end_kinds x.head))
+      ∙ ap (λ (t : Bool). if t then gives (handed_back vs callers) 0 else is_stuck)
+      (ap (are_same_kinds (end_kinds x.head)) h ∙ same_kinds_refl (end_kinds x.head))
 
-  module _ (callees : List Callee) (functions : List Function) (same_heads : heads_of functions ≡ callee_heads callees) (calls : CanCall code world callees functions)
-      (number : ℕ) (called_so : List ℕ) (params : List Parameter) (result : Kind) (body : Tree) (at : numbered code number ≡ Some (function_block callees params result body))
+  module _ (callees : List Callee) (functions : List Function) (same_heads : heads_of functions ≡ callee_heads callees)
+      (calls : CanCall code world callees functions)
+      (number : ℕ) (called_so : List ℕ) (params : List Parameter) (result : Kind) (body : Tree)
+      (at : numbered code number ≡ Some (function_block callees params result body))
       (kinded : IsKindedBody world.basin (callee_heads callees) (param_names params) result body) where
     abbrev scope : List Bound
     scope = parameters_from 0 params
@@ -119,7 +125,11 @@ module _ (code : List Block) (world : World) where
     end = 0 + (size (callee_heads callees) (names_in scope) body + widening_size result (kind_at (callee_heads callees) site body))
 
     end_is : end ≡ length block.lines
-    end_is = omega (arith, beside (code_of callees site body) (room_lines callees result site body) (code-size world.basin callees site body body_kinded) (widening-size result (kind_at (callee_heads callees) site body)))
+    end_is = omega (
+      arith,
+      beside (code_of callees site body) (room_lines callees result site body)
+          (code-size world.basin callees site body body_kinded) (widening-size result (kind_at (callee_heads callees) site body)),
+    )
 
     -- from the beginning of the block to behind the call
     body_goes : (args : List Value) (f : Frame) (callers : List Frame) → HaveKinds (param_kinds params) args
@@ -130,12 +140,25 @@ module _ (code : List Block) (world : World) where
         let env : Env = with_arguments params args in
         let m : Outcome Value = value_of world functions env body >>= widened result in
         let many : length ls ≡ length (param_kinds params ++ own_kinds) =
-        omega (arith, length-append args (map blank block.locals), length-append (param_kinds params) own_kinds, as_many (param_kinds params) args have, length-map block.locals blank, length-map own_kinds code_kind) in
-        let here : Here g site env ls [] =
-        (holds_arguments g.kinds 0 params args ls (length params) (at_front ls 0 args (map blank block.locals) (at_all ls)) (at_front g.kinds 0 (param_kinds params) own_kinds (at_all g.kinds)) have (omega arith), many, refl) in
-        goes_free code world (begin number block args ∷ f ∷ callers) m (Left g result (length params) end ls [] [] (f ∷ callers)) (λ v s1. (s1 ≡ at_place f.place (v ∷ f.operands) f ∷ callers) × HasKind result v)
+        omega (
+          arith,
+          length-append args (map blank block.locals),
+          length-append (param_kinds params) own_kinds,
+          as_many (param_kinds params) args have,
+          length-map block.locals blank,
+          length-map own_kinds code_kind,
+        ) in
+        let here : Here g site env ls [] = (
+          holds_arguments g.kinds 0 params args ls (length params) (at_front ls 0 args (map blank block.locals) (at_all ls))
+              (at_front g.kinds 0 (param_kinds params) own_kinds (at_all g.kinds)) have (omega arith),
+          many,
+          refl,
+        ) in
+        goes_free code world (begin number block args ∷ f ∷ callers) m (Left g result (length params) end ls [] [] (f ∷ callers))
+        (λ v s1. (s1 ≡ at_place f.place (v ∷ f.operands) f ∷ callers) × HasKind result v)
         (in_room g result body site env ls [] [] (f ∷ callers) (tree_goes g body) (at_all block.lines)
-        (at_moved g.kinds (0 + length params) (length params) own_kinds (omega arith) (at_back g.kinds 0 (length params) (param_kinds params) own_kinds (many_params params) (at_all g.kinds))) body_kinded body_fits here)
+        (at_moved g.kinds (0 + length params) (length params) own_kinds (omega arith)
+        (at_back g.kinds 0 (length params) (param_kinds params) own_kinds (many_params params) (at_all g.kinds))) body_kinded body_fits here)
         (λ v s1 w. (
           fr g end w.locals1 (v ∷ []) [],
           f ∷ callers,
@@ -151,16 +174,22 @@ module _ (code : List Block) (world : World) where
         let f : Frame = record { block = own; place = q; locals = ls; operands = reverse args ++ ops; loops = lo } in
         let onto : Frame = record { block = own; place = suc q; locals = ls; operands = ops; loops = lo } in
         let head = numbered_heads code number block at in
-        let many : length (reverse args) ≡ length (code_kinds takes) = length-reverse args ∙ as_many takes args have ∙ sym (length-map takes code_kind) in
+        let many : length (reverse args) ≡ length (code_kinds takes) = length-reverse args ∙ as_many takes args have
+        ∙ sym (length-map takes code_kind) in
         let kinds : kinds_of (reverse args) ≡ reverse (code_kinds takes) = kinds_turned args [] ∙ ap reverse (kinds_are takes args have) in
-        let enough : length (reverse args) ≡ operand_count (row_in code world x (I.Invoke number)) = many ∙ sym (length-reverse (code_kinds takes)) ∙ ap (λ o. operand_count (invoke_row o)) (sym head) in
+        let enough : length (reverse args) ≡ operand_count (row_in code world x (I.Invoke number)) = many ∙ sym (length-reverse (code_kinds takes))
+        ∙ ap (λ o. operand_count (invoke_row o)) (sym head) in
         let leaves : left_of (row_in code world x (I.Invoke number)) (kinds_of (reverse args)) ≡ Ok (code_kind result ∷ []) =
-        ap₂ (λ o l. left_of (invoke_row o) l) head kinds ∙ ap (λ (t : Bool). if t then Ok (code_kind result ∷ []) else Err WrongOperand) (same_kinds_refl (reverse (code_kinds takes))) in
+        ap₂ (λ o l. left_of (invoke_row o) l) head kinds ∙ ap (λ (t : Bool). if t then Ok (code_kind result ∷ []) else Err WrongOperand)
+        (same_kinds_refl (reverse (code_kinds takes))) in
         let z : 1 + words_of_all (code_kinds takes) ≡ weights takes + 1 = omega (arith, all_words_coded takes) in
         let s : step code world f rest ≡ gives (begin number block args ∷ onto ∷ rest) (weights takes + 1) =
         does code world f rest x (I.Invoke number) (reverse args) ops (code_kind result ∷ []) stands placed refl enough leaves
         ∙ ap (λ o. invoked number o f rest) at
-        ∙ ap₂ (λ (vs us : List Value). gives (begin number block (reverse vs) ∷ onward us f ∷ rest) (1 + words_of_all (code_kinds takes))) (take_front (reverse args) ops (length (code_kinds takes)) many) (drop_front (reverse args) ops (length (code_kinds takes)) many)
+        ∙ ap₂ (λ (vs us : List Value). gives (begin number block (reverse vs) ∷ onward us f ∷ rest) (1 + words_of_all (code_kinds takes)))
+        (take_front (reverse args) ops (length (code_kinds takes)) many) (drop_front (reverse args) ops (length (code_kinds takes)) many)
         ∙ ap₂ (λ (vs : List Value) (n : ℕ). gives (begin number block vs ∷ onto ∷ rest) n) (reverse-reverse args) z in
-        goes_first code world f rest (begin number block args ∷ onto ∷ rest) (spent (weights takes + 1)) (value_of world functions (with_arguments params args) body >>= widened result)
-        (λ v s1. (s1 ≡ record { block = own; place = suc q; locals = ls; operands = v ∷ ops; loops = lo } ∷ rest) × HasKind result v) s (body_goes args onto rest have)
+        goes_first code world f rest (begin number block args ∷ onto ∷ rest) (spent (weights takes + 1))
+        (value_of world functions (with_arguments params args) body >>= widened result)
+        (λ v s1. (s1 ≡ record { block = own; place = suc q; locals = ls; operands = v ∷ ops; loops = lo } ∷ rest) × HasKind result v) s
+        (body_goes args onto rest have)

@@ -25,12 +25,15 @@ use Rattle.rpl_compile.proofs.Steps.{operates_as}
 
 -- ---- one function more
 
-pub known_first : (code : List Block) (world : World) (c : Callee) (known : Function) (callees : List Callee) (functions : List Function) (f : List ℕ) → c.head ≡ known.head
+pub known_first : (code : List Block) (world : World) (c : Callee) (known : Function) (callees : List Callee) (functions : List Function) (f : List ℕ)
+    → c.head ≡ known.head
     → (bytes_eq c.head.name f ≡ true → DoesCall code world (call_by f c.block) known)
-    → (bytes_eq c.head.name f ≡ false → HasHead (callee_heads callees) f → Known code world callees functions f) → HasHead (callee_heads (c ∷ callees)) f → Known code world (c ∷ callees) (known ∷ functions) f
+    → (bytes_eq c.head.name f ≡ false → HasHead (callee_heads callees) f → Known code world callees functions f)
+    → HasHead (callee_heads (c ∷ callees)) f → Known code world (c ∷ callees) (known ∷ functions) f
 known_first code world c known callees functions f same does later h = by (bytes_eq c.head.name f) refl h does later
   where
-    by : (t : Bool) → bytes_eq c.head.name f ≡ t → IsTrue (t || list_any (λ (head : Head). bytes_eq head.name f) (callee_heads callees)) → (t ≡ true → DoesCall code world (call_by f c.block) known)
+    by : (t : Bool) → bytes_eq c.head.name f ≡ t → IsTrue (t || list_any (λ (head : Head). bytes_eq head.name f) (callee_heads callees))
+        → (t ≡ true → DoesCall code world (call_by f c.block) known)
         → (t ≡ false → HasHead (callee_heads callees) f → Known code world callees functions f) → Known code world (c ∷ callees) (known ∷ functions) f
     by true q h does later =
         let p : bytes_eq known.head.name f ≡ true = ap (λ (head : Head). bytes_eq head.name f) (sym same) ∙ q in
@@ -69,7 +72,8 @@ named_numeric : (fs : List Function) (f : List ℕ) (known : Function) → AreNu
 named_numeric [] f known all h = absurd (cc h)
 named_numeric (fn ∷ fs) f known all h = by (bytes_eq fn.head.name f) h (named_numeric fs f known all.1)
   where
-    by : (t : Bool) → (if t then Some fn else function_named fs f) ≡ Some known → (function_named fs f ≡ Some known → IsNumeric known) → IsNumeric known
+    by : (t : Bool) → (if t then Some fn else function_named fs f) ≡ Some known → (function_named fs f ≡ Some known → IsNumeric known)
+        → IsNumeric known
     by true h later = let q : fn ≡ known = cc h in subst IsNumeric q all.0
     by false h later = later h
 
@@ -90,7 +94,19 @@ nothing_called code world f none = absurd (cc none)
 abbrev bare : (code : List Block) (world : World) (own : ℕ) (x : Block) → numbered code own ≡ Some x → Setting
 bare code world own x h =
     let k = coded_kinds (locals_of x) in
-    record { code = code; world = world; own = own; block = x; kinds = k.0; callees = []; functions = []; stands = h; locals_are = k.1; same_heads = refl; calls = nothing_called code world }
+    record {
+      code = code;
+      world = world;
+      own = own;
+      block = x;
+      kinds = k.0;
+      callees = [];
+      functions = [];
+      stands = h;
+      locals_are = k.1;
+      same_heads = refl;
+      calls = nothing_called code world;
+    }
 
 module _ (code : List Block) (world : World) where
   predefined_does : (f : List ℕ) (known : Function) → function_named predefined_functions f ≡ Some known → DoesCall code world (I.Call f) known
@@ -106,17 +122,23 @@ module _ (code : List Block) (world : World) where
       let leaves : left_of (call_row (function_named predefined_functions f)) (kinds_of (reverse args)) ≡ Ok (K.N ∷ []) =
       ap₂ (λ o l. left_of (call_row o) l) named (kinds_alike number_kind (reverse args) turned ∙ ap (λ m. replicate m K.N) many)
       ∙ ap (λ (t : Bool). if t then Ok (K.N ∷ []) else or_wrong None) (same_kinds_refl (replicate n K.N)) in
-      let e : of_function (function_named predefined_functions f) (reverse (reverse args)) ≡ known.does args = ap₂ of_function named (reverse-reverse args) in
-      let P : Value → State → Type 0 = λ v s1. (s1 ≡ record { block = own; place = suc q; locals = ls; operands = v ∷ ops; loops = lo } ∷ rest) × HasKind number_kind v in
-      subst (λ k. Goes code world s (known.does args) (λ v s1. (s1 ≡ record { block = own; place = suc q; locals = ls; operands = v ∷ ops; loops = lo } ∷ rest) × HasKind k v)) (sym numeric.1)
+      let e : of_function (function_named predefined_functions f) (reverse (reverse args)) ≡ known.does args = ap₂ of_function named
+      (reverse-reverse args) in
+      let P : Value → State → Type 0 = λ v s1. (s1 ≡ record { block = own; place = suc q; locals = ls; operands = v ∷ ops; loops = lo } ∷ rest)
+      × HasKind number_kind v in
+      subst (λ k. Goes code world s (known.does args)
+      (λ v s1. (s1 ≡ record { block = own; place = suc q; locals = ls; operands = v ∷ ops; loops = lo } ∷ rest) × HasKind k v)) (sym numeric.1)
       (subst (λ m. Goes code world s m P) e
-      (operates_as g number_kind q ls (reverse args) ops lo rest (I.Call f) tt there placed (all_roomy number_kind (reverse args) turned) (many ∙ sym (length-replicate n K.N) ∙ ap (λ o. operand_count (call_row o)) (sym named)) leaves))
+      (operates_as g number_kind q ls (reverse args) ops lo rest (I.Call f) tt there placed (all_roomy number_kind (reverse args) turned)
+      (many ∙ sym (length-replicate n K.N) ∙ ap (λ o. operand_count (call_row o)) (sym named)) leaves))
 
   named_known : (fs : List Function) (f : List ℕ) → ((known : Function) → function_named fs f ≡ Some known → DoesCall code world (I.Call f) known)
-      → HasHead (callee_heads (map (λ (head : Head). record { head = head; block = None }) (heads_of fs))) f → Known code world (map (λ (head : Head). record { head = head; block = None }) (heads_of fs)) fs f
+      → HasHead (callee_heads (map (λ (head : Head). record { head = head; block = None }) (heads_of fs))) f
+      → Known code world (map (λ (head : Head). record { head = head; block = None }) (heads_of fs)) fs f
   named_known [] f does h = absurd (cc h)
   named_known (fn ∷ fs) f does h =
-      known_first code world (record { head = fn.head; block = None }) fn (map (λ (head : Head). record { head = head; block = None }) (heads_of fs)) fs f refl
+      known_first code world (record { head = fn.head; block = None }) fn (map (λ (head : Head). record { head = head; block = None }) (heads_of fs))
+      fs f refl
       (λ q. does fn (ap (λ (t : Bool). if t then Some fn else function_named fs f) q))
       (λ q. named_known fs f (λ known e. does known (ap (λ (t : Bool). if t then Some fn else function_named fs f) q ∙ e))) h
 

@@ -41,20 +41,29 @@ module _ (code : List Block) (world : World) where
   stays (suc n) more (suc all) [] e h = refl
   stays zero more all (f ∷ fs) e h = absurd h
   stays (suc n) more zero (f ∷ fs) e h = absurd (omega (arith, e))
-  stays (suc n) more (suc all) (f ∷ fs) e h = by (step code world f fs).answer (step code world f fs).trail h (λ s settled. stays n more all s (omega (arith, e)) settled)
+  stays (suc n) more (suc all) (f ∷ fs) e h = by (step code world f fs).answer (step code world f fs).trail h
+      (λ s settled. stays n more all s (omega (arith, e)) settled)
     where
-      by : (a : Answer State) (t : Trail) → IsSettled (goes_on a t (run code world n)).answer → ((s : State) → IsSettled (run code world n s).answer → run code world all s ≡ run code world n s)
+      by : (a : Answer State) (t : Trail) → IsSettled (goes_on a t (run code world n)).answer
+          → ((s : State) → IsSettled (run code world n s).answer → run code world all s ≡ run code world n s)
           → goes_on a t (run code world all) ≡ goes_on a t (run code world n)
       by (value s) t h later = ap (after t) (later s h)
       by (ended end) t h later = refl
       by stuck t h later = refl
 
   -- what a rule comes to, in so many steps
-  ran : (s : State) (a : Answer (Unit {0})) (t : Trail) → GoesOn code world a t s (Over code world) → IsSettled a × ((n : ℕ) × (run code world n s ≡ record { answer = a; trail = t }))
+  ran : (s : State) (a : Answer (Unit {0})) (t : Trail) → GoesOn code world a t s (Over code world)
+      → IsSettled a × ((n : ℕ) × (run code world n s ≡ record { answer = a; trail = t }))
   ran s (value done) t g =
       let o = g.1 in
-      let r = g.2 1 in
-      (tt, (r.0, r.1 ∙ ap (after t) (ap (run code world 1) o.1 ∙ ap (λ m. m >>= run code world 0) o.2 ∙ after_nothing (gives tt 0)) ∙ same_outcome (value tt) (joined t (spent 0)) t (nothing_last t)))
+      let r = g.2 1 in (
+        tt,
+        (
+          r.0,
+          r.1 ∙ ap (after t) (ap (run code world 1) o.1 ∙ ap (λ m. m >>= run code world 0) o.2 ∙ after_nothing (gives tt 0))
+              ∙ same_outcome (value tt) (joined t (spent 0)) t (nothing_last t),
+        ),
+      )
   ran s (ended e) t g = (tt, (g.0, g.1))
   ran s stuck t g = absurd g
 
@@ -80,7 +89,8 @@ same_blocks basin blocks a h = by (ruling basin blocks) h
     by (Ok budgets) h = sym (ap (blocks_or blocks) h)
     by (Err why) h = absurd (cc h)
 
-module _ (basin : Draft) (rules : List Declared) (kinded : AreKinded basin rules) (number step_no : ℕ) (values : Cell → Option ℤ) (there : HasRule rules number) where
+module _ (basin : Draft) (rules : List Declared) (kinded : AreKinded basin rules) (number step_no : ℕ) (values : Cell → Option ℤ)
+    (there : HasRule rules number) where
   abbrev world : World
   world = record { basin = basin; values = values; step = step_no }
 
@@ -88,7 +98,8 @@ module _ (basin : Draft) (rules : List Declared) (kinded : AreKinded basin rules
   code = translate rules
 
   the_rule : Found code world predefined_callees predefined_functions rules 1 number
-  the_rule = found code world rules predefined_callees predefined_functions 0 number (at_all code) predefined_heads (predefined_called code world) kinded there.0 there.1
+  the_rule = found code world rules predefined_callees predefined_functions 0 number (at_all code) predefined_heads (predefined_called code world)
+      kinded there.0 there.1
 
   abbrev done : Outcome (Unit {0})
   done = rule_done world predefined_functions rules number
@@ -122,14 +133,17 @@ module _ (basin : Draft) (rules : List Declared) (kinded : AreKinded basin rules
   fires_alike a h = by run_ends.1.0 run_ends.1.1 most_steps (is_safe.fires)
     where
       accepted : AreSafe basin code a.budgets
-      accepted = subst (λ blocks. AreSafe basin blocks a.budgets) (same_blocks basin code a h) (safe basin a.blocks a.budgets (answered basin code a h))
+      accepted = subst (λ blocks. AreSafe basin blocks a.budgets) (same_blocks basin code a h)
+          (safe basin a.blocks a.budgets (answered basin code a h))
 
       is_safe : IsSafe code basin number step_no values (accepted number the_rule.at step_no values the_rule.rule_is).0
       is_safe = (accepted number the_rule.at step_no values the_rule.rule_is).2
 
-      by : (n : ℕ) → run code world n first ≡ done → (most : ℕ) → fired_in most code world (first_frame code number) ≡ Some is_safe.fire → fired_in most code world (first_frame code number) ≡ mean rules basin number step_no values
+      by : (n : ℕ) → run code world n first ≡ done → (most : ℕ) → fired_in most code world (first_frame code number) ≡ Some is_safe.fire
+          → fired_in most code world (first_frame code number) ≡ mean rules basin number step_no values
       by n e most fires =
-          let settled = fire_settled (run code world most first).answer (run code world most first).trail is_safe.fire (sym (ap (fired_in most code world) begins) ∙ fires) in
+          let settled = fire_settled (run code world most first).answer (run code world most first).trail is_safe.fire
+          (sym (ap (fired_in most code world) begins) ∙ fires) in
           let z : most + n ≡ n + most = omega arith in
           ap (fired_in most code world) begins
           ∙ ap (λ (m : Outcome (Unit {0})). fire_of m.answer m.trail) (sym (stays code world most n (n + most) first z settled) ∙ runs_on n most e)

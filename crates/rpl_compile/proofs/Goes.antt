@@ -22,7 +22,8 @@ nothing_first t = same_trail _ _ _ _ _ _ refl refl (omega arith)
 pub nothing_last : (t : Trail) → joined t (spent 0) ≡ t
 nothing_last t = same_trail _ _ _ _ _ _ (append-nil t.looked) (append-nil t.puts) (omega arith)
 
-pub same_outcome : {A : Type 0} (a : Answer A) (t u : Trail) → t ≡ u → ◌≡◌ {A = Outcome A} (record { answer = a; trail = t }) (record { answer = a; trail = u })
+pub same_outcome : {A : Type 0} (a : Answer A) (t u : Trail) → t ≡ u
+    → ◌≡◌ {A = Outcome A} (record { answer = a; trail = t }) (record { answer = a; trail = u })
 same_outcome a t u p = λ i. record { answer = a; trail = p i }
 
 pub after_after : {A : Type 0} (t u : Trail) (r : Outcome A) → after t (after u r) ≡ after (joined t u) r
@@ -53,8 +54,10 @@ module _ (code : List Block) (world : World) where
   abbrev pub Goes : {A : Type 0} → State → Outcome A → (A → State → Type 0) → Type 0
   Goes s m P = GoesOn m.answer m.trail s P
 
-  then_goes : {C : Type 0} (s s1 : State) (t u : Trail) (b : Answer C) (Q : C → State → Type 0) → Leads s t s1 → GoesOn b u s1 Q → GoesOn b (joined t u) s Q
-  then_goes s s1 t u (value w) Q h g = (g.0, g.1, λ k. let x = g.2 k in let y = h x.0 in (y.0, y.1 ∙ ap (after t) x.1 ∙ after_after t u (run code world k g.0)))
+  then_goes : {C : Type 0} (s s1 : State) (t u : Trail) (b : Answer C) (Q : C → State → Type 0) → Leads s t s1 → GoesOn b u s1 Q
+      → GoesOn b (joined t u) s Q
+  then_goes s s1 t u (value w) Q h g
+      = (g.0, g.1, λ k. let x = g.2 k in let y = h x.0 in (y.0, y.1 ∙ ap (after t) x.1 ∙ after_after t u (run code world k g.0)))
   then_goes s s1 t u (ended e) Q h g = let y = h g.0 in (y.0, y.1 ∙ ap (after t) g.1)
   then_goes s s1 t u stuck Q h g = g
 
@@ -68,18 +71,21 @@ module _ (code : List Block) (world : World) where
       → Goes s m P → ((v : A) (s1 : State) → P v s1 → Goes s1 (f v) Q) → Goes s (m >>= f) Q
   goes_bind s m f P Q h g = bind_on s m.answer m.trail f P Q h g
 
-  weaker_on : {A : Type 0} (s : State) (a : Answer A) (t : Trail) (P Q : A → State → Type 0) → ((v : A) (s1 : State) → P v s1 → Q v s1) → GoesOn a t s P → GoesOn a t s Q
+  weaker_on : {A : Type 0} (s : State) (a : Answer A) (t : Trail) (P Q : A → State → Type 0) → ((v : A) (s1 : State) → P v s1 → Q v s1)
+      → GoesOn a t s P → GoesOn a t s Q
   weaker_on s (value v) t P Q f g = (g.0, f v g.0 g.1, g.2)
   weaker_on s (ended e) t P Q f g = g
   weaker_on s stuck t P Q f g = g
 
   -- the same, of more
-  pub goes_weaker : {A : Type 0} (s : State) (m : Outcome A) (P Q : A → State → Type 0) → ((v : A) (s1 : State) → P v s1 → Q v s1) → Goes s m P → Goes s m Q
+  pub goes_weaker : {A : Type 0} (s : State) (m : Outcome A) (P Q : A → State → Type 0) → ((v : A) (s1 : State) → P v s1 → Q v s1) → Goes s m P
+      → Goes s m Q
   goes_weaker s m P Q f g = weaker_on s m.answer m.trail P Q f g
 
   -- ---- steps
 
-  one_step : (f : Frame) (fs : List Frame) (s1 : State) (t : Trail) → step code world f fs ≡ record { answer = value s1; trail = t } → Leads (f ∷ fs) t s1
+  one_step : (f : Frame) (fs : List Frame) (s1 : State) (t : Trail) → step code world f fs ≡ record { answer = value s1; trail = t }
+      → Leads (f ∷ fs) t s1
   one_step f fs s1 t h k = (suc k, ap (λ m. m >>= run code world k) h)
 
   pub goes_first : {A : Type 0} (f : Frame) (fs : List Frame) (s1 : State) (t : Trail) (m : Outcome A) (P : A → State → Type 0)
@@ -110,7 +116,8 @@ module _ (code : List Block) (world : World) where
   goes_as f fs m go P h g = as_on f fs m.answer m.trail go P h g
 
   free_on : {A : Type 0} (s : State) (a : Answer A) (t : Trail) (P Q : A → State → Type 0) → GoesOn a t s P
-      → ((v : A) (s1 : State) → P v s1 → (f : Frame) × (fs : List Frame) × (s2 : State) × (s1 ≡ f ∷ fs) × (step code world f fs ≡ gives s2 0) × Q v s2) → GoesOn a t s Q
+      → ((v : A) (s1 : State) → P v s1 → (f : Frame) × (fs : List Frame) × (s2 : State) × (s1 ≡ f ∷ fs) × (step code world f fs ≡ gives s2 0)
+      × Q v s2) → GoesOn a t s Q
   free_on s (value v) t P Q g h =
       let q = h v g.0 g.1 in (
         q.2,
@@ -124,5 +131,6 @@ module _ (code : List Block) (world : World) where
 
   -- a step that counts nothing comes after
   pub goes_free : {A : Type 0} (s : State) (m : Outcome A) (P Q : A → State → Type 0) → Goes s m P
-      → ((v : A) (s1 : State) → P v s1 → (f : Frame) × (fs : List Frame) × (s2 : State) × (s1 ≡ f ∷ fs) × (step code world f fs ≡ gives s2 0) × Q v s2) → Goes s m Q
+      → ((v : A) (s1 : State) → P v s1 → (f : Frame) × (fs : List Frame) × (s2 : State) × (s1 ≡ f ∷ fs) × (step code world f fs ≡ gives s2 0)
+      × Q v s2) → Goes s m Q
   goes_free s m P Q g h = free_on s m.answer m.trail P Q g h

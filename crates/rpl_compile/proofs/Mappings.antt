@@ -68,7 +68,8 @@ module _ (g : Setting) where
         let a1 = at_back lines site.place sl cl (I.Map site.free ∷ turns_lines) (code-size g.world.basin g.callees items l w.2.0) w.0 in
         let a2 = at_tail lines q (I.Map site.free) turns_lines a1 in
         let z : q + 1 ≡ suc q = omega arith in
-        let a3 = at_moved lines (q + 1 + n) (suc q + n) (I.Yield ∷ []) (omega arith) (at_back lines (q + 1) n cb (I.Yield ∷ []) (code-size g.world.basin g.callees inside b w.2.2) a2) in
+        let a3 = at_moved lines (q + 1 + n) (suc q + n) (I.Yield ∷ []) (omega arith)
+        (at_back lines (q + 1) n cb (I.Yield ∷ []) (code-size g.world.basin g.callees inside b w.2.2) a2) in
         let b1 = at_tail g.kinds site.free (element_of list) (ll ++ lb) w.1 in
         record {
           list_at = at_front lines site.place cl (I.Map site.free ∷ turns_lines) w.0;
@@ -83,10 +84,12 @@ module _ (g : Setting) where
 
     ends_behind : Wants g site (mapped x l b) → MapAt → suc (suc q + n) ≡ past_of g q
     ends_behind w at =
-        let e = ends_there g.block.lines (suc q) (length (code_of g.callees inside b) + 0) turns_lines at.turns_at (mapped_shut g.callees inside b (code_balanced g.callees b inside)) in
+        let e = ends_there g.block.lines (suc q) (length (code_of g.callees inside b) + 0) turns_lines at.turns_at
+        (mapped_shut g.callees inside b (code_balanced g.callees b inside)) in
         omega (arith, e, code-size g.world.basin g.callees inside b w.2.2)
 
-    module _ (env : Env) (ls ops : List Value) (lo : List Running) (rest : List Frame) (w : Wants g site (mapped x l b)) (h : Here g site env ls ops) (cb : Claim g b) where
+    module _ (env : Env) (ls ops : List Value) (lo : List Running) (rest : List Frame) (w : Wants g site (mapped x l b)) (h : Here g site env ls ops)
+        (cb : Claim g b) where
       abbrev past : ℕ
       past = site.place + size (H g) (names_in site.scope) (mapped x l b)
 
@@ -98,7 +101,8 @@ module _ (g : Setting) where
 
       -- from the list
       from_list : (at : MapAt) (lv : Value) (us : List Value) (e : Elements list lv) → Kept site.free ls us
-          → Goes g.code g.world (fr g q us (lv ∷ ops) lo ∷ rest) (after (spent 1) (numbers_for body e.all >>= (λ zs. gives (numbers (room_of list) zs) 0))) Q
+          → Goes g.code g.world (fr g q us (lv ∷ ops) lo ∷ rest)
+          (after (spent 1) (numbers_for body e.all >>= (λ zs. gives (numbers (room_of list) zs) 0))) Q
       from_list at lv us e ku =
           let r : Running = loop_at q mapping (room_of list) site.free e.all [] in
           let end : ℕ = past_of g q in
@@ -109,21 +113,28 @@ module _ (g : Setting) where
           (map_step g q site.free list us ops lo rest lv e at.begins at.has)
           (goes_bind g.code g.world (turn g end r e.all us ops lo ∷ rest) (numbers_for body e.all) (λ zs. gives (numbers (room_of list) zs) 0) P Q
           (subst (λ (f : Frame). Goes g.code g.world (f ∷ rest) (numbers_for body e.all) P) (turn_left g end r e.all [] us ops lo)
-          (map_goes g (element_of list) site.free inside.free q n end (room_of list) us ops lo rest body (ku.0 ∙ h.1) at.has (omega arith) at.yields ends
+          (map_goes g (element_of list) site.free inside.free q n end (room_of list) us ops lo rest body (ku.0 ∙ h.1) at.has (omega arith) at.yields
+          ends
           (λ v vs lo1 hv kv hold.
           let kv1 = then_kept site.free site.free ls us vs (omega arith) ku kv in
-          let there : Here g inside ((x, v) ∷ env) vs ops =
-          ((refl, hv, hold, omega arith, at.has, holds_kept g.kinds site.scope env ls vs site.free inside.free h.0 (omega arith) kv1), kv1.0 ∙ h.1, h.2) in
+          let there : Here g inside ((x, v) ∷ env) vs ops = (
+            (refl, hv, hold, omega arith, at.has, holds_kept g.kinds site.scope env ls vs site.free inside.free h.0 (omega arith) kv1),
+            kv1.0
+                ∙ h.1,
+            h.2,
+          ) in
           let y : inside.place ≡ suc q = omega arith in
           goes_at g inside.place (suc q) vs ops lo1 rest (body v) (Left g number_kind inside.free (suc q + n) vs ops lo1 rest) y
           (subst (λ k. Goes g.code g.world (fr g inside.place vs ops lo1 ∷ rest) (body v) (Left g k inside.free (suc q + n) vs ops lo1 rest)) w.2.3
-          (goes_left g (kind_at (H g) inside b) inside.free inside.free (inside.place + n) (suc q + n) vs vs ops lo1 rest (fr g inside.place vs ops lo1 ∷ rest) (body v) (omega arith) (omega arith) (same_kept inside.free vs)
+          (goes_left g (kind_at (H g) inside b) inside.free inside.free (inside.place + n) (suc q + n) vs vs ops lo1 rest
+          (fr g inside.place vs ops lo1 ∷ rest) (body v) (omega arith) (omega arith) (same_kept inside.free vs)
           (cb inside ((x, v) ∷ env) vs ops lo1 rest (at.body_at, at.body_kinds, w.2.2) there))))
           e.all us [] e.have (same_kept site.free us)))
           (λ zs s1 c.
           subst (λ s. Goes g.code g.world s (gives (numbers (room_of list) zs) 0) Q) (sym c.is)
           (goes_none g.code g.world (fr g end c.locals1 (numbers (room_of list) zs ∷ ops) lo ∷ rest) (numbers (room_of list) zs) Q
-          (left g (numbers_kind (room_of list)) site.free past end ls c.locals1 ops lo rest (numbers (room_of list) zs) (omega (arith, ends)) (refl, omega (arith, c.as_many, e.few))
+          (left g (numbers_kind (room_of list)) site.free past end ls c.locals1 ops lo rest (numbers (room_of list) zs) (omega (arith, ends))
+          (refl, omega (arith, c.as_many, e.few))
           (then_kept site.free site.free ls us c.locals1 (omega arith) ku c.kept)))))
 
       mapped_here : MapAt → Claim g l → Goes g.code g.world (fr g site.place ls ops lo ∷ rest) (value_of g.world g.functions env (mapped x l b)) Q
@@ -132,8 +143,10 @@ module _ (g : Setting) where
           (cl items env ls ops lo rest (at.list_at, at.list_kinds, w.2.0) (here_on g site env ls ls ops 1 h (same_kept site.free ls)))
           (λ lv us hl ku.
           let e = elements list lv w.2.1 hl in
-          subst (λ k. Goes g.code g.world (fr g q us (lv ∷ ops) lo ∷ rest) (after (spent 1) (with_elements (elements_of lv) (numbers_for body) >>= (λ zs. gives (numbers (room_of k) zs) 0))) Q) (sym hl.0)
-          (subst (λ o. Goes g.code g.world (fr g q us (lv ∷ ops) lo ∷ rest) (after (spent 1) (with_elements o (numbers_for body) >>= (λ zs. gives (numbers (room_of list) zs) 0))) Q) (sym e.are)
+          subst (λ k. Goes g.code g.world (fr g q us (lv ∷ ops) lo ∷ rest)
+          (after (spent 1) (with_elements (elements_of lv) (numbers_for body) >>= (λ zs. gives (numbers (room_of k) zs) 0))) Q) (sym hl.0)
+          (subst (λ o. Goes g.code g.world (fr g q us (lv ∷ ops) lo ∷ rest)
+          (after (spent 1) (with_elements o (numbers_for body) >>= (λ zs. gives (numbers (room_of list) zs) 0))) Q) (sym e.are)
           (from_list at lv us e (kept_less site.free (site.free + 1) ls us (omega arith) ku))))
 
   pub on_mapped : (x : List ℕ) (l b : Tree) → Claim g l → Claim g b → Claim g (mapped x l b)

@@ -33,7 +33,8 @@ not_higher m n lt = grind (arith, nat_tests, lt)
 module _ (g : Setting) where
   -- from a value of one kind, the value that stands in a place of the other
   abbrev Widens : Kind → Kind → Type 0
-  Widens place kind = (free q : ℕ) (us ops : List Value) (lo : List Running) (rest : List Frame) (v : Value) → At g.block.lines q (widening place kind) → HasKind kind v
+  Widens place kind = (free q : ℕ) (us ops : List Value) (lo : List Running) (rest : List Frame) (v : Value)
+      → At g.block.lines q (widening place kind) → HasKind kind v
       → Goes g.code g.world (fr g q us (v ∷ ops) lo ∷ rest) (widened place v) (Left g place free (q + widening_size place kind) us ops lo rest)
 
   as_it_is : (kind : Kind) → Widens kind kind
@@ -41,19 +42,24 @@ module _ (g : Setting) where
       let z : q ≡ q + 0 = omega arith in
       let e : q ≡ q + widening_size kind kind = z ∙ ap (λ (t : Bool). q + (if t then 0 else 1)) (sym (same_kind_refl kind)) in
       let t : is_same_kind kind (kind_of v) ≡ true = ap (is_same_kind kind) hv.0 ∙ same_kind_refl kind in
-      subst (λ (t : Bool). Goes g.code g.world (fr g q us (v ∷ ops) lo ∷ rest) (if t then gives v 0 else roomier kind v) (Left g kind free (q + widening_size kind kind) us ops lo rest)) (sym t)
+      subst (λ (t : Bool). Goes g.code g.world (fr g q us (v ∷ ops) lo ∷ rest) (if t then gives v 0 else roomier kind v)
+      (Left g kind free (q + widening_size kind kind) us ops lo rest)) (sym t)
       (goes_none g.code g.world (fr g q us (v ∷ ops) lo ∷ rest) v (Left g kind free (q + widening_size kind kind) us ops lo rest)
       (left g kind free (q + widening_size kind kind) q us us ops lo rest v e hv (same_kept free us)))
 
   -- a list that is widened, where its line and its test are known
   wider : (place kind : Kind) (m q free : ℕ) (us ops : List Value) (lo : List Running) (rest : List Frame) (v : Value)
-      → is_same_kind place kind ≡ false → is_same_kind place (kind_of v) ≡ false → At g.block.lines q (if is_same_kind place kind then [] else I.Widen m ∷ [])
-      → (slice_get g.block.lines q ≡ Some (I.Widen m) → Goes g.code g.world (fr g q us (v ∷ ops) lo ∷ rest) (roomier place v) (Left g place free (q + 1) us ops lo rest))
+      → is_same_kind place kind ≡ false → is_same_kind place (kind_of v) ≡ false
+      → At g.block.lines q (if is_same_kind place kind then [] else I.Widen m ∷ [])
+      → (slice_get g.block.lines q ≡ Some (I.Widen m) → Goes g.code g.world (fr g q us (v ∷ ops) lo ∷ rest) (roomier place v)
+      (Left g place free (q + 1) us ops lo rest))
       → Goes g.code g.world (fr g q us (v ∷ ops) lo ∷ rest) (widened place v) (Left g place free (q + widening_size place kind) us ops lo rest)
   wider place kind m q free us ops lo rest v e f at go =
       let line : At g.block.lines q (I.Widen m ∷ []) = subst (λ (t : Bool). At g.block.lines q (if t then [] else I.Widen m ∷ [])) e at in
-      subst (λ (t : Bool). Goes g.code g.world (fr g q us (v ∷ ops) lo ∷ rest) (widened place v) (Left g place free (q + (if t then 0 else 1)) us ops lo rest)) (sym e)
-      (subst (λ (t : Bool). Goes g.code g.world (fr g q us (v ∷ ops) lo ∷ rest) (if t then gives v 0 else roomier place v) (Left g place free (q + 1) us ops lo rest)) (sym f)
+      subst (λ (t : Bool). Goes g.code g.world (fr g q us (v ∷ ops) lo ∷ rest) (widened place v)
+      (Left g place free (q + (if t then 0 else 1)) us ops lo rest)) (sym e)
+      (subst (λ (t : Bool). Goes g.code g.world (fr g q us (v ∷ ops) lo ∷ rest) (if t then gives v 0 else roomier place v)
+      (Left g place free (q + 1) us ops lo rest)) (sym f)
       (go (at_head g.block.lines q (I.Widen m) [] line)))
 
   numbers_wider : (m n : ℕ) → n < m → Widens (numbers_kind m) (numbers_kind n)
@@ -88,7 +94,8 @@ module _ (g : Setting) where
   slots_wider m n lt free q us ops lo rest (a_slot z) at hv = absurd (cc hv.0)
   slots_wider m n lt free q us ops lo rest (numbers k zs) at hv = absurd (cc hv.0)
 
-  by_wider : (place kind : Kind) (m n : ℕ) → n < m → (((place ≡ numbers_kind m) × (kind ≡ numbers_kind n)) ⊎ ((place ≡ slots_kind m) × (kind ≡ slots_kind n))) → Widens place kind
+  by_wider : (place kind : Kind) (m n : ℕ) → n < m
+      → (((place ≡ numbers_kind m) × (kind ≡ numbers_kind n)) ⊎ ((place ≡ slots_kind m) × (kind ≡ slots_kind n))) → Widens place kind
   by_wider place kind m n lt (inl e) = subst (λ p. Widens p kind) (sym e.0) (subst (λ k. Widens (numbers_kind m) k) (sym e.1) (numbers_wider m n lt))
   by_wider place kind m n lt (inr e) = subst (λ p. Widens p kind) (sym e.0) (subst (λ k. Widens (slots_kind m) k) (sym e.1) (slots_wider m n lt))
 
@@ -98,7 +105,8 @@ module _ (g : Setting) where
 
   -- a tree and its room, at a site
   pub in_room : (place : Kind) (t : Tree) (site : Site) (env : Env) (ls ops : List Value) (lo : List Running) (rest : List Frame) → Claim g t
-      → At g.block.lines site.place (code_of g.callees site t ++ room_lines g.callees place site t) → At g.kinds site.free (local_kinds (H g) (names_in site.scope) t)
+      → At g.block.lines site.place (code_of g.callees site t ++ room_lines g.callees place site t)
+      → At g.kinds site.free (local_kinds (H g) (names_in site.scope) t)
       → IsKinded g.world.basin (H g) (names_in site.scope) t → FitsIn place (kind_at (H g) site t) → Here g site env ls ops
       → Goes g.code g.world (fr g site.place ls ops lo ∷ rest) (value_of g.world g.functions env t >>= widened place)
       (Left g place site.free (site.place + (size (H g) (names_in site.scope) t + widening_size place (kind_at (H g) site t))) ls ops lo rest)
@@ -108,8 +116,14 @@ module _ (g : Setting) where
       let w = widening_size place k in
       let Q = Left g place site.free (site.place + (n + w)) ls ops lo rest in
       part g k site.free (site.place + n) ls ops lo rest (fr g site.place ls ops lo ∷ rest) (value_of g.world g.functions env t) (widened place) Q
-      (c site env ls ops lo rest (at_front g.block.lines site.place (code_of g.callees site t) (room_lines g.callees place site t) placed, loc, kinded) h)
+      (c site env ls ops lo rest (
+        at_front g.block.lines site.place (code_of g.callees site t) (room_lines g.callees place site t) placed,
+        loc,
+        kinded,
+      ) h)
       (λ v us hv ku.
-      goes_left g place site.free site.free (site.place + n + w) (site.place + (n + w)) ls us ops lo rest (fr g (site.place + n) us (v ∷ ops) lo ∷ rest) (widened place v) (omega arith) (omega arith) ku
+      goes_left g place site.free site.free (site.place + n + w) (site.place + (n + w)) ls us ops lo rest
+      (fr g (site.place + n) us (v ∷ ops) lo ∷ rest) (widened place v) (omega arith) (omega arith) ku
       (widens place k fits site.free (site.place + n) us ops lo rest v
-      (at_back g.block.lines site.place n (code_of g.callees site t) (room_lines g.callees place site t) (code-size g.world.basin g.callees site t kinded) placed) hv))
+      (at_back g.block.lines site.place n (code_of g.callees site t) (room_lines g.callees place site t)
+      (code-size g.world.basin g.callees site t kinded) placed) hv))

@@ -46,7 +46,8 @@ turned_onto [] us ops = refl
 turned_onto (v ∷ vs) us ops = turned_onto vs (v ∷ us) ops
 
 -- elements of one kind become the list of them
-listed_is : (k : Kind) (n : ℕ) (vs : List Value) → IsElement k → AllHave k vs → 1 ≤ length vs → or_wrong (listed n (kinds_of vs)) ≡ Ok (code_kind (list_kind n k) ∷ [])
+listed_is : (k : Kind) (n : ℕ) (vs : List Value) → IsElement k → AllHave k vs → 1 ≤ length vs
+    → or_wrong (listed n (kinds_of vs)) ≡ Ok (code_kind (list_kind n k) ∷ [])
 listed_is k n [] e h le = absurd (omega (arith, le))
 listed_is k n (v ∷ vs) e h le =
     ap (λ (t : Bool). or_wrong (if t then option_map (λ kind. kind ∷ []) (code_list_kind n (code_kind_of v)) else None)) (alike vs h.1)
@@ -60,34 +61,47 @@ listed_is k n (v ∷ vs) e h le =
         rw (t, alike us i.1) refl
 
     by : IsElement k → or_wrong (option_map (λ kind. kind ∷ []) (code_list_kind n (code_kind k))) ≡ Ok (code_kind (list_kind n k) ∷ [])
-    by (inl e) = subst (λ k. or_wrong (option_map (λ kind. kind ∷ []) (code_list_kind n (code_kind k))) ≡ Ok (code_kind (list_kind n k) ∷ [])) (sym e) refl
-    by (inr e) = subst (λ k. or_wrong (option_map (λ kind. kind ∷ []) (code_list_kind n (code_kind k))) ≡ Ok (code_kind (list_kind n k) ∷ [])) (sym e) refl
+    by (inl e) = subst (λ k. or_wrong (option_map (λ kind. kind ∷ []) (code_list_kind n (code_kind k))) ≡ Ok (code_kind (list_kind n k) ∷ [])) (sym e)
+        refl
+    by (inr e) = subst (λ k. or_wrong (option_map (λ kind. kind ∷ []) (code_list_kind n (code_kind k))) ≡ Ok (code_kind (list_kind n k) ∷ [])) (sym e)
+        refl
 
 module _ (g : Setting) where
   -- what several trees leave: their values, the last one on top
-  pub record LeftAll (P : List Value → Type 0) (free q : ℕ) (ls ops : List Value) (lo : List Running) (rest : List Frame) (vs : List Value) (s1 : State) : Type 0 where
+  pub record LeftAll (P : List Value → Type 0) (free q : ℕ) (ls ops : List Value) (lo : List Running) (rest : List Frame) (vs : List Value)
+      (s1 : State) : Type 0 where
     pub locals1 : List Value
     pub is : s1 ≡ fr g q locals1 (reverse_aux vs ops) lo ∷ rest
     pub of_kinds : P vs
     pub kept : Kept free ls locals1
 
   -- one more is before them
-  more : (P Q : List Value → Type 0) (K : Kind) (free next q past r : ℕ) (ls ops : List Value) (lo : List Running) (rest : List Frame) (s : State) (m : Outcome Value) (all : Outcome (List Value))
+  more : (P Q : List Value → Type 0) (K : Kind) (free next q past r : ℕ) (ls ops : List Value) (lo : List Running) (rest : List Frame) (s : State)
+      (m : Outcome Value) (all : Outcome (List Value))
       → q ≡ r → free ≤ next → Goes g.code g.world s m (Left g K free past ls ops lo rest)
-      → ((v : Value) (us : List Value) → HasKind K v → Kept free ls us → Goes g.code g.world (fr g past us (v ∷ ops) lo ∷ rest) all (LeftAll P next q us (v ∷ ops) lo rest))
+      → ((v : Value) (us : List Value) → HasKind K v → Kept free ls us
+      → Goes g.code g.world (fr g past us (v ∷ ops) lo ∷ rest) all (LeftAll P next q us (v ∷ ops) lo rest))
       → ((v : Value) (vs : List Value) → HasKind K v → P vs → Q (v ∷ vs))
       → Goes g.code g.world s (m >>= (λ v. all >>= (λ vs. gives (v ∷ vs) 0))) (LeftAll Q free r ls ops lo rest)
   more P Q K free next q past r ls ops lo rest s m all e le go others both =
       part g K free past ls ops lo rest s m (λ v. all >>= (λ vs. gives (v ∷ vs) 0)) (LeftAll Q free r ls ops lo rest) go
       (λ v us hv ku.
-      goes_bind g.code g.world (fr g past us (v ∷ ops) lo ∷ rest) all (λ vs. gives (v ∷ vs) 0) (LeftAll P next q us (v ∷ ops) lo rest) (LeftAll Q free r ls ops lo rest) (others v us hv ku)
+      goes_bind g.code g.world (fr g past us (v ∷ ops) lo ∷ rest) all (λ vs. gives (v ∷ vs) 0) (LeftAll P next q us (v ∷ ops) lo rest)
+      (LeftAll Q free r ls ops lo rest) (others v us hv ku)
       (λ vs s1 w.
       goes_none g.code g.world s1 (v ∷ vs) (LeftAll Q free r ls ops lo rest)
-      (record { locals1 = w.locals1; is = w.is ∙ ap (λ n. fr g n w.locals1 (reverse_aux vs (v ∷ ops)) lo ∷ rest) e; of_kinds = both v vs hv w.of_kinds; kept = then_kept free next ls us w.locals1 le ku w.kept })))
+      (record {
+        locals1 = w.locals1;
+        is = w.is ∙ ap (λ n. fr g n w.locals1 (reverse_aux vs (v ∷ ops)) lo ∷ rest) e;
+        of_kinds = both v vs hv w.of_kinds;
+        kept = then_kept free next ls us w.locals1 le ku w.kept;
+      })))
 
-  none : (P : List Value → Type 0) (free p q : ℕ) (ls ops : List Value) (lo : List Running) (rest : List Frame) → p ≡ q → P [] → Goes g.code g.world (fr g p ls ops lo ∷ rest) (gives [] 0) (LeftAll P free q ls ops lo rest)
+  none : (P : List Value → Type 0) (free p q : ℕ) (ls ops : List Value) (lo : List Running) (rest : List Frame) → p ≡ q → P []
+      → Goes g.code g.world (fr g p ls ops lo ∷ rest) (gives [] 0) (LeftAll P free q ls ops lo rest)
   none P free p q ls ops lo rest e h =
-      goes_none g.code g.world (fr g p ls ops lo ∷ rest) [] (LeftAll P free q ls ops lo rest) (record { locals1 = ls; is = ap (λ n. fr g n ls ops lo ∷ rest) e; of_kinds = h; kept = same_kept free ls })
+      goes_none g.code g.world (fr g p ls ops lo ∷ rest) [] (LeftAll P free q ls ops lo rest)
+      (record { locals1 = ls; is = ap (λ n. fr g n ls ops lo ∷ rest) e; of_kinds = h; kept = same_kept free ls })
 
   -- ---- elements
 
@@ -99,7 +113,8 @@ module _ (g : Setting) where
       (LeftAll (λ vs. AllHave K vs × (length vs ≡ count_of ts)) site.free (site.place + sizes (H g) (names_in site.scope) ts) ls ops lo rest)
 
   pub no_elements : ClaimAll no_trees
-  no_elements K site env ls ops lo rest placed loc kinded h = none (λ vs. AllHave K vs × (length vs ≡ 0)) site.free site.place (site.place + 0) ls ops lo rest (omega arith) (tt, refl)
+  no_elements K site env ls ops lo rest placed loc kinded h = none (λ vs. AllHave K vs × (length vs ≡ 0)) site.free site.place (site.place + 0) ls ops
+      lo rest (omega arith) (tt, refl)
 
   pub more_elements : (t : Tree) (ts : Trees) → Claim g t → ClaimAll ts → ClaimAll (tree t ts)
   more_elements t ts ct cts K site env ls ops lo rest placed loc kinded h =
@@ -111,8 +126,10 @@ module _ (g : Setting) where
       let cs = all_code g.callees second ts in
       let lt = local_kinds (H g) names t in
       let lts = all_local_kinds (H g) names ts in
-      more (λ vs. AllHave K vs × (length vs ≡ count_of ts)) (λ vs. AllHave K vs × (length vs ≡ count_of (tree t ts))) k site.free second.free (second.place + sizes (H g) names ts) (site.place + n)
-      (site.place + sizes (H g) names (tree t ts)) ls ops lo rest (fr g site.place ls ops lo ∷ rest) (value_of g.world g.functions env t) (values_of g.world g.functions env ts) (omega arith) (omega arith)
+      more (λ vs. AllHave K vs × (length vs ≡ count_of ts)) (λ vs. AllHave K vs × (length vs ≡ count_of (tree t ts))) k site.free second.free
+      (second.place + sizes (H g) names ts) (site.place + n)
+      (site.place + sizes (H g) names (tree t ts)) ls ops lo rest (fr g site.place ls ops lo ∷ rest) (value_of g.world g.functions env t)
+      (values_of g.world g.functions env ts) (omega arith) (omega arith)
       (ct site env ls ops lo rest (at_front g.block.lines site.place c cs placed, at_front g.kinds site.free lt lts loc, kinded.0) h)
       (λ v us hv ku.
       cts K second env us (v ∷ ops) lo rest (at_back g.block.lines site.place n c cs (code-size g.world.basin g.callees site t kinded.0) placed)
@@ -130,7 +147,8 @@ module _ (g : Setting) where
       let Q = Left g (list_kind n K) site.free past ls ops lo rest in
       let P : List Value → Type 0 = λ vs. AllHave K vs × (length vs ≡ n) in
       let c = all_code g.callees site ts in
-      goes_bind g.code g.world (fr g site.place ls ops lo ∷ rest) (values_of g.world g.functions env ts) list_of (LeftAll P site.free q ls ops lo rest) Q
+      goes_bind g.code g.world (fr g site.place ls ops lo ∷ rest) (values_of g.world g.functions env ts) list_of
+      (LeftAll P site.free q ls ops lo rest) Q
       (cts K site env ls ops lo rest (at_front g.block.lines site.place c (I.List n ∷ []) w.0) w.1 w.2.3 h)
       (λ vs s1 a.
       let us = a.locals1 in
@@ -138,10 +156,13 @@ module _ (g : Setting) where
       let all = all_turned K vs [] a.of_kinds.0 tt in
       let is : s1 ≡ fr g q us (reverse vs ++ ops) lo ∷ rest = a.is ∙ ap (λ l. fr g q us l lo ∷ rest) (turned_onto vs [] ops) in
       subst (λ s. Goes g.code g.world s (list_of vs) Q) (sym is)
-      (goes_left g (list_kind n K) site.free site.free (q + 1) past ls us ops lo rest (fr g q us (reverse vs ++ ops) lo ∷ rest) (list_of vs) (omega arith) (omega arith) a.kept
-      (subst (λ l. Goes g.code g.world (fr g q us (reverse vs ++ ops) lo ∷ rest) (list_of l) (Left g (list_kind n K) site.free (q + 1) us ops lo rest)) (reverse-reverse vs)
+      (goes_left g (list_kind n K) site.free site.free (q + 1) past ls us ops lo rest (fr g q us (reverse vs ++ ops) lo ∷ rest) (list_of vs)
+      (omega arith) (omega arith) a.kept
+      (subst (λ l. Goes g.code g.world (fr g q us (reverse vs ++ ops) lo ∷ rest) (list_of l)
+      (Left g (list_kind n K) site.free (q + 1) us ops lo rest)) (reverse-reverse vs)
       (operates g (list_kind n K) site.free q us (reverse vs) ops lo rest (I.List n) tt refl
-      (at_head g.block.lines q (I.List n) [] (at_back g.block.lines site.place (sizes (H g) names ts) c (I.List n ∷ []) (all-size g.world.basin g.callees site K ts w.2.3) w.0))
+      (at_head g.block.lines q (I.List n) []
+      (at_back g.block.lines site.place (sizes (H g) names ts) c (I.List n ∷ []) (all-size g.world.basin g.callees site K ts w.2.3) w.0))
       (all_roomy K (reverse vs) all) t (listed_is K n (reverse vs) w.2.2 all (omega (arith, w.2.0, t)))))))
 
   -- ---- arguments
@@ -154,7 +175,8 @@ module _ (g : Setting) where
       (LeftAll (HaveKinds kinds) site.free (site.place + sizes_of_arguments (H g) (names_in site.scope) kinds ts) ls ops lo rest)
 
   pub no_arguments : ClaimArguments no_trees
-  no_arguments [] site env ls ops lo rest placed loc kinded h = none (HaveKinds []) site.free site.place (site.place + 0) ls ops lo rest (omega arith) tt
+  no_arguments [] site env ls ops lo rest placed loc kinded h = none (HaveKinds []) site.free site.place (site.place + 0) ls ops lo rest (omega arith)
+      tt
   no_arguments (kind ∷ kinds) site env ls ops lo rest placed loc kinded h = absurd kinded
 
   pub more_arguments : (t : Tree) (ts : Trees) → Claim g t → ClaimArguments ts → ClaimArguments (tree t ts)
@@ -167,16 +189,23 @@ module _ (g : Setting) where
       let cs = arguments_code g.callees second kinds ts in
       let lt = local_kinds (H g) names t in
       let lts = all_local_kinds (H g) names ts in
-      let line : At g.block.lines site.place (c ++ cs) = subst (λ l. At g.block.lines site.place l) (sym (append_assoc (code_of g.callees site t) (room_lines g.callees kind site t) cs)) placed in
+      let line : At g.block.lines site.place (c ++ cs) = subst (λ l. At g.block.lines site.place l)
+      (sym (append_assoc (code_of g.callees site t) (room_lines g.callees kind site t) cs)) placed in
       let e : site.place + n ≡ second.place = omega arith in
-      more (HaveKinds kinds) (HaveKinds (kind ∷ kinds)) kind site.free second.free (second.place + sizes_of_arguments (H g) names kinds ts) (site.place + n)
-      (site.place + sizes_of_arguments (H g) names (kind ∷ kinds) (tree t ts)) ls ops lo rest (fr g site.place ls ops lo ∷ rest) (value_of g.world g.functions env t >>= widened kind) (arguments_of g.world g.functions env kinds ts)
+      more (HaveKinds kinds) (HaveKinds (kind ∷ kinds)) kind site.free second.free (second.place + sizes_of_arguments (H g) names kinds ts)
+      (site.place + n)
+      (site.place + sizes_of_arguments (H g) names (kind ∷ kinds) (tree t ts)) ls ops lo rest (fr g site.place ls ops lo ∷ rest)
+      (value_of g.world g.functions env t >>= widened kind) (arguments_of g.world g.functions env kinds ts)
       (omega arith) (omega arith)
-      (in_room g kind t site env ls ops lo rest ct (at_front g.block.lines site.place c cs line) (at_front g.kinds site.free lt lts loc) kinded.0 kinded.1 h)
+      (in_room g kind t site env ls ops lo rest ct (at_front g.block.lines site.place c cs line) (at_front g.kinds site.free lt lts loc) kinded.0
+      kinded.1 h)
       (λ v us hv ku.
-      goes_at g second.place (site.place + n) us (v ∷ ops) lo rest (arguments_of g.world g.functions env kinds ts) (LeftAll (HaveKinds kinds) second.free (second.place + sizes_of_arguments (H g) names kinds ts) us (v ∷ ops) lo rest) (sym e)
+      goes_at g second.place (site.place + n) us (v ∷ ops) lo rest (arguments_of g.world g.functions env kinds ts)
+      (LeftAll (HaveKinds kinds) second.free (second.place + sizes_of_arguments (H g) names kinds ts) us (v ∷ ops) lo rest) (sym e)
       (cts kinds second env us (v ∷ ops) lo rest
-      (at_moved g.block.lines (site.place + n) second.place cs e (at_back g.block.lines site.place n c cs (beside _ _ (code-size g.world.basin g.callees site t kinded.0) (widening-size kind (kind_at (H g) site t))) line))
+      (at_moved g.block.lines (site.place + n) second.place cs e
+      (at_back g.block.lines site.place n c cs
+      (beside _ _ (code-size g.world.basin g.callees site t kinded.0) (widening-size kind (kind_at (H g) site t))) line))
       (at_back g.kinds site.free (local_count t) lt lts (locals_size (H g) t names) loc) kinded.2
       (here_over g (keeping (local_count t) site) env us ops kind v hv (here_on g site env ls us ops (local_count t) h ku))))
       (λ v vs hv w. (hv, w))
@@ -192,18 +221,23 @@ module _ (g : Setting) where
       let Q = Left g K site.free past ls ops lo rest in
       let c = arguments_code g.callees site kinds ts in
       let i : Instruction = call_line g.callees f in
-      let means : called g.functions f (λ (known : Function). arguments_of g.world g.functions env known.head.takes ts >>= known.does) ≡ (arguments_of g.world g.functions env kinds ts >>= k.known.does) =
+      let means : called g.functions f (λ (known : Function). arguments_of g.world g.functions env known.head.takes ts >>= known.does) ≡
+      (arguments_of g.world g.functions env kinds ts >>= k.known.does) =
       k.found (λ (known : Function). arguments_of g.world g.functions env known.head.takes ts >>= known.does)
       ∙ ap (λ (ks : List Kind). arguments_of g.world g.functions env ks ts >>= k.known.does) (sym k.takes) in
       subst (λ m. Goes g.code g.world (fr g site.place ls ops lo ∷ rest) m Q) (sym means)
-      (goes_bind g.code g.world (fr g site.place ls ops lo ∷ rest) (arguments_of g.world g.functions env kinds ts) k.known.does (LeftAll (HaveKinds kinds) site.free q ls ops lo rest) Q
+      (goes_bind g.code g.world (fr g site.place ls ops lo ∷ rest) (arguments_of g.world g.functions env kinds ts) k.known.does
+      (LeftAll (HaveKinds kinds) site.free q ls ops lo rest) Q
       (cts kinds site env ls ops lo rest (at_front g.block.lines site.place c (i ∷ []) w.0) w.1 w.2.1 h)
       (λ args s1 a.
       let us = a.locals1 in
       let is : s1 ≡ fr g q us (reverse args ++ ops) lo ∷ rest = a.is ∙ ap (λ l. fr g q us l lo ∷ rest) (turned_onto args [] ops) in
-      let placed = at_head g.block.lines q i [] (at_back g.block.lines site.place (sizes_of_arguments (H g) names kinds ts) c (i ∷ []) (arguments-size g.world.basin g.callees site kinds ts w.2.1) w.0) in
+      let placed = at_head g.block.lines q i []
+      (at_back g.block.lines site.place (sizes_of_arguments (H g) names kinds ts) c (i ∷ [])
+      (arguments-size g.world.basin g.callees site kinds ts w.2.1) w.0) in
       subst (λ s. Goes g.code g.world s (k.known.does args) Q) (sym is)
       (goes_weaker g.code g.world (fr g q us (reverse args ++ ops) lo ∷ rest) (k.known.does args)
       (λ v s1. (s1 ≡ fr g (suc q) us (v ∷ ops) lo ∷ rest) × HasKind k.known.head.result v) Q
-      (λ v s1 r. subst (λ s. Q v s) (sym r.0) (left g K site.free past (suc q) ls us ops lo rest v (omega arith) (subst (λ k. HasKind k v) (sym k.result) r.1) a.kept))
+      (λ v s1 r. subst (λ s. Q v s) (sym r.0)
+      (left g K site.free past (suc q) ls us ops lo rest v (omega arith) (subst (λ k. HasKind k v) (sym k.result) r.1) a.kept))
       (k.does g.own g.block q us args ops lo rest g.stands placed (subst (λ ks. HaveKinds ks args) k.takes a.of_kinds)))))

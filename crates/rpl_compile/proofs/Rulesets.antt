@@ -35,7 +35,8 @@ module _ (code : List Block) (world : World) where
   abbrev pub Over : Unit {0} → State → Type 0
   Over done s1 = (f : Frame) × (s1 ≡ f ∷ []) × (step code world f [] ≡ gives [] 0)
 
-  rule_goes : (callees : List Callee) (functions : List Function) (same_heads : heads_of functions ≡ callee_heads callees) → CanCall code world callees functions
+  rule_goes : (callees : List Callee) (functions : List Function) (same_heads : heads_of functions ≡ callee_heads callees)
+      → CanCall code world callees functions
       → (number : ℕ) (body : Acts) → numbered code number ≡ Some (rule_block callees body) → AreKindedActs world.basin (callee_heads callees) [] body
       → Goes code world (begin number (rule_block callees body) [] ∷ []) (acts_done world functions [] body) Over
   rule_goes callees functions same_heads calls number body at kinded =
@@ -80,21 +81,26 @@ module _ (code : List Block) (world : World) where
   found (rule called_so body ∷ rest) callees functions p number placed same calls kinded low high =
       by (number == 1) refl (λ k a b c. found rest callees functions (p + 1) k a same calls kinded.1 b c)
     where
-      by : (t : Bool) → (number == 1) ≡ t → ((k : ℕ) → At code (p + 1) (blocks_from callees (p + 1 + 1) rest) → 1 ≤ k → k ≤ rule_count rest → Found callees functions rest (p + 1 + 1) k)
+      by : (t : Bool) → (number == 1) ≡ t
+          → ((k : ℕ) → At code (p + 1) (blocks_from callees (p + 1 + 1) rest) → 1 ≤ k → k ≤ rule_count rest
+          → Found callees functions rest (p + 1 + 1) k)
           → Found callees functions (rule called_so body ∷ rest) (p + 1) number
       by true e later =
-          let there = numbered_at code p (rule_block callees body) (at_head code p (rule_block callees body) (blocks_from callees (p + 1 + 1) rest) placed) in
+          let there = numbered_at code p (rule_block callees body)
+          (at_head code p (rule_block callees body) (blocks_from callees (p + 1 + 1) rest) placed) in
           record {
             at = p + 1;
             block = rule_block callees body;
             rule_is = ap (λ (t : Bool). if t then Some (p + 1) else rule_from (suc (p + 1)) (blocks_from callees (p + 1 + 1) rest) (number - 1)) e;
             there = there;
-            goes = subst (λ (t : Bool). Goes code world (begin (p + 1) (rule_block callees body) [] ∷ []) (if t then acts_done world functions [] body else rule_done world functions rest (number - 1)) Over) (sym e)
+            goes = subst (λ (t : Bool). Goes code world (begin (p + 1) (rule_block callees body) [] ∷ [])
+                (if t then acts_done world functions [] body else rule_done world functions rest (number - 1)) Over) (sym e)
                 (rule_goes callees functions same calls (p + 1) body there kinded.0);
           }
       by false e later =
           let more : 2 ≤ number = grind (arith, nat_tests, e, low) in
-          let r = later (number - 1) (at_tail code p (rule_block callees body) (blocks_from callees (p + 1 + 1) rest) placed) (omega (arith, more)) (omega (arith, more, high)) in
+          let r = later (number - 1) (at_tail code p (rule_block callees body) (blocks_from callees (p + 1 + 1) rest) placed) (omega (arith, more))
+          (omega (arith, more, high)) in
           let z : suc (p + 1) ≡ p + 1 + 1 = omega arith in
           record {
             at = r.at;
@@ -102,7 +108,8 @@ module _ (code : List Block) (world : World) where
             rule_is = ap (λ (t : Bool). if t then Some (p + 1) else rule_from (suc (p + 1)) (blocks_from callees (p + 1 + 1) rest) (number - 1)) e
                 ∙ ap (λ n. rule_from n (blocks_from callees (p + 1 + 1) rest) (number - 1)) z ∙ r.rule_is;
             there = r.there;
-            goes = subst (λ (t : Bool). Goes code world (begin r.at r.block [] ∷ []) (if t then acts_done world functions [] body else rule_done world functions rest (number - 1)) Over) (sym e) r.goes;
+            goes = subst (λ (t : Bool). Goes code world (begin r.at r.block [] ∷ [])
+                (if t then acts_done world functions [] body else rule_done world functions rest (number - 1)) Over) (sym e) r.goes;
           }
   found (function called_so params result body ∷ rest) callees functions p number placed same calls kinded low high =
       let kind = kind_of_type result in
@@ -115,6 +122,7 @@ module _ (code : List Block) (world : World) where
       let calls1 : CanCall code world (callee ∷ callees) (known ∷ functions) =
       λ f h. known_first code world callee known callees functions f refl
       (λ e. function_does code world callees functions same calls (p + 1) called_so params kind body there kinded.0) (λ e m. calls f m) h in
-      let r = found rest (callee ∷ callees) (known ∷ functions) (p + 1) number (at_tail code p x blocks placed) (ap (λ (l : List Head). head ∷ l) same) calls1 kinded.1 low high in
+      let r = found rest (callee ∷ callees) (known ∷ functions) (p + 1) number (at_tail code p x blocks placed)
+      (ap (λ (l : List Head). head ∷ l) same) calls1 kinded.1 low high in
       let z : suc (p + 1) ≡ p + 1 + 1 = omega arith in
       record { at = r.at; block = r.block; rule_is = ap (λ n. rule_from n blocks number) z ∙ r.rule_is; there = r.there; goes = r.goes }

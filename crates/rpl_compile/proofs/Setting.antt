@@ -63,7 +63,8 @@ pub record Setting : Type 0 where
 abbrev pub Holds : List Kind → List Bound → Env → List Value → ℕ → Type 0
 Holds kinds [] [] ls free = Unit {0}
 Holds kinds (b ∷ scope) (e ∷ env) ls free =
-    (b.name ≡ e.0) × HasKind b.kind e.1 × (slice_get ls b.local ≡ Some e.1) × (b.local < free) × (slice_get kinds b.local ≡ Some b.kind) × Holds kinds scope env ls free
+    (b.name ≡ e.0) × HasKind b.kind e.1 × (slice_get ls b.local ≡ Some e.1) × (b.local < free) × (slice_get kinds b.local ≡ Some b.kind)
+    × Holds kinds scope env ls free
 Holds kinds _ _ ls free = ⊥
 
 -- as many locals, of which the first are as they were
@@ -79,16 +80,20 @@ then_kept free more ls us vs le h g = (g.0 ∙ h.0, λ i lt. g.1 i (omega (arith
 pub kept_less : (free more : ℕ) (ls us : List Value) → free ≤ more → Kept more ls us → Kept free ls us
 kept_less free more ls us le h = (h.0, λ i lt. h.1 i (omega (arith, lt, le)))
 
-pub holds_kept : (kinds : List Kind) (scope : List Bound) (env : Env) (ls us : List Value) (free more : ℕ) → Holds kinds scope env ls free → free ≤ more → Kept free ls us → Holds kinds scope env us more
+pub holds_kept : (kinds : List Kind) (scope : List Bound) (env : Env) (ls us : List Value) (free more : ℕ) → Holds kinds scope env ls free
+    → free ≤ more → Kept free ls us → Holds kinds scope env us more
 holds_kept kinds [] [] ls us free more h le k = tt
-holds_kept kinds (b ∷ scope) (e ∷ env) ls us free more h le k = (h.0, h.1, k.1 b.local h.3 ∙ h.2, omega (arith, h.3, le), h.4, holds_kept kinds scope env ls us free more h.5 le k)
+holds_kept kinds (b ∷ scope) (e ∷ env) ls us free more h le k
+    = (h.0, h.1, k.1 b.local h.3 ∙ h.2, omega (arith, h.3, le), h.4, holds_kept kinds scope env ls us free more h.5 le k)
 holds_kept kinds [] (e ∷ env) ls us free more h le k = absurd h
 holds_kept kinds (b ∷ scope) [] ls us free more h le k = absurd h
 
-pub names_same : (kinds : List Kind) (scope : List Bound) (env : Env) (ls : List Value) (free : ℕ) → Holds kinds scope env ls free → names_of_env env ≡ names_in scope
+pub names_same : (kinds : List Kind) (scope : List Bound) (env : Env) (ls : List Value) (free : ℕ) → Holds kinds scope env ls free
+    → names_of_env env ≡ names_in scope
 names_same kinds [] [] ls free h = refl
 names_same kinds (b ∷ scope) (e ∷ env) ls free h =
-    ap₂ (λ (entry : List ℕ × Kind) (l : Names). entry ∷ l) (ap₂ (λ (a : List ℕ) (k : Kind). (a, k)) (sym h.0) h.1.0) (names_same kinds scope env ls free h.5)
+    ap₂ (λ (entry : List ℕ × Kind) (l : Names). entry ∷ l) (ap₂ (λ (a : List ℕ) (k : Kind). (a, k)) (sym h.0) h.1.0)
+    (names_same kinds scope env ls free h.5)
 names_same kinds [] (e ∷ env) ls free h = absurd h
 names_same kinds (b ∷ scope) [] ls free h = absurd h
 
@@ -123,34 +128,47 @@ module _ (g : Setting) where
       → Goes g.code g.world (fr site.place ls ops lo ∷ rest) (value_of g.world g.functions env t)
       (Left (kind_at H site t) site.free (site.place + size H (names_in site.scope) t) ls ops lo rest)
 
-  pub left : (K : Kind) (free q p : ℕ) (ls us ops : List Value) (lo : List Running) (rest : List Frame) (v : Value) → p ≡ q → HasKind K v → Kept free ls us → Left K free q ls ops lo rest v (fr p us (v ∷ ops) lo ∷ rest)
+  pub left : (K : Kind) (free q p : ℕ) (ls us ops : List Value) (lo : List Running) (rest : List Frame) (v : Value) → p ≡ q → HasKind K v
+      → Kept free ls us → Left K free q ls ops lo rest v (fr p us (v ∷ ops) lo ∷ rest)
   left K free q p ls us ops lo rest v e h k = record { locals1 = us; is = ap (λ n. fr n us (v ∷ ops) lo ∷ rest) e; of_kind = h; kept = k }
 
   -- the same, from earlier locals and at the place by another name
   pub left_from : (K : Kind) (free more q r : ℕ) (ls us ops : List Value) (lo : List Running) (rest : List Frame) (v : Value) (s1 : State)
       → q ≡ r → free ≤ more → Kept free ls us → Left K more q us ops lo rest v s1 → Left K free r ls ops lo rest v s1
   left_from K free more q r ls us ops lo rest v s1 e le k w =
-      record { locals1 = w.locals1; is = w.is ∙ ap (λ n. fr n w.locals1 (v ∷ ops) lo ∷ rest) e; of_kind = w.of_kind; kept = then_kept free more ls us w.locals1 le k w.kept }
+      record {
+        locals1 = w.locals1;
+        is = w.is ∙ ap (λ n. fr n w.locals1 (v ∷ ops) lo ∷ rest) e;
+        of_kind = w.of_kind;
+        kept = then_kept free more ls us w.locals1 le k w.kept;
+      }
 
   pub goes_left : (K : Kind) (free more q r : ℕ) (ls us ops : List Value) (lo : List Running) (rest : List Frame) (s : State) (m : Outcome Value)
-      → q ≡ r → free ≤ more → Kept free ls us → Goes g.code g.world s m (Left K more q us ops lo rest) → Goes g.code g.world s m (Left K free r ls ops lo rest)
+      → q ≡ r → free ≤ more → Kept free ls us → Goes g.code g.world s m (Left K more q us ops lo rest)
+      → Goes g.code g.world s m (Left K free r ls ops lo rest)
   goes_left K free more q r ls us ops lo rest s m e le k h =
-      goes_weaker g.code g.world s m (Left K more q us ops lo rest) (Left K free r ls ops lo rest) (λ v s1 w. left_from K free more q r ls us ops lo rest v s1 e le k w) h
+      goes_weaker g.code g.world s m (Left K more q us ops lo rest) (Left K free r ls ops lo rest)
+      (λ v s1 w. left_from K free more q r ls us ops lo rest v s1 e le k w) h
 
   -- what follows a part goes on from where the part leaves
-  pub part : {A : Type 0} (K : Kind) (free q : ℕ) (ls ops : List Value) (lo : List Running) (rest : List Frame) (s : State) (m : Outcome Value) (f : Value → Outcome A) (Q : A → State → Type 0)
+  pub part : {A : Type 0} (K : Kind) (free q : ℕ) (ls ops : List Value) (lo : List Running) (rest : List Frame) (s : State) (m : Outcome Value)
+      (f : Value → Outcome A) (Q : A → State → Type 0)
       → Goes g.code g.world s m (Left K free q ls ops lo rest)
-      → ((v : Value) (us : List Value) → HasKind K v → Kept free ls us → Goes g.code g.world (fr q us (v ∷ ops) lo ∷ rest) (f v) Q) → Goes g.code g.world s (m >>= f) Q
+      → ((v : Value) (us : List Value) → HasKind K v → Kept free ls us → Goes g.code g.world (fr q us (v ∷ ops) lo ∷ rest) (f v) Q)
+      → Goes g.code g.world s (m >>= f) Q
   part K free q ls ops lo rest s m f Q h go =
-      goes_bind g.code g.world s m f (Left K free q ls ops lo rest) Q h (λ v s1 w. subst (λ t. Goes g.code g.world t (f v) Q) (sym w.is) (go v w.locals1 w.of_kind w.kept))
+      goes_bind g.code g.world s m f (Left K free q ls ops lo rest) Q h
+      (λ v s1 w. subst (λ t. Goes g.code g.world t (f v) Q) (sym w.is) (go v w.locals1 w.of_kind w.kept))
 
   pub goes_at : {A : Type 0} (p q : ℕ) (ls ops : List Value) (lo : List Running) (rest : List Frame) (m : Outcome A) (Q : A → State → Type 0)
       → p ≡ q → Goes g.code g.world (fr p ls ops lo ∷ rest) m Q → Goes g.code g.world (fr q ls ops lo ∷ rest) m Q
   goes_at p q ls ops lo rest m Q e h = subst (λ n. Goes g.code g.world (fr n ls ops lo ∷ rest) m Q) e h
 
   -- further on
-  pub here_on : (site : Site) (env : Env) (ls us ops : List Value) (n : ℕ) → Here site env ls ops → Kept site.free ls us → Here (keeping n site) env us ops
+  pub here_on : (site : Site) (env : Env) (ls us ops : List Value) (n : ℕ) → Here site env ls ops → Kept site.free ls us
+      → Here (keeping n site) env us ops
   here_on site env ls us ops n h k = (holds_kept g.kinds site.scope env ls us site.free (site.free + n) h.0 (omega arith) k, k.0 ∙ h.1, h.2)
 
-  pub here_over : (site : Site) (env : Env) (ls ops : List Value) (K : Kind) (v : Value) → HasKind K v → Here site env ls ops → Here (over K site) env ls (v ∷ ops)
+  pub here_over : (site : Site) (env : Env) (ls ops : List Value) (K : Kind) (v : Value) → HasKind K v → Here site env ls ops
+      → Here (over K site) env ls (v ∷ ops)
   here_over site env ls ops K v hv h = (h.0, h.1, ap₂ (λ a b. a ∷ b) (kind_coded K v hv) h.2)

@@ -42,7 +42,8 @@ module _ (g : Setting) where
     first = over list (after_tree g.callees l items)
 
     abbrev inside : Site
-    inside = knowing (bound a total (site.free + 1)) (knowing (bound x (element_of list) site.free) (on 2 (after_tree g.callees f (after_tree g.callees l items))))
+    inside = knowing (bound a total (site.free + 1))
+        (knowing (bound x (element_of list) site.free) (on 2 (after_tree g.callees f (after_tree g.callees l items))))
 
     -- behind the list and the first total
     abbrev q : ℕ
@@ -95,7 +96,8 @@ module _ (g : Setting) where
         let a3 = at_second lines q (I.Store (site.free + 1)) (I.Foreach site.free) turns_lines a2 in
         let z : q + 2 ≡ suc (q + 1) = omega arith in
         let a4 = at_moved lines (q + 2) (suc (q + 1)) turns_lines z a3 in
-        let a5 : At lines (q + 2) (cb ++ tail) = subst (λ l. At lines (q + 2) l) (sym (append_assoc (code_of g.callees inside b) (room_lines g.callees total inside b) tail)) a3 in
+        let a5 : At lines (q + 2) (cb ++ tail) = subst (λ l. At lines (q + 2) l)
+        (sym (append_assoc (code_of g.callees inside b) (room_lines g.callees total inside b) tail)) a3 in
         let a6 = at_moved lines (q + 2 + n) (suc (q + 1) + n) tail (omega arith) (at_back lines (q + 2) n cb tail size_b a5) in
         let b1 = at_second g.kinds site.free (element_of list) total (ll ++ (lf ++ lb)) w.1 in
         let b2 = at_back g.kinds (site.free + 2) (local_count l) ll (lf ++ lb) (locals_size (H g) l (names_in site.scope)) b1 in
@@ -103,14 +105,18 @@ module _ (g : Setting) where
           list_at = at_front lines site.place cl (cf ++ r1) w.0;
           first_at = at_front lines (site.place + sl) cf r1 a1;
           sets = at_head lines q (I.Store (site.free + 1)) (I.Foreach site.free ∷ turns_lines) a2;
-          begins = at_head lines (q + 1) (I.Foreach site.free) turns_lines (at_tail lines q (I.Store (site.free + 1)) (I.Foreach site.free ∷ turns_lines) a2);
+          begins = at_head lines (q + 1) (I.Foreach site.free) turns_lines
+              (at_tail lines q (I.Store (site.free + 1)) (I.Foreach site.free ∷ turns_lines) a2);
           turns_at = a4;
           body_at = at_front lines (q + 2) cb tail a5;
           keeps = at_head lines (suc (q + 1) + n) (I.Store (site.free + 1)) (I.Next ∷ I.Load (site.free + 1) ∷ []) a6;
-          back = at_head lines (suc (q + 1) + n + 1) I.Next (I.Load (site.free + 1) ∷ []) (at_tail lines (suc (q + 1) + n) (I.Store (site.free + 1)) (I.Next ∷ I.Load (site.free + 1) ∷ []) a6);
-          gets = at_head lines (suc (q + 1) + n + 2) (I.Load (site.free + 1)) [] (at_second lines (suc (q + 1) + n) (I.Store (site.free + 1)) I.Next (I.Load (site.free + 1) ∷ []) a6);
+          back = at_head lines (suc (q + 1) + n + 1) I.Next (I.Load (site.free + 1) ∷ [])
+              (at_tail lines (suc (q + 1) + n) (I.Store (site.free + 1)) (I.Next ∷ I.Load (site.free + 1) ∷ []) a6);
+          gets = at_head lines (suc (q + 1) + n + 2) (I.Load (site.free + 1)) []
+              (at_second lines (suc (q + 1) + n) (I.Store (site.free + 1)) I.Next (I.Load (site.free + 1) ∷ []) a6);
           has = at_head g.kinds site.free (element_of list) (total ∷ (ll ++ (lf ++ lb))) w.1;
-          has_total = at_head g.kinds (site.free + 1) total (ll ++ (lf ++ lb)) (at_tail g.kinds site.free (element_of list) (total ∷ (ll ++ (lf ++ lb))) w.1);
+          has_total = at_head g.kinds (site.free + 1) total (ll ++ (lf ++ lb))
+              (at_tail g.kinds site.free (element_of list) (total ∷ (ll ++ (lf ++ lb))) w.1);
           list_kinds = at_front g.kinds (site.free + 2) ll (lf ++ lb) b1;
           first_kinds = at_front g.kinds first.free lf lb b2;
           body_kinds = at_back g.kinds first.free (local_count f) lf lb (locals_size (H g) f (names_in site.scope)) b2;
@@ -118,11 +124,13 @@ module _ (g : Setting) where
 
     ends_behind : Wants g site (each x l a f b) → EachAt → suc (q + 1) + n + 2 ≡ past_of g (q + 1)
     ends_behind w at =
-        let e = ends_there g.block.lines (suc (q + 1)) (length (code_of g.callees inside b) + (length (room_lines g.callees total inside b) + 1)) turns_lines at.turns_at
+        let e = ends_there g.block.lines (suc (q + 1)) (length (code_of g.callees inside b) + (length (room_lines g.callees total inside b) + 1))
+        turns_lines at.turns_at
         (each_shut g.callees total site.free inside b (code_balanced g.callees b inside)) in
         omega (arith, e, code-size g.world.basin g.callees inside b w.2.3, widening-size total (kind_at (H g) inside b))
 
-    module _ (env : Env) (ls ops : List Value) (lo : List Running) (rest : List Frame) (w : Wants g site (each x l a f b)) (h : Here g site env ls ops) (cb : Claim g b) where
+    module _ (env : Env) (ls ops : List Value) (lo : List Running) (rest : List Frame) (w : Wants g site (each x l a f b))
+        (h : Here g site env ls ops) (cb : Claim g b) where
       abbrev past : ℕ
       past = site.place + size (H g) (names_in site.scope) (each x l a f b)
 
@@ -134,7 +142,8 @@ module _ (g : Setting) where
 
       -- from the list and the first total
       from_list : (at : EachAt) (lv v : Value) (us : List Value) (e : Elements list lv) → HasKind total v → Kept site.free ls us
-          → Goes g.code g.world (fr g q us (v ∷ lv ∷ ops) lo ∷ rest) (after (spent (weight total + 1)) (turns (weight total) body v e.all >>= (λ last. gives last (weight total)))) Q
+          → Goes g.code g.world (fr g q us (v ∷ lv ∷ ops) lo ∷ rest)
+          (after (spent (weight total + 1)) (turns (weight total) body v e.all >>= (λ last. gives last (weight total)))) Q
       from_list at lv v us e hv ku =
           let W = weight total in
           let us1 : List Value = set us (site.free + 1) v in
@@ -148,12 +157,15 @@ module _ (g : Setting) where
           let long : length us1 ≡ length g.kinds = k1.0 ∙ h.1 in
           subst (λ m. Goes g.code g.world (fr g q us (v ∷ lv ∷ ops) lo ∷ rest) m Q) (after_after (spent W) (spent 1) m)
           (goes_first g.code g.world (fr g q us (v ∷ lv ∷ ops) lo) rest (fr g (suc q) us1 (lv ∷ ops) lo ∷ rest) (spent W) (after (spent 1) m) Q
-          (stores g q (site.free + 1) us (lv ∷ ops) lo rest v total at.sets at.has_total hv ∙ ap (λ k. gives (fr g (suc q) us1 (lv ∷ ops) lo ∷ rest) (weight k)) hv.0)
+          (stores g q (site.free + 1) us (lv ∷ ops) lo rest v total at.sets at.has_total hv
+          ∙ ap (λ k. gives (fr g (suc q) us1 (lv ∷ ops) lo ∷ rest) (weight k)) hv.0)
           (goes_at g (q + 1) (suc q) us1 (lv ∷ ops) lo rest (after (spent 1) m) Q z
           (goes_first g.code g.world (fr g (q + 1) us1 (lv ∷ ops) lo) rest (turn g end r e.all us1 ops lo ∷ rest) (spent 1) m Q
           (foreach_step g (q + 1) site.free list us1 ops lo rest lv e at.begins at.has)
-          (goes_bind g.code g.world (turn g end r e.all us1 ops lo ∷ rest) (turns W body v e.all) (λ last. gives last W) (Looped g total site.free end us1 ops lo rest) Q
-          (each_goes g (element_of list) total site.free inside.free (q + 1) n end r us1 ops lo rest body long at.has at.has_total (omega arith) refl refl refl at.keeps at.back ends
+          (goes_bind g.code g.world (turn g end r e.all us1 ops lo ∷ rest) (turns W body v e.all) (λ last. gives last W)
+          (Looped g total site.free end us1 ops lo rest) Q
+          (each_goes g (element_of list) total site.free inside.free (q + 1) n end r us1 ops lo rest body long at.has at.has_total (omega arith) refl
+          refl refl at.keeps at.back ends
           (λ v acc vs left hv ha kv hold hold_total.
           let lo1 : List Running = with_left left r ∷ lo in
           let kv1 = then_kept site.free site.free ls us1 vs (omega arith) k1 kv in
@@ -178,15 +190,18 @@ module _ (g : Setting) where
           ) in
           let y : inside.place ≡ suc (q + 1) = omega arith in
           goes_at g inside.place (suc (q + 1)) vs ops lo1 rest (body v acc) (Left g total inside.free (suc (q + 1) + n) vs ops lo1 rest) y
-          (goes_left g total inside.free inside.free (inside.place + n) (suc (q + 1) + n) vs vs ops lo1 rest (fr g inside.place vs ops lo1 ∷ rest) (body v acc) (omega arith) (omega arith) (same_kept inside.free vs)
+          (goes_left g total inside.free inside.free (inside.place + n) (suc (q + 1) + n) vs vs ops lo1 rest (fr g inside.place vs ops lo1 ∷ rest)
+          (body v acc) (omega arith) (omega arith) (same_kept inside.free vs)
           (in_room g total b inside ((a, acc) ∷ (x, v) ∷ env) vs ops lo1 rest cb at.body_at at.body_kinds w.2.3 w.2.4 there)))
           e.all us1 v e.have hv (same_kept site.free us1) (set_here us (site.free + 1) v far))
           (λ last s1 c.
           subst (λ s. Goes g.code g.world s (gives last W) Q) (sym c.is)
           (subst (λ k. Goes g.code g.world (fr g end c.locals1 ops lo ∷ rest) (gives last (weight k)) Q) c.of_kind.0
-          (goes_left g total site.free site.free (end + 1) past ls c.locals1 ops lo rest (fr g end c.locals1 ops lo ∷ rest) (gives last (weight (kind_of last))) (omega (arith, ends)) (omega arith)
+          (goes_left g total site.free site.free (end + 1) past ls c.locals1 ops lo rest (fr g end c.locals1 ops lo ∷ rest)
+          (gives last (weight (kind_of last))) (omega (arith, ends)) (omega arith)
           (then_kept site.free site.free ls us1 c.locals1 (omega arith) k1 c.kept)
-          (loads g total site.free end (site.free + 1) c.locals1 ops lo rest last total (subst (λ n. slice_get g.block.lines n ≡ Some (I.Load (site.free + 1))) ends at.gets) at.has_total c.total c.of_kind))))))))
+          (loads g total site.free end (site.free + 1) c.locals1 ops lo rest last total
+          (subst (λ n. slice_get g.block.lines n ≡ Some (I.Load (site.free + 1))) ends at.gets) at.has_total c.total c.of_kind))))))))
 
       each_here : EachAt → Claim g l → Claim g f
           → Goes g.code g.world (fr g site.place ls ops lo ∷ rest) (value_of g.world g.functions env (each x l a f b)) Q
@@ -198,13 +213,17 @@ module _ (g : Setting) where
           (λ lv us hl ku.
           part g total first.free q us (lv ∷ ops) lo rest (fr g (site.place + sl) us (lv ∷ ops) lo ∷ rest) (value_of g.world g.functions env f) _ Q
           (cf first env us (lv ∷ ops) lo rest (at.first_at, at.first_kinds, w.2.2)
-          (here_over g (keeping (local_count l) items) env us ops list lv hl (here_on g items env ls us ops (local_count l) (here_on g site env ls ls ops 2 h (same_kept site.free ls)) ku)))
+          (here_over g (keeping (local_count l) items) env us ops list lv hl
+          (here_on g items env ls us ops (local_count l) (here_on g site env ls ls ops 2 h (same_kept site.free ls)) ku)))
           (λ v vs hv kv.
           let e = elements list lv w.2.1 hl in
           let k1 = kept_less site.free (site.free + 2) ls vs (omega arith) (then_kept (site.free + 2) first.free ls us vs (omega arith) ku kv) in
           subst (λ k. Goes g.code g.world (fr g q vs (v ∷ lv ∷ ops) lo ∷ rest)
-          (after (spent (weight k + 1)) (with_elements (elements_of lv) (turns (weight k) (λ v t. value_of g.world g.functions ((a, t) ∷ (x, v) ∷ env) b >>= widened k) v) >>= (λ last. gives last (weight k)))) Q) (sym hv.0)
-          (subst (λ o. Goes g.code g.world (fr g q vs (v ∷ lv ∷ ops) lo ∷ rest) (after (spent (weight total + 1)) (with_elements o (turns (weight total) body v) >>= (λ last. gives last (weight total)))) Q) (sym e.are)
+          (after (spent (weight k + 1)) (with_elements (elements_of lv)
+          (turns (weight k) (λ v t. value_of g.world g.functions ((a, t) ∷ (x, v) ∷ env) b >>= widened k) v) >>= (λ last. gives last (weight k))))
+          Q) (sym hv.0)
+          (subst (λ o. Goes g.code g.world (fr g q vs (v ∷ lv ∷ ops) lo ∷ rest)
+          (after (spent (weight total + 1)) (with_elements o (turns (weight total) body v) >>= (λ last. gives last (weight total)))) Q) (sym e.are)
           (from_list at lv v vs e hv k1))))
 
   pub on_each : (x : List ℕ) (l : Tree) (a : List ℕ) (f b : Tree) → Claim g l → Claim g f → Claim g b → Claim g (each x l a f b)
