@@ -5,7 +5,7 @@ use Rattle.rpl_code.specs.declared.block.Block.{Block}
 use Rattle.rpl_tree.specs.Value.{Kind, Value}
 use Rattle.rpl_tree.specs.Outcome.{gives}
 use Rattle.rpl_tree.specs.World.{World}
-use Rattle.rpl_tree.specs.Tree.{Acts, Declared, rule, function}
+use Rattle.rpl_tree.specs.Tree.{Acts, Declared, Parameter, Tree, TypeName, rule, function}
 use Rattle.rpl_tree.specs.Kinds.{Head, kind_of_type}
 use Rattle.rpl_tree.specs.Mean.{Function, acts_done, function_of, heads_of, param_kinds, rule_done}
 use Rattle.rpl_tree.specs.Locals.{acts_local_kinds}
@@ -74,6 +74,41 @@ module _ (code : List Block) (world : World) where
     pub there : numbered code at ≡ Some block
     pub goes : Goes code world (begin at block [] ∷ []) (rule_done world functions rest number) Over
 
+  -- another rule before it
+  behind_rule : (callees : List Callee) (functions : List Function) (called_so : List ℕ) (body : Acts) (rest : List Declared) (p number : ℕ)
+      → (number == 1) ≡ false
+      → Found callees functions rest (p + 1 + 1) (number - 1) → Found callees functions (rule called_so body ∷ rest) (p + 1) number
+  behind_rule callees functions called_so body rest p number e r =
+      let z : suc (p + 1) ≡ p + 1 + 1 = omega arith in
+      let onto : rule_from (suc (p + 1)) (blocks_from callees (p + 1 + 1) rest) (number - 1) ≡ Some r.at =
+      ap (λ n. rule_from n (blocks_from callees (p + 1 + 1) rest) (number - 1)) z ∙ r.rule_is in
+      record {
+        at = r.at;
+        block = r.block;
+        rule_is = ap (λ (t : Bool). if t then Some (p + 1) else rule_from (suc (p + 1)) (blocks_from callees (p + 1 + 1) rest) (number - 1)) e ∙ onto;
+        there = r.there;
+        goes = subst (λ (t : Bool). Goes code world (begin r.at r.block [] ∷ [])
+            (if t then acts_done world functions [] body else rule_done world functions rest (number - 1)) Over) (sym e) r.goes;
+      }
+
+  -- the function of a block, as it is called and as it is meant
+  abbrev callee_of : List ℕ → List Parameter → TypeName → ℕ → Callee
+  callee_of called_so params result number =
+      record { head = record { name = called_so; takes = param_kinds params; result = kind_of_type result }; block = Some number }
+
+  abbrev meant : List Function → List ℕ → List Parameter → TypeName → Tree → Function
+  meant functions called_so params result body = function_of world functions called_so params (kind_of_type result) body
+
+  -- a function before it
+  behind_function : (callees : List Callee) (functions : List Function) (called_so : List ℕ) (params : List Parameter) (result : TypeName)
+      (body : Tree) (rest : List Declared) (p number : ℕ)
+      → Found (callee_of called_so params result (p + 1) ∷ callees) (meant functions called_so params result body ∷ functions) rest (p + 1 + 1) number
+      → Found callees functions (function called_so params result body ∷ rest) (p + 1) number
+  behind_function callees functions called_so params result body rest p number r =
+      let z : suc (p + 1) ≡ p + 1 + 1 = omega arith in
+      let blocks = blocks_from (callee_of called_so params result (p + 1) ∷ callees) (p + 1 + 1) rest in
+      record { at = r.at; block = r.block; rule_is = ap (λ n. rule_from n blocks number) z ∙ r.rule_is; there = r.there; goes = r.goes }
+
   pub found : (rest : List Declared) (callees : List Callee) (functions : List Function) (p number : ℕ) → At code p (blocks_from callees (p + 1) rest)
       → heads_of functions ≡ callee_heads callees → CanCall code world callees functions → AreKindedFrom world.basin (callee_heads callees) rest
       → 1 ≤ number → number ≤ rule_count rest → Found callees functions rest (p + 1) number
@@ -86,12 +121,12 @@ module _ (code : List Block) (world : World) where
           → Found callees functions rest (p + 1 + 1) k)
           → Found callees functions (rule called_so body ∷ rest) (p + 1) number
       by true e later =
-          let there = numbered_at code p (rule_block callees body)
-          (at_head code p (rule_block callees body) (blocks_from callees (p + 1 + 1) rest) placed) in
+          let others = blocks_from callees (p + 1 + 1) rest in
+          let there = numbered_at code p (rule_block callees body) (at_head code p (rule_block callees body) others placed) in
           record {
             at = p + 1;
             block = rule_block callees body;
-            rule_is = ap (λ (t : Bool). if t then Some (p + 1) else rule_from (suc (p + 1)) (blocks_from callees (p + 1 + 1) rest) (number - 1)) e;
+            rule_is = ap (λ (t : Bool). if t then Some (p + 1) else rule_from (suc (p + 1)) others (number - 1)) e;
             there = there;
             goes = subst (λ (t : Bool). Goes code world (begin (p + 1) (rule_block callees body) [] ∷ [])
                 (if t then acts_done world functions [] body else rule_done world functions rest (number - 1)) Over) (sym e)
@@ -99,30 +134,17 @@ module _ (code : List Block) (world : World) where
           }
       by false e later =
           let more : 2 ≤ number = grind (arith, nat_tests, e, low) in
-          let r = later (number - 1) (at_tail code p (rule_block callees body) (blocks_from callees (p + 1 + 1) rest) placed) (omega (arith, more))
-          (omega (arith, more, high)) in
-          let z : suc (p + 1) ≡ p + 1 + 1 = omega arith in
-          record {
-            at = r.at;
-            block = r.block;
-            rule_is = ap (λ (t : Bool). if t then Some (p + 1) else rule_from (suc (p + 1)) (blocks_from callees (p + 1 + 1) rest) (number - 1)) e
-                ∙ ap (λ n. rule_from n (blocks_from callees (p + 1 + 1) rest) (number - 1)) z ∙ r.rule_is;
-            there = r.there;
-            goes = subst (λ (t : Bool). Goes code world (begin r.at r.block [] ∷ [])
-                (if t then acts_done world functions [] body else rule_done world functions rest (number - 1)) Over) (sym e) r.goes;
-          }
+          let behind = at_tail code p (rule_block callees body) (blocks_from callees (p + 1 + 1) rest) placed in
+          behind_rule callees functions called_so body rest p number e (later (number - 1) behind (omega (arith, more)) (omega (arith, more, high)))
   found (function called_so params result body ∷ rest) callees functions p number placed same calls kinded low high =
       let kind = kind_of_type result in
-      let head : Head = record { name = called_so; takes = param_kinds params; result = kind } in
-      let callee : Callee = record { head = head; block = Some (p + 1) } in
-      let known : Function = function_of world functions called_so params kind body in
+      let callee : Callee = callee_of called_so params result (p + 1) in
+      let known : Function = meant functions called_so params result body in
       let x : Block = function_block callees params kind body in
       let blocks = blocks_from (callee ∷ callees) (p + 1 + 1) rest in
       let there = numbered_at code p x (at_head code p x blocks placed) in
-      let calls1 : CanCall code world (callee ∷ callees) (known ∷ functions) =
-      λ f h. known_first code world callee known callees functions f refl
-      (λ e. function_does code world callees functions same calls (p + 1) called_so params kind body there kinded.0) (λ e m. calls f m) h in
-      let r = found rest (callee ∷ callees) (known ∷ functions) (p + 1) number (at_tail code p x blocks placed)
-      (ap (λ (l : List Head). head ∷ l) same) calls1 kinded.1 low high in
-      let z : suc (p + 1) ≡ p + 1 + 1 = omega arith in
-      record { at = r.at; block = r.block; rule_is = ap (λ n. rule_from n blocks number) z ∙ r.rule_is; there = r.there; goes = r.goes }
+      let does = function_does code world callees functions same calls (p + 1) called_so params kind body there kinded.0 in
+      behind_function callees functions called_so params result body rest p number
+      (found rest (callee ∷ callees) (known ∷ functions) (p + 1) number (at_tail code p x blocks placed)
+      (ap (λ (l : List Head). callee.head ∷ l) same)
+      (λ f h. known_first code world callee known callees functions f refl (λ e. does) (λ e m. calls f m) h) kinded.1 low high)
