@@ -24,7 +24,8 @@ behind-one b e = omega (arith, e)
 pub behind-two : (b : List Instruction) {n : ℕ} → length b ≡ n → suc (suc (length b)) ≡ 2 + n
 behind-two b e = omega (arith, e)
 
-choice-length : (middle last : Site) (result : List Kind) (c first second : List Instruction) {m n p : ℕ} → length c ≡ m → length first ≡ n → length second ≡ p
+choice-length : (middle last : Site) (result : List Kind) (c first second : List Instruction) {m n p : ℕ} → length c ≡ m → length first ≡ n
+    → length second ≡ p
     → length (choice_lines middle last result c first second) ≡ choice_size m n p
 choice-length middle last result c first second e f g =
     beside c _ e (behind-one _ (beside first _ f (behind-two _ (beside second _ g refl))))

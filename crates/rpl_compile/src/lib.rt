@@ -1,9 +1,11 @@
-//! The code of a ruleset, as a definition: `specs/Translate.antt` makes a block of each declaration, in order. Its laws are
-//! worked rules, line by line (`law`), and that their code does what they mean (`firings`). No call makes code yet.
+//! The code of a ruleset. `specs/Translate.antt` says what it is: a block of each declaration, in order. `compile` makes it,
+//! and answers it verified. Its laws are worked rules, line by line (`law`), and that the code of each rule does what the
+//! rule means (`meaning`; worked rules in `firings`).
 #![tactic(auto)]
 
 mod compiling;
 pub mod firings;
 pub mod law;
+pub mod meaning;
 
 pub use compiling::compile;
