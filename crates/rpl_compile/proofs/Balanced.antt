@@ -203,8 +203,8 @@ module _ (callees : List Callee) where
         (loop_balanced visiting (I.Foreach site.free) _ _ refl (each_shut total site.free inside b (code_balanced b inside)))))
     code_balanced (mapped x l b) site =
         both_balanced _ _ (code_balanced l _) (loop_balanced mapping (I.Map site.free) _ _ refl (mapped_shut _ b (code_balanced b _)))
-    code_balanced (one word e) site = word_balanced word (code_of callees site e) (asked_code callees site e) (code_balanced e site)
-        (asked_balanced e site)
+    code_balanced (one word e) site =
+        word_balanced word (code_of callees site e) (asked_code callees site e) (code_balanced e site) (asked_balanced e site)
     code_balanced (two Or l r) site =
         let middle : Site = on 1 (on 1 (after_tree callees l site)) in
         let second : Site = on 2 middle in

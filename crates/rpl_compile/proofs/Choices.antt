@@ -132,7 +132,7 @@ module _ (g : Setting) where
   -- ---- the forms
 
   pub on_choice : (c y n : Tree) → Claim g c → Claim g y → Claim g n → Claim g (choice c y n)
-  on_choice c y n cc1 cy cn site env ls ops lo rest w h =
+  on_choice c y n cond cy cn site env ls ops lo rest w h =
       let names = names_in site.scope in
       let K = kind_at (H g) site (choice c y n) in
       let sc = size (H g) names c in
@@ -163,7 +163,7 @@ module _ (g : Setting) where
       (part g (kind_at (H g) site c) site.free (site.place + sc) ls ops lo rest (fr g site.place ls ops lo ∷ rest)
       (value_of g.world g.functions env c)
       (λ x. chosen x (value_of g.world g.functions env y >>= widened K) (value_of g.world g.functions env n >>= widened K)) Q
-      (cc1 site env ls ops lo rest (a.cond, at_front g.kinds site.free lc (ly ++ ln) w.1, w.2.0) h)
+      (cond site env ls ops lo rest (a.cond, at_front g.kinds site.free lc (ly ++ ln) w.1, w.2.0) h)
       (λ x us hx ku.
       let there = here_on g site env ls us ops (local_count c) h ku in
       chosen_goes (site.place + sc) middle.place last.place site.below (K ∷ site.below) x us ops lo rest

@@ -98,8 +98,9 @@ module _ (basin : Draft) (rules : List Declared) (kinded : AreKinded basin rules
   code = translate rules
 
   the_rule : Found code world predefined_callees predefined_functions rules 1 number
-  the_rule = found code world rules predefined_callees predefined_functions 0 number (at_all code) predefined_heads (predefined_called code world)
-      kinded there.0 there.1
+  the_rule =
+      found code world rules predefined_callees predefined_functions 0 number (at_all code) predefined_heads (predefined_called code world) kinded
+      there.0 there.1
 
   abbrev done : Outcome (Unit {0})
   done = rule_done world predefined_functions rules number

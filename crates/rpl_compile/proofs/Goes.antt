@@ -56,8 +56,8 @@ module _ (code : List Block) (world : World) where
 
   then_goes : {C : Type 0} (s s1 : State) (t u : Trail) (b : Answer C) (Q : C → State → Type 0) → Leads s t s1 → GoesOn b u s1 Q
       → GoesOn b (joined t u) s Q
-  then_goes s s1 t u (value w) Q h g
-      = (g.0, g.1, λ k. let x = g.2 k in let y = h x.0 in (y.0, y.1 ∙ ap (after t) x.1 ∙ after_after t u (run code world k g.0)))
+  then_goes s s1 t u (value w) Q h g =
+      (g.0, g.1, λ k. let x = g.2 k in let y = h x.0 in (y.0, y.1 ∙ ap (after t) x.1 ∙ after_after t u (run code world k g.0)))
   then_goes s s1 t u (ended e) Q h g = let y = h g.0 in (y.0, y.1 ∙ ap (after t) g.1)
   then_goes s s1 t u stuck Q h g = g
 

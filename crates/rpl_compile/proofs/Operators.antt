@@ -66,8 +66,8 @@ module _ (g : Setting) where
   operator : (k l K : Kind) (i : Instruction) → IsOperation i → name_misfit (our_scope g) i ≡ None → 2 ≡ operand_count (Row_of g i)
       → left_of (Row_of g i) (code_kind l ∷ code_kind k ∷ []) ≡ Ok (code_kind K ∷ [])
       → Does k l K i (λ x y. operation g.world i (x ∷ y ∷ []))
-  operator k l K i is there many leaves free p ls ops lo rest x y placed hx hy = on_two k l K free p ls ops lo rest i x y is there placed many leaves
-      hx hy
+  operator k l K i is there many leaves free p ls ops lo rest x y placed hx hy =
+      on_two k l K free p ls ops lo rest i x y is there placed many leaves hx hy
 
   -- ---- a tree, and then an instruction
 
@@ -322,17 +322,17 @@ module _ (g : Setting) where
   length_by k m (inr e) = ap (λ k. left_of (Row_of g I.Length) (code_kind k ∷ [])) e
 
   pub on_word : (word : OneWord) (e : Tree) → Claim g e → Asks e → Claim g (one word e)
-  on_word Not e c a site env ls ops lo rest w h = one_of e site env ls ops lo rest truth_kind truth_kind I.Not c w.0 w.1 w.2.0 h w.2.2 tt refl refl
-      refl
-  on_word Minus e c a site env ls ops lo rest w h = one_of e site env ls ops lo rest number_kind number_kind I.Neg c w.0 w.1 w.2.0 h w.2.2 tt refl
-      refl refl
+  on_word Not e c a site env ls ops lo rest w h =
+      one_of e site env ls ops lo rest truth_kind truth_kind I.Not c w.0 w.1 w.2.0 h w.2.2 tt refl refl refl
+  on_word Minus e c a site env ls ops lo rest w h =
+      one_of e site env ls ops lo rest number_kind number_kind I.Neg c w.0 w.1 w.2.0 h w.2.2 tt refl refl refl
   on_word Known e c a site env ls ops lo rest w h = a site env ls ops lo rest w.2.1 w.0 w.1 w.2.0 h
   on_word Length e c a site env ls ops lo rest w h =
       one_of e site env ls ops lo rest (kind_at (H g) site e) number_kind I.Length c w.0 w.1 w.2.0 h refl tt refl refl
       (length_by (kind_at (H g) site e) w.2.2.0 w.2.2.1)
-  on_word Month e c a site env ls ops lo rest w h = one_of e site env ls ops lo rest date_kind number_kind I.Month c w.0 w.1 w.2.0 h w.2.2 tt refl
-      refl refl
-  on_word Day e c a site env ls ops lo rest w h = one_of e site env ls ops lo rest date_kind number_kind I.Day c w.0 w.1 w.2.0 h w.2.2 tt refl refl
-      refl
-  on_word Year e c a site env ls ops lo rest w h = one_of e site env ls ops lo rest date_kind number_kind I.Year c w.0 w.1 w.2.0 h w.2.2 tt refl refl
-      refl
+  on_word Month e c a site env ls ops lo rest w h =
+      one_of e site env ls ops lo rest date_kind number_kind I.Month c w.0 w.1 w.2.0 h w.2.2 tt refl refl refl
+  on_word Day e c a site env ls ops lo rest w h =
+      one_of e site env ls ops lo rest date_kind number_kind I.Day c w.0 w.1 w.2.0 h w.2.2 tt refl refl refl
+  on_word Year e c a site env ls ops lo rest w h =
+      one_of e site env ls ops lo rest date_kind number_kind I.Year c w.0 w.1 w.2.0 h w.2.2 tt refl refl refl

@@ -61,10 +61,10 @@ listed_is k n (v ∷ vs) e h le =
         rw (t, alike us i.1) refl
 
     by : IsElement k → or_wrong (option_map (λ kind. kind ∷ []) (code_list_kind n (code_kind k))) ≡ Ok (code_kind (list_kind n k) ∷ [])
-    by (inl e) = subst (λ k. or_wrong (option_map (λ kind. kind ∷ []) (code_list_kind n (code_kind k))) ≡ Ok (code_kind (list_kind n k) ∷ [])) (sym e)
-        refl
-    by (inr e) = subst (λ k. or_wrong (option_map (λ kind. kind ∷ []) (code_list_kind n (code_kind k))) ≡ Ok (code_kind (list_kind n k) ∷ [])) (sym e)
-        refl
+    by (inl e) =
+        subst (λ k. or_wrong (option_map (λ kind. kind ∷ []) (code_list_kind n (code_kind k))) ≡ Ok (code_kind (list_kind n k) ∷ [])) (sym e) refl
+    by (inr e) =
+        subst (λ k. or_wrong (option_map (λ kind. kind ∷ []) (code_list_kind n (code_kind k))) ≡ Ok (code_kind (list_kind n k) ∷ [])) (sym e) refl
 
 module _ (g : Setting) where
   -- what several trees leave: their values, the last one on top
@@ -175,8 +175,8 @@ module _ (g : Setting) where
       (LeftAll (HaveKinds kinds) site.free (site.place + sizes_of_arguments (H g) (names_in site.scope) kinds ts) ls ops lo rest)
 
   pub no_arguments : ClaimArguments no_trees
-  no_arguments [] site env ls ops lo rest placed loc kinded h = none (HaveKinds []) site.free site.place (site.place + 0) ls ops lo rest (omega arith)
-      tt
+  no_arguments [] site env ls ops lo rest placed loc kinded h =
+      none (HaveKinds []) site.free site.place (site.place + 0) ls ops lo rest (omega arith) tt
   no_arguments (kind ∷ kinds) site env ls ops lo rest placed loc kinded h = absurd kinded
 
   pub more_arguments : (t : Tree) (ts : Trees) → Claim g t → ClaimArguments ts → ClaimArguments (tree t ts)

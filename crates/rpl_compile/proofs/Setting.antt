@@ -83,8 +83,8 @@ kept_less free more ls us le h = (h.0, λ i lt. h.1 i (omega (arith, lt, le)))
 pub holds_kept : (kinds : List Kind) (scope : List Bound) (env : Env) (ls us : List Value) (free more : ℕ) → Holds kinds scope env ls free
     → free ≤ more → Kept free ls us → Holds kinds scope env us more
 holds_kept kinds [] [] ls us free more h le k = tt
-holds_kept kinds (b ∷ scope) (e ∷ env) ls us free more h le k
-    = (h.0, h.1, k.1 b.local h.3 ∙ h.2, omega (arith, h.3, le), h.4, holds_kept kinds scope env ls us free more h.5 le k)
+holds_kept kinds (b ∷ scope) (e ∷ env) ls us free more h le k =
+    (h.0, h.1, k.1 b.local h.3 ∙ h.2, omega (arith, h.3, le), h.4, holds_kept kinds scope env ls us free more h.5 le k)
 holds_kept kinds [] (e ∷ env) ls us free more h le k = absurd h
 holds_kept kinds (b ∷ scope) [] ls us free more h le k = absurd h
 

@@ -90,8 +90,8 @@ module _ (g : Setting) where
   pub step_does : (p : ℕ) (ls vs ops : List Value) (lo : List Running) (rest : List Frame) (i : Instruction) (leaves : List ValueKind)
       → slice_get g.block.lines p ≡ Some i → length vs ≡ operand_count (Row_of i) → left_of (Row_of i) (kinds_of vs) ≡ Ok leaves
       → step g.code g.world (fr g p ls (vs ++ ops) lo) rest ≡ step_by g.code g.world g.block i (fr g p ls (vs ++ ops) lo) rest
-  step_does p ls vs ops lo rest i leaves at many h = does g.code g.world (fr g p ls (vs ++ ops) lo) rest g.block i vs ops leaves g.stands at refl many
-      h
+  step_does p ls vs ops lo rest i leaves at many h =
+      does g.code g.world (fr g p ls (vs ++ ops) lo) rest g.block i vs ops leaves g.stands at refl many h
 
   -- an operation on the operands on top changes nothing but them
   pub operates_as : (K : Kind) (p : ℕ) (ls vs ops : List Value) (lo : List Running) (rest : List Frame) (i : Instruction)

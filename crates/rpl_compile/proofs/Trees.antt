@@ -12,10 +12,10 @@ use Rattle.rpl_compile.proofs.Visits.{on_each}
 use Rattle.rpl_compile.proofs.Mappings.{on_mapped}
 
 module _ (g : Setting) where
-  on_two : (word : TwoWord) (l r : Tree) → Claim g l → Claim g r → Claim g (two word l r)
-  on_two Or l r cl cr = on_or g l r cl cr
-  on_two And l r cl cr = on_and g l r cl cr
-  on_two word l r cl cr = on_two_trees g word l r tt cl cr
+  on_operator : (word : TwoWord) (l r : Tree) → Claim g l → Claim g r → Claim g (two word l r)
+  on_operator Or l r cl cr = on_or g l r cl cr
+  on_operator And l r cl cr = on_and g l r cl cr
+  on_operator word l r cl cr = on_two_trees g word l r tt cl cr
 
   mutual
     pub tree_goes : (t : Tree) → Claim g t
@@ -32,7 +32,7 @@ module _ (g : Setting) where
     tree_goes (each x l a f b) = on_each g x l a f b (tree_goes l) (tree_goes f) (tree_goes b)
     tree_goes (mapped x l b) = on_mapped g x l b (tree_goes l) (tree_goes b)
     tree_goes (one word e) = on_word g word e (tree_goes e) (asked_goes e)
-    tree_goes (two word l r) = on_two word l r (tree_goes l) (tree_goes r)
+    tree_goes (two word l r) = on_operator word l r (tree_goes l) (tree_goes r)
     tree_goes (convert word o e) = on_convert g word o e (tree_goes e)
     tree_goes (at s d) = on_at g s d (tree_goes s) (tree_goes d)
 
