@@ -17,7 +17,23 @@ use Rattle.rpl_compile.specs.Operations.{code_kind, code_kinds}
 use Rattle.rpl_compile.specs.Kinded.{HasHead}
 use Rattle.rpl_compile.specs.Translate.{Callee, call_by, call_line, callee_heads, predefined_callees}
 use Rattle.rpl_compile.proofs.Going.{takes_kinds}
-use Rattle.rpl_compile.proofs.Flowing.{CallsFit}
+use Rattle.rpl_verify.specs.Budget.{onward, way_of}
+
+-- in a block of this scope, a call of each function fits that there is
+abbrev pub LinesFit : Scope → List Callee → Type 0
+LinesFit scope callees =
+    (f : List ℕ) → HasHead (callee_heads callees) f → (p : ℕ) (ls : List ValueKind) (os : List Open)
+    → judged scope p (before (reverse (code_kinds (takes_named (callee_heads callees) f)) ++ ls) os) (call_line callees f)
+    ≡ Ok (before (code_kind (result_named (callee_heads callees) f) ∷ ls) os)
+
+pub call_onward : (callees : List Callee) (f : List ℕ) → way_of (call_line callees f) ≡ onward
+call_onward [] f = refl
+call_onward (c ∷ callees) f = by (bytes_eq c.head.name f) c.block (call_onward callees f)
+  where
+    by : (t : Bool) (block : Option ℕ) → way_of (call_line callees f) ≡ onward → way_of (if t then call_by f block else call_line callees f) ≡ onward
+    by true None h = refl
+    by true (Some n) h = refl
+    by false block h = h
 
 -- a predefined function of that head, which takes numbers and answers one
 pub record IsPredefined (head : Head) : Type 0 where
@@ -94,7 +110,7 @@ module _ (scope : Scope) where
   callable_fits f head None e h p ls os = call_fits f head e h p ls os
   callable_fits f head (Some block) e h p ls os = invoke_fits block (code_kind head.result) (code_kinds head.takes) h.earlier h.there p ls os
 
-  pub calls_fit : (callees : List Callee) → AreCallable scope.heads scope.number callees → CallsFit scope callees
+  pub calls_fit : (callees : List Callee) → AreCallable scope.heads scope.number callees → LinesFit scope callees
   calls_fit [] h f has p ls os = absurd (cc has)
   calls_fit (c ∷ callees) h f has p ls os = by (bytes_eq c.head.name f) refl has (λ g. calls_fit callees h.1 f g p ls os)
     where

@@ -1,30 +1,26 @@
 -- Compiled code fits: what is before each place of each block is found.
-use Rattle.rw_base.proofs.Common.{◌≡◌, ℕ, suc, ◌+◌, List, [], ◌∷◌, length, drop, Some, Result, Ok, refl, sym, ap, ◌∙◌, subst, arith, slice_get}
+use Rattle.rw_base.proofs.Common.{map, bytes_eq, Bool, true, false, if◌then◌else◌, ◌≡◌, ℕ, suc, ◌+◌, List, [], ◌∷◌, length, drop, Some, Result, Ok, refl, sym, ap, ◌∙◌, subst, arith, slice_get}
 use Rattle.rw_model.specs.Draft.{Draft}
 use Rattle.rpl_code.specs.declared.kind.ValueKind.{ValueKind}
 use Rattle.rpl_code.specs.declared.instruction.Instruction.{Instruction}
 use Rattle.rpl_code.specs.declared.block.Block.{Block}
 use Rattle.rpl_tree.specs.Value.{Kind}
 use Rattle.rpl_tree.specs.Tree.{Tree, Acts, Parameter}
-use Rattle.rpl_tree.specs.Kinds.{Head, Names, kind_of_type, tree_kind}
-use Rattle.rpl_tree.specs.Cost.{param_names}
-use Rattle.rpl_tree.specs.Mean.{param_kinds}
-use Rattle.rpl_tree.specs.Locals.{acts_local_kinds, local_kinds}
 use Rattle.rpl_verify.specs.declared.verify_kind.VerifyKind.{VerifyKind}
 use Rattle.rpl_verify.specs.Names.{Scope}
 use Rattle.rpl_verify.specs.Fits.{Before, Misplaced, at_place, before, befores, end_kinds, judged, scope_of, then_do}
+use Rattle.rpl_verify.specs.Notes.{words_kept}
 use Rattle.rpl_verify.proofs.Loops.{drop_at}
-use Rattle.rpl_compile.specs.Operations.{code_kinds}
-use Rattle.rpl_compile.specs.Site.{Bound, Site, behind, names_in, parameters_from, start}
+use Rattle.rpl_code.specs.declared.instruction.Instruction.TheVariants as I
+use Rattle.rpl_tree.specs.Cost.{Costed, Price, costed_heads, most_named, param_names}
 use Rattle.rpl_compile.specs.Kinded.{AreKindedActs, IsKindedBody}
 use Rattle.rpl_compile.specs.Translate.{Callee, callee_heads, function_block, rule_block}
-use Rattle.rpl_compile.proofs.Sizes.{code-size}
-use Rattle.rpl_compile.proofs.LocalFacts.{Placed}
-use Rattle.rpl_compile.proofs.Placing.{HasAt, has_all, has_behind, has_front}
-use Rattle.rpl_compile.proofs.Going.{carries, goes_then}
-use Rattle.rpl_compile.proofs.WordLines.{widen_goes}
-use Rattle.rpl_compile.proofs.Flowing.{CallsFit, flows}
-use Rattle.rpl_compile.proofs.FlowingActs.{flows_acts}
+use Rattle.rpl_compile.proofs.Placing.{has_all}
+use Rattle.rpl_compile.proofs.Counting.{Account}
+use Rattle.rpl_compile.proofs.Going.{carries}
+use Rattle.rpl_compile.proofs.Flowing.{CallsFit}
+use Rattle.rpl_compile.proofs.Calling.{LinesFit, call_onward}
+use Rattle.rpl_compile.proofs.BlockWays.{function_goes, rule_goes}
 
 drop_all : {A : Type 0} (xs : List A) → drop (length xs) xs ≡ []
 drop_all [] = refl
@@ -62,21 +58,75 @@ module _ (scope : Scope) (lines : List Instruction) where
             ∙ ap (λ (r : Result Before VerifyKind). at_place p r (λ c. Ok (c ∷ []))) (carries scope (end_kinds scope.head) []),
       )
 
--- ---- parameters
+-- ---- an account that tells nothing else
 
-pub parameters_placed : (locals : List ValueKind) (n : ℕ) (ps : List Parameter) → HasAt locals n (code_kinds (param_kinds ps)) → Placed locals (parameters_from n ps)
-parameters_placed locals n [] h = tt
-parameters_placed locals n (p ∷ ps) h =
-    let z : suc n ≡ n + 1 = omega arith in
-    (h.0, parameters_placed locals (n + 1) ps (subst (λ m. HasAt locals m (code_kinds (param_kinds ps))) z h.1))
+abbrev no_price : Price
+no_price = record { step = λ n. 0; look = 0; put = 0 }
 
-pub parameter_names : (n : ℕ) (ps : List Parameter) → names_in (parameters_from n ps) ≡ param_names ps
-parameter_names n [] = refl
-parameter_names n (p ∷ ps) = ap (λ (names : Names). (p.name, kind_of_type p.of_type) ∷ names) (parameter_names (n + 1) ps)
+module _ (scope : Scope) (lines : List Instruction) where
+  abbrev back : ℕ → Before → ℕ → Before → Type 0
+  back p b q c = Back scope lines p b q c
 
-pub parameter_count : (ps : List Parameter) → length (code_kinds (param_kinds ps)) ≡ length ps
-parameter_count [] = refl
-parameter_count (p ∷ ps) = ap suc (parameter_count ps)
+  back_choice : (p q jump_at to r last : ℕ) (ks ls : List ValueKind) (b c d : Before) → suc p ≡ q → suc jump_at ≡ to → suc to ≡ r
+      → slice_get lines p ≡ Some (I.Branch to) → judged scope p b (I.Branch to) ≡ Ok c → back q c jump_at d
+      → slice_get lines jump_at ≡ Some (I.Jump last) → judged scope jump_at d (I.Jump last) ≡ Ok c
+      → slice_get lines to ≡ Some (I.Target ks) → judged scope to c (I.Target ks) ≡ Ok c → back r c last d
+      → slice_get lines last ≡ Some (I.Target ls) → judged scope last d (I.Target ls) ≡ Ok d → back p b (suc last) d
+  back_choice p q jump_at to r last ks ls b c d e1 e2 e3 a1 j1 f a2 j2 a3 j3 g a4 j4 end =
+      let t4 = back_one scope lines last d d (I.Target ls) a4 j4 end in
+      let t3 = back_one scope lines to c c (I.Target ks) a3 j3 (subst (λ n. Fitted scope lines n c) (sym e3) (g t4)) in
+      let t2 = back_one scope lines jump_at d c (I.Jump last) a2 j2 (subst (λ n. Fitted scope lines n c) (sym e2) t3) in
+      back_one scope lines p b c (I.Branch to) a1 j1 (subst (λ n. Fitted scope lines n c) (sym e1) (f t2))
+
+  pub fitting_account : Account scope lines no_price
+  fitting_account = record {
+    F = λ p b s h q c. Back scope lines p b q c;
+    sum_at = λ b i. 0;
+    high_at = λ b i. words_kept scope.locals b;
+    prices = record {
+      adds = λ m n. omega arith;
+      unit = λ b i u. refl;
+      load = λ b n k e. refl;
+      store = λ b n k e. refl;
+      listed = λ b n. refl;
+      appended = λ b. refl;
+      widened = λ b n. refl;
+      read = λ b. refl;
+      known = λ b. refl;
+      put = λ b o s n. refl;
+    };
+    high_is = λ b i none. refl;
+    one = λ p b c i at j w. back_one scope lines p b c i at j;
+    next = λ p q r s h t g b c d f l. back_then scope lines p q r b c d f l;
+    none = λ p b. back_none scope lines p b;
+    choice = λ p q jump_at to r last s h t g ks ls b c d e1 e2 e3 lt1 lt2 a1 j1 f a2 j2 a3 j3 l a4 j4 k1 k2 k3.
+        back_choice p q jump_at to r last ks ls b c d e1 e2 e3 a1 j1 f a2 j2 a3 j3 l a4 j4;
+    loop = λ p q last room s h i j o b c d e z at enters w u room_is inside start opened at_last leaves v y k end.
+        back_one scope lines p b c i at enters (subst (λ n. Fitted scope lines n c) (sym z) (inside (back_one scope lines last d e j at_last leaves end)));
+  }
+
+-- functions that cost nothing
+abbrev free_functions : List Callee → List Costed
+free_functions callees = map (λ (c : Callee). record { head = c.head; most = 0 }) callees
+
+free_heads : (callees : List Callee) → callee_heads callees ≡ costed_heads (free_functions callees)
+free_heads [] = refl
+free_heads (c ∷ callees) = ap (λ hs. c.head ∷ hs) (free_heads callees)
+
+costs_nothing : (callees : List Callee) (f : List ℕ) → 0 ≡ most_named (free_functions callees) f
+costs_nothing [] f = refl
+costs_nothing (c ∷ callees) f = by (bytes_eq c.head.name f) (costs_nothing callees f)
+  where
+    by : (t : Bool) → 0 ≡ most_named (free_functions callees) f → 0 ≡ (if t then 0 else most_named (free_functions callees) f)
+    by true e = refl
+    by false e = e
+
+free_calls : (scope : Scope) (lines : List Instruction) (callees : List Callee) → LinesFit scope callees
+    → CallsFit scope lines no_price (fitting_account scope lines) callees (free_functions callees) (free_functions callees)
+unfolding fitting_account
+free_calls scope lines callees fit f has p ls os =
+    let none = costs_nothing callees f in
+    record { fits = fit f has p ls os; goes_on = call_onward callees f; sum = none; high = omega (arith, none) }
 
 -- ---- blocks
 
@@ -85,36 +135,26 @@ abbrev pub BlockFits : Draft → List Block → ℕ → Block → Type 0
 BlockFits basin all number block = (bs : List Before) × (befores (scope_of basin all number block) 0 (before [] []) block.lines ≡ Ok bs)
 
 module _ (basin : Draft) (all : List Block) (number : ℕ) (callees : List Callee) where
-  pub rule_fits : (body : Acts) → CallsFit (scope_of basin all number (rule_block callees body)) callees → AreKindedActs basin (callee_heads callees) [] body
+  pub rule_fits : (body : Acts) → LinesFit (scope_of basin all number (rule_block callees body)) callees → AreKindedActs basin (callee_heads callees) [] body
       → BlockFits basin all number (rule_block callees body)
+  unfolding fitting_account
   rule_fits body calls h =
       let block : Block = rule_block callees body in
       let scope : Scope = scope_of basin all number block in
-      let lines : List Instruction = block.lines in
-      let g = flows_acts callees scope lines refl (Back scope lines) (back_one scope lines) (back_then scope lines) (back_none scope lines) calls refl body (start [] 0) []
-      h tt (has_all (code_kinds (acts_local_kinds (callee_heads callees) [] body))) in
-      let z : 0 + length lines ≡ length lines = omega arith in
-      (g.go (has_all lines) refl).0 (fitted_end scope lines (0 + length lines) z)
+      let free : List Costed = free_functions callees in
+      let w = rule_goes basin all number callees free free (free_heads callees) (free_heads callees) no_price body (fitting_account scope block.lines)
+      (free_calls scope block.lines callees calls) h in
+      let z : 0 + length block.lines ≡ length block.lines = omega arith in
+      (w.go (has_all block.lines) refl).0 (fitted_end scope block.lines (0 + length block.lines) z)
 
-  pub function_fits : (params : List Parameter) (result : Kind) (body : Tree) → CallsFit (scope_of basin all number (function_block callees params result body)) callees
+  pub function_fits : (params : List Parameter) (result : Kind) (body : Tree) → LinesFit (scope_of basin all number (function_block callees params result body)) callees
       → IsKindedBody basin (callee_heads callees) (param_names params) result body → BlockFits basin all number (function_block callees params result body)
+  unfolding fitting_account
   function_fits params result body calls h =
       let block : Block = function_block callees params result body in
       let scope : Scope = scope_of basin all number block in
-      let lines : List Instruction = block.lines in
-      let bounds : List Bound = parameters_from 0 params in
-      let site : Site = start bounds (length params) in
-      let heads : List Head = callee_heads callees in
-      let own = code_kinds (local_kinds heads (names_in bounds) body) in
-      let kinded : IsKindedBody basin heads (names_in bounds) result body = subst (λ names. IsKindedBody basin heads names result body) (sym (parameter_names 0 params)) h in
-      let placed : Placed scope.locals bounds =
-      parameters_placed scope.locals 0 params (has_front scope.locals 0 (code_kinds (param_kinds params)) own (has_all scope.locals)) in
-      let own_there : HasAt scope.locals (length params) own =
-      subst (λ n. HasAt scope.locals n own) (parameter_count params) (has_behind (code_kinds (param_kinds params)) own) in
-      let kind : Kind = tree_kind heads (names_in bounds) body in
-      let g = flows callees scope lines refl (Back scope lines) (back_one scope lines) (back_then scope lines) (back_none scope lines) calls body site [] kinded.0 placed own_there in
-      let w = widen_goes scope lines refl (Back scope lines) (back_one scope lines) (back_then scope lines) (back_none scope lines) result kind kinded.1 (behind heads body site).place [] [] in
-      let whole = goes_then scope lines refl (Back scope lines) (back_one scope lines) (back_then scope lines) (back_none scope lines)
-      (ap (λ n. 0 + n) (sym (code-size basin callees site body kinded.0))) g w in
-      let z : 0 + length lines ≡ length lines = omega arith in
-      (whole.go (has_all lines) refl).0 (fitted_end scope lines (0 + length lines) z)
+      let free : List Costed = free_functions callees in
+      let w = function_goes basin all number callees free free (free_heads callees) (free_heads callees) no_price params result body (fitting_account scope block.lines)
+      (free_calls scope block.lines callees calls) h in
+      let z : 0 + length block.lines ≡ length block.lines = omega arith in
+      (w.go (has_all block.lines) refl).0 (fitted_end scope block.lines (0 + length block.lines) z)
