@@ -61,7 +61,7 @@ pub record Account (scope : Scope) (lines : List Instruction) (pays : Price) : T
       → words_kept scope.locals c ≤ words_kept scope.locals b → words_kept scope.locals d ≤ h → words_kept scope.locals d ≤ g
       → F p b (max s t + pays.step 3) (max (words_kept scope.locals b) (max h g)) (suc last) d
   -- a loop over a list with so much room
-  pub loop : (p q last room s h : ℕ) (i j : Instruction) (o : Open) (b c d e : Before) → suc p ≡ q
+  pub loop : (p q last room s h : ℕ) (i j : Instruction) (o : Open) (b c d e : Before) → suc p ≡ q → p < last
       → slice_get lines p ≡ Some i → judged scope p b i ≡ Ok c → way_of i ≡ entering → IsUnit i → room_on_top b.kinds ≡ room
       → F q c s h last d → o.start ≡ p → d.loops ≡ o ∷ e.loops
       → slice_get lines last ≡ Some j → judged scope last d j ≡ Ok e → way_of j ≡ turning → IsUnit j → words_kept scope.locals d ≤ h

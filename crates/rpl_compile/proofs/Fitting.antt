@@ -101,7 +101,7 @@ module _ (scope : Scope) (lines : List Instruction) where
     none = λ p b. back_none scope lines p b;
     choice = λ p q jump_at to r last s h t g ks ls b c d e1 e2 e3 lt1 lt2 a1 j1 f a2 j2 a3 j3 l a4 j4 k1 k2 k3.
         back_choice p q jump_at to r last ks ls b c d e1 e2 e3 a1 j1 f a2 j2 a3 j3 l a4 j4;
-    loop = λ p q last room s h i j o b c d e z at enters w u room_is inside start opened at_last leaves v y k end.
+    loop = λ p q last room s h i j o b c d e z far at enters w u room_is inside start opened at_last leaves v y k end.
         back_one scope lines p b c i at enters (subst (λ n. Fitted scope lines n c) (sym z) (inside (back_one scope lines last d e j at_last leaves end)));
   }
 

@@ -211,7 +211,7 @@ module _ (scope : Scope) (lines : List Instruction) (spots_are : scope.spots ≡
         let o_end : openers_before lines (suc last) ≡ openers_of e.loops = opens_on scope lines spots_are last d e j at_last leaves o_last in
         let inside : account.F q c s h last d = subst (λ n. account.F q c s h n d) (sym el) f.0 in
         let all : account.F p b (pays.step 1 + room * (s + pays.step 1)) (max (kept b) (max h (kept e))) (suc last) e =
-        account.loop p q last room s h i j o b c d e z0 at.0 enters is_entering i_unit room_is inside start opened_here at_last leaves is_turning j_unit body.tall in
+        account.loop p q last room s h i j o b c d e z0 (omega (arith, eq, el)) at.0 enters is_entering i_unit room_is inside start opened_here at_last leaves is_turning j_unit body.tall in
         subst (λ n. account.F p b (pays.step 1 + room * (s + pays.step 1)) (max (kept b) (max h (kept e))) n e × (openers_before lines n ≡ openers_of e.loops)) z1 (all, o_end);
     tall = omega arith;
   }

@@ -35,7 +35,7 @@ words_weight slot_kind = refl
 words_weight (numbers_kind m) = refl
 words_weight (slots_kind m) = refl
 
-words_added : (ks ls : List ValueKind) → words_of_all (ks ++ ls) ≡ words_of_all ks + words_of_all ls
+pub words_added : (ks ls : List ValueKind) → words_of_all (ks ++ ls) ≡ words_of_all ks + words_of_all ls
 words_added [] ls = omega arith
 words_added (k ∷ ks) ls = let e = words_added ks ls in omega (arith, e)
 
