@@ -120,6 +120,14 @@ reached_first ds = record { whole = refl; counted = refl; callable = predefined_
 
 -- ---- all blocks
 
+-- what is before each place of a block that fits is found, where there are few before it
+pub befores_found : (basin : Draft) (all : List Block) (number : ℕ) (earlier rest : List Block) (block : Block) → AreFew all → number ≡ suc (length earlier)
+    → earlier ++ block ∷ rest ≡ all → (fits : BlockFits basin all number block) → block_befores basin all earlier block ≡ Ok fits.0
+befores_found basin all number earlier rest block few n e fits =
+    ap (λ t. if t then befores (scope_of basin all (suc (length earlier)) block) 0 (before [] []) block.lines else Err (record { misfit = TooMany; place = 0 }))
+    (room_for all earlier rest block (few block.head) e)
+    ∙ ap (λ m. befores (scope_of basin all m block) 0 (before [] []) block.lines) (sym n) ∙ fits.1
+
 module _ (basin : Draft) (all : List Block) (few : AreFew all) where
   abbrev judge : List Block → List (List Before) → Block → Result (List Before) Misplaced
   judge earlier done block = block_befores basin all earlier block
@@ -131,10 +139,7 @@ module _ (basin : Draft) (all : List Block) (few : AreFew all) where
       → BlockFits basin all number block → ((bs : List Before) → Passes (earlier ++ block ∷ []) (done ++ bs ∷ []) rest) → Passes earlier done (block ∷ rest)
   passes_next number earlier done block rest n e fits later =
       let others = later fits.0 in
-      let own : judge earlier done block ≡ Ok fits.0 =
-      ap (λ t. if t then befores (scope_of basin all (suc (length earlier)) block) 0 (before [] []) block.lines else Err (record { misfit = TooMany; place = 0 }))
-      (room_for all earlier rest block (few block.head) e)
-      ∙ ap (λ m. befores (scope_of basin all m block) 0 (before [] []) block.lines) (sym n) ∙ fits.1 in
+      let own = befores_found basin all number earlier rest block few n e fits in
       (others.0, ap (λ (r : Result (List Before) Misplaced). in_block (suc (length earlier)) r (λ bs. each_block judge (earlier ++ block ∷ []) (done ++ bs ∷ []) rest)) own ∙ others.1)
 
   blocks_fit : (callees : List Callee) (number : ℕ) (ds : List Declared) (earlier : List Block) (done : List (List Before)) → Reached all callees number ds earlier

@@ -2,5 +2,6 @@
 //! worked rules, line by line (`law`), and that their code does what they mean (`firings`). No call makes code yet.
 #![tactic(auto)]
 
+pub mod accepted;
 pub mod firings;
 pub mod law;
