@@ -5,3 +5,4 @@ pub mod Kinded
 pub mod Translate
 pub mod Worked
 pub mod Fires
+pub mod Budgets

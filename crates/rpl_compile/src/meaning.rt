@@ -1,13 +1,17 @@
 // That the code of a rule does what the rule means.
-ghost use Rattle.std.specs.Prelude.{◌≡◌, ℕ, ℤ, IsSome, List, Ok, Option};
+ghost use Rattle.std.specs.Prelude.{◌≡◌, ◌≤◌, ℕ, ℤ, IsSome, List, Ok, Option};
 ghost use Rattle.rw_base.specs.declared.number.Cell.{Cell};
 ghost use Rattle.rw_model.specs.Draft.{Draft};
 ghost use Rattle.rpl_tree.specs.Mean.{mean};
 ghost use Rattle.rpl_tree.specs.Tree.{Declared};
+ghost use Rattle.rpl_parse.specs.Bounds.{function_count, rule_count};
+ghost use Rattle.rpl_types.specs.HasType.{IsTyped};
 ghost use Rattle.rpl_verify.specs.Verified.{Accepted, verified};
 ghost use Rattle.rpl_compile.specs.Fires.{EndsAlike, FiresAlike, HasRule};
 ghost use Rattle.rpl_compile.specs.Kinded.{AreKinded};
 ghost use Rattle.rpl_compile.specs.Translate.{translate};
+
+use crate::accepted::{compiled_code_is_accepted, typed_is_kinded};
 
 /// Of a ruleset whose parts are of the kinds that they have to be, each rule means a firing, at whatever timestep and
 /// however the cells are. With enough steps its code does just that: it ends alike, has looked at the same cells, asks for
@@ -28,3 +32,15 @@ pub fn accepted_code_means_its_rule()
         → (all : Accepted) → verified basin (translate declared) ≡ Ok all
         → FiresAlike declared basin number step values }
 {}
+
+/// The code of each rule of an accepted ruleset does what the rule means.
+pub fn rules_fire_alike()
+    ensures { (basin : Draft) (declared : List Declared) → IsTyped basin declared
+        → rule_count declared ≤ 200 → function_count declared ≤ 200
+        → (number step : ℕ) (values : Cell → Option ℤ) → HasRule declared number
+        → FiresAlike declared basin number step values }
+{
+    typed_is_kinded();
+    compiled_code_is_accepted();
+    accepted_code_means_its_rule();
+}

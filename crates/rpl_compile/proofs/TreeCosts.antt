@@ -1,0 +1,65 @@
+-- What trees cost, in words that the proofs on their code use.
+use Rattle.rw_base.proofs.Common.{max, ◌≡◌, ℕ, zero, suc, ◌+◌, List, [], ◌∷◌, ◌++◌, replicate, reverse, reverse-append, append_assoc, inl, inr, refl, sym, ap, ◌∙◌, subst, arith}
+use Rattle.rpl_code.specs.declared.kind.ValueKind.{ValueKind}
+use Rattle.rpl_code.specs.Weight.{words_of}
+use Rattle.rpl_tree.specs.declared.words.TwoWord.{TwoWord}
+use Rattle.rpl_tree.specs.declared.words.TwoWord.TheVariants.{Or, And}
+use Rattle.rpl_tree.specs.Value.{Kind, number_kind, truth_kind, date_kind, slot_kind, numbers_kind, slots_kind, list_kind, weight, weights}
+use Rattle.rpl_tree.specs.Cost.{Costed, Price, two_cost}
+use Rattle.rpl_tree.specs.Words.{two_words}
+use Rattle.rpl_verify.specs.Kinds.{words_of_all}
+use Rattle.rpl_compile.specs.Operations.{code_kind, code_kinds}
+use Rattle.rpl_compile.specs.Kinded.{IsElement}
+use Rattle.rpl_compile.proofs.WordLines.{IsLine, two_step}
+
+pub again : (n : ℕ) (k : ValueKind) (ks : List ValueKind) → replicate n k ++ (k ∷ ks) ≡ replicate (n + 1) k ++ ks
+again n k ks = by n ∙ ap (λ m. replicate m k ++ ks) more
+  where
+    more : suc n ≡ n + 1
+    more = omega arith
+
+    by : (n : ℕ) → replicate n k ++ (k ∷ ks) ≡ replicate (suc n) k ++ ks
+    by zero = refl
+    by (suc n) = ap (λ l. k ∷ l) (by n)
+
+pub turned : (k : ValueKind) (ks ls : List ValueKind) → reverse ks ++ (k ∷ ls) ≡ reverse (k ∷ ks) ++ ls
+turned k ks ls = sym (append_assoc (reverse ks) (k ∷ []) ls) ∙ ap (λ l. l ++ ls) (sym (reverse-append (k ∷ []) ks))
+
+-- ---- words
+
+pub words_weight : (k : Kind) → words_of (code_kind k) ≡ weight k
+words_weight number_kind = refl
+words_weight truth_kind = refl
+words_weight date_kind = refl
+words_weight slot_kind = refl
+words_weight (numbers_kind m) = refl
+words_weight (slots_kind m) = refl
+
+pub words_added : (ks ls : List ValueKind) → words_of_all (ks ++ ls) ≡ words_of_all ks + words_of_all ls
+words_added [] ls = omega arith
+words_added (k ∷ ks) ls = let e = words_added ks ls in omega (arith, e)
+
+pub words_turned : (ks : List Kind) (ls : List ValueKind) → words_of_all (reverse (code_kinds ks) ++ ls) ≡ weights ks + words_of_all ls
+words_turned [] ls = omega arith
+words_turned (k ∷ ks) ls =
+    let e = words_turned ks (code_kind k ∷ ls) in
+    let z = ap words_of_all (turned (code_kind k) (code_kinds ks) ls) in
+    let w = words_weight k in
+    omega (arith, e, z, w)
+
+pub element_words : (n : ℕ) (kind : Kind) → IsElement kind → (words_of (code_kind kind) ≡ 1) × (words_of (code_kind (list_kind n kind)) ≡ n + 1)
+element_words n kind (inl e) = subst (λ k. (words_of (code_kind k) ≡ 1) × (words_of (code_kind (list_kind n k)) ≡ n + 1)) (sym e) (refl, refl)
+element_words n kind (inr e) = subst (λ k. (words_of (code_kind k) ≡ 1) × (words_of (code_kind (list_kind n k)) ≡ n + 1)) (sym e) (refl, refl)
+
+-- ---- what a tree costs
+
+pub two_costs : (pays : Price) (functions : List Costed) (word : TwoWord) (l r : ℕ) (k : Kind) → IsLine word
+    → two_cost pays functions word l r k ≡ l + (r + pays.step (two_step word k))
+two_costs pays functions Or l r k h = absurd h
+two_costs pays functions And l r k h = absurd h
+two_costs pays functions _ l r k h = refl
+
+pub two_heights : (word : TwoWord) (k : Kind) (l r : ℕ) → IsLine word → two_words word k l r ≡ max l (weight k + r)
+two_heights Or k l r h = absurd h
+two_heights And k l r h = absurd h
+two_heights _ k l r h = refl
