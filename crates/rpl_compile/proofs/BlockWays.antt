@@ -26,7 +26,7 @@ use Rattle.rpl_compile.proofs.Going.{Goes, goes_as, goes_then}
 use Rattle.rpl_compile.proofs.WordLines.{widen_goes}
 use Rattle.rpl_compile.proofs.TreeCosts.{words_weight}
 use Rattle.rpl_compile.proofs.FlowingTrees.{flows}
-use Rattle.rpl_compile.proofs.Setting.{CallsFit, Setting}
+use Rattle.rpl_compile.proofs.BlockSetting.{CallsFit, Setting}
 use Rattle.rpl_compile.proofs.FlowingActs.{flows_acts}
 
 -- ---- parameters

@@ -33,7 +33,7 @@ use Rattle.rpl_compile.proofs.Counting.{IsInvoke, IsUnit}
 use Rattle.rpl_compile.proofs.Going.{choosing, goes_choice, takes_kinds}
 use Rattle.rpl_compile.proofs.TreeCosts.{two_costs, two_heights, words_weight}
 use Rattle.rpl_compile.proofs.WordLines.{IsLine, one_goes, two_goes, two_step, widen_goes}
-use Rattle.rpl_compile.proofs.Setting.{Claim, Leads, Own, Setting, cost, deep_kind, far, heads, here, kept, kind_of_code, line, names_at, own_back, own_front, room_cost, same_kind, seq, tall_of, to, told, with_one}
+use Rattle.rpl_compile.proofs.BlockSetting.{Claim, Leads, Own, Setting, cost, deep_kind, far, heads, here, kept, kind_of_code, line, names_at, own_back, own_front, room_cost, same_kind, seq, tall_of, to, told, with_one}
 
 module _ (setting : Setting) where
   -- ---- leaves

@@ -25,7 +25,7 @@ use Rattle.rpl_compile.proofs.Going.{goes_choice, goes_none}
 use Rattle.rpl_compile.proofs.Lines.{put_fits, store_fits}
 use Rattle.rpl_compile.proofs.TreeCosts.{words_weight}
 use Rattle.rpl_compile.proofs.FlowingTrees.{flows}
-use Rattle.rpl_compile.proofs.Setting.{Leads, Setting, cost, heads, here, kept, line, seq, tall_of, to, told}
+use Rattle.rpl_compile.proofs.BlockSetting.{Leads, Setting, cost, heads, here, kept, line, seq, tall_of, to, told}
 
 module _ (setting : Setting) (in_rule : setting.scope.head ≡ Rule) where
   abbrev own_kinds : Site → Tree → List Kind

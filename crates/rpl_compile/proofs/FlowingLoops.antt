@@ -20,7 +20,7 @@ use Rattle.rpl_compile.proofs.Placing.{HasAt}
 use Rattle.rpl_compile.proofs.Going.{goes_loop}
 use Rattle.rpl_compile.proofs.Lines.{foreach_fits, loop_at, map_fits, next_fits, yield_fits, room_code}
 use Rattle.rpl_compile.proofs.TreeCosts.{words_weight}
-use Rattle.rpl_compile.proofs.Setting.{Claim, Leads, Setting, cost, deep_kind, far, heads, kept, kind_of_code, loads, own_back, own_front, room_cost, same_kind, seq, stores, tall_of, to, told}
+use Rattle.rpl_compile.proofs.BlockSetting.{Claim, Leads, Setting, cost, deep_kind, far, heads, kept, kind_of_code, loads, own_back, own_front, room_cost, same_kind, seq, stores, tall_of, to, told}
 use Rattle.rpl_compile.proofs.Flowing.{with_room}
 
 module _ (setting : Setting) where

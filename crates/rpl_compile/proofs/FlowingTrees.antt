@@ -27,7 +27,7 @@ use Rattle.rpl_compile.proofs.Going.{goes_none, goes_one, takes_kinds}
 use Rattle.rpl_compile.proofs.Lines.{list_fits, slot_fits}
 use Rattle.rpl_compile.proofs.TreeCosts.{again, element_words, turned, words_turned, words_weight}
 use Rattle.rpl_compile.proofs.WordLines.{widen_goes}
-use Rattle.rpl_compile.proofs.Setting.{Claim, Leads, Setting, far, heads, here, kept, kind_of_code, line, loads, own_back, own_front, room_cost, same_kind, seq, to, told}
+use Rattle.rpl_compile.proofs.BlockSetting.{Claim, Leads, Setting, far, heads, here, kept, kind_of_code, line, loads, own_back, own_front, room_cost, same_kind, seq, to, told}
 use Rattle.rpl_compile.proofs.Flowing.{leaf, flow_convert, flow_plain, flow_two, flow_at, flow_known, flow_choice, flow_or, flow_and}
 use Rattle.rpl_compile.proofs.FlowingLoops.{flow_bind, flow_each, flow_mapped}
 
