@@ -18,7 +18,7 @@ use Rattle.rpl_compile.specs.Translate.{Callee, callee_heads, function_block, ru
 use Rattle.rpl_compile.proofs.Placing.{has_all}
 use Rattle.rpl_compile.proofs.Counting.{Account}
 use Rattle.rpl_compile.proofs.Going.{carries}
-use Rattle.rpl_compile.proofs.Flowing.{CallsFit}
+use Rattle.rpl_compile.proofs.BlockSetting.{CallsFit}
 use Rattle.rpl_compile.proofs.Calling.{LinesFit, call_onward}
 use Rattle.rpl_compile.proofs.BlockWays.{function_goes, rule_goes}
 

@@ -1,0 +1,170 @@
+-- LET, FOR and MAP lead from the operands that stand below them to those and their value, and come to what they cost, where their parts do.
+use Rattle.rw_base.proofs.Common.{max, length-append, ◌*◌, ◌≤◌, ◌≡◌, ℕ, suc, ◌+◌, List, [], ◌∷◌, ◌++◌, length, append_assoc, Some, refl, sym, ap, ◌∙◌, subst, arith, slice_get}
+use Rattle.rpl_code.specs.declared.kind.ValueKind.{ValueKind}
+use Rattle.rpl_code.specs.declared.kind.ValueKind.TheVariants as K
+use Rattle.rpl_code.specs.declared.instruction.Instruction.{Instruction}
+use Rattle.rpl_code.specs.declared.instruction.Instruction.TheVariants as I
+use Rattle.rpl_tree.specs.Value.{Kind, element_of, room_of, weight}
+use Rattle.rpl_tree.specs.Tree.{Tree, bind, each, mapped}
+use Rattle.rpl_tree.specs.Kinds.{Head, Names, tree_kind}
+use Rattle.rpl_tree.specs.Locals.{local_kinds}
+use Rattle.rpl_verify.specs.Places.{mapping, visiting}
+use Rattle.rpl_tree.specs.Cost.{costed_heads}
+use Rattle.rpl_verify.specs.Fits.{Open, before}
+use Rattle.rpl_compile.specs.Operations.{code_kind, code_kinds, widening_size}
+use Rattle.rpl_compile.specs.Size.{size}
+use Rattle.rpl_compile.specs.Site.{Site, behind, bound, keeping, knowing, names_in, on, over}
+use Rattle.rpl_compile.specs.Translate.{code_of, room_lines}
+use Rattle.rpl_compile.proofs.Sizes.{code-size, widening-size}
+use Rattle.rpl_compile.proofs.Placing.{HasAt}
+use Rattle.rpl_compile.proofs.Going.{goes_loop}
+use Rattle.rpl_compile.proofs.Lines.{foreach_fits, loop_at, map_fits, next_fits, yield_fits, room_code}
+use Rattle.rpl_compile.proofs.TreeCosts.{words_weight}
+use Rattle.rpl_compile.proofs.BlockSetting.{Claim, Leads, Setting, cost, deep_kind, far, heads, kept, kind_of_code, loads, own_back, own_front, room_cost, same_kind, seq, stores, tall_of, to, told}
+use Rattle.rpl_compile.proofs.Flowing.{with_room}
+
+module _ (setting : Setting) where
+  -- ---- names
+
+  pub flow_bind : (x : List ℕ) (e b : Tree) → Claim setting e → Claim setting b → Claim setting (bind x e b)
+  flow_bind x e b value body site os h pl lo =
+      let names : Names = names_in site.scope in
+      let kind : Kind = kind_of_code setting site e in
+      let first : Site = keeping 1 site in
+      let inside : Site = knowing (bound x kind site.free) (on 1 (behind (heads setting) e first)) in
+      let ls : List ValueKind = code_kinds site.below in
+      let inner = local_kinds (heads setting) ((x, kind) ∷ names) b in
+      let z : suc site.free ≡ site.free + 1 = omega arith in
+      let own : HasAt setting.scope.locals first.free (code_kinds (local_kinds (heads setting) names e ++ inner)) =
+      subst (λ n. HasAt setting.scope.locals n (code_kinds (local_kinds (heads setting) names e ++ inner))) z lo.1 in
+      let a = value first os h.0 pl (own_front setting first e inner own) in
+      let low = a.tall in
+      let sum : setting.pays.step (weight kind) + cost setting ((x, kind) ∷ names) b ≡ setting.pays.step (weight (tree_kind (costed_heads setting.functions) names e)) + cost setting ((x, tree_kind (costed_heads setting.functions) names e) ∷ names) b =
+      ap (λ k. setting.pays.step (weight k) + cost setting ((x, k) ∷ names) b) (same_kind setting names e) in
+      let high : tall_of setting ((x, kind) ∷ names) b ≡ tall_of setting ((x, tree_kind (costed_heads setting.deep) names e) ∷ names) b = ap (λ k. tall_of setting ((x, k) ∷ names) b) (deep_kind setting names e) in
+      told setting (seq setting (far setting first e h.0) a (seq setting refl (stores setting (behind (heads setting) e first).place site.free kind ls os lo.0)
+      (body inside os h.1 (lo.0, pl) (own_back setting first e inner own)))) (omega (arith, sum)) (omega (arith, low, high))
+
+  -- a loop's turns, with the line that ends each
+  turned_lines : (body room : List Instruction) (i j k : Instruction) → body ++ (room ++ (i ∷ j ∷ k ∷ [])) ≡ (body ++ (room ++ i ∷ [])) ++ (j ∷ k ∷ [])
+  turned_lines body room i j k =
+      ap (λ l. body ++ l) (sym (append_assoc room (i ∷ []) (j ∷ k ∷ []))) ∙ sym (append_assoc body (room ++ i ∷ []) (j ∷ k ∷ []))
+
+  double : (n : ℕ) → 2 * n + 1 ≡ n + n + 1
+  double n = omega arith
+
+  -- what a FOR comes to behind its list and its first value, and how high it stands, by the heads of functions
+  abbrev each_cost : Names → List ℕ → Tree → List ℕ → Tree → Tree → List Head → ℕ
+  each_cost names x l a f b hs =
+      let total : Kind = tree_kind hs names f in
+      let inside : Names = (a, total) ∷ (x, element_of (tree_kind hs names l)) ∷ names in
+      setting.pays.step (2 * weight total + 1) + room_of (tree_kind hs names l) * (cost setting inside b + (room_cost setting total (tree_kind hs inside b) + setting.pays.step (weight total + 1)))
+
+  abbrev each_height : Names → List ℕ → Tree → List ℕ → Tree → Tree → List Head → ℕ
+  each_height names x l a f b hs =
+      let all : Kind = tree_kind hs names l in
+      let total : Kind = tree_kind hs names f in
+      max (weight all + tall_of setting names f) (room_of all + 3 + max (tall_of setting ((a, total) ∷ (x, element_of all) ∷ names) b) (weight total))
+
+  pub flow_each : (x : List ℕ) (l : Tree) (a : List ℕ) (f b : Tree) → Claim setting l → Claim setting f → Claim setting b → Claim setting (each x l a f b)
+  flow_each x l a f b items first body site os h pl lo =
+      let names : Names = names_in site.scope in
+      let all : Kind = kind_of_code setting site l in
+      let total : Kind = kind_of_code setting site f in
+      let start_site : Site = keeping 2 site in
+      let start : Site = over all (behind (heads setting) l start_site) in
+      let q : ℕ = (behind (heads setting) f start).place in
+      let inside : Site = knowing (bound a total (site.free + 1)) (knowing (bound x (element_of all) site.free) (on 2 (behind (heads setting) f (behind (heads setting) l start_site)))) in
+      let inner_names : Names = (a, total) ∷ (x, element_of all) ∷ names in
+      let turn_kind : Kind = kind_of_code setting inside b in
+      let ls : List ValueKind = code_kinds site.below in
+      let o : Open = loop_at visiting (q + 1) (room_of all) ls in
+      let inner = local_kinds (heads setting) inner_names b in
+      let z1 : suc site.free ≡ site.free + 1 = omega arith in
+      let z2 : suc (suc site.free) ≡ site.free + 2 = omega arith in
+      let in_total : slice_get setting.scope.locals (site.free + 1) ≡ Some (code_kind total) = ap (slice_get setting.scope.locals) (sym z1) ∙ lo.1.0 in
+      let own : HasAt setting.scope.locals start_site.free (code_kinds (local_kinds (heads setting) names l ++ (local_kinds (heads setting) names f ++ inner))) =
+      subst (λ n. HasAt setting.scope.locals n (code_kinds (local_kinds (heads setting) names l ++ (local_kinds (heads setting) names f ++ inner)))) z2 lo.1.1 in
+      let own_f = own_back setting start_site l (local_kinds (heads setting) names f ++ inner) own in
+      let own_b = own_back setting start f inner own_f in
+      let r : ℕ = (behind (heads setting) b inside).place in
+      let s : ℕ = r + widening_size total turn_kind in
+      let e : ℕ = s + 1 in
+      let body_lines : List Instruction = code_of setting.callees inside b in
+      let room : List Instruction = room_lines setting.callees total inside b in
+      -- the parts
+      let way_l = items start_site os h.0 pl (own_front setting start_site l (local_kinds (heads setting) names f ++ inner) own) in
+      let way_f = first start os h.2 pl (own_front setting start f inner own_f) in
+      let way_b = with_room setting total b body inside (o ∷ os) h.3 h.4 (in_total, (lo.0, pl)) own_b in
+      let low_l = way_l.tall in
+      let low_f = way_f.tall in
+      let w_all = words_weight all in
+      let w_total = words_weight total in
+      let n_b : length body_lines ≡ size (heads setting) inner_names b = code-size setting.scope.basin setting.callees inside b h.3 in
+      let n_room : length room ≡ widening_size total turn_kind = widening-size total turn_kind in
+      let n_both = length-append body_lines room in
+      let there : s ≡ inside.place + length (body_lines ++ room) = omega (arith, n_b, n_room, n_both) in
+      let body_cost : ℕ = cost setting inner_names b + room_cost setting total turn_kind + setting.pays.step (weight total) in
+      let body_high : ℕ = kept setting (before ls (o ∷ os)) + max (tall_of setting inner_names b) (weight total) in
+      let turn_lines : List Instruction = body_lines ++ (room ++ I.Store (site.free + 1) ∷ []) in
+      let turn_way : Leads setting turn_lines inside.place (before ls (o ∷ os)) (before ls (o ∷ os)) body_cost body_high =
+      subst (λ xs. Leads setting xs inside.place (before ls (o ∷ os)) (before ls (o ∷ os)) body_cost body_high) (append_assoc body_lines room (I.Store (site.free + 1) ∷ []))
+      (told setting (seq setting there way_b (stores setting s (site.free + 1) total ls (o ∷ os) in_total)) refl (omega (arith, w_total))) in
+      let n_turn = length-append body_lines (room ++ I.Store (site.free + 1) ∷ []) in
+      let n_store = length-append room (I.Store (site.free + 1) ∷ []) in
+      let n_loop = length-append turn_lines (I.Next ∷ []) in
+      let loop_way = goes_loop setting.scope setting.lines setting.spots_are setting.pays setting.account turn_lines (q + 1) inside.place e (room_of all) body_cost body_high
+      (I.Foreach site.free) I.Next o (before (code_kind all ∷ ls) os) (before ls (o ∷ os)) (before ls (o ∷ os)) (before ls os)
+      (omega arith) (omega (arith, n_b, n_room, n_turn, n_store)) (foreach_fits setting.scope (q + 1) site.free all ls os h.1 lo.0) refl tt (room_code all) turn_way refl refl
+      (next_fits setting.scope e (q + 1) (room_of all) ls os) refl tt in
+      let regrouped : body_lines ++ (room ++ (I.Store (site.free + 1) ∷ I.Next ∷ I.Load (site.free + 1) ∷ [])) ≡ (turn_lines ++ I.Next ∷ []) ++ I.Load (site.free + 1) ∷ [] =
+      turned_lines body_lines room (I.Store (site.free + 1)) I.Next (I.Load (site.free + 1)) ∙ sym (append_assoc turn_lines (I.Next ∷ []) (I.Load (site.free + 1) ∷ [])) in
+      let tail_cost : ℕ = setting.pays.step 1 + room_of all * (body_cost + setting.pays.step 1) + setting.pays.step (weight total) in
+      let low_loop : kept setting (before ls os) ≤ body_high = omega arith in
+      let tail_way : Leads setting (I.Foreach site.free ∷ (body_lines ++ (room ++ (I.Store (site.free + 1) ∷ I.Next ∷ I.Load (site.free + 1) ∷ [])))) (q + 1) (before (code_kind all ∷ ls) os)
+      (before (code_kind total ∷ ls) os) tail_cost (max (kept setting (before (code_kind all ∷ ls) os)) (max body_high (kept setting (before (code_kind total ∷ ls) os)))) =
+      subst (λ xs. Leads setting (I.Foreach site.free ∷ xs) (q + 1) (before (code_kind all ∷ ls) os) (before (code_kind total ∷ ls) os) tail_cost
+      (max (kept setting (before (code_kind all ∷ ls) os)) (max body_high (kept setting (before (code_kind total ∷ ls) os))))) (sym regrouped)
+      (told setting (seq setting {xs = I.Foreach site.free ∷ (turn_lines ++ I.Next ∷ [])} {q = e + 1} (omega (arith, n_b, n_room, n_turn, n_store, n_loop)) loop_way
+      (loads setting (e + 1) (site.free + 1) total ls os in_total)) refl (omega (arith, low_loop))) in
+      -- by the heads of those that are costed
+      let w1 : setting.pays.step (2 * weight total + 1) ≡ setting.pays.step (weight total) + setting.pays.step (weight total) + setting.pays.step 1 =
+      ap setting.pays.step (double (weight total)) ∙ setting.account.prices.adds (weight total + weight total) 1 ∙ ap (λ n. n + setting.pays.step 1) (setting.account.prices.adds (weight total) (weight total)) in
+      let w2 = setting.account.prices.adds (weight total) 1 in
+      let in_turn : body_cost + setting.pays.step 1 ≡ cost setting inner_names b + (room_cost setting total turn_kind + setting.pays.step (weight total + 1)) = omega (arith, w2) in
+      let in_turns : room_of all * (body_cost + setting.pays.step 1) ≡ room_of all * (cost setting inner_names b + (room_cost setting total turn_kind + setting.pays.step (weight total + 1))) = ap (λ n. room_of all * n) in_turn in
+      let sum : each_cost names x l a f b (heads setting) ≡ each_cost names x l a f b (costed_heads setting.functions) = ap (each_cost names x l a f b) setting.same_heads in
+      let high : each_height names x l a f b (heads setting) ≡ each_height names x l a f b (costed_heads setting.deep) = ap (each_height names x l a f b) setting.deep_heads in
+      told setting (seq setting (far setting start_site l h.0) way_l (seq setting (far setting start f h.2) way_f (seq setting refl (stores setting q (site.free + 1) total (code_kind all ∷ ls) os in_total) tail_way)))
+      (omega (arith, w1, in_turns, sum)) (omega (arith, low_l, low_f, w_all, w_total, high))
+
+  abbrev mapped_cost : Names → List ℕ → Tree → Tree → List Head → ℕ
+  mapped_cost names x l b hs = room_of (tree_kind hs names l) * (cost setting ((x, element_of (tree_kind hs names l)) ∷ names) b + setting.pays.step 1)
+
+  abbrev mapped_height : Names → List ℕ → Tree → Tree → List Head → ℕ
+  mapped_height names x l b hs = 2 * room_of (tree_kind hs names l) + 4 + tall_of setting ((x, element_of (tree_kind hs names l)) ∷ names) b
+
+  pub flow_mapped : (x : List ℕ) (l b : Tree) → Claim setting l → Claim setting b → Claim setting (mapped x l b)
+  flow_mapped x l b items body site os h pl lo =
+      let names : Names = names_in site.scope in
+      let all : Kind = kind_of_code setting site l in
+      let start_site : Site = keeping 1 site in
+      let q : ℕ = (behind (heads setting) l start_site).place in
+      let inside : Site = knowing (bound x (element_of all) site.free) (on 1 (behind (heads setting) l start_site)) in
+      let inner_names : Names = (x, element_of all) ∷ names in
+      let ls : List ValueKind = code_kinds site.below in
+      let o : Open = loop_at mapping q (room_of all) ls in
+      let inner = local_kinds (heads setting) inner_names b in
+      let z : suc site.free ≡ site.free + 1 = omega arith in
+      let own : HasAt setting.scope.locals start_site.free (code_kinds (local_kinds (heads setting) names l ++ inner)) =
+      subst (λ n. HasAt setting.scope.locals n (code_kinds (local_kinds (heads setting) names l ++ inner))) z lo.1 in
+      let way_l = items start_site os h.0 pl (own_front setting start_site l inner own) in
+      let low_l = way_l.tall in
+      let way_b = to setting (ap (λ k. before (code_kind k ∷ ls) (o ∷ os)) h.3) (body inside (o ∷ os) h.2 (lo.0, pl) (own_back setting start_site l inner own)) in
+      let loop_way = goes_loop setting.scope setting.lines setting.spots_are setting.pays setting.account (code_of setting.callees inside b) q inside.place (behind (heads setting) b inside).place (room_of all) _ _
+      (I.Map site.free) I.Yield o (before (code_kind all ∷ ls) os) (before ls (o ∷ os)) (before (K.N ∷ ls) (o ∷ os)) (before (K.NList (room_of all) ∷ ls) os)
+      refl (far setting inside b h.2) (map_fits setting.scope q site.free all ls os h.1 lo.0) refl tt (room_code all) way_b refl refl
+      (yield_fits setting.scope (behind (heads setting) b inside).place q (room_of all) ls os) refl tt in
+      let sum : mapped_cost names x l b (heads setting) ≡ mapped_cost names x l b (costed_heads setting.functions) = ap (mapped_cost names x l b) setting.same_heads in
+      let high : mapped_height names x l b (heads setting) ≡ mapped_height names x l b (costed_heads setting.deep) = ap (mapped_height names x l b) setting.deep_heads in
+      told setting (seq setting (far setting start_site l h.0) way_l loop_way) (omega (arith, sum)) (omega (arith, low_l, high))
