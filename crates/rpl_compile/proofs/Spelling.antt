@@ -1,0 +1,132 @@
+-- Compiled code can be spelt.
+use Rattle.rw_base.proofs.Common.{◌≡◌, ◌≤◌, ℕ, suc, ◌+◌, ◌*◌, List, [], ◌∷◌, length, Some, refl, sym, ap, subst, arith, AllByRecursion}
+use Rattle.rw_model.specs.Basin.{IsBasin}
+use Rattle.rw_model.specs.Draft.{Draft}
+use Rattle.rpl_code.specs.Bounds.{IsBlock, IsCode, IsNumber}
+use Rattle.rpl_tree.specs.Tree.{Tree, Acts, Parameter, TypeName, Declared, rule, function}
+use Rattle.rpl_tree.specs.Kinds.{Names, kind_of_type, tree_kind}
+use Rattle.rpl_tree.specs.Count.{acts_locals, acts_nodes, local_count, node_count, nodes_of}
+use Rattle.rpl_tree.specs.Cost.{param_names}
+use Rattle.rpl_tree.specs.Locals.{acts_local_kinds, local_kinds}
+use Rattle.rpl_tree.specs.Mean.{param_kinds}
+use Rattle.rpl_parse.specs.Bounds.{AreBounded, AreWithin, function_count, rule_count}
+use Rattle.rpl_types.specs.HasType.{IsTyped}
+use Rattle.rpl_compile.specs.Operations.{widening_size}
+use Rattle.rpl_compile.specs.Size.{size, size_of_acts}
+use Rattle.rpl_compile.specs.Site.{Site, names_in, parameters_from, start}
+use Rattle.rpl_compile.specs.Kinded.{AreKindedActs, AreKindedFrom, IsKindedBody}
+use Rattle.rpl_compile.specs.Translate.{Callee, blocks_from, callee_heads, code_of, function_block, predefined_callees, room_lines, rule_block, translate}
+use Rattle.rpl_compile.proofs.Sizes.{acts-size, beside, code-size, widening-size}
+use Rattle.rpl_compile.proofs.TypedKinds.{typed_is_kinded}
+use Rattle.rpl_compile.proofs.BlockWays.{parameter_names}
+use Rattle.rpl_compile.proofs.TreeBounds.{few_acts_locals, few_for_acts, few_lines, few_locals, widening_few}
+use Rattle.rpl_compile.proofs.SpeltKinds.{AreSpelt, acts_locals_spelt, kinds_of_code, locals_spelt}
+use Rattle.rpl_compile.proofs.SpeltLines.{AreBoundSpelt, AreCalleesSpelt, behind, callees_known, names_known, widening_spelt}
+use Rattle.rpl_compile.proofs.SpeltCode.{acts_spelt, code_spelt}
+use Rattle.rpl_compile.proofs.SpeltHeads.{AreHeads, IsHeadSpelt, typed_heads}
+
+-- ---- numbers
+
+-- 8 for each node that there may be at most
+few : (n nodes : ℕ) → n ≤ 8 * nodes → nodes ≤ 16777216 → IsNumber n
+few n nodes h most = omega (arith, h, most)
+
+few_beside : (n params own nodes : ℕ) → n ≡ params + own → params ≤ 1000000 → own ≤ 2 * nodes → nodes ≤ 16777216 → IsNumber n
+few_beside n params own nodes e p h most = omega (arith, e, p, h, most)
+
+-- ---- blocks
+
+module _ (basin : Draft) (valid : IsBasin basin) (callees : List Callee) (called : AreCalleesSpelt callees) where
+  rule_spelt : (body : Acts) → AreKindedActs basin (callee_heads callees) [] body → acts_nodes body ≤ 16777216 → IsBlock (rule_block callees body)
+  rule_spelt body h most =
+      let heads = callee_heads callees in
+      let lines = size_of_acts heads [] body in
+      let own = acts_locals body in
+      let places : IsNumber lines = few lines (acts_nodes body) (few_for_acts heads [] body) most in
+      let own_few = few_acts_locals body in
+      let locals : IsNumber own = few own (acts_nodes body) (omega (arith, own_few)) most in
+      record {
+        head = tt;
+        locals = kinds_of_code (acts_local_kinds heads [] body) (acts_locals_spelt basin heads (callees_known callees called) [] body tt h);
+        lines = acts_spelt basin valid callees called lines own places locals body (start [] 0) (tt, tt) h (omega arith) (omega arith);
+        places = subst IsNumber (sym (acts-size basin callees (start [] 0) body h)) places;
+      }
+
+  scope_spelt : (n : ℕ) (params : List Parameter) (most : ℕ) → AreSpelt (param_kinds params) → n + length params ≤ most → IsNumber most
+      → AreBoundSpelt (parameters_from n params)
+  scope_spelt n [] most h le number = tt
+  scope_spelt n (p ∷ params) most h le number =
+      (h.0, omega (arith, le, number), scope_spelt (n + 1) params most h.1 (omega (arith, le)) number)
+
+  function_spelt : (params : List Parameter) (result : TypeName) (body : Tree) → IsKindedBody basin (callee_heads callees) (param_names params) (kind_of_type result) body
+      → IsHeadSpelt params result → length params ≤ 1000000 → node_count body ≤ 16777216 → IsBlock (function_block callees params (kind_of_type result) body)
+  function_spelt params result body kinded head few_params most =
+      let heads = callee_heads callees in
+      let kind = kind_of_type result in
+      let scope = parameters_from 0 params in
+      let names : Names = names_in scope in
+      let site : Site = start scope (length params) in
+      let h : IsKindedBody basin heads names kind body = subst (λ (ns : Names). IsKindedBody basin heads ns kind body) (sym (parameter_names 0 params)) kinded in
+      let wide = widening_size kind (tree_kind heads names body) in
+      let lines = size heads names body in
+      let most_lines = few_lines heads names body in
+      let most_wide = widening_few kind (tree_kind heads names body) in
+      let places : IsNumber lines = few lines (node_count body) (omega (arith, most_lines)) most in
+      let all : IsNumber (lines + wide) = few (lines + wide) (node_count body) (omega (arith, most_lines, most_wide)) most in
+      let locals : IsNumber (length params + local_count body) =
+      few_beside (length params + local_count body) (length params) (local_count body) (node_count body) refl few_params (few_locals body) most in
+      let known : AreBoundSpelt scope = scope_spelt 0 params (length params + local_count body) head.0 (omega arith) locals in
+      record {
+        head = (head.1, kinds_of_code (param_kinds params) head.0);
+        locals = kinds_of_code (local_kinds heads names body) (locals_spelt basin heads (callees_known callees called) names body (names_known scope known) h.0);
+        lines = behind (code_of callees site body) (room_lines callees kind site body)
+            (code_spelt basin valid callees called lines (length params + local_count body) places locals body site (known, tt) h.0 (omega arith) (omega arith))
+            (widening_spelt kind (tree_kind heads names body) h.1 head.1);
+        places = subst IsNumber (sym (beside (code_of callees site body) (room_lines callees kind site body) (code-size basin callees site body h.0)
+            (widening-size kind (tree_kind heads names body)))) all;
+      }
+
+-- ---- rulesets
+
+blocks_spelt : (basin : Draft) (callees : List Callee) (number : ℕ) (ds : List Declared) → IsBasin basin → AreCalleesSpelt callees → AreKindedFrom basin (callee_heads callees) ds
+    → AreHeads ds → AreWithin nodes_of 16777216 ds → number + length ds ≤ 401 → AllByRecursion IsBlock (blocks_from callees number ds)
+blocks_spelt basin callees number [] valid called kinded heads nodes last = tt
+blocks_spelt basin callees number (rule f body ∷ ds) valid called kinded heads nodes last = (
+  rule_spelt basin valid callees called body kinded.0 nodes.0,
+  blocks_spelt basin callees (number + 1) ds valid called kinded.1 heads nodes.1 (omega (arith, last)),
+)
+blocks_spelt basin callees number (function f params result body ∷ ds) valid called kinded heads nodes last =
+    let callee : Callee = record { head = record { name = f; takes = param_kinds params; result = kind_of_type result }; block = Some number } in (
+      function_spelt basin valid callees called params result body kinded.0 heads.0 heads.1 nodes.0,
+      blocks_spelt basin (callee ∷ callees) (number + 1) ds valid (heads.0.0, heads.0.1, omega (arith, last), called) kinded.1 heads.2 nodes.1 (omega (arith, last)),
+    )
+
+predefined_spelt : AreCalleesSpelt predefined_callees
+predefined_spelt = (
+  (tt, (tt, tt)),
+  tt,
+  refl,
+  ((tt, (tt, tt)), tt, refl, ((tt, tt), tt, refl, ((tt, (tt, (tt, tt))), tt, refl, ((tt, (tt, tt)), tt, refl, ((tt, tt), tt, refl, tt))))),
+)
+
+as_many_blocks : (callees : List Callee) (number : ℕ) (ds : List Declared) → length (blocks_from callees number ds) ≡ length ds
+as_many_blocks callees number [] = refl
+as_many_blocks callees number (rule f body ∷ ds) = ap suc (as_many_blocks callees (number + 1) ds)
+as_many_blocks callees number (function f params result body ∷ ds) = ap suc (as_many_blocks _ (number + 1) ds)
+
+each_counted : (ds : List Declared) → length ds ≡ rule_count ds + function_count ds
+each_counted [] = refl
+each_counted (rule f body ∷ ds) = let h = each_counted ds in omega (arith, h)
+each_counted (function f params result body ∷ ds) = let h = each_counted ds in omega (arith, h)
+
+pub compiled_can_be_spelt : (basin : Draft) (rules : List Declared) → IsBasin basin → IsTyped basin rules → AreBounded rules → IsCode (translate rules)
+compiled_can_be_spelt basin rules valid typed bounded =
+    let counted = each_counted rules in
+    let few_rules = bounded.rules in
+    let few_functions = bounded.functions in
+    let last : 1 + length rules ≤ 401 = omega (arith, counted, few_rules, few_functions) in
+    let blocks = as_many_blocks predefined_callees 1 rules in
+    record {
+      each = blocks_spelt basin predefined_callees 1 rules valid predefined_spelt (typed_is_kinded basin rules typed) (typed_heads basin rules typed) bounded.nodes last;
+      numbers = omega (arith, blocks, last);
+    }

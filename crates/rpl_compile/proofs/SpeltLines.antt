@@ -1,0 +1,185 @@
+-- Each instruction of compiled code can be spelt: by recursion on the tree, a line or two for each form.
+use Rattle.rw_base.proofs.Common.{◌≡◌, ◌≢◌, ◌≤◌, inl, inr, ◌⊎◌, ℕ, ◌+◌, ◌*ℤ◌, ℤ, unsigned_abs, Bool, true, false, List, [], ◌∷◌, ◌++◌, Option, Some, None, IsSome, IsSomeAnd, IsTrue, unwrap_or, bytes_eq, bytes_eq-Decides, list_any, ◌||◌, refl, sym, subst, arith, AllByRecursion, if◌then◌else◌}
+use Rattle.rw_base.proofs.Tests.{Decides-from_to}
+use Rattle.rw_base.specs.Dimension.{Dimension}
+use Rattle.rw_base.specs.Quantity.{IsQuantity}
+use Rattle.rw_base.specs.Unit.{units, unit_in}
+use Rattle.rw_model.specs.Basin.{IsBasin}
+use Rattle.rw_model.specs.Draft.{Draft}
+use Rattle.rw_model.specs.Objects.{slot_named}
+use Rattle.rpl_code.specs.Bounds.{IsInstruction, IsNumber}
+use Rattle.rpl_code.specs.declared.instruction.Instruction.{Instruction}
+use Rattle.rpl_code.specs.declared.instruction.Instruction.TheVariants as I
+use Rattle.rpl_tree.specs.declared.words.ConvertWord.{ConvertWord}
+use Rattle.rpl_tree.specs.declared.words.ConvertWord.TheVariants.{StorageToElevation, ElevationToStorage}
+use Rattle.rpl_tree.specs.declared.words.OneWord.{OneWord}
+use Rattle.rpl_tree.specs.declared.words.OneWord.TheVariants.{Not, Minus, Known, Length, Month, Day, Year}
+use Rattle.rpl_tree.specs.declared.words.TwoWord.{TwoWord}
+use Rattle.rpl_tree.specs.declared.words.TwoWord.TheVariants.{Or, And, Equal, Unequal, Less, LessEqual, Greater, GreaterEqual, Plus, Minus as Less_by, Times, Divide, Append, Item}
+use Rattle.rpl_tree.specs.Value.{Kind, number_kind, truth_kind, date_kind, slot_kind, numbers_kind, slots_kind, is_same_kind, room_of}
+use Rattle.rpl_tree.specs.World.{can_set}
+use Rattle.rpl_tree.specs.Kinds.{Head}
+use Rattle.rpl_compile.specs.Operations.{code_kinds, convert_line, difference_line, factor_of, number_line, one_line, sum_line, target, test_line, two_lines, widening}
+use Rattle.rpl_compile.specs.Site.{Bound, Site, local_named, names_in}
+use Rattle.rpl_compile.specs.Kinded.{FitsIn, HasHead, IsLiteral, IsTarget}
+use Rattle.rpl_compile.specs.Translate.{Callee, call_by, call_line, callee_heads, choice_lines}
+use Rattle.rpl_compile.proofs.SpeltNames.{CanBeSpelt, slot_found}
+use Rattle.rpl_compile.proofs.SpeltKinds.{AreHeadsSpelt, AreNamesSpelt, AreSpelt, IsSpelt, all_reverse, both_all, kinds_of_code}
+
+abbrev pub AreLines : List Instruction → Type 0
+AreLines = AllByRecursion IsInstruction
+
+pub behind : (a b : List Instruction) → AreLines a → AreLines b → AreLines (a ++ b)
+behind a b h g = both_all IsInstruction a b h g
+
+pub below_bound : (n most : ℕ) → n ≤ most → IsNumber most → IsNumber n
+below_bound n most le h = omega (arith, le, h)
+
+-- ---- single lines
+
+pub number_spelt : (n : ℤ) (unit : Option (List ℕ)) → IsLiteral n (unit_in units (unwrap_or unit [])) → IsInstruction (number_line n unit)
+number_spelt n unit h = by (unit_in units (unwrap_or unit [])) h
+  where
+    by : (found : Option (Dimension × ℤ)) → IsLiteral n found → IsQuantity (n *ℤ factor_of found)
+    by None h = absurd h
+    by (Some known) h = let q = (Decides-from_to _ _ (n *ℤ known.1)).0 h in record { low = q.0; high = q.1 }
+
+pub one_line_spelt : (word : OneWord) → IsInstruction (one_line word)
+one_line_spelt Not = tt
+one_line_spelt Minus = tt
+one_line_spelt Known = tt
+one_line_spelt Length = tt
+one_line_spelt Month = tt
+one_line_spelt Day = tt
+one_line_spelt Year = tt
+
+test_spelt : (k : Kind) (i j : Instruction) → IsInstruction i → IsInstruction j → IsInstruction (test_line k i j)
+test_spelt date_kind i j h g = g
+test_spelt _ i j h g = h
+
+sum_spelt : (k : Kind) → IsInstruction (sum_line k)
+sum_spelt date_kind = tt
+sum_spelt _ = tt
+
+difference_line_spelt : (k l : Kind) → IsInstruction (difference_line k l)
+difference_line_spelt date_kind date_kind = tt
+difference_line_spelt date_kind _ = tt
+difference_line_spelt _ _ = tt
+
+pub two_lines_spelt : (word : TwoWord) (k l : Kind) → AreLines (two_lines word k l)
+two_lines_spelt Or k l = tt
+two_lines_spelt And k l = tt
+two_lines_spelt Equal k l = (test_spelt k I.Eq I.Deq tt tt, tt)
+two_lines_spelt Unequal k l = (test_spelt k I.Eq I.Deq tt tt, (tt, tt))
+two_lines_spelt Less k l = (test_spelt k I.Lt I.Dlt tt tt, tt)
+two_lines_spelt LessEqual k l = (test_spelt k I.Le I.Dle tt tt, tt)
+two_lines_spelt Greater k l = (test_spelt k I.Le I.Dle tt tt, (tt, tt))
+two_lines_spelt GreaterEqual k l = (test_spelt k I.Lt I.Dlt tt tt, (tt, tt))
+two_lines_spelt Plus k l = (sum_spelt k, tt)
+two_lines_spelt Less_by k l = (difference_line_spelt k l, tt)
+two_lines_spelt Times k l = (tt, tt)
+two_lines_spelt Divide k l = (tt, tt)
+two_lines_spelt Append k l = (tt, tt)
+two_lines_spelt Item k l = (tt, tt)
+
+pub convert_spelt : (word : ConvertWord) (o : List ℕ) → CanBeSpelt o → IsInstruction (convert_line word o)
+convert_spelt StorageToElevation o h = h
+convert_spelt ElevationToStorage o h = h
+
+pub put_spelt : (basin : Draft) (o s : List ℕ) (ahead : ℤ) → IsBasin basin → IsTarget basin [] (slot_named basin.objects o s) ahead → IsInstruction (I.Put o s (unsigned_abs ahead))
+put_spelt basin o s ahead valid h = by (slot_found basin valid o s (some (slot_named basin.objects o s) h.0))
+  where
+    some : (found : Option ℕ) → IsSomeAnd found (λ s. IsTrue (can_set basin s)) → IsSome found
+    some None h = absurd h
+    some (Some n) h = refl
+
+    by : CanBeSpelt o × CanBeSpelt s → IsInstruction (I.Put o s (unsigned_abs ahead))
+    by names = subst (λ z. IsInstruction (I.Put o s (unsigned_abs z))) (sym h.1) (names.0, names.1, omega arith)
+
+pub target_spelt : (kinds : List Kind) → AreSpelt kinds → IsInstruction (target kinds)
+target_spelt kinds h = all_reverse _ (code_kinds kinds) (kinds_of_code kinds h)
+
+-- ---- room
+
+-- no list has to be widened to be what it isn't
+plain : (place kind : Kind) → is_same_kind place place ≡ true → ((m : ℕ) → place ≢ numbers_kind m) → ((m : ℕ) → place ≢ slots_kind m) → FitsIn place kind
+    → AreLines (widening place kind)
+plain place kind same n s (inl e) = subst (λ k. AreLines (widening place k)) e (by (is_same_kind place place) same)
+  where
+    by : (t : Bool) → t ≡ true → AreLines (if t then [] else I.Widen (room_of place) ∷ [])
+    by true h = tt
+    by false h = absurd (cc h)
+plain place kind same n s (inr h) = by h.3
+  where
+    by : ((place ≡ numbers_kind h.0) × (kind ≡ numbers_kind h.1)) ⊎ ((place ≡ slots_kind h.0) × (kind ≡ slots_kind h.1)) → AreLines (widening place kind)
+    by (inl e) = absurd (n h.0 e.0)
+    by (inr e) = absurd (s h.0 e.0)
+
+pub widening_spelt : (place kind : Kind) → FitsIn place kind → IsSpelt place → AreLines (widening place kind)
+widening_spelt (numbers_kind m) kind h s = by (is_same_kind (numbers_kind m) kind)
+  where
+    by : (t : Bool) → AreLines (if t then [] else I.Widen m ∷ [])
+    by true = tt
+    by false = (s, tt)
+widening_spelt (slots_kind m) kind h s = by (is_same_kind (slots_kind m) kind)
+  where
+    by : (t : Bool) → AreLines (if t then [] else I.Widen m ∷ [])
+    by true = tt
+    by false = (s, tt)
+widening_spelt number_kind kind h s = plain number_kind kind refl (λ m e. absurd (cc e)) (λ m e. absurd (cc e)) h
+widening_spelt truth_kind kind h s = plain truth_kind kind refl (λ m e. absurd (cc e)) (λ m e. absurd (cc e)) h
+widening_spelt date_kind kind h s = plain date_kind kind refl (λ m e. absurd (cc e)) (λ m e. absurd (cc e)) h
+widening_spelt slot_kind kind h s = plain slot_kind kind refl (λ m e. absurd (cc e)) (λ m e. absurd (cc e)) h
+
+-- ---- functions
+
+-- that it is called by
+abbrev pub IsCallSpelt : List ℕ → Option ℕ → Type 0
+IsCallSpelt f None = CanBeSpelt f
+IsCallSpelt f (Some number) = IsNumber number
+
+abbrev pub AreCalleesSpelt : List Callee → Type 0
+AreCalleesSpelt [] = Unit {0}
+AreCalleesSpelt (c ∷ callees) = AreSpelt c.head.takes × IsSpelt c.head.result × IsCallSpelt c.head.name c.block × AreCalleesSpelt callees
+
+pub callees_known : (callees : List Callee) → AreCalleesSpelt callees → AreHeadsSpelt (callee_heads callees)
+callees_known [] h = tt
+callees_known (c ∷ callees) h = (h.0, h.1, callees_known callees h.3)
+
+call_by_spelt : (f : List ℕ) (block : Option ℕ) → IsCallSpelt f block → IsInstruction (call_by f block)
+call_by_spelt f None h = h
+call_by_spelt f (Some number) h = h
+
+pub call_spelt : (callees : List Callee) (f : List ℕ) → AreCalleesSpelt callees → HasHead (callee_heads callees) f → IsInstruction (call_line callees f)
+call_spelt [] f s h = absurd (cc h)
+call_spelt (c ∷ callees) f s h = by (bytes_eq c.head.name f) refl h (λ g. call_spelt callees f s.3 g)
+  where
+    by : (t : Bool) → bytes_eq c.head.name f ≡ t → IsTrue (t || list_any (λ (head : Head). bytes_eq head.name f) (callee_heads callees))
+        → (HasHead (callee_heads callees) f → IsInstruction (call_line callees f)) → IsInstruction (if t then call_by f c.block else call_line callees f)
+    by true e h later = call_by_spelt f c.block (subst (λ name. IsCallSpelt name c.block) ((bytes_eq-Decides c.head.name f).0 e) s.2)
+    by false e h later = later h
+
+-- ---- names
+
+abbrev pub AreBoundSpelt : List Bound → Type 0
+AreBoundSpelt [] = Unit {0}
+AreBoundSpelt (b ∷ scope) = IsSpelt b.kind × IsNumber b.local × AreBoundSpelt scope
+
+pub names_known : (scope : List Bound) → AreBoundSpelt scope → AreNamesSpelt (names_in scope)
+names_known [] h = tt
+names_known (b ∷ scope) h = (h.0, names_known scope h.2)
+
+pub local_spelt : (scope : List Bound) (x : List ℕ) → AreBoundSpelt scope → IsNumber (local_named scope x)
+local_spelt [] x h = omega arith
+local_spelt (b ∷ scope) x h = by (bytes_eq b.name x) (local_spelt scope x h.2)
+  where
+    by : (t : Bool) → IsNumber (local_named scope x) → IsNumber (if t then b.local else local_named scope x)
+    by true later = h.1
+    by false later = later
+
+-- ---- an IF
+
+pub choice_spelt : (middle last : Site) (result : List Kind) (c first second : List Instruction) → AreLines c → AreLines first → AreLines second
+    → IsNumber (middle.place + 1) → IsNumber last.place → AreSpelt middle.below → AreSpelt result → AreLines (choice_lines middle last result c first second)
+choice_spelt middle last result c first second a b d to end below own =
+    behind c _ a (to, behind first _ b (end, (target_spelt middle.below below, behind second _ d (target_spelt result own, tt))))
