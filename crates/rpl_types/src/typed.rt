@@ -2,6 +2,7 @@ ghost use Rattle.std.specs.Prelude.{◌≡◌, ◌≤◌, ◌+◌, Some, IsSome,
 ghost use Rattle.rpl_budget.specs.Seen.{budget_seen};
 ghost use Rattle.rpl_tree.specs.Seen.{declared_of, rules_of};
 ghost use Rattle.rpl_parse.specs.Bounds.{function_count, rule_count};
+ghost use Rattle.rpl_parse.specs.Declarations.{IsRuleset};
 ghost use Rattle.rpl_types.specs.Checked.{declaration_of_rule, rule_budget};
 ghost use Rattle.rpl_types.specs.Judged.{type_at};
 
@@ -88,7 +89,8 @@ fn place_of_rule(declarations: &[Declaration], rule: u16) -> Option<usize>
 impl Typed {
     /// The rules and functions, as they were parsed.
     pub fn rules(&self) -> &ParsedRules
-        ensures { result.now ≡ self.now.rules }
+        ensures rules { result.now ≡ self.now.rules }
+        ensures ruleset { IsRuleset result.now }
     {
         &self.rules
     }
