@@ -31,8 +31,8 @@ use Rattle.rpl_compile.proofs.SpeltHeads.{AreHeads, IsHeadSpelt, typed_heads}
 few : (n nodes : ℕ) → n ≤ 8 * nodes → nodes ≤ 16777216 → IsNumber n
 few n nodes h most = omega (arith, h, most)
 
-few_beside : (n params own nodes : ℕ) → n ≡ params + own → params ≤ 1000000 → own ≤ 2 * nodes → nodes ≤ 16777216 → IsNumber n
-few_beside n params own nodes e p h most = omega (arith, e, p, h, most)
+few_beside : (params own nodes : ℕ) → params ≤ 1000000 → own ≤ 2 * nodes → nodes ≤ 16777216 → IsNumber (params + own)
+few_beside params own nodes p h most = omega (arith, p, h, most)
 
 -- ---- blocks
 
@@ -58,29 +58,33 @@ module _ (basin : Draft) (valid : IsBasin basin) (callees : List Callee) (called
   scope_spelt n (p ∷ params) most h le number =
       (h.0, omega (arith, le, number), scope_spelt (n + 1) params most h.1 (omega (arith, le)) number)
 
-  function_spelt : (params : List Parameter) (result : TypeName) (body : Tree) → IsKindedBody basin (callee_heads callees) (param_names params) (kind_of_type result) body
-      → IsHeadSpelt params result → length params ≤ 1000000 → node_count body ≤ 16777216 → IsBlock (function_block callees params (kind_of_type result) body)
+  function_spelt : (params : List Parameter) (result : TypeName) (body : Tree)
+      → IsKindedBody basin (callee_heads callees) (param_names params) (kind_of_type result) body
+      → IsHeadSpelt params result → length params ≤ 1000000 → node_count body ≤ 16777216
+      → IsBlock (function_block callees params (kind_of_type result) body)
   function_spelt params result body kinded head few_params most =
       let heads = callee_heads callees in
       let kind = kind_of_type result in
       let scope = parameters_from 0 params in
       let names : Names = names_in scope in
       let site : Site = start scope (length params) in
-      let h : IsKindedBody basin heads names kind body = subst (λ (ns : Names). IsKindedBody basin heads ns kind body) (sym (parameter_names 0 params)) kinded in
+      let h : IsKindedBody basin heads names kind body =
+      subst (λ (ns : Names). IsKindedBody basin heads ns kind body) (sym (parameter_names 0 params)) kinded in
       let wide = widening_size kind (tree_kind heads names body) in
       let lines = size heads names body in
       let most_lines = few_lines heads names body in
       let most_wide = widening_few kind (tree_kind heads names body) in
       let places : IsNumber lines = few lines (node_count body) (omega (arith, most_lines)) most in
       let all : IsNumber (lines + wide) = few (lines + wide) (node_count body) (omega (arith, most_lines, most_wide)) most in
-      let locals : IsNumber (length params + local_count body) =
-      few_beside (length params + local_count body) (length params) (local_count body) (node_count body) refl few_params (few_locals body) most in
-      let known : AreBoundSpelt scope = scope_spelt 0 params (length params + local_count body) head.0 (omega arith) locals in
+      let own = length params + local_count body in
+      let locals : IsNumber own = few_beside (length params) (local_count body) (node_count body) few_params (few_locals body) most in
+      let known : AreBoundSpelt scope = scope_spelt 0 params own head.0 (omega arith) locals in
       record {
         head = (head.1, kinds_of_code (param_kinds params) head.0);
-        locals = kinds_of_code (local_kinds heads names body) (locals_spelt basin heads (callees_known callees called) names body (names_known scope known) h.0);
+        locals = kinds_of_code (local_kinds heads names body)
+            (locals_spelt basin heads (callees_known callees called) names body (names_known scope known) h.0);
         lines = behind (code_of callees site body) (room_lines callees kind site body)
-            (code_spelt basin valid callees called lines (length params + local_count body) places locals body site (known, tt) h.0 (omega arith) (omega arith))
+            (code_spelt basin valid callees called lines own places locals body site (known, tt) h.0 (omega arith) (omega arith))
             (widening_spelt kind (tree_kind heads names body) h.1 head.1);
         places = subst IsNumber (sym (beside (code_of callees site body) (room_lines callees kind site body) (code-size basin callees site body h.0)
             (widening-size kind (tree_kind heads names body)))) all;
@@ -88,7 +92,8 @@ module _ (basin : Draft) (valid : IsBasin basin) (callees : List Callee) (called
 
 -- ---- rulesets
 
-blocks_spelt : (basin : Draft) (callees : List Callee) (number : ℕ) (ds : List Declared) → IsBasin basin → AreCalleesSpelt callees → AreKindedFrom basin (callee_heads callees) ds
+blocks_spelt : (basin : Draft) (callees : List Callee) (number : ℕ) (ds : List Declared) → IsBasin basin → AreCalleesSpelt callees
+    → AreKindedFrom basin (callee_heads callees) ds
     → AreHeads ds → AreWithin nodes_of 16777216 ds → number + length ds ≤ 401 → AllByRecursion IsBlock (blocks_from callees number ds)
 blocks_spelt basin callees number [] valid called kinded heads nodes last = tt
 blocks_spelt basin callees number (rule f body ∷ ds) valid called kinded heads nodes last = (
@@ -98,7 +103,8 @@ blocks_spelt basin callees number (rule f body ∷ ds) valid called kinded heads
 blocks_spelt basin callees number (function f params result body ∷ ds) valid called kinded heads nodes last =
     let callee : Callee = record { head = record { name = f; takes = param_kinds params; result = kind_of_type result }; block = Some number } in (
       function_spelt basin valid callees called params result body kinded.0 heads.0 heads.1 nodes.0,
-      blocks_spelt basin (callee ∷ callees) (number + 1) ds valid (heads.0.0, heads.0.1, omega (arith, last), called) kinded.1 heads.2 nodes.1 (omega (arith, last)),
+      blocks_spelt basin (callee ∷ callees) (number + 1) ds valid (heads.0.0, heads.0.1, omega (arith, last), called) kinded.1 heads.2 nodes.1
+          (omega (arith, last)),
     )
 
 predefined_spelt : AreCalleesSpelt predefined_callees
@@ -119,7 +125,8 @@ each_counted [] = refl
 each_counted (rule f body ∷ ds) = let h = each_counted ds in omega (arith, h)
 each_counted (function f params result body ∷ ds) = let h = each_counted ds in omega (arith, h)
 
-pub compiled_can_be_spelt : (basin : Draft) (rules : List Declared) → IsBasin basin → IsTyped basin rules → AreBounded rules → IsCode (translate rules)
+pub compiled_can_be_spelt : (basin : Draft) (rules : List Declared) → IsBasin basin → IsTyped basin rules → AreBounded rules
+    → IsCode (translate rules)
 compiled_can_be_spelt basin rules valid typed bounded =
     let counted = each_counted rules in
     let few_rules = bounded.rules in
@@ -127,6 +134,7 @@ compiled_can_be_spelt basin rules valid typed bounded =
     let last : 1 + length rules ≤ 401 = omega (arith, counted, few_rules, few_functions) in
     let blocks = as_many_blocks predefined_callees 1 rules in
     record {
-      each = blocks_spelt basin predefined_callees 1 rules valid predefined_spelt (typed_is_kinded basin rules typed) (typed_heads basin rules typed) bounded.nodes last;
+      each = blocks_spelt basin predefined_callees 1 rules valid predefined_spelt (typed_is_kinded basin rules typed)
+          (typed_heads basin rules typed) bounded.nodes last;
       numbers = omega (arith, blocks, last);
     }

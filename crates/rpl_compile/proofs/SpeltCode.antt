@@ -31,20 +31,26 @@ module _ (basin : Draft) (valid : IsBasin basin) (callees : List Callee) (called
   abbrev pub HasLocals : Site → ℕ → Type 0
   HasLocals site own = site.free + own ≤ locals
 
+  abbrev pub IsKindedAt : Site → Tree → Type 0
+  IsKindedAt site t = IsKinded basin (callee_heads callees) (names_in site.scope) t
+
+  abbrev pub lines_at : Site → Tree → ℕ
+  lines_at site t = size (callee_heads callees) (names_in site.scope) t
+
   place_spelt : (n : ℕ) → n ≤ places → IsNumber n
   place_spelt n le = below_bound n places le few_places
 
   free_spelt : (n : ℕ) → n ≤ locals → IsNumber n
   free_spelt n le = below_bound n locals le few_locals
 
-  of_tree : (site : Site) (t : Tree) → IsSiteSpelt site → IsKinded basin (callee_heads callees) (names_in site.scope) t → IsSpelt (kind_of_tree callees site t)
+  of_tree : (site : Site) (t : Tree) → IsSiteSpelt site → IsKindedAt site t → IsSpelt (kind_of_tree callees site t)
   of_tree site t s h = tree_spelt basin (callee_heads callees) (callees_known callees called) (names_in site.scope) t (names_known site.scope s.0) h
 
   abbrev pub SpellsTree : Tree → Type 0
-  SpellsTree t = (site : Site) → IsSiteSpelt site → IsKinded basin (callee_heads callees) (names_in site.scope) t
-      → HasPlaces site (size (callee_heads callees) (names_in site.scope) t) → HasLocals site (local_count t) → AreLines (code_of callees site t)
+  SpellsTree t = (site : Site) → IsSiteSpelt site → IsKindedAt site t
+      → HasPlaces site (lines_at site t) → HasLocals site (local_count t) → AreLines (code_of callees site t)
 
-  on_list : (ts : Trees) (site : Site) → IsKinded basin (callee_heads callees) (names_in site.scope) (list ts) → AreLines (all_code callees site ts) → AreLines (code_of callees site (list ts))
+  on_list : (ts : Trees) (site : Site) → IsKindedAt site (list ts) → AreLines (all_code callees site ts) → AreLines (code_of callees site (list ts))
   on_list ts site h a = behind (all_code callees site ts) _ a ((h.0, h.1), tt)
 
   on_choice : (c y n : Tree) → SpellsTree c → SpellsTree y → SpellsTree n → SpellsTree (choice c y n)
@@ -57,8 +63,10 @@ module _ (basin : Draft) (valid : IsBasin basin) (callees : List Callee) (called
       choice_spelt middle (after_room callees kind second n) (kind ∷ site.below) (code_of callees site c)
       (code_of callees first y ++ room_lines callees kind first y) (code_of callees second n ++ room_lines callees kind second n)
       (on_c site s h.0 (omega (arith, p)) (omega (arith, l)))
-      (behind (code_of callees first y) _ (on_y first s h.2 (omega (arith, p)) (omega (arith, l))) (widening_spelt kind (kind_of_tree callees first y) h.3 own))
-      (behind (code_of callees second n) _ (on_n second s h.4 (omega (arith, p)) (omega (arith, l))) (widening_spelt kind (kind_of_tree callees second n) h.5 own))
+      (behind (code_of callees first y) _ (on_y first s h.2 (omega (arith, p)) (omega (arith, l)))
+      (widening_spelt kind (kind_of_tree callees first y) h.3 own))
+      (behind (code_of callees second n) _ (on_n second s h.4 (omega (arith, p)) (omega (arith, l)))
+      (widening_spelt kind (kind_of_tree callees second n) h.5 own))
       (place_spelt _ (omega (arith, p))) (place_spelt _ (omega (arith, p))) s.1 (own, s.1)
 
   on_bind : (x : List ℕ) (e b : Tree) → SpellsTree e → SpellsTree b → SpellsTree (bind x e b)
@@ -76,7 +84,8 @@ module _ (basin : Draft) (valid : IsBasin basin) (callees : List Callee) (called
       let total = kind_of_tree callees site f in
       let items = keeping 2 site in
       let first = over (kind_of_tree callees site l) (after_tree callees l items) in
-      let inside = knowing (bound a total (site.free + 1)) (knowing (bound x element site.free) (on 2 (after_tree callees f (after_tree callees l items)))) in
+      let turn = on 2 (after_tree callees f (after_tree callees l items)) in
+      let inside = knowing (bound a total (site.free + 1)) (knowing (bound x element site.free) turn) in
       let own : IsSpelt total = of_tree site f s h.2 in
       let item : IsNumber site.free = free_spelt site.free (omega (arith, q)) in
       let last : IsNumber (site.free + 1) = free_spelt (site.free + 1) (omega (arith, q)) in
@@ -103,9 +112,9 @@ module _ (basin : Draft) (valid : IsBasin basin) (callees : List Callee) (called
       )
 
   -- one after the other
-  on_two : (l r : Tree) → SpellsTree l → SpellsTree r → (site : Site) → IsSiteSpelt site → IsKinded basin (callee_heads callees) (names_in site.scope) l
-      → IsKinded basin (callee_heads callees) (names_in site.scope) r
-      → HasPlaces site (size (callee_heads callees) (names_in site.scope) l + size (callee_heads callees) (names_in site.scope) r) → HasLocals site (local_count l + local_count r)
+  on_two : (l r : Tree) → SpellsTree l → SpellsTree r → (site : Site) → IsSiteSpelt site → IsKindedAt site l
+      → IsKindedAt site r
+      → HasPlaces site (lines_at site l + lines_at site r) → HasLocals site (local_count l + local_count r)
       → AreLines (code_of callees site l) × AreLines (code_of callees (over (kind_of_tree callees site l) (after_tree callees l site)) r)
   on_two l r on_l on_r site s h g p q = (
     on_l site s h (omega (arith, p)) (omega (arith, q)),
@@ -116,7 +125,8 @@ module _ (basin : Draft) (valid : IsBasin basin) (callees : List Callee) (called
   on_or l r on_l on_r site s h p q =
       let middle = on 1 (on 1 (after_tree callees l site)) in
       let second = on 2 middle in
-      choice_spelt middle (after_tree callees r second) (truth_kind ∷ site.below) (code_of callees site l) (I.Bool true ∷ []) (code_of callees second r)
+      choice_spelt middle (after_tree callees r second) (truth_kind ∷ site.below)
+      (code_of callees site l) (I.Bool true ∷ []) (code_of callees second r)
       (on_l site s h.0 (omega (arith, p)) (omega (arith, q))) (tt, tt) (on_r second s h.1 (omega (arith, p)) (omega (arith, q)))
       (place_spelt _ (omega (arith, p))) (place_spelt _ (omega (arith, p))) s.1 (tt, s.1)
 
@@ -138,7 +148,8 @@ module _ (basin : Draft) (valid : IsBasin basin) (callees : List Callee) (called
     code_spelt (call f ts) = λ site s h p q.
         let takes = takes_named (callee_heads callees) f in
         behind (arguments_code callees site takes ts) _
-        (arguments_spelt site takes ts s (takes_spelt (callee_heads callees) f (callees_known callees called)) h.1 (omega (arith, p)) (omega (arith, q)))
+        (arguments_spelt site takes ts s (takes_spelt (callee_heads callees) f (callees_known callees called)) h.1
+        (omega (arith, p)) (omega (arith, q)))
         (call_spelt callees f called h.0, tt)
     code_spelt (brackets t) = λ site s h p q. code_spelt t site s h p q
     code_spelt (list ts) = λ site s h p q.
@@ -160,20 +171,25 @@ module _ (basin : Draft) (valid : IsBasin basin) (callees : List Callee) (called
         behind (code_of callees site l) _ both.0 (behind (code_of callees _ r) _ both.1
         (two_lines_spelt word (kind_of_tree callees site l) (kind_of_tree callees site r)))
     code_spelt (convert word o e) = λ site s h p q.
-        behind (code_of callees site e) _ (code_spelt e site s h.1 (omega (arith, p)) (omega (arith, q))) (convert_spelt word o (table_found basin valid o h.0), tt)
+        behind (code_of callees site e) _ (code_spelt e site s h.1 (omega (arith, p)) (omega (arith, q)))
+        (convert_spelt word o (table_found basin valid o h.0), tt)
     code_spelt (at s d) = λ site known h p q.
         let both = on_two s d (code_spelt s) (code_spelt d) site known h.0 h.2 (omega (arith, p)) (omega (arith, q)) in
         behind (code_of callees site s) _ both.0 (behind (code_of callees _ d) _ both.1 (tt, tt))
 
     all_spelt : (site : Site) (kind : Kind) (ts : Trees) → IsSiteSpelt site → AreOfKind basin (callee_heads callees) (names_in site.scope) kind ts
-        → HasPlaces site (sizes (callee_heads callees) (names_in site.scope) ts) → HasLocals site (local_counts ts) → AreLines (all_code callees site ts)
+        → HasPlaces site (sizes (callee_heads callees) (names_in site.scope) ts) → HasLocals site (local_counts ts)
+        → AreLines (all_code callees site ts)
     all_spelt site kind no_trees s h p q = tt
     all_spelt site kind (tree t ts) s h p q =
         behind (code_of callees site t) _ (code_spelt t site s h.0 (omega (arith, p)) (omega (arith, q)))
-        (all_spelt (over (kind_of_tree callees site t) (after_tree callees t site)) kind ts (s.0, (of_tree site t s h.0, s.1)) h.2 (omega (arith, p)) (omega (arith, q)))
+        (all_spelt (over (kind_of_tree callees site t) (after_tree callees t site)) kind ts (s.0, (of_tree site t s h.0, s.1)) h.2
+        (omega (arith, p)) (omega (arith, q)))
 
-    arguments_spelt : (site : Site) (kinds : List Kind) (ts : Trees) → IsSiteSpelt site → AreSpelt kinds → AreArguments basin (callee_heads callees) (names_in site.scope) kinds ts
-        → HasPlaces site (sizes_of_arguments (callee_heads callees) (names_in site.scope) kinds ts) → HasLocals site (local_counts ts) → AreLines (arguments_code callees site kinds ts)
+    arguments_spelt : (site : Site) (kinds : List Kind) (ts : Trees) → IsSiteSpelt site → AreSpelt kinds
+        → AreArguments basin (callee_heads callees) (names_in site.scope) kinds ts
+        → HasPlaces site (sizes_of_arguments (callee_heads callees) (names_in site.scope) kinds ts) → HasLocals site (local_counts ts)
+        → AreLines (arguments_code callees site kinds ts)
     arguments_spelt site [] no_trees s k h p q = tt
     arguments_spelt site [] (tree t ts) s k h p q = absurd h
     arguments_spelt site (kind ∷ kinds) no_trees s k h p q = absurd h
@@ -186,18 +202,21 @@ module _ (basin : Draft) (valid : IsBasin basin) (callees : List Callee) (called
 
   abbrev pub SpellsActs : Acts → Type 0
   SpellsActs acts = (site : Site) → IsSiteSpelt site → AreKindedActs basin (callee_heads callees) (names_in site.scope) acts
-      → HasPlaces site (size_of_acts (callee_heads callees) (names_in site.scope) acts) → HasLocals site (acts_locals acts) → AreLines (acts_code callees site acts)
+      → HasPlaces site (size_of_acts (callee_heads callees) (names_in site.scope) acts) → HasLocals site (acts_locals acts)
+      → AreLines (acts_code callees site acts)
 
   abbrev SpellsAct : Act → Type 0
   SpellsAct a = (site : Site) → IsSiteSpelt site → IsKindedAct basin (callee_heads callees) (names_in site.scope) a
-      → HasPlaces site (size_of_act (callee_heads callees) (names_in site.scope) a) → HasLocals site (act_locals a) → AreLines (act_code callees site a)
+      → HasPlaces site (size_of_act (callee_heads callees) (names_in site.scope) a) → HasLocals site (act_locals a)
+      → AreLines (act_code callees site a)
 
   on_branch : (c : Tree) (first second : Acts) → SpellsActs first → SpellsActs second → SpellsAct (branch c first second)
   on_branch c first second on_first on_second site s h p q =
       let ahead = on 1 (after_tree callees c site) in
       let middle = after_acts callees first ahead in
       let last = on 2 middle in
-      choice_spelt middle (after_acts callees second last) site.below (code_of callees site c) (acts_code callees ahead first) (acts_code callees last second)
+      choice_spelt middle (after_acts callees second last) site.below
+      (code_of callees site c) (acts_code callees ahead first) (acts_code callees last second)
       (code_spelt c site s h.0 (omega (arith, p)) (omega (arith, q))) (on_first ahead s h.2 (omega (arith, p)) (omega (arith, q)))
       (on_second last s h.3 (omega (arith, p)) (omega (arith, q))) (place_spelt _ (omega (arith, p))) (place_spelt _ (omega (arith, p))) s.1 s.1
 
@@ -213,7 +232,8 @@ module _ (basin : Draft) (valid : IsBasin basin) (callees : List Callee) (called
   mutual
     act_spelt : (a : Act) → SpellsAct a
     act_spelt (assign o p ahead e) = λ site s h lines own.
-        behind (code_of callees site e) _ (code_spelt e site s h.0 (omega (arith, lines)) (omega (arith, own))) (put_spelt basin o p ahead valid h.2, tt)
+        behind (code_of callees site e) _ (code_spelt e site s h.0 (omega (arith, lines)) (omega (arith, own)))
+        (put_spelt basin o p ahead valid h.2, tt)
     act_spelt (branch c first second) = on_branch c first second (acts_spelt first) (acts_spelt second)
     act_spelt (with_name x e body) = on_with x e body (acts_spelt body)
 

@@ -44,7 +44,8 @@ room_spelt m made h = length_of_room m (by (int_le (pos 1) m && int_le m (pos lo
     by true h = refl
     by false h = absurd (cc h)
 
-unit_known : (found : Option (Dimension × ℤ)) (made : Dimension → Typed) → refusal_in (with_unit found made) ≡ None → (d : Dimension) × (refusal_in (made d) ≡ None)
+unit_known : (found : Option (Dimension × ℤ)) (made : Dimension → Typed) → refusal_in (with_unit found made) ≡ None
+    → (d : Dimension) × (refusal_in (made d) ≡ None)
 unit_known None made h = absurd (cc h)
 unit_known (Some unit) made h = (unit.0, h)
 
@@ -70,8 +71,10 @@ fitting_head (p ∷ params) result h =
     let rest = fitting_head params result parts.1 in
     ((written_spelt p.of_type parts.0, rest.0), rest.1)
 
-head_spelt : (earlier : List Signature) (f : List ℕ) (params : List Parameter) (result : TypeName) → head_refusal earlier f params result ≡ None → IsHeadSpelt params result
-head_spelt earlier f params result h = fitting_head params result (spared (is_duplicate earlier f params) (head_misfit params result) DuplicateName h).1
+head_spelt : (earlier : List Signature) (f : List ℕ) (params : List Parameter) (result : TypeName) → head_refusal earlier f params result ≡ None
+    → IsHeadSpelt params result
+head_spelt earlier f params result h =
+    fitting_head params result (spared (is_duplicate earlier f params) (head_misfit params result) DuplicateName h).1
 
 -- ---- parameters are words
 
@@ -89,9 +92,9 @@ own_words (p ∷ params) =
 
 affordable_words : (b : Budget) → cost_refusal b ≡ None → b.words ≤ limits.words
 affordable_words b h =
-    let all = (by (is_affordable b) h) in
-    let words = and_parts (nat_le b.count limits.count && nat_le b.looks limits.looks && nat_le b.puts limits.puts) (nat_le b.words limits.words) all in
-    (Decides-le b.words limits.words).0 words.1
+    let others = nat_le b.count limits.count && nat_le b.looks limits.looks && nat_le b.puts limits.puts in
+    let parts = and_parts others (nat_le b.words limits.words) (by (is_affordable b) h) in
+    (Decides-le b.words limits.words).0 parts.1
   where
     by : (test : Bool) → (if test then None else Some TooCostly) ≡ None → test ≡ true
     by true h = refl
@@ -120,8 +123,8 @@ AreHeads (function f params result body ∷ rest) = IsHeadSpelt params result ×
 next_number : (before : List ℕ) (own k : ℕ) → k ≡ suc (length before) → k + 1 ≡ suc (length (before ++ own ∷ []))
 next_number before own k e = omega (arith, e, length-append before (own ∷ []))
 
-heads_from : (basin : Draft) (rules : List Declared) (k : ℕ) (earlier : List Signature) (functions : List Costed) (before : List ℕ) (ds : List Declared)
-    → before ++ words_from functions ds ≡ words rules → k ≡ suc (length before) → AreDeclared basin rules k earlier ds → AreHeads ds
+heads_from : (basin : Draft) (rules : List Declared) (k : ℕ) (earlier : List Signature) (functions : List Costed) (before : List ℕ)
+    (ds : List Declared) → before ++ words_from functions ds ≡ words rules → k ≡ suc (length before) → AreDeclared basin rules k earlier ds → AreHeads ds
 heads_from basin rules k earlier functions before [] whole counted h = tt
 heads_from basin rules k earlier functions before (rule f body ∷ ds) whole counted h =
     let own = weights (acts_local_kinds (costed_heads functions) [] body) + height_of_acts functions [] body in

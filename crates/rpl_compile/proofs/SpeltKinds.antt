@@ -89,8 +89,12 @@ appended_spelt : (k l : Kind) → CanAppend k l → IsSpelt (list_kind (room_of 
 appended_spelt k l h = by h.0 h.1 h.2
   where
     by : (m : ℕ) → m < 4096 → AreBoth (numbers_kind m) number_kind k l ⊎ AreBoth (slots_kind m) slot_kind k l → IsSpelt (list_kind (room_of k + 1) l)
-    by m lt (inl e) = subst (λ x. IsSpelt (list_kind (room_of x + 1) l)) (sym e.0) (subst (λ x. IsSpelt (list_kind (m + 1) x)) (sym e.1) (omega arith, omega (arith, lt)))
-    by m lt (inr e) = subst (λ x. IsSpelt (list_kind (room_of x + 1) l)) (sym e.0) (subst (λ x. IsSpelt (list_kind (m + 1) x)) (sym e.1) (omega arith, omega (arith, lt)))
+    by m lt (inl e) =
+        subst (λ x. IsSpelt (list_kind (room_of x + 1) l)) (sym e.0)
+        (subst (λ x. IsSpelt (list_kind (m + 1) x)) (sym e.1) (omega arith, omega (arith, lt)))
+    by m lt (inr e) =
+        subst (λ x. IsSpelt (list_kind (room_of x + 1) l)) (sym e.0)
+        (subst (λ x. IsSpelt (list_kind (m + 1) x)) (sym e.1) (omega arith, omega (arith, lt)))
 
 two_spelt : (word : TwoWord) (k l : Kind) → TwoTakes word k l → IsSpelt k → IsSpelt (two_kind word k l)
 two_spelt Plus k l h s = s
@@ -160,7 +164,8 @@ module _ (basin : Draft) (heads : List Head) (known : AreHeadsSpelt heads) where
     locals_spelt names (convert word o e) s h = locals_spelt names e s h.1
     locals_spelt names (at p d) s h = both_all IsSpelt _ _ (locals_spelt names p s h.0) (locals_spelt names d s h.2)
 
-    alike_spelt : (names : Names) (kind : Kind) (ts : Trees) → AreNamesSpelt names → AreOfKind basin heads names kind ts → AreSpelt (all_local_kinds heads names ts)
+    alike_spelt : (names : Names) (kind : Kind) (ts : Trees) → AreNamesSpelt names → AreOfKind basin heads names kind ts
+        → AreSpelt (all_local_kinds heads names ts)
     alike_spelt names kind no_trees s h = tt
     alike_spelt names kind (tree t ts) s h = both_all IsSpelt _ _ (locals_spelt names t s h.0) (alike_spelt names kind ts s h.2)
 
@@ -175,11 +180,13 @@ module _ (basin : Draft) (heads : List Head) (known : AreHeadsSpelt heads) where
     act_locals_spelt : (names : Names) (a : Act) → AreNamesSpelt names → IsKindedAct basin heads names a → AreSpelt (act_local_kinds heads names a)
     act_locals_spelt names (assign o p ahead e) s h = locals_spelt names e s h.0
     act_locals_spelt names (branch c first second) s h =
-        both_all IsSpelt _ _ (locals_spelt names c s h.0) (both_all IsSpelt _ _ (acts_locals_spelt names first s h.2) (acts_locals_spelt names second s h.3))
+        both_all IsSpelt _ _ (locals_spelt names c s h.0)
+        (both_all IsSpelt _ _ (acts_locals_spelt names first s h.2) (acts_locals_spelt names second s h.3))
     act_locals_spelt names (with_name x e body) s h =
         let own = tree_spelt names e s h.0 in
         (own, both_all IsSpelt _ _ (locals_spelt names e s h.0) (acts_locals_spelt ((x, tree_kind heads names e) ∷ names) body (own, s) h.1))
 
-    pub acts_locals_spelt : (names : Names) (acts : Acts) → AreNamesSpelt names → AreKindedActs basin heads names acts → AreSpelt (acts_local_kinds heads names acts)
+    pub acts_locals_spelt : (names : Names) (acts : Acts) → AreNamesSpelt names → AreKindedActs basin heads names acts
+        → AreSpelt (acts_local_kinds heads names acts)
     acts_locals_spelt names no_acts s h = tt
     acts_locals_spelt names (act a rest) s h = both_all IsSpelt _ _ (act_locals_spelt names a s h.0) (acts_locals_spelt names rest s h.1)

@@ -86,7 +86,8 @@ pub convert_spelt : (word : ConvertWord) (o : List ℕ) → CanBeSpelt o → IsI
 convert_spelt StorageToElevation o h = h
 convert_spelt ElevationToStorage o h = h
 
-pub put_spelt : (basin : Draft) (o s : List ℕ) (ahead : ℤ) → IsBasin basin → IsTarget basin [] (slot_named basin.objects o s) ahead → IsInstruction (I.Put o s (unsigned_abs ahead))
+pub put_spelt : (basin : Draft) (o s : List ℕ) (ahead : ℤ) → IsBasin basin → IsTarget basin [] (slot_named basin.objects o s) ahead
+    → IsInstruction (I.Put o s (unsigned_abs ahead))
 put_spelt basin o s ahead valid h = by (slot_found basin valid o s (some (slot_named basin.objects o s) h.0))
   where
     some : (found : Option ℕ) → IsSomeAnd found (λ s. IsTrue (can_set basin s)) → IsSome found
@@ -101,8 +102,9 @@ target_spelt kinds h = all_reverse _ (code_kinds kinds) (kinds_of_code kinds h)
 
 -- ---- room
 
--- no list has to be widened to be what it isn't
-plain : (place kind : Kind) → is_same_kind place place ≡ true → ((m : ℕ) → place ≢ numbers_kind m) → ((m : ℕ) → place ≢ slots_kind m) → FitsIn place kind
+-- what is no list is never widened
+plain : (place kind : Kind) → is_same_kind place place ≡ true → ((m : ℕ) → place ≢ numbers_kind m) → ((m : ℕ) → place ≢ slots_kind m)
+    → FitsIn place kind
     → AreLines (widening place kind)
 plain place kind same n s (inl e) = subst (λ k. AreLines (widening place k)) e (by (is_same_kind place place) same)
   where
@@ -111,7 +113,8 @@ plain place kind same n s (inl e) = subst (λ k. AreLines (widening place k)) e 
     by false h = absurd (cc h)
 plain place kind same n s (inr h) = by h.3
   where
-    by : ((place ≡ numbers_kind h.0) × (kind ≡ numbers_kind h.1)) ⊎ ((place ≡ slots_kind h.0) × (kind ≡ slots_kind h.1)) → AreLines (widening place kind)
+    by : ((place ≡ numbers_kind h.0) × (kind ≡ numbers_kind h.1)) ⊎ ((place ≡ slots_kind h.0) × (kind ≡ slots_kind h.1))
+        → AreLines (widening place kind)
     by (inl e) = absurd (n h.0 e.0)
     by (inr e) = absurd (s h.0 e.0)
 
@@ -150,12 +153,14 @@ call_by_spelt : (f : List ℕ) (block : Option ℕ) → IsCallSpelt f block → 
 call_by_spelt f None h = h
 call_by_spelt f (Some number) h = h
 
-pub call_spelt : (callees : List Callee) (f : List ℕ) → AreCalleesSpelt callees → HasHead (callee_heads callees) f → IsInstruction (call_line callees f)
+pub call_spelt : (callees : List Callee) (f : List ℕ) → AreCalleesSpelt callees → HasHead (callee_heads callees) f
+    → IsInstruction (call_line callees f)
 call_spelt [] f s h = absurd (cc h)
 call_spelt (c ∷ callees) f s h = by (bytes_eq c.head.name f) refl h (λ g. call_spelt callees f s.3 g)
   where
     by : (t : Bool) → bytes_eq c.head.name f ≡ t → IsTrue (t || list_any (λ (head : Head). bytes_eq head.name f) (callee_heads callees))
-        → (HasHead (callee_heads callees) f → IsInstruction (call_line callees f)) → IsInstruction (if t then call_by f c.block else call_line callees f)
+        → (HasHead (callee_heads callees) f → IsInstruction (call_line callees f))
+        → IsInstruction (if t then call_by f c.block else call_line callees f)
     by true e h later = call_by_spelt f c.block (subst (λ name. IsCallSpelt name c.block) ((bytes_eq-Decides c.head.name f).0 e) s.2)
     by false e h later = later h
 
@@ -180,6 +185,7 @@ local_spelt (b ∷ scope) x h = by (bytes_eq b.name x) (local_spelt scope x h.2)
 -- ---- an IF
 
 pub choice_spelt : (middle last : Site) (result : List Kind) (c first second : List Instruction) → AreLines c → AreLines first → AreLines second
-    → IsNumber (middle.place + 1) → IsNumber last.place → AreSpelt middle.below → AreSpelt result → AreLines (choice_lines middle last result c first second)
+    → IsNumber (middle.place + 1) → IsNumber last.place → AreSpelt middle.below → AreSpelt result
+    → AreLines (choice_lines middle last result c first second)
 choice_spelt middle last result c first second a b d to end below own =
     behind c _ a (to, behind first _ b (end, (target_spelt middle.below below, behind second _ d (target_spelt result own, tt))))

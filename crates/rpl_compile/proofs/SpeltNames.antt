@@ -45,7 +45,8 @@ same_spelt word name e h = subst CanBeSpelt (sym ((bytes_eq-Decides word name).0
 sound_objects : (basin : Draft) → IsBasin basin → AllByRecursion IsSound basin.objects
 sound_objects basin h = recursion_from_All IsSound basin.objects h.whole.sound
 
-object_spelt : (n : ℕ) (objects : List Object) (name : List ℕ) → AllByRecursion IsSound objects → IsSome (object_from n objects name) → CanBeSpelt name
+object_spelt : (n : ℕ) (objects : List Object) (name : List ℕ) → AllByRecursion IsSound objects → IsSome (object_from n objects name)
+    → CanBeSpelt name
 object_spelt n [] name sound h = absurd (cc h)
 object_spelt n (object ∷ objects) name sound h = by (bytes_eq name object.name) refl h (λ g. object_spelt (n + 1) objects name sound.1 g)
   where
@@ -89,7 +90,10 @@ kind_spelt (Reservoir initial_storage table local_inflow diversion return_flow e
         chosen_spelt _ _ refl,
         (
           chosen_spelt _ _ refl,
-          (chosen_spelt _ _ refl, (chosen_spelt _ _ refl, (chosen_spelt _ _ refl, (chosen_spelt _ _ refl, (chosen_spelt _ _ refl, (chosen_spelt _ _ refl, tt)))))),
+          (
+            chosen_spelt _ _ refl,
+            (chosen_spelt _ _ refl, (chosen_spelt _ _ refl, (chosen_spelt _ _ refl, (chosen_spelt _ _ refl, (chosen_spelt _ _ refl, tt))))),
+          ),
         ),
       ),
     ),
@@ -99,7 +103,8 @@ kind_spelt (WaterUser depletion Request) h = (refl, (refl, (refl, (refl, tt))))
 kind_spelt (WaterUser depletion Rule) h = (refl, (refl, (refl, (refl, tt))))
 kind_spelt (Canal seepage) h = (refl, (refl, (refl, tt)))
 
-placed_spelt : (owner place : ℕ) (slots : List (Option Slot)) → AllByRecursion IsSlotSpelt slots → AllByRecursion IsPlacedSpelt (placed_from owner place slots)
+placed_spelt : (owner place : ℕ) (slots : List (Option Slot)) → AllByRecursion IsSlotSpelt slots
+    → AllByRecursion IsPlacedSpelt (placed_from owner place slots)
 placed_spelt owner place [] h = tt
 placed_spelt owner place (None ∷ slots) h = placed_spelt owner (place + 1) slots h.1
 placed_spelt owner place (Some slot ∷ slots) h = (h.0, placed_spelt owner (place + 1) slots h.1)
@@ -138,6 +143,7 @@ module _ (basin : Draft) (valid : IsBasin basin) where
   table_found o h = by (object_named basin.objects o) refl h
     where
       by : (found : Option ℕ) → object_named basin.objects o ≡ found
-          → IsSome (option_and_then (λ (object : Object). table_in object.kind) (option_and_then (λ number. object_at basin.objects number) found)) → CanBeSpelt o
+          → IsSome (option_and_then (λ (object : Object). table_in object.kind) (option_and_then (λ number. object_at basin.objects number) found))
+          → CanBeSpelt o
       by None e h = absurd (cc h)
       by (Some owner) e h = object_spelt 1 basin.objects o (sound_objects basin valid) (rw e refl)
