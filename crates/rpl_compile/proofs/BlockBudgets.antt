@@ -38,16 +38,19 @@ pub record AllCosted (budgets : List Budget) (callees : List Callee) (steps look
   pub by_puts : AreCosted (call_part (λ (b : Budget). b.puts) budgets) callees puts
   pub by_words : AreCosted (call_part (λ (b : Budget). b.words) budgets) callees deep
 
-module _ (scope : Scope) (lines : List Instruction) (bs : List Before) (spotted : scope.spots ≡ spots lines) (fits : befores scope 0 (before [] []) lines ≡ Ok bs)
+module _ (scope : Scope) (lines : List Instruction) (bs : List Before) (spotted : scope.spots ≡ spots lines)
+    (fits : befores scope 0 (before [] []) lines ≡ Ok bs)
     (budgets : List Budget) (callees : List Callee) (callable : AreCallable scope.heads scope.number callees) (functions deep : List Costed)
     (by_words : AreCosted (call_part (λ (b : Budget). b.words) budgets) callees deep)
     (pays : Price) (price : Before → Instruction → ℕ) (prices : Prices scope pays price) (cost : CallCost) (costed : AreCosted cost callees functions)
-    (at : (b : Before) (f : List ℕ) (head : Head) (block : Option ℕ) → IsCallable scope.heads scope.number head block → price b (call_by f block) ≡ cost head block) where
+    (at : (b : Before) (f : List ℕ) (head : Head) (block : Option ℕ) → IsCallable scope.heads scope.number head block
+    → price b (call_by f block) ≡ cost head block) where
   pub paying_calls : CallsFit scope lines pays (paying_account scope lines bs spotted fits budgets pays price prices) callees functions deep
   unfolding paying_account
   paying_calls f has p ls os =
       let b : Before = before (reverse (code_kinds (takes_named (callee_heads callees) f)) ++ ls) os in
-      let above = called_cost scope.heads scope.number (call_part (λ (b : Budget). b.words) budgets) (λ i. words_at scope budgets b i - words_kept scope.locals b) f
+      let above = called_cost scope.heads scope.number (call_part (λ (b : Budget). b.words) budgets)
+      (λ i. words_at scope budgets b i - words_kept scope.locals b) f
       (words_call scope budgets b f) callees deep callable by_words has in
       let least = words_above scope budgets b f callees in
       record {
@@ -64,14 +67,17 @@ pub record Comes (scope : Scope) (lines : List Instruction) (bs : List Before) (
   pub by_puts : C scope budgets (puts_of scope budgets) lines bs 0 ≡ puts
   pub by_words : W scope budgets lines bs 0 ≡ words
 
-pub comes_to : (scope : Scope) (lines : List Instruction) (bs : List Before) (budgets : List Budget) (count looks puts words : ℕ) → Comes scope lines bs budgets count looks puts words
-    → budget_by scope budgets bs lines ≡ budget (capped limits.count count) (capped limits.looks looks) (capped limits.puts puts) (capped limits.words words)
+pub comes_to : (scope : Scope) (lines : List Instruction) (bs : List Before) (budgets : List Budget) (count looks puts words : ℕ)
+    → Comes scope lines bs budgets count looks puts words
+    → budget_by scope budgets bs lines
+    ≡ budget (capped limits.count count) (capped limits.looks looks) (capped limits.puts puts) (capped limits.words words)
 comes_to scope lines bs budgets count looks puts words h =
     ap₂ (λ a b. budget (capped limits.count a) (capped limits.looks b) (capped limits.puts (C scope budgets (puts_of scope budgets) lines bs 0))
     (capped limits.words (W scope budgets lines bs 0))) h.by_count h.by_looks
     ∙ ap₂ (λ a b. budget (capped limits.count count) (capped limits.looks looks) (capped limits.puts a) (capped limits.words b)) h.by_puts h.by_words
 
-module _ (basin : Draft) (all : List Block) (number : ℕ) (callees : List Callee) (callable : AreCallable (heads_of all) number callees) (budgets : List Budget)
+module _ (basin : Draft) (all : List Block) (number : ℕ) (callees : List Callee) (callable : AreCallable (heads_of all) number callees)
+    (budgets : List Budget)
     (steps looks puts deep : List Costed) (costed : AllCosted budgets callees steps looks puts deep) where
   abbrev steps_heads : callee_heads callees ≡ costed_heads steps
   steps_heads = costed_same (call_count budgets) callees steps costed.by_steps
@@ -83,7 +89,8 @@ module _ (basin : Draft) (all : List Block) (number : ℕ) (callees : List Calle
       → let block : Block = rule_block callees body in
       let scope : Scope = scope_of basin all number block in
       befores scope 0 (before [] []) block.lines ≡ Ok bs → AreKindedActs basin (callee_heads callees) [] body
-      → Comes scope block.lines bs budgets (most_of_acts price_of_steps steps [] body) (most_of_acts price_of_looks looks [] body) (most_of_acts price_of_puts puts [] body)
+      → Comes scope block.lines bs budgets (most_of_acts price_of_steps steps [] body) (most_of_acts price_of_looks looks [] body)
+      (most_of_acts price_of_puts puts [] body)
       (weights (acts_local_kinds (costed_heads deep) [] body) + height_of_acts deep [] body)
   rule_comes body bs fits h =
       let block : Block = rule_block callees body in
@@ -91,11 +98,14 @@ module _ (basin : Draft) (all : List Block) (number : ℕ) (callees : List Calle
       let lines : List Instruction = block.lines in
       let kept : ℕ = words_kept scope.locals (before [] []) in
       let high : ℕ = kept + height_of_acts deep [] body in
-      let c1 = paying_calls scope lines bs refl fits budgets callees callable steps deep costed.by_words price_of_steps (count_of scope budgets) (count_prices scope budgets)
+      let c1 = paying_calls scope lines bs refl fits budgets callees callable steps deep costed.by_words price_of_steps (count_of scope budgets)
+      (count_prices scope budgets)
       (call_count budgets) costed.by_steps (counts_call scope budgets) in
-      let c2 = paying_calls scope lines bs refl fits budgets callees callable looks deep costed.by_words price_of_looks (looks_of scope budgets) (looks_prices scope budgets)
+      let c2 = paying_calls scope lines bs refl fits budgets callees callable looks deep costed.by_words price_of_looks (looks_of scope budgets)
+      (looks_prices scope budgets)
       (call_part (λ (b : Budget). b.looks) budgets) costed.by_looks (looks_call scope budgets) in
-      let c3 = paying_calls scope lines bs refl fits budgets callees callable puts deep costed.by_words price_of_puts (puts_of scope budgets) (puts_prices scope budgets)
+      let c3 = paying_calls scope lines bs refl fits budgets callees callable puts deep costed.by_words price_of_puts (puts_of scope budgets)
+      (puts_prices scope budgets)
       (call_part (λ (b : Budget). b.puts) budgets) costed.by_puts (puts_call scope budgets) in
       let g1 = rule_goes basin all number callees steps deep steps_heads deep_heads price_of_steps body
       (paying_account scope lines bs refl fits budgets price_of_steps (count_of scope budgets) (count_prices scope budgets)) c1 h in
@@ -103,11 +113,14 @@ module _ (basin : Draft) (all : List Block) (number : ℕ) (callees : List Calle
       (paying_account scope lines bs refl fits budgets price_of_looks (looks_of scope budgets) (looks_prices scope budgets)) c2 h in
       let g3 = rule_goes basin all number callees puts deep (costed_same _ callees puts costed.by_puts) deep_heads price_of_puts body
       (paying_account scope lines bs refl fits budgets price_of_puts (puts_of scope budgets) (puts_prices scope budgets)) c3 h in
-      let w1 = whole scope lines bs refl fits budgets price_of_steps (count_of scope budgets) (count_prices scope budgets) (most_of_acts price_of_steps steps [] body) high (before [] [])
+      let w1 = whole scope lines bs refl fits budgets price_of_steps (count_of scope budgets) (count_prices scope budgets)
+      (most_of_acts price_of_steps steps [] body) high (before [] [])
       (g1.go (has_all lines) refl).0 g1.tall in
-      let w2 = whole scope lines bs refl fits budgets price_of_looks (looks_of scope budgets) (looks_prices scope budgets) (most_of_acts price_of_looks looks [] body) high (before [] [])
+      let w2 = whole scope lines bs refl fits budgets price_of_looks (looks_of scope budgets) (looks_prices scope budgets)
+      (most_of_acts price_of_looks looks [] body) high (before [] [])
       (g2.go (has_all lines) refl).0 g2.tall in
-      let w3 = whole scope lines bs refl fits budgets price_of_puts (puts_of scope budgets) (puts_prices scope budgets) (most_of_acts price_of_puts puts [] body) high (before [] [])
+      let w3 = whole scope lines bs refl fits budgets price_of_puts (puts_of scope budgets) (puts_prices scope budgets)
+      (most_of_acts price_of_puts puts [] body) high (before [] [])
       (g3.go (has_all lines) refl).0 g3.tall in
       let own : words_of_all scope.locals ≡ weights (acts_local_kinds (costed_heads deep) [] body) =
       words_of_kinds (acts_local_kinds (callee_heads callees) [] body) ∙ ap (λ hs. weights (acts_local_kinds hs [] body)) deep_heads in
@@ -130,23 +143,31 @@ module _ (basin : Draft) (all : List Block) (number : ℕ) (callees : List Calle
       let kept : ℕ = words_kept scope.locals (before [] []) in
       let high : ℕ = kept + max (height deep names body) (weight result) in
       let end : Before = before (code_kind result ∷ []) [] in
-      let c1 = paying_calls scope lines bs refl fits budgets callees callable steps deep costed.by_words price_of_steps (count_of scope budgets) (count_prices scope budgets)
+      let c1 = paying_calls scope lines bs refl fits budgets callees callable steps deep costed.by_words price_of_steps (count_of scope budgets)
+      (count_prices scope budgets)
       (call_count budgets) costed.by_steps (counts_call scope budgets) in
-      let c2 = paying_calls scope lines bs refl fits budgets callees callable looks deep costed.by_words price_of_looks (looks_of scope budgets) (looks_prices scope budgets)
+      let c2 = paying_calls scope lines bs refl fits budgets callees callable looks deep costed.by_words price_of_looks (looks_of scope budgets)
+      (looks_prices scope budgets)
       (call_part (λ (b : Budget). b.looks) budgets) costed.by_looks (looks_call scope budgets) in
-      let c3 = paying_calls scope lines bs refl fits budgets callees callable puts deep costed.by_words price_of_puts (puts_of scope budgets) (puts_prices scope budgets)
+      let c3 = paying_calls scope lines bs refl fits budgets callees callable puts deep costed.by_words price_of_puts (puts_of scope budgets)
+      (puts_prices scope budgets)
       (call_part (λ (b : Budget). b.puts) budgets) costed.by_puts (puts_call scope budgets) in
       let g1 = function_goes basin all number callees steps deep steps_heads deep_heads price_of_steps params result body
       (paying_account scope lines bs refl fits budgets price_of_steps (count_of scope budgets) (count_prices scope budgets)) c1 h in
-      let g2 = function_goes basin all number callees looks deep (costed_same _ callees looks costed.by_looks) deep_heads price_of_looks params result body
+      let g2 = function_goes basin all number callees looks deep
+      (costed_same _ callees looks costed.by_looks) deep_heads price_of_looks params result body
       (paying_account scope lines bs refl fits budgets price_of_looks (looks_of scope budgets) (looks_prices scope budgets)) c2 h in
-      let g3 = function_goes basin all number callees puts deep (costed_same _ callees puts costed.by_puts) deep_heads price_of_puts params result body
+      let g3 = function_goes basin all number callees puts deep
+      (costed_same _ callees puts costed.by_puts) deep_heads price_of_puts params result body
       (paying_account scope lines bs refl fits budgets price_of_puts (puts_of scope budgets) (puts_prices scope budgets)) c3 h in
-      let w1 = whole scope lines bs refl fits budgets price_of_steps (count_of scope budgets) (count_prices scope budgets) (most_of_body price_of_steps steps names result body) high end
+      let w1 = whole scope lines bs refl fits budgets price_of_steps (count_of scope budgets) (count_prices scope budgets)
+      (most_of_body price_of_steps steps names result body) high end
       (g1.go (has_all lines) refl).0 g1.tall in
-      let w2 = whole scope lines bs refl fits budgets price_of_looks (looks_of scope budgets) (looks_prices scope budgets) (most_of_body price_of_looks looks names result body) high end
+      let w2 = whole scope lines bs refl fits budgets price_of_looks (looks_of scope budgets) (looks_prices scope budgets)
+      (most_of_body price_of_looks looks names result body) high end
       (g2.go (has_all lines) refl).0 g2.tall in
-      let w3 = whole scope lines bs refl fits budgets price_of_puts (puts_of scope budgets) (puts_prices scope budgets) (most_of_body price_of_puts puts names result body) high end
+      let w3 = whole scope lines bs refl fits budgets price_of_puts (puts_of scope budgets) (puts_prices scope budgets)
+      (most_of_body price_of_puts puts names result body) high end
       (g3.go (has_all lines) refl).0 g3.tall in
       let given = code_kinds (param_kinds params) in
       let bound_names : Names = names_in (parameters_from 0 params) in

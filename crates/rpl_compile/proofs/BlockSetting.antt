@@ -27,20 +27,23 @@ use Rattle.rpl_compile.proofs.Lines.{load_fits, store_fits}
 use Rattle.rpl_compile.proofs.TreeCosts.{words_weight}
 
 -- in a block of this scope, a call of each function that there is fits, and comes to what the function costs
-pub record CallFits (scope : Scope) (lines : List Instruction) (pays : Price) (account : Account scope lines pays) (callees : List Callee) (functions deep : List Costed)
+pub record CallFits (scope : Scope) (lines : List Instruction) (pays : Price) (account : Account scope lines pays) (callees : List Callee)
+    (functions deep : List Costed)
     (f : List ℕ) (p : ℕ) (b c : Before) : Type 0 where
   pub fits : judged scope p b (call_line callees f) ≡ Ok c
   pub goes_on : way_of (call_line callees f) ≡ onward
   pub sum : account.sum_at b (call_line callees f) ≡ most_named functions f
   pub high : account.high_at b (call_line callees f) ≡ words_kept scope.locals b + most_named deep f
 
-abbrev pub CallsFit : (scope : Scope) (lines : List Instruction) (pays : Price) → Account scope lines pays → List Callee → List Costed → List Costed → Type 0
+abbrev pub CallsFit : (scope : Scope) (lines : List Instruction) (pays : Price) → Account scope lines pays → List Callee → List Costed → List Costed
+    → Type 0
 CallsFit scope lines pays account callees functions deep =
     (f : List ℕ) → HasHead (callee_heads callees) f → (p : ℕ) (ls : List ValueKind) (os : List Open)
     → CallFits scope lines pays account callees functions deep f p (before (reverse (code_kinds (takes_named (callee_heads callees) f)) ++ ls) os)
     (before (code_kind (result_named (callee_heads callees) f) ∷ ls) os)
 
--- what the code of a declaration is told in: the functions that can be called, with what they cost and how high they stand; the block; and the account
+-- what the code of a declaration is told in: the functions that can be called, with what they cost and how high they stand; the block; and the
+-- account
 pub record Setting : Type 1 where
   pub callees : List Callee
   pub functions : List Costed
@@ -74,30 +77,40 @@ module _ (setting : Setting) where
   abbrev pub kept : Before → ℕ
   kept b = words_kept setting.scope.locals b
 
-  pub seq : {xs ys : List Instruction} {p q s t h g : ℕ} {b c d : Before} → q ≡ p + length xs → Leads xs p b c s h → Leads ys q c d t g → Leads (xs ++ ys) p b d (s + t) (max h g)
+  pub seq : {xs ys : List Instruction} {p q s t h g : ℕ} {b c d : Before} → q ≡ p + length xs → Leads xs p b c s h → Leads ys q c d t g
+      → Leads (xs ++ ys) p b d (s + t) (max h g)
   seq {xs} {ys} {p} {q} {s} {t} {h} {g} {b} {c} {d} e f l =
-      goes_then setting.scope setting.lines setting.spots_are setting.pays setting.account {xs = xs} {ys = ys} {p = p} {q = q} {s = s} {t = t} {h = h} {g = g} {b = b} {c = c} {d = d} e f l
+      goes_then setting.scope setting.lines setting.spots_are setting.pays setting.account {xs = xs} {ys = ys} {p = p} {q = q} {s = s} {t = t}
+      {h = h} {g = g} {b = b} {c = c} {d = d} e f l
 
   pub told : {xs : List Instruction} {p s t h g : ℕ} {b c : Before} → Leads xs p b c s h → s ≡ t → h ≡ g → Leads xs p b c t g
-  told {xs} {p} {s} {t} {h} {g} {b} {c} way e f = goes_as setting.scope setting.lines setting.spots_are setting.pays setting.account {xs = xs} {p = p} {s = s} {t = t} {h = h} {g = g} {b = b} {c = c} way e f
+  told {xs} {p} {s} {t} {h} {g} {b} {c} way e f =
+      goes_as setting.scope setting.lines setting.spots_are setting.pays setting.account {xs = xs} {p = p} {s = s} {t = t} {h = h} {g = g} {b = b}
+      {c = c} way e f
 
   pub to : {xs : List Instruction} {p s h : ℕ} {b c d : Before} → c ≡ d → Leads xs p b c s h → Leads xs p b d s h
-  to {xs} {p} {s} {h} {b} {c} {d} e way = goes_to setting.scope setting.lines setting.spots_are setting.pays setting.account {xs = xs} {p = p} {s = s} {h = h} {b = b} {c = c} {d = d} e way
+  to {xs} {p} {s} {h} {b} {c} {d} e way =
+      goes_to setting.scope setting.lines setting.spots_are setting.pays setting.account {xs = xs} {p = p} {s = s} {h = h} {b = b} {c = c} {d = d} e
+      way
 
-  pub line : {i : Instruction} {p s : ℕ} {b c : Before} → judged setting.scope p b i ≡ Ok c → way_of i ≡ onward → (IsInvoke i → ⊥) → setting.account.sum_at b i ≡ s
+  pub line : {i : Instruction} {p s : ℕ} {b c : Before} → judged setting.scope p b i ≡ Ok c → way_of i ≡ onward → (IsInvoke i → ⊥)
+      → setting.account.sum_at b i ≡ s
       → Leads (i ∷ []) p b c s (max (words_kept setting.scope.locals b) (words_kept setting.scope.locals c))
-  line {i} {p} {s} {b} {c} j w none e = goes_line setting.scope setting.lines setting.spots_are setting.pays setting.account {i = i} {p = p} {s = s} {b = b} {c = c} j w none e
+  line {i} {p} {s} {b} {c} j w none e =
+      goes_line setting.scope setting.lines setting.spots_are setting.pays setting.account {i = i} {p = p} {s = s} {b = b} {c = c} j w none e
 
   pub stores : (p n : ℕ) (k : Kind) (ls : List ValueKind) (os : List Open) → slice_get setting.scope.locals n ≡ Some (code_kind k)
       → Leads (I.Store n ∷ []) p (before (code_kind k ∷ ls) os) (before ls os) (setting.pays.step (weight k)) (kept (before (code_kind k ∷ ls) os))
   stores p n k ls os h =
-      told (line (store_fits setting.scope p n (code_kind k) ls os h) refl (λ x. x) (setting.account.prices.store (before (code_kind k ∷ ls) os) n (code_kind k) h ∙ ap setting.pays.step (words_weight k)))
+      told (line (store_fits setting.scope p n (code_kind k) ls os h) refl (λ x. x)
+      (setting.account.prices.store (before (code_kind k ∷ ls) os) n (code_kind k) h ∙ ap setting.pays.step (words_weight k)))
       refl (omega arith)
 
   pub loads : (p n : ℕ) (k : Kind) (ls : List ValueKind) (os : List Open) → slice_get setting.scope.locals n ≡ Some (code_kind k)
       → Leads (I.Load n ∷ []) p (before ls os) (before (code_kind k ∷ ls) os) (setting.pays.step (weight k)) (kept (before (code_kind k ∷ ls) os))
   loads p n k ls os h =
-      told (line (load_fits setting.scope p n (code_kind k) ls os h) refl (λ x. x) (setting.account.prices.load (before ls os) n (code_kind k) h ∙ ap setting.pays.step (words_weight k))) refl (omega arith)
+      told (line (load_fits setting.scope p n (code_kind k) ls os h) refl (λ x. x)
+      (setting.account.prices.load (before ls os) n (code_kind k) h ∙ ap setting.pays.step (words_weight k))) refl (omega arith)
 
   abbrev pub kind_of_code : Site → Tree → Kind
   kind_of_code site t = tree_kind heads (names_in site.scope) t
@@ -125,18 +138,24 @@ module _ (setting : Setting) where
 
   abbrev pub Claim : Tree → Type 0
   Claim t =
-      (site : Site) (os : List Open) → IsKinded setting.scope.basin heads (names_in site.scope) t → Placed setting.scope.locals site.scope → Own site t
-      → Leads (code_of setting.callees site t) site.place (here site os) (with_one (kind_of_code site t) site os) (most setting.pays setting.functions (names_in site.scope) t)
+      (site : Site) (os : List Open) → IsKinded setting.scope.basin heads (names_in site.scope) t → Placed setting.scope.locals site.scope
+      → Own site t
+      → Leads (code_of setting.callees site t) site.place (here site os) (with_one (kind_of_code site t) site os)
+      (most setting.pays setting.functions (names_in site.scope) t)
       (words_kept setting.scope.locals (here site os) + height setting.deep (names_in site.scope) t)
 
   -- the place behind the code of an expression
-  pub far : (site : Site) (t : Tree) → IsKinded setting.scope.basin heads (names_in site.scope) t → (behind heads t site).place ≡ site.place + length (code_of setting.callees site t)
+  pub far : (site : Site) (t : Tree) → IsKinded setting.scope.basin heads (names_in site.scope) t
+      → (behind heads t site).place ≡ site.place + length (code_of setting.callees site t)
   far site t h = ap (λ n. site.place + n) (sym (code-size setting.scope.basin setting.callees site t h))
 
   -- the locals behind those of an expression
-  pub own_back : (site : Site) (t : Tree) (ks : List Kind) → HasAt setting.scope.locals site.free (code_kinds (local_kinds heads (names_in site.scope) t ++ ks))
+  pub own_back : (site : Site) (t : Tree) (ks : List Kind)
+      → HasAt setting.scope.locals site.free (code_kinds (local_kinds heads (names_in site.scope) t ++ ks))
       → HasAt setting.scope.locals (behind heads t site).free (code_kinds ks)
-  own_back site t ks h = kinds_back setting.scope.locals site.free _ (local_kinds heads (names_in site.scope) t) ks (locals_count heads t (names_in site.scope)) h
+  own_back site t ks h = kinds_back setting.scope.locals site.free _ (local_kinds heads (names_in site.scope) t) ks
+      (locals_count heads t (names_in site.scope)) h
 
-  pub own_front : (site : Site) (t : Tree) (ks : List Kind) → HasAt setting.scope.locals site.free (code_kinds (local_kinds heads (names_in site.scope) t ++ ks)) → Own site t
+  pub own_front : (site : Site) (t : Tree) (ks : List Kind)
+      → HasAt setting.scope.locals site.free (code_kinds (local_kinds heads (names_in site.scope) t ++ ks)) → Own site t
   own_front site t ks h = kinds_front setting.scope.locals site.free (local_kinds heads (names_in site.scope) t) ks h

@@ -31,7 +31,8 @@ use Rattle.rpl_compile.proofs.FlowingActs.{flows_acts}
 
 -- ---- parameters
 
-pub parameters_placed : (locals : List ValueKind) (n : ℕ) (ps : List Parameter) → HasAt locals n (code_kinds (param_kinds ps)) → Placed locals (parameters_from n ps)
+pub parameters_placed : (locals : List ValueKind) (n : ℕ) (ps : List Parameter) → HasAt locals n (code_kinds (param_kinds ps))
+    → Placed locals (parameters_from n ps)
 parameters_placed locals n [] h = tt
 parameters_placed locals n (p ∷ ps) h =
     let z : suc n ≡ n + 1 = omega arith in
@@ -47,12 +48,14 @@ parameter_count (p ∷ ps) = ap suc (parameter_count ps)
 
 -- ---- blocks
 
-module _ (basin : Draft) (all : List Block) (number : ℕ) (callees : List Callee) (functions deep : List Costed) (same_heads : callee_heads callees ≡ costed_heads functions)
+module _ (basin : Draft) (all : List Block) (number : ℕ) (callees : List Callee) (functions deep : List Costed)
+    (same_heads : callee_heads callees ≡ costed_heads functions)
     (deep_heads : callee_heads callees ≡ costed_heads deep) (pays : Price) where
   pub rule_goes : (body : Acts)
       → let block : Block = rule_block callees body in
       let scope : Scope = scope_of basin all number block in
-      (account : Account scope block.lines pays) → CallsFit scope block.lines pays account callees functions deep → AreKindedActs basin (callee_heads callees) [] body
+      (account : Account scope block.lines pays) → CallsFit scope block.lines pays account callees functions deep
+      → AreKindedActs basin (callee_heads callees) [] body
       → Goes scope block.lines refl pays account block.lines 0 (before [] []) (before [] []) (most_of_acts pays functions [] body)
       (words_kept scope.locals (before [] []) + height_of_acts deep [] body)
   rule_goes body account calls h =
@@ -83,7 +86,8 @@ module _ (basin : Draft) (all : List Block) (number : ℕ) (callees : List Calle
       let scope : Scope = scope_of basin all number block in
       (account : Account scope block.lines pays) → CallsFit scope block.lines pays account callees functions deep
       → IsKindedBody basin (callee_heads callees) (param_names params) result body
-      → Goes scope block.lines refl pays account block.lines 0 (before [] []) (before (code_kind result ∷ []) []) (most_of_body pays functions (param_names params) result body)
+      → Goes scope block.lines refl pays account block.lines 0 (before [] []) (before (code_kind result ∷ []) [])
+      (most_of_body pays functions (param_names params) result body)
       (words_kept scope.locals (before [] []) + max (height deep (param_names params) body) (weight result))
   function_goes params result body account calls h =
       let block : Block = function_block callees params result body in
@@ -93,7 +97,8 @@ module _ (basin : Draft) (all : List Block) (number : ℕ) (callees : List Calle
       let site : Site = start bounds (length params) in
       let heads : List Head = callee_heads callees in
       let own = code_kinds (local_kinds heads (names_in bounds) body) in
-      let kinded : IsKindedBody basin heads (names_in bounds) result body = subst (λ names. IsKindedBody basin heads names result body) (sym (parameter_names 0 params)) h in
+      let kinded : IsKindedBody basin heads (names_in bounds) result body =
+      subst (λ names. IsKindedBody basin heads names result body) (sym (parameter_names 0 params)) h in
       let placed : Placed scope.locals bounds =
       parameters_placed scope.locals 0 params (has_front scope.locals 0 (code_kinds (param_kinds params)) own (has_all scope.locals)) in
       let own_there : HasAt scope.locals (length params) own =
@@ -117,6 +122,8 @@ module _ (basin : Draft) (all : List Block) (number : ℕ) (callees : List Calle
       let w = words_weight result in
       let sum : most_by result body heads (names_in bounds) ≡ most_by result body (costed_heads functions) (param_names params) =
       ap (λ hs. most_by result body hs (names_in bounds)) same_heads ∙ ap (most_by result body (costed_heads functions)) (parameter_names 0 params) in
-      let high : height deep (names_in bounds) body ≡ height deep (param_names params) body = ap (λ names. height deep names body) (parameter_names 0 params) in
-      goes_as scope lines refl pays account (goes_then scope lines refl pays account (ap (λ n. 0 + n) (sym (code-size basin callees site body kinded.0))) g
+      let high : height deep (names_in bounds) body ≡ height deep (param_names params) body =
+      ap (λ names. height deep names body) (parameter_names 0 params) in
+      goes_as scope lines refl pays account
+      (goes_then scope lines refl pays account (ap (λ n. 0 + n) (sym (code-size basin callees site body kinded.0))) g
       (widen_goes scope lines refl pays account result kind kinded.1 (behind heads body site).place [] [])) sum (omega (arith, low, w, high))

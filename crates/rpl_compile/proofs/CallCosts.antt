@@ -105,7 +105,8 @@ AreCosted cost [] [] = Unit {0}
 AreCosted cost (c ∷ callees) (f ∷ functions) = (c.head ≡ f.head) × (cost c.head c.block ≡ f.most) × AreCosted cost callees functions
 AreCosted cost _ _ = ⊥
 
-pub costed_same : (cost : CallCost) (callees : List Callee) (functions : List Costed) → AreCosted cost callees functions → callee_heads callees ≡ costed_heads functions
+pub costed_same : (cost : CallCost) (callees : List Callee) (functions : List Costed) → AreCosted cost callees functions
+    → callee_heads callees ≡ costed_heads functions
 costed_same cost [] [] h = refl
 costed_same cost [] (f ∷ functions) h = absurd h
 costed_same cost (c ∷ callees) [] h = absurd h
@@ -113,7 +114,8 @@ costed_same cost (c ∷ callees) (f ∷ functions) h = ap₂ (λ a b. a ∷ b) h
 
 pub called_cost : (all : List BlockHead) (number : ℕ) (cost : CallCost) (price : Instruction → ℕ) (f : List ℕ)
     → ((head : Head) (block : Option ℕ) → IsCallable all number head block → price (call_by f block) ≡ cost head block)
-    → (callees : List Callee) (functions : List Costed) → AreCallable all number callees → AreCosted cost callees functions → HasHead (callee_heads callees) f
+    → (callees : List Callee) (functions : List Costed) → AreCallable all number callees → AreCosted cost callees functions
+    → HasHead (callee_heads callees) f
     → price (call_line callees f) ≡ most_named functions f
 called_cost all number cost price f at [] functions a h has = absurd (cc has)
 called_cost all number cost price f at (c ∷ callees) [] a h has = absurd h
@@ -132,10 +134,12 @@ words_of_kinds [] = refl
 words_of_kinds (k ∷ ks) = let e = words_of_kinds ks in let w = words_weight k in omega (arith, e, w)
 
 module _ (scope : Scope) (budgets : List Budget) (b : Before) (f : List ℕ) where
-  pub counts_call : (head : Head) (block : Option ℕ) → IsCallable scope.heads scope.number head block → count_of scope budgets b (call_by f block) ≡ call_count budgets head block
+  pub counts_call : (head : Head) (block : Option ℕ) → IsCallable scope.heads scope.number head block
+      → count_of scope budgets b (call_by f block) ≡ call_count budgets head block
   counts_call head None h = refl
   counts_call head (Some n) h =
-      let w : words_of_parameters (numbered scope.heads n) ≡ weights head.takes = ap words_of_parameters h.there ∙ words_of_kinds head.takes in omega (arith, w)
+      let w : words_of_parameters (numbered scope.heads n) ≡ weights head.takes =
+      ap words_of_parameters h.there ∙ words_of_kinds head.takes in omega (arith, w)
 
   pub looks_call : (head : Head) (block : Option ℕ) → IsCallable scope.heads scope.number head block
       → looks_of scope budgets b (call_by f block) ≡ call_part (λ (b : Budget). b.looks) budgets head block

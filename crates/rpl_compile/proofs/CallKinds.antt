@@ -41,7 +41,8 @@ found_first head heads f e = by (bytes_eq head.name f) e refl
     }
     by false h e = absurd (cc h)
 
-found_later : (head : Head) (heads : List Head) (f : List ℕ) (takes : List Kind) (result : Kind) → bytes_eq head.name f ≡ false → Finds heads f takes result
+found_later : (head : Head) (heads : List Head) (f : List ℕ) (takes : List Kind) (result : Kind) → bytes_eq head.name f ≡ false
+    → Finds heads f takes result
     → Finds (head ∷ heads) f takes result
 found_later head heads f takes result e found = record {
   takes_are = ap (λ (t : Bool). if t then head.takes else takes_named heads f) e ∙ found.takes_are;
@@ -56,12 +57,14 @@ abbrev AreOfNumbers : List Head → Type 0
 AreOfNumbers [] = Unit {0}
 AreOfNumbers (head ∷ heads) = (head.takes ≡ replicate (length head.takes) number_kind) × (head.result ≡ number_kind) × AreOfNumbers heads
 
-found_numbers : (heads : List Head) (f : List ℕ) (count : ℕ) → AreOfNumbers heads → count_named heads f ≡ Some count → Finds heads f (replicate count number_kind) number_kind
+found_numbers : (heads : List Head) (f : List ℕ) (count : ℕ) → AreOfNumbers heads → count_named heads f ≡ Some count
+    → Finds heads f (replicate count number_kind) number_kind
 found_numbers [] f count are h = absurd (cc h)
 found_numbers (head ∷ heads) f count are h = by (bytes_eq head.name f) refl h (λ g. found_numbers heads f count are.2 g)
   where
     by : (t : Bool) → bytes_eq head.name f ≡ t → (if t then Some (length head.takes) else count_named heads f) ≡ Some count
-        → (count_named heads f ≡ Some count → Finds heads f (replicate count number_kind) number_kind) → Finds (head ∷ heads) f (replicate count number_kind) number_kind
+        → (count_named heads f ≡ Some count → Finds heads f (replicate count number_kind) number_kind)
+        → Finds (head ∷ heads) f (replicate count number_kind) number_kind
     by true e h later =
         let n : length head.takes ≡ count = cc h in
         let found = found_first head heads f e in
@@ -82,22 +85,26 @@ pub record Matches (earlier : List Signature) (heads : List Head) : Type 0 where
 
 pub matches_none : Matches [] (heads_of predefined_functions)
 matches_none = record {
-  predefined = λ f count h. found_numbers (heads_of predefined_functions) f count (refl, refl, (refl, refl, (refl, refl, (refl, refl, (refl, refl, (refl, refl, tt)))))) h;
+  predefined = λ f count h. found_numbers (heads_of predefined_functions) f count
+      (refl, refl, (refl, refl, (refl, refl, (refl, refl, (refl, refl, (refl, refl, tt)))))) h;
   declared = λ f known h e. absurd (cc e);
 }
 
 some_none : {A : Type 0} (o : Option A) (x : A) → o ≡ None → o ≡ Some x → ⊥
 some_none o x none some = cc
 
-not_found : (earlier : List Signature) (s : Signature) (f : List ℕ) → bytes_eq s.name f ≡ false → signature_named (earlier ++ s ∷ []) f ≡ signature_named earlier f
+not_found : (earlier : List Signature) (s : Signature) (f : List ℕ) → bytes_eq s.name f ≡ false
+    → signature_named (earlier ++ s ∷ []) f ≡ signature_named earlier f
 not_found [] s f e = ap (λ (t : Bool). if t then Some s else None) e
 not_found (known ∷ earlier) s f e = ap (λ (o : Option Signature). if bytes_eq known.name f then Some known else o) (not_found earlier s f e)
 
-found_last : (earlier : List Signature) (s : Signature) (f : List ℕ) → signature_named earlier f ≡ None → bytes_eq s.name f ≡ true → signature_named (earlier ++ s ∷ []) f ≡ Some s
+found_last : (earlier : List Signature) (s : Signature) (f : List ℕ) → signature_named earlier f ≡ None → bytes_eq s.name f ≡ true
+    → signature_named (earlier ++ s ∷ []) f ≡ Some s
 found_last [] s f none e = ap (λ (t : Bool). if t then Some s else None) e
 found_last (known ∷ earlier) s f none e = by (bytes_eq known.name f) none (λ g. found_last earlier s f g e)
   where
-    by : (t : Bool) → (if t then Some known else signature_named earlier f) ≡ None → (signature_named earlier f ≡ None → signature_named (earlier ++ s ∷ []) f ≡ Some s)
+    by : (t : Bool) → (if t then Some known else signature_named earlier f) ≡ None
+        → (signature_named earlier f ≡ None → signature_named (earlier ++ s ∷ []) f ≡ Some s)
         → (if t then Some known else signature_named (earlier ++ s ∷ []) f) ≡ Some s
     by true none later = absurd (cc none)
     by false none later = later none
@@ -146,7 +153,8 @@ unit_found (Some unit) made t h = (unit.0, h)
 room_found : (m : ℤ) (made : ℕ → RplType) (t : RplType) → with_room m made ≡ Ok t → kind_of_rpl_type (made (unsigned_abs m)) ≡ kind_of_rpl_type t
 room_found m made t h = by (int_le (pos 1) m && int_le m (pos longest)) h
   where
-    by : (test : Bool) → (if test then typed (made (unsigned_abs m)) else Err ListTooLong) ≡ Ok t → kind_of_rpl_type (made (unsigned_abs m)) ≡ kind_of_rpl_type t
+    by : (test : Bool) → (if test then typed (made (unsigned_abs m)) else Err ListTooLong) ≡ Ok t
+        → kind_of_rpl_type (made (unsigned_abs m)) ≡ kind_of_rpl_type t
     by true h = same_kind (made (unsigned_abs m)) t h
     by false h = absurd (cc h)
 
@@ -203,7 +211,8 @@ pub record Fresh (earlier : List Signature) (f : List ℕ) (ps : List Parameter)
   pub not_declared : signature_named earlier f ≡ None
   pub kinds : HeadKinds ps result
 
-pub fresh : (earlier : List Signature) (f : List ℕ) (ps : List Parameter) (result : TypeName) → head_refusal earlier f ps result ≡ None → Fresh earlier f ps result
+pub fresh : (earlier : List Signature) (f : List ℕ) (ps : List Parameter) (result : TypeName) → head_refusal earlier f ps result ≡ None
+    → Fresh earlier f ps result
 fresh earlier f ps result h = by (is_duplicate earlier f ps) refl h
   where
     by : (t : Bool) → is_duplicate earlier f ps ≡ t → (if t then Some DuplicateName else head_misfit ps result) ≡ None → Fresh earlier f ps result
@@ -218,7 +227,8 @@ fresh earlier f ps result h = by (is_duplicate earlier f ps) refl h
         }
 
 -- a function that is declared, behind those before it
-pub with_function : (earlier : List Signature) (heads : List Head) (f : List ℕ) (ps : List Parameter) (result : TypeName) → Matches earlier heads → Fresh earlier f ps result
+pub with_function : (earlier : List Signature) (heads : List Head) (f : List ℕ) (ps : List Parameter) (result : TypeName) → Matches earlier heads
+    → Fresh earlier f ps result
     → Matches (earlier ++ signature f ps result ∷ []) (record { name = f; takes = param_kinds ps; result = kind_of_type result } ∷ heads)
 with_function earlier heads f ps result before new =
     matches_more earlier heads (signature f ps result) (record { name = f; takes = param_kinds ps; result = kind_of_type result }) before refl
@@ -243,7 +253,8 @@ all_stand (t ∷ ts) [] e h = absurd (omega (arith, e))
 all_stand (t ∷ ts) (a ∷ asked) e h =
     let q = none_of_two (misfit t a) (misfit_in_places ts asked) h in (kinds_fit t a q.0, all_stand ts asked (omega (arith, e)) q.1)
 
-as_many : (ts asked : List RplType) (test : Bool) → (length ts == length asked) ≡ test → (if test then misfit_in_places ts asked else Some WrongCount) ≡ None
+as_many : (ts asked : List RplType) (test : Bool) → (length ts == length asked) ≡ test
+    → (if test then misfit_in_places ts asked else Some WrongCount) ≡ None
     → FitTypes (kinds_of_types asked) ts
 as_many ts asked false e h = absurd (cc h)
 as_many ts asked true e h = let n : length ts ≡ length asked = grind (arith, nat_tests, e) in all_stand ts asked n h
@@ -258,13 +269,15 @@ called_so : (heads : List Head) (f : List ℕ) (ts : List RplType) (t : RplType)
 called_so heads f ts t takes result found is fit =
     record { result_is = found.result_is ∙ is; has = found.has; fit = subst (λ ks. FitTypes ks ts) (sym found.takes_are) fit }
 
-made_of_numbers : (made : Dimension → Dimension) (ts : List RplType) (t : RplType) → numbers_type made ts ≡ Ok t → (number_kind ≡ kind_of_rpl_type t) × AreAlike number_kind ts
+made_of_numbers : (made : Dimension → Dimension) (ts : List RplType) (t : RplType) → numbers_type made ts ≡ Ok t
+    → (number_kind ≡ kind_of_rpl_type t) × AreAlike number_kind ts
 made_of_numbers made [] t h = absurd (cc h)
 made_of_numbers made (Numeric d ∷ ts) t h =
     let q = unrefused (misfit_among ts (Numeric d)) (Numeric (made d)) t h in (q.1, (refl, numbers_alike ts d q.0))
 made_of_numbers made (_ ∷ ts) t h = absurd (cc h)
 
-pub call_takes : (callable : Callable) (heads : List Head) (f : List ℕ) (ts : List RplType) (t : RplType) → Matches callable.earlier heads → call_type callable f ts ≡ Ok t
+pub call_takes : (callable : Callable) (heads : List Head) (f : List ℕ) (ts : List RplType) (t : RplType) → Matches callable.earlier heads
+    → call_type callable f ts ≡ Ok t
     → Called heads f ts t
 call_takes callable heads f ts t matches h = by (predefined_count f) refl h
   where
@@ -283,7 +296,8 @@ call_takes callable heads f ts t matches h = by (predefined_count f) refl h
         by_test true h = cc h
         by_test false h = cc h
 
-    declared : predefined_count f ≡ None → (o : Option Signature) → signature_named callable.earlier f ≡ o → declared_type callable f o ts ≡ Ok t → Called heads f ts t
+    declared : predefined_count f ≡ None → (o : Option Signature) → signature_named callable.earlier f ≡ o → declared_type callable f o ts ≡ Ok t
+        → Called heads f ts t
     declared none None e h = absurd (later callable.later h)
     declared none (Some known) e h =
         let q = unrefused (arguments_misfit ts known.takes) known.result t h in

@@ -85,8 +85,10 @@ predefined_callable all number = (
 )
 
 module _ (scope : Scope) where
-  invoke_fits : (block : ℕ) (result : ValueKind) (parameters : List ValueKind) → block < scope.number → numbered scope.heads block ≡ Some (Function result parameters)
-      → (p : ℕ) (ls : List ValueKind) (os : List Open) → judged scope p (before (reverse parameters ++ ls) os) (I.Invoke block) ≡ Ok (before (result ∷ ls) os)
+  invoke_fits : (block : ℕ) (result : ValueKind) (parameters : List ValueKind) → block < scope.number
+      → numbered scope.heads block ≡ Some (Function result parameters)
+      → (p : ℕ) (ls : List ValueKind) (os : List Open)
+      → judged scope p (before (reverse parameters ++ ls) os) (I.Invoke block) ≡ Ok (before (result ∷ ls) os)
   invoke_fits block result parameters lt there p ls os =
       let b : Before = before (reverse parameters ++ ls) os in
       let is_earlier : nat_lt block scope.number ≡ true = grind (arith, nat_tests, lt) in
@@ -105,7 +107,8 @@ module _ (scope : Scope) where
       ∙ takes_kinds scope (I.Call f) (replicate (length is.known.head.takes) K.N) (K.N ∷ []) ls os (ap call_row found)
       ∙ ap (λ k. Ok (before (k ∷ ls) os)) is.result
 
-  callable_fits : (f : List ℕ) (head : Head) (block : Option ℕ) → head.name ≡ f → IsCallable scope.heads scope.number head block → (p : ℕ) (ls : List ValueKind) (os : List Open)
+  callable_fits : (f : List ℕ) (head : Head) (block : Option ℕ) → head.name ≡ f → IsCallable scope.heads scope.number head block
+      → (p : ℕ) (ls : List ValueKind) (os : List Open)
       → judged scope p (before (reverse (code_kinds head.takes) ++ ls) os) (call_by f block) ≡ Ok (before (code_kind head.result ∷ ls) os)
   callable_fits f head None e h p ls os = call_fits f head e h p ls os
   callable_fits f head (Some block) e h p ls os = invoke_fits block (code_kind head.result) (code_kinds head.takes) h.earlier h.there p ls os
@@ -115,9 +118,11 @@ module _ (scope : Scope) where
   calls_fit (c ∷ callees) h f has p ls os = by (bytes_eq c.head.name f) refl has (λ g. calls_fit callees h.1 f g p ls os)
     where
       by : (t : Bool) → bytes_eq c.head.name f ≡ t → IsTrue (t || list_any (λ (head : Head). bytes_eq head.name f) (callee_heads callees))
-          → (HasHead (callee_heads callees) f → judged scope p (before (reverse (code_kinds (takes_named (callee_heads callees) f)) ++ ls) os) (call_line callees f)
+          → (HasHead (callee_heads callees) f
+          → judged scope p (before (reverse (code_kinds (takes_named (callee_heads callees) f)) ++ ls) os) (call_line callees f)
           ≡ Ok (before (code_kind (result_named (callee_heads callees) f) ∷ ls) os))
-          → judged scope p (before (reverse (code_kinds (if t then c.head.takes else takes_named (callee_heads callees) f)) ++ ls) os) (if t then call_by f c.block else call_line callees f)
+          → judged scope p (before (reverse (code_kinds (if t then c.head.takes else takes_named (callee_heads callees) f)) ++ ls) os)
+          (if t then call_by f c.block else call_line callees f)
           ≡ Ok (before (code_kind (if t then c.head.result else result_named (callee_heads callees) f) ∷ ls) os)
       by true e has later = callable_fits f c.head c.block ((bytes_eq-Decides c.head.name f).0 e) h.0 p ls os
       by false e has later = later has

@@ -71,9 +71,12 @@ answered b = Ok b
 
 passes_limits : (b : Budget) → IsWithinLimits b → within_limits b ≡ Ok b
 passes_limits b h =
-    ap (λ t. if t then Err Costly else (if nat_lt limits.looks b.looks then Err TooManyReads else (if nat_lt limits.puts b.puts then Err TooManyPuts else (if nat_lt limits.words b.words then Err TooDeep else answered b))))
+    ap (λ t. if t then Err Costly else
+    (if nat_lt limits.looks b.looks then Err TooManyReads else
+    (if nat_lt limits.puts b.puts then Err TooManyPuts else (if nat_lt limits.words b.words then Err TooDeep else answered b))))
     (not_above b.count limits.count h.count)
-    ∙ ap (λ t. if t then Err TooManyReads else (if nat_lt limits.puts b.puts then Err TooManyPuts else (if nat_lt limits.words b.words then Err TooDeep else answered b)))
+    ∙ ap (λ t. if t then Err TooManyReads else
+    (if nat_lt limits.puts b.puts then Err TooManyPuts else (if nat_lt limits.words b.words then Err TooDeep else answered b)))
     (not_above b.looks limits.looks h.looks)
     ∙ ap (λ t. if t then Err TooManyPuts else (if nat_lt limits.words b.words then Err TooDeep else answered b)) (not_above b.puts limits.puts h.puts)
     ∙ ap (λ t. if t then Err TooDeep else answered b) (not_above b.words limits.words h.words)
@@ -87,7 +90,8 @@ AreLeft n all rest = (j : ℕ) → slice_index all (n + j) ≡ slice_index rest 
 left_next : (n x : ℕ) (all rest : List ℕ) → AreLeft n all (x ∷ rest) → AreLeft (n + 1) all rest
 left_next n x all rest h j = let z : n + 1 + j ≡ n + suc j = omega arith in ap (slice_index all) z ∙ h (suc j)
 
-pub record Walked (rules : List Declared) (all : List Block) (callees : List Callee) (number : ℕ) (ds : List Declared) (earlier : List Block) (done : List Budget)
+pub record Walked (rules : List Declared) (all : List Block) (callees : List Callee) (number : ℕ) (ds : List Declared) (earlier : List Block)
+    (done : List Budget)
     (steps looks puts deep : List Costed) : Type 0 where
   pub reached : Reached all callees number ds earlier
   pub long : length done ≡ length earlier
@@ -99,7 +103,8 @@ pub record Walked (rules : List Declared) (all : List Block) (callees : List Cal
 
 -- a declaration of a number costs so much
 pub record Costs (rules : List Declared) (number count looks puts most : ℕ) : Type 0 where
-  pub is : budget_of rules number ≡ budget (capped limits.count count) (capped limits.looks looks) (capped limits.puts puts) (capped limits.words most)
+  pub is : budget_of rules number
+      ≡ budget (capped limits.count count) (capped limits.looks looks) (capped limits.puts puts) (capped limits.words most)
   pub within : IsWithinLimits (budget_of rules number)
 
 here_is : (all : List ℕ) (n number x : ℕ) → number ≡ suc n → slice_index all (n + 0) ≡ x → slice_index all (number - 1) ≡ x
@@ -147,17 +152,23 @@ last_numbered done x number n =
     let k : number - 1 ≡ length done = omega (arith, n) in
     numbered_by (done ++ x ∷ []) number x (ap (slice_get (done ++ x ∷ [])) k ∙ (has_behind done (x ∷ [])).0) (omega (arith, n))
 
-count_later : (all : List BlockHead) (number : ℕ) (done : List Budget) (x : Budget) (callees : List Callee) (functions : List Costed) → number ≡ suc (length done)
+count_later : (all : List BlockHead) (number : ℕ) (done : List Budget) (x : Budget) (callees : List Callee) (functions : List Costed)
+    → number ≡ suc (length done)
     → AreCallable all number callees → AreCosted (call_count done) callees functions → AreCosted (call_count (done ++ x ∷ [])) callees functions
 count_later all number done x callees functions n a h =
-    costed_later all number done (x ∷ []) call_count (λ head m e. ap (λ (o : Option Budget). weights head.takes + 1 + part_of (λ (b : Budget). b.count) o) e) (λ head. refl) n callees functions a h
+    costed_later all number done (x ∷ []) call_count
+    (λ head m e. ap (λ (o : Option Budget). weights head.takes + 1 + part_of (λ (b : Budget). b.count) o) e)
+    (λ head. refl) n callees functions a h
 
-part_later : (part : Budget → ℕ) (all : List BlockHead) (number : ℕ) (done : List Budget) (x : Budget) (callees : List Callee) (functions : List Costed) → number ≡ suc (length done)
-    → AreCallable all number callees → AreCosted (call_part part done) callees functions → AreCosted (call_part part (done ++ x ∷ [])) callees functions
+part_later : (part : Budget → ℕ) (all : List BlockHead) (number : ℕ) (done : List Budget) (x : Budget) (callees : List Callee)
+    (functions : List Costed) → number ≡ suc (length done)
+    → AreCallable all number callees → AreCosted (call_part part done) callees functions
+    → AreCosted (call_part part (done ++ x ∷ [])) callees functions
 part_later part all number done x callees functions n a h =
     costed_later all number done (x ∷ []) (call_part part) (λ head m e. ap (part_of part) e) (λ head. refl) n callees functions a h
 
-all_later : (all : List BlockHead) (number : ℕ) (done : List Budget) (x : Budget) (callees : List Callee) (steps looks puts deep : List Costed) → number ≡ suc (length done)
+all_later : (all : List BlockHead) (number : ℕ) (done : List Budget) (x : Budget) (callees : List Callee) (steps looks puts deep : List Costed)
+    → number ≡ suc (length done)
     → AreCallable all number callees → AllCosted done callees steps looks puts deep → AllCosted (done ++ x ∷ []) callees steps looks puts deep
 all_later all number done x callees steps looks puts deep n a h = record {
   by_steps = count_later all number done x callees steps n a h.by_steps;
@@ -168,16 +179,20 @@ all_later all number done x callees steps looks puts deep n a h = record {
 
 -- ---- behind a declaration
 
-one_further : (earlier : List Block) (block : Block) (all rest : List ℕ) → AreLeft (length earlier + 1) all rest → AreLeft (length (earlier ++ block ∷ [])) all rest
+one_further : (earlier : List Block) (block : Block) (all rest : List ℕ) → AreLeft (length earlier + 1) all rest
+    → AreLeft (length (earlier ++ block ∷ [])) all rest
 one_further earlier block all rest h = subst (λ n. AreLeft n all rest) (sym (length-append earlier (block ∷ []))) h
 
-one_longer : (earlier : List Block) (block : Block) (done : List Budget) (x : Budget) → length done ≡ length earlier → length (done ++ x ∷ []) ≡ length (earlier ++ block ∷ [])
+one_longer : (earlier : List Block) (block : Block) (done : List Budget) (x : Budget) → length done ≡ length earlier
+    → length (done ++ x ∷ []) ≡ length (earlier ++ block ∷ [])
 one_longer earlier block done x e = omega (arith, e, length-append earlier (block ∷ []), length-append done (x ∷ []))
 
-count_is : (number : ℕ) (earlier : List Block) (done : List Budget) → number ≡ suc (length earlier) → length done ≡ length earlier → number ≡ suc (length done)
+count_is : (number : ℕ) (earlier : List Block) (done : List Budget) → number ≡ suc (length earlier) → length done ≡ length earlier
+    → number ≡ suc (length done)
 count_is number earlier done n e = omega (arith, n, e)
 
-module _ (rules : List Declared) (all : List Block) (callees : List Callee) (number : ℕ) (ds : List Declared) (earlier : List Block) (done : List Budget)
+module _ (rules : List Declared) (all : List Block) (callees : List Callee) (number : ℕ) (ds : List Declared) (earlier : List Block)
+    (done : List Budget)
     (steps looks puts deep : List Costed) (x : Budget) where
   pub walked_rule : (f : List ℕ) (body : Acts) → Walked rules all callees number (rule f body ∷ ds) earlier done steps looks puts deep
       → Walked rules all callees (number + 1) ds (earlier ++ rule_block callees body ∷ []) (done ++ x ∷ []) steps looks puts deep
@@ -187,7 +202,8 @@ module _ (rules : List Declared) (all : List Block) (callees : List Callee) (num
       record {
         reached = behind_rule all callees number f body ds earlier w.reached;
         long = one_longer earlier block done x w.long;
-        costed = all_later (heads_of all) number done x callees steps looks puts deep (count_is number earlier done w.reached.counted w.long) w.reached.callable w.costed;
+        costed = all_later (heads_of all) number done x callees steps looks puts deep
+            (count_is number earlier done w.reached.counted w.long) w.reached.callable w.costed;
         left_steps = one_further earlier block (costs price_of_steps rules) (costs_from price_of_steps steps ds)
             (left_next n (most_of_acts price_of_steps steps [] body) (costs price_of_steps rules) (costs_from price_of_steps steps ds) w.left_steps);
         left_looks = one_further earlier block (costs price_of_looks rules) (costs_from price_of_looks looks ds)
@@ -195,7 +211,8 @@ module _ (rules : List Declared) (all : List Block) (callees : List Callee) (num
         left_puts = one_further earlier block (costs price_of_puts rules) (costs_from price_of_puts puts ds)
             (left_next n (most_of_acts price_of_puts puts [] body) (costs price_of_puts rules) (costs_from price_of_puts puts ds) w.left_puts);
         left_words = one_further earlier block (words rules) (words_from deep ds)
-            (left_next n (weights (acts_local_kinds (costed_heads deep) [] body) + height_of_acts deep [] body) (words rules) (words_from deep ds) w.left_words);
+            (left_next n (weights (acts_local_kinds (costed_heads deep) [] body) + height_of_acts deep [] body) (words rules)
+            (words_from deep ds) w.left_words);
       }
 
   module _ (f : List ℕ) (params : List Parameter) (result : TypeName) (body : Tree) where
@@ -211,16 +228,20 @@ module _ (rules : List Declared) (all : List Block) (callees : List Callee) (num
     abbrev pub words_inside : ℕ
     words_inside =
         weights (param_kinds params)
-        + (weights (local_kinds (costed_heads deep) (param_names params) body) + max (height deep (param_names params) body) (weight (kind_of_type result)))
+        + (weights (local_kinds (costed_heads deep) (param_names params) body) + max (height deep (param_names params) body)
+        (weight (kind_of_type result)))
 
     abbrev pub known_words : Costed
     known_words = record { head = head_here; most = words_inside }
 
     pub walked_function : Walked rules all callees number (function f params result body ∷ ds) earlier done steps looks puts deep
-        → Exact x (most_of_body price_of_steps steps (param_names params) (kind_of_type result) body) (most_of_body price_of_looks looks (param_names params) (kind_of_type result) body)
+        → Exact x (most_of_body price_of_steps steps (param_names params) (kind_of_type result) body)
+        (most_of_body price_of_looks looks (param_names params) (kind_of_type result) body)
         (most_of_body price_of_puts puts (param_names params) (kind_of_type result) body) words_inside
-        → Walked rules all (declared_callee number f params result ∷ callees) (number + 1) ds (earlier ++ function_block callees params (kind_of_type result) body ∷ [])
-        (done ++ x ∷ []) (known_by price_of_steps steps ∷ steps) (known_by price_of_looks looks ∷ looks) (known_by price_of_puts puts ∷ puts) (known_words ∷ deep)
+        → Walked rules all (declared_callee number f params result ∷ callees) (number + 1) ds
+        (earlier ++ function_block callees params (kind_of_type result) body ∷ [])
+        (done ++ x ∷ []) (known_by price_of_steps steps ∷ steps) (known_by price_of_looks looks ∷ looks) (known_by price_of_puts puts ∷ puts)
+        (known_words ∷ deep)
     walked_function w e =
         let block : Block = function_block callees params (kind_of_type result) body in
         let n : ℕ = length earlier in
@@ -259,13 +280,16 @@ module _ (rules : List Declared) (all : List Block) (callees : List Callee) (num
 
 module _ (basin : Draft) (rules : List Declared) (all : List Block) (few : AreFew all) where
   -- a block whose budget is that of its declaration passes
-  block_passes : (number : ℕ) (earlier rest : List Block) (done : List Budget) (block : Block) (a b c d : ℕ) → number ≡ suc (length earlier) → earlier ++ block ∷ rest ≡ all
-      → (fits : BlockFits basin all number block) → Comes (scope_of basin all number block) block.lines fits.0 done a b c d → Costs rules number a b c d
+  block_passes : (number : ℕ) (earlier rest : List Block) (done : List Budget) (block : Block) (a b c d : ℕ) → number ≡ suc (length earlier)
+      → earlier ++ block ∷ rest ≡ all
+      → (fits : BlockFits basin all number block) → Comes (scope_of basin all number block) block.lines fits.0 done a b c d
+      → Costs rules number a b c d
       → block_ruling basin all earlier done block ≡ Ok (budget_of rules number)
   block_passes number earlier rest done block a b c d n e fits comes cost =
       let judge : ℕ → List Before → Result Budget Misplaced =
       λ m bs. at_place (length block.lines) (within_limits (budget_by (scope_of basin all m block) done bs block.lines)) (λ b. Ok b) in
-      ap (λ (r : Result (List Before) Misplaced). then_do r (judge (suc (length earlier)))) (befores_found basin all number earlier rest block few n e fits)
+      ap (λ (r : Result (List Before) Misplaced). then_do r (judge (suc (length earlier))))
+      (befores_found basin all number earlier rest block few n e fits)
       ∙ ap (λ m. judge m fits.0) (sym n)
       ∙ ap (λ (x : Budget). at_place (length block.lines) (within_limits x) (λ b. Ok b))
       (comes_to (scope_of basin all number block) block.lines fits.0 done a b c d comes ∙ sym cost.is)
@@ -274,14 +298,18 @@ module _ (basin : Draft) (rules : List Declared) (all : List Block) (few : AreFe
   -- then the rest does
   with_rest : (number : ℕ) (earlier : List Block) (done : List Budget) (block : Block) (rest : List Block) (others : List Budget)
       → block_ruling basin all earlier done block ≡ Ok (budget_of rules number)
-      → each_block (block_ruling basin all) (earlier ++ block ∷ []) (done ++ budget_of rules number ∷ []) rest ≡ Ok ((done ++ budget_of rules number ∷ []) ++ others)
+      → each_block (block_ruling basin all) (earlier ++ block ∷ []) (done ++ budget_of rules number ∷ []) rest
+      ≡ Ok ((done ++ budget_of rules number ∷ []) ++ others)
       → each_block (block_ruling basin all) earlier done (block ∷ rest) ≡ Ok (done ++ budget_of rules number ∷ others)
   with_rest number earlier done block rest others own later =
-      ap (λ (r : Result Budget Misplaced). in_block (suc (length earlier)) r (λ b. each_block (block_ruling basin all) (earlier ++ block ∷ []) (done ++ b ∷ []) rest)) own
+      ap (λ (r : Result Budget Misplaced). in_block (suc (length earlier)) r
+      (λ b. each_block (block_ruling basin all) (earlier ++ block ∷ []) (done ++ b ∷ []) rest)) own
       ∙ later ∙ ap (λ (bs : List Budget). Ok bs) (append_assoc done (budget_of rules number ∷ []) others)
 
-  all_pass : (callees : List Callee) (number : ℕ) (sigs : List Signature) (ds : List Declared) (earlier : List Block) (done : List Budget) (steps looks puts deep : List Costed)
-      → Walked rules all callees number ds earlier done steps looks puts deep → AreDeclared basin rules number sigs ds → AreKindedFrom basin (callee_heads callees) ds
+  all_pass : (callees : List Callee) (number : ℕ) (sigs : List Signature) (ds : List Declared) (earlier : List Block) (done : List Budget)
+      (steps looks puts deep : List Costed)
+      → Walked rules all callees number ds earlier done steps looks puts deep → AreDeclared basin rules number sigs ds
+      → AreKindedFrom basin (callee_heads callees) ds
       → each_block (block_ruling basin all) earlier done (blocks_from callees number ds) ≡ Ok (done ++ budgets_from rules number ds)
   all_pass callees number sigs [] earlier done steps looks puts deep w t h = ap (λ (bs : List Budget). Ok bs) (sym (append-nil done))
   all_pass callees number sigs (rule f body ∷ ds) earlier done steps looks puts deep w t h =
@@ -308,8 +336,10 @@ module _ (basin : Draft) (rules : List Declared) (all : List Block) (few : AreFe
       let cost = costs_here rules (length earlier) number _ _ _ _ r.counted t.1 (w.left_steps 0) (w.left_looks 0) (w.left_puts 0) (w.left_words 0) in
       with_rest number earlier done block rest (budgets_from rules (number + 1) ds)
       (block_passes number earlier rest done block _ _ _ _ r.counted r.whole fits comes cost)
-      (all_pass (callee ∷ callees) (number + 1) (and_function (function f params result body) sigs) ds (earlier ++ block ∷ []) (done ++ x ∷ []) _ _ _ _
-      (walked_function rules all callees number ds earlier done steps looks puts deep x f params result body w (exact rules number _ _ _ _ cost)) t.2 h.1)
+      (all_pass (callee ∷ callees) (number + 1) (and_function (function f params result body) sigs) ds (earlier ++ block ∷ [])
+      (done ++ x ∷ []) _ _ _ _
+      (walked_function rules all callees number ds earlier done steps looks puts deep x f params result body w (exact rules number _ _ _ _ cost)) t.2
+      h.1)
 
 from_first : (all : List ℕ) → AreLeft 0 all all
 from_first all j = let z : 0 + j ≡ j = omega arith in ap (slice_index all) z
@@ -317,7 +347,8 @@ from_first all j = let z : 0 + j ≡ j = omega arith in ap (slice_index all) z
 pub compiled_budgets : (basin : Draft) (rules : List Declared) → IsTyped basin rules → rule_count rules ≤ 200 → function_count rules ≤ 200
     → ruling basin (translate rules) ≡ Ok (budgets_of rules)
 compiled_budgets basin rules typed few_rules few_functions =
-    let first : Walked rules (translate rules) predefined_callees 1 rules [] [] (predefined_costs 1) (predefined_costs 0) (predefined_costs 0) (predefined_costs 0) = record {
+    let first : Walked rules (translate rules) predefined_callees 1 rules [] [] (predefined_costs 1) (predefined_costs 0) (predefined_costs 0)
+    (predefined_costs 0) = record {
       reached = reached_first rules;
       long = refl;
       costed = record {
@@ -331,7 +362,8 @@ compiled_budgets basin rules typed few_rules few_functions =
       left_puts = from_first (costs price_of_puts rules);
       left_words = from_first (words rules);
     } in
-    all_pass basin rules (translate rules) (few_blocks rules few_rules few_functions) predefined_callees 1 [] rules [] [] (predefined_costs 1) (predefined_costs 0) (predefined_costs 0)
+    all_pass basin rules (translate rules) (few_blocks rules few_rules few_functions) predefined_callees 1 [] rules [] [] (predefined_costs 1)
+    (predefined_costs 0) (predefined_costs 0)
     (predefined_costs 0) first typed (typed_is_kinded basin rules typed)
 
 pub compiled_code_is_accepted : (basin : Draft) (rules : List Declared) → IsTyped basin rules → rule_count rules ≤ 200 → function_count rules ≤ 200

@@ -30,12 +30,14 @@ counts_add head [] ys = omega arith
 counts_add head (x ∷ xs) ys = by (is_alike head x.head) (counts_add head xs ys)
   where
     by : (t : Bool) → count_alike head (xs ++ ys) ≡ count_alike head xs + count_alike head ys
-        → (if t then suc (count_alike head (xs ++ ys)) else count_alike head (xs ++ ys)) ≡ (if t then suc (count_alike head xs) else count_alike head xs) + count_alike head ys
+        → (if t then suc (count_alike head (xs ++ ys)) else count_alike head (xs ++ ys))
+        ≡ (if t then suc (count_alike head xs) else count_alike head xs) + count_alike head ys
     by true e = omega (arith, e)
     by false e = e
 
 -- behind fewer blocks than there may be
-pub room_for : (all earlier rest : List Block) (block : Block) → count_alike block.head all ≤ 200 → earlier ++ block ∷ rest ≡ all → nat_lt (count_alike block.head earlier) 200 ≡ true
+pub room_for : (all earlier rest : List Block) (block : Block) → count_alike block.head all ≤ 200 → earlier ++ block ∷ rest ≡ all
+    → nat_lt (count_alike block.head earlier) 200 ≡ true
 room_for all earlier rest block few e =
     let n = counts_add block.head earlier (block ∷ rest) in
     let one : count_alike block.head (block ∷ rest) ≡ suc (count_alike block.head rest) =
@@ -73,8 +75,10 @@ there : (all earlier rest : List Block) (block : Block) (number : ℕ) → numbe
 there all earlier rest block number n e =
     let k : number - 1 ≡ length earlier = omega (arith, n) in
     let at : slice_get all (number - 1) ≡ Some block =
-    ap (λ (xs : List Block). slice_get xs (number - 1)) (sym e) ∙ ap (slice_get (earlier ++ block ∷ rest)) k ∙ (has_behind earlier (block ∷ rest)).0 in
-    numbered_by (heads_of all) number block.head (slice_get-map (λ (x : Block). x.head) all (number - 1) ∙ ap (option_map (λ (x : Block). x.head)) at) (omega (arith, n))
+    ap (λ (xs : List Block). slice_get xs (number - 1)) (sym e) ∙ ap (slice_get (earlier ++ block ∷ rest)) k
+    ∙ (has_behind earlier (block ∷ rest)).0 in
+    numbered_by (heads_of all) number block.head
+    (slice_get-map (λ (x : Block). x.head) all (number - 1) ∙ ap (option_map (λ (x : Block). x.head)) at) (omega (arith, n))
 
 -- ---- what is known on the way through a ruleset
 
@@ -98,11 +102,14 @@ behind_rule all callees number f body ds earlier r =
     }
 
 abbrev pub declared_callee : ℕ → List ℕ → List Parameter → TypeName → Callee
-declared_callee number f params result = record { head = record { name = f; takes = param_kinds params; result = kind_of_type result }; block = Some number }
+declared_callee number f params result =
+    record { head = record { name = f; takes = param_kinds params; result = kind_of_type result }; block = Some number }
 
-pub behind_function : (all : List Block) (callees : List Callee) (number : ℕ) (f : List ℕ) (params : List Parameter) (result : TypeName) (body : Tree) (ds : List Declared)
+pub behind_function : (all : List Block) (callees : List Callee) (number : ℕ) (f : List ℕ) (params : List Parameter) (result : TypeName)
+    (body : Tree) (ds : List Declared)
     (earlier : List Block) → Reached all callees number (function f params result body ∷ ds) earlier
-    → Reached all (declared_callee number f params result ∷ callees) (number + 1) ds (earlier ++ function_block callees params (kind_of_type result) body ∷ [])
+    → Reached all (declared_callee number f params result ∷ callees) (number + 1) ds
+    (earlier ++ function_block callees params (kind_of_type result) body ∷ [])
 behind_function all callees number f params result body ds earlier r =
     let block : Block = function_block callees params (kind_of_type result) body in
     let later : List Block = blocks_from (declared_callee number f params result ∷ callees) (number + 1) ds in
@@ -121,10 +128,12 @@ reached_first ds = record { whole = refl; counted = refl; callable = predefined_
 -- ---- all blocks
 
 -- what is before each place of a block that fits is found, where there are few before it
-pub befores_found : (basin : Draft) (all : List Block) (number : ℕ) (earlier rest : List Block) (block : Block) → AreFew all → number ≡ suc (length earlier)
+pub befores_found : (basin : Draft) (all : List Block) (number : ℕ) (earlier rest : List Block) (block : Block) → AreFew all
+    → number ≡ suc (length earlier)
     → earlier ++ block ∷ rest ≡ all → (fits : BlockFits basin all number block) → block_befores basin all earlier block ≡ Ok fits.0
 befores_found basin all number earlier rest block few n e fits =
-    ap (λ t. if t then befores (scope_of basin all (suc (length earlier)) block) 0 (before [] []) block.lines else Err (record { misfit = TooMany; place = 0 }))
+    ap (λ t. if t then befores (scope_of basin all (suc (length earlier)) block) 0 (before [] []) block.lines else Err
+    (record { misfit = TooMany; place = 0 }))
     (room_for all earlier rest block (few block.head) e)
     ∙ ap (λ m. befores (scope_of basin all m block) 0 (before [] []) block.lines) (sym n) ∙ fits.1
 
@@ -135,14 +144,20 @@ module _ (basin : Draft) (all : List Block) (few : AreFew all) where
   abbrev Passes : List Block → List (List Before) → List Block → Type 0
   Passes earlier done blocks = (out : List (List Before)) × (each_block judge earlier done blocks ≡ Ok out)
 
-  passes_next : (number : ℕ) (earlier : List Block) (done : List (List Before)) (block : Block) (rest : List Block) → number ≡ suc (length earlier) → earlier ++ block ∷ rest ≡ all
-      → BlockFits basin all number block → ((bs : List Before) → Passes (earlier ++ block ∷ []) (done ++ bs ∷ []) rest) → Passes earlier done (block ∷ rest)
+  passes_next : (number : ℕ) (earlier : List Block) (done : List (List Before)) (block : Block) (rest : List Block) → number ≡ suc (length earlier)
+      → earlier ++ block ∷ rest ≡ all
+      → BlockFits basin all number block → ((bs : List Before) → Passes (earlier ++ block ∷ []) (done ++ bs ∷ []) rest)
+      → Passes earlier done (block ∷ rest)
   passes_next number earlier done block rest n e fits later =
       let others = later fits.0 in
-      let own = befores_found basin all number earlier rest block few n e fits in
-      (others.0, ap (λ (r : Result (List Before) Misplaced). in_block (suc (length earlier)) r (λ bs. each_block judge (earlier ++ block ∷ []) (done ++ bs ∷ []) rest)) own ∙ others.1)
+      let own = befores_found basin all number earlier rest block few n e fits in (
+        others.0,
+        ap (λ (r : Result (List Before) Misplaced). in_block (suc (length earlier)) r
+            (λ bs. each_block judge (earlier ++ block ∷ []) (done ++ bs ∷ []) rest)) own ∙ others.1,
+      )
 
-  blocks_fit : (callees : List Callee) (number : ℕ) (ds : List Declared) (earlier : List Block) (done : List (List Before)) → Reached all callees number ds earlier
+  blocks_fit : (callees : List Callee) (number : ℕ) (ds : List Declared) (earlier : List Block) (done : List (List Before))
+      → Reached all callees number ds earlier
       → AreKindedFrom basin (callee_heads callees) ds → Passes earlier done (blocks_from callees number ds)
   blocks_fit callees number [] earlier done r h = (done, refl)
   blocks_fit callees number (rule f body ∷ ds) earlier done r h =
@@ -158,7 +173,9 @@ module _ (basin : Draft) (all : List Block) (few : AreFew all) where
       (λ bs. blocks_fit (callee ∷ callees) (number + 1) ds (earlier ++ block ∷ []) (done ++ bs ∷ [])
       (behind_function all callees number f params result body ds earlier r) h.1)
 
-pub compiled_code_fits : (basin : Draft) (rules : List Declared) → AreKinded basin rules → rule_count rules ≤ 200 → function_count rules ≤ 200 → AreFit basin (translate rules)
+pub compiled_code_fits : (basin : Draft) (rules : List Declared) → AreKinded basin rules → rule_count rules ≤ 200 → function_count rules ≤ 200
+    → AreFit basin (translate rules)
 compiled_code_fits basin rules kinded few_rules few_functions =
-    let p = blocks_fit basin (translate rules) (few_blocks rules few_rules few_functions) predefined_callees 1 rules [] [] (reached_first rules) kinded in
+    let p = blocks_fit basin (translate rules) (few_blocks rules few_rules few_functions) predefined_callees 1 rules [] []
+    (reached_first rules) kinded in
     ap (λ (r : Result (List (List Before)) Refusal). refusal_in r) p.1

@@ -53,7 +53,8 @@ pub record Account (scope : Scope) (lines : List Instruction) (pays : Price) : T
   pub next : (p q r s h t g : ℕ) (b c d : Before) → F p b s h q c → F q c t g r d → F p b (s + t) (max h g) r d
   pub none : (p : ℕ) (b : Before) → F p b 0 (words_kept scope.locals b) p b
   -- a branch, a part, a jump, a target, another part, and a target
-  pub choice : (p q jump_at to r last s h t g : ℕ) (ks ls : List ValueKind) (b c d : Before) → suc p ≡ q → suc jump_at ≡ to → suc to ≡ r → p < to → jump_at < last
+  pub choice : (p q jump_at to r last s h t g : ℕ) (ks ls : List ValueKind) (b c d : Before) → suc p ≡ q → suc jump_at ≡ to → suc to ≡ r → p < to
+      → jump_at < last
       → slice_get lines p ≡ Some (I.Branch to) → judged scope p b (I.Branch to) ≡ Ok c → F q c s h jump_at d
       → slice_get lines jump_at ≡ Some (I.Jump last) → judged scope jump_at d (I.Jump last) ≡ Ok c
       → slice_get lines to ≡ Some (I.Target ks) → judged scope to c (I.Target ks) ≡ Ok c → F r c t g last d

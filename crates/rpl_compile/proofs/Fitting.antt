@@ -102,7 +102,8 @@ module _ (scope : Scope) (lines : List Instruction) where
     choice = λ p q jump_at to r last s h t g ks ls b c d e1 e2 e3 lt1 lt2 a1 j1 f a2 j2 a3 j3 l a4 j4 k1 k2 k3.
         back_choice p q jump_at to r last ks ls b c d e1 e2 e3 a1 j1 f a2 j2 a3 j3 l a4 j4;
     loop = λ p q last room s h i j o b c d e z far at enters w u room_is inside start opened at_last leaves v y k end.
-        back_one scope lines p b c i at enters (subst (λ n. Fitted scope lines n c) (sym z) (inside (back_one scope lines last d e j at_last leaves end)));
+        back_one scope lines p b c i at enters
+        (subst (λ n. Fitted scope lines n c) (sym z) (inside (back_one scope lines last d e j at_last leaves end)));
   }
 
 -- functions that cost nothing
@@ -135,7 +136,8 @@ abbrev pub BlockFits : Draft → List Block → ℕ → Block → Type 0
 BlockFits basin all number block = (bs : List Before) × (befores (scope_of basin all number block) 0 (before [] []) block.lines ≡ Ok bs)
 
 module _ (basin : Draft) (all : List Block) (number : ℕ) (callees : List Callee) where
-  pub rule_fits : (body : Acts) → LinesFit (scope_of basin all number (rule_block callees body)) callees → AreKindedActs basin (callee_heads callees) [] body
+  pub rule_fits : (body : Acts) → LinesFit (scope_of basin all number (rule_block callees body)) callees
+      → AreKindedActs basin (callee_heads callees) [] body
       → BlockFits basin all number (rule_block callees body)
   unfolding fitting_account
   rule_fits body calls h =
@@ -147,14 +149,17 @@ module _ (basin : Draft) (all : List Block) (number : ℕ) (callees : List Calle
       let z : 0 + length block.lines ≡ length block.lines = omega arith in
       (w.go (has_all block.lines) refl).0 (fitted_end scope block.lines (0 + length block.lines) z)
 
-  pub function_fits : (params : List Parameter) (result : Kind) (body : Tree) → LinesFit (scope_of basin all number (function_block callees params result body)) callees
-      → IsKindedBody basin (callee_heads callees) (param_names params) result body → BlockFits basin all number (function_block callees params result body)
+  pub function_fits : (params : List Parameter) (result : Kind) (body : Tree)
+      → LinesFit (scope_of basin all number (function_block callees params result body)) callees
+      → IsKindedBody basin (callee_heads callees) (param_names params) result body
+      → BlockFits basin all number (function_block callees params result body)
   unfolding fitting_account
   function_fits params result body calls h =
       let block : Block = function_block callees params result body in
       let scope : Scope = scope_of basin all number block in
       let free : List Costed = free_functions callees in
-      let w = function_goes basin all number callees free free (free_heads callees) (free_heads callees) no_price params result body (fitting_account scope block.lines)
+      let w = function_goes basin all number callees free free (free_heads callees) (free_heads callees) no_price params result body
+      (fitting_account scope block.lines)
       (free_calls scope block.lines callees calls) h in
       let z : 0 + length block.lines ≡ length block.lines = omega arith in
       (w.go (has_all block.lines) refl).0 (fitted_end scope block.lines (0 + length block.lines) z)

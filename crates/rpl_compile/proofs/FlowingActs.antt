@@ -36,12 +36,14 @@ module _ (setting : Setting) (in_rule : setting.scope.head ≡ Rule) where
 
   -- an expression before statements
   pub record Value (t : Tree) (site : Site) (os : List Open) (ks : List Kind) : Type 0 where
-    pub way : Leads setting (code_of setting.callees site t) site.place (here site os) (before (code_kind (tree_kind (heads setting) (names_in site.scope) t) ∷ code_kinds site.below) os)
+    pub way : Leads setting (code_of setting.callees site t) site.place (here site os)
+        (before (code_kind (tree_kind (heads setting) (names_in site.scope) t) ∷ code_kinds site.below) os)
         (cost setting (names_in site.scope) t) (kept setting (here site os) + tall_of setting (names_in site.scope) t)
     pub own : HasAt setting.scope.locals (behind (heads setting) t site).free (code_kinds ks)
     pub far : (behind (heads setting) t site).place ≡ site.place + length (code_of setting.callees site t)
 
-  value : (t : Tree) (site : Site) (os : List Open) (ks : List Kind) → IsKinded setting.scope.basin (heads setting) (names_in site.scope) t → Placed setting.scope.locals site.scope
+  value : (t : Tree) (site : Site) (os : List Open) (ks : List Kind) → IsKinded setting.scope.basin (heads setting) (names_in site.scope) t
+      → Placed setting.scope.locals site.scope
       → HasAt setting.scope.locals site.free (code_kinds (own_kinds site t ++ ks)) → Value t site os ks
   value t site os ks h pl lo = record {
     way = flows setting t site os h pl (kinds_front setting.scope.locals site.free (own_kinds site t) ks lo);
@@ -51,16 +53,20 @@ module _ (setting : Setting) (in_rule : setting.scope.head ≡ Rule) where
 
   abbrev Claim : Act → Type 0
   Claim a =
-      (site : Site) (os : List Open) → IsKindedAct setting.scope.basin (heads setting) (names_in site.scope) a → Placed setting.scope.locals site.scope
+      (site : Site) (os : List Open) → IsKindedAct setting.scope.basin (heads setting) (names_in site.scope) a
+      → Placed setting.scope.locals site.scope
       → HasAt setting.scope.locals site.free (code_kinds (act_local_kinds (heads setting) (names_in site.scope) a))
-      → Leads setting (act_code setting.callees site a) site.place (here site os) (here site os) (most_of_act setting.pays setting.functions (names_in site.scope) a)
+      → Leads setting (act_code setting.callees site a) site.place (here site os) (here site os)
+      (most_of_act setting.pays setting.functions (names_in site.scope) a)
       (words_kept setting.scope.locals (here site os) + height_of_act setting.deep (names_in site.scope) a)
 
   abbrev ClaimAll : Acts → Type 0
   ClaimAll acts =
-      (site : Site) (os : List Open) → AreKindedActs setting.scope.basin (heads setting) (names_in site.scope) acts → Placed setting.scope.locals site.scope
+      (site : Site) (os : List Open) → AreKindedActs setting.scope.basin (heads setting) (names_in site.scope) acts
+      → Placed setting.scope.locals site.scope
       → HasAt setting.scope.locals site.free (code_kinds (acts_local_kinds (heads setting) (names_in site.scope) acts))
-      → Leads setting (acts_code setting.callees site acts) site.place (here site os) (here site os) (most_of_acts setting.pays setting.functions (names_in site.scope) acts)
+      → Leads setting (acts_code setting.callees site acts) site.place (here site os) (here site os)
+      (most_of_acts setting.pays setting.functions (names_in site.scope) acts)
       (words_kept setting.scope.locals (here site os) + height_of_acts setting.deep (names_in site.scope) acts)
 
   flow_assign : (o s : List ℕ) (ahead : ℤ) (e : Tree) → Claim (assign o s ahead e)
@@ -71,7 +77,8 @@ module _ (setting : Setting) (in_rule : setting.scope.head ≡ Rule) where
       told setting (seq setting (ap (λ n. site.place + n) (sym (code-size setting.scope.basin setting.callees site e h.0))) way
       (line setting {i = I.Put o s (unsigned_abs ahead)} {p = q} {c = here site os}
       (ap (λ k. judged setting.scope q (before (code_kind k ∷ code_kinds site.below) os) (I.Put o s (unsigned_abs ahead))) h.1
-      ∙ put_fits setting.scope q o s ahead (code_kinds site.below) os in_rule h.2) refl (λ x. x) (setting.account.prices.put _ o s (unsigned_abs ahead)))) refl (omega (arith, low))
+      ∙ put_fits setting.scope q o s ahead (code_kinds site.below) os in_rule h.2) refl (λ x. x)
+      (setting.account.prices.put _ o s (unsigned_abs ahead)))) refl (omega (arith, low))
 
   flow_branch : (c : Tree) (first second : Acts) → ClaimAll first → ClaimAll second → Claim (branch c first second)
   flow_branch c first second one_part other_part site os h pl lo =
@@ -83,13 +90,17 @@ module _ (setting : Setting) (in_rule : setting.scope.head ≡ Rule) where
       let xs : List Instruction = acts_code setting.callees ahead first in
       let ys : List Instruction = acts_code setting.callees later second in
       let test = value c site os (own_of_acts site first ++ own_of_acts site second) h.0 pl lo in
-      let own_second = kinds_back setting.scope.locals ahead.free _ (own_of_acts site first) (own_of_acts site second) (acts_locals_count (heads setting) first (names_in site.scope)) test.own in
-      let long_x : length xs ≡ size_of_acts (heads setting) (names_in site.scope) first = acts-size setting.scope.basin setting.callees ahead first h.2 in
-      let long_y : length ys ≡ size_of_acts (heads setting) (names_in site.scope) second = acts-size setting.scope.basin setting.callees later second h.3 in
+      let own_second = kinds_back setting.scope.locals ahead.free _ (own_of_acts site first) (own_of_acts site second)
+      (acts_locals_count (heads setting) first (names_in site.scope)) test.own in
+      let long_x : length xs ≡ size_of_acts (heads setting) (names_in site.scope) first =
+      acts-size setting.scope.basin setting.callees ahead first h.2 in
+      let long_y : length ys ≡ size_of_acts (heads setting) (names_in site.scope) second =
+      acts-size setting.scope.basin setting.callees later second h.3 in
       let way = to setting (ap (λ k. before (code_kind k ∷ ls) os) h.1) test.way in
       let low : kept setting (before (K.B ∷ ls) os) ≤ kept setting (here site os) + tall_of setting (names_in site.scope) c = way.tall in
       told setting (seq setting test.far way
-      (goes_choice setting.scope setting.lines setting.spots_are setting.pays setting.account xs ys (behind (heads setting) c site).place ahead.place (middle.place + 1) later.place end.place _ _ _ _ ls ls os
+      (goes_choice setting.scope setting.lines setting.spots_are setting.pays setting.account xs ys (behind (heads setting) c site).place ahead.place
+      (middle.place + 1) later.place end.place _ _ _ _ ls ls os
       refl (omega (arith, long_x)) (omega arith) (omega (arith, long_y))
       (one_part ahead os h.2 pl (kinds_front setting.scope.locals ahead.free (own_of_acts site first) (own_of_acts site second) test.own))
       (other_part later os h.3 pl own_second))) refl (omega (arith, low))
@@ -109,9 +120,12 @@ module _ (setting : Setting) (in_rule : setting.scope.head ≡ Rule) where
       let low = v.way.tall in
       let b : Before = before (code_kind kind ∷ ls) os in
       let sum : setting.pays.step (weight kind) + most_of_acts setting.pays setting.functions ((x, kind) ∷ names) body
-      ≡ setting.pays.step (weight (tree_kind (costed_heads setting.functions) names e)) + most_of_acts setting.pays setting.functions ((x, tree_kind (costed_heads setting.functions) names e) ∷ names) body =
-      ap (λ hs. setting.pays.step (weight (tree_kind hs names e)) + most_of_acts setting.pays setting.functions ((x, tree_kind hs names e) ∷ names) body) setting.same_heads in
-      let high : height_of_acts setting.deep ((x, kind) ∷ names) body ≡ height_of_acts setting.deep ((x, tree_kind (costed_heads setting.deep) names e) ∷ names) body =
+      ≡ setting.pays.step (weight (tree_kind (costed_heads setting.functions) names e)) + most_of_acts setting.pays setting.functions
+      ((x, tree_kind (costed_heads setting.functions) names e) ∷ names) body =
+      ap (λ hs. setting.pays.step (weight (tree_kind hs names e)) + most_of_acts setting.pays setting.functions
+      ((x, tree_kind hs names e) ∷ names) body) setting.same_heads in
+      let high : height_of_acts setting.deep ((x, kind) ∷ names) body
+      ≡ height_of_acts setting.deep ((x, tree_kind (costed_heads setting.deep) names e) ∷ names) body =
       ap (λ hs. height_of_acts setting.deep ((x, tree_kind hs names e) ∷ names) body) setting.deep_heads in
       told setting (seq setting v.far v.way (seq setting refl
       (line setting (store_fits setting.scope (behind (heads setting) e first).place site.free (code_kind kind) ls os lo.0) refl (λ x. x)
@@ -124,7 +138,9 @@ module _ (setting : Setting) (in_rule : setting.scope.head ≡ Rule) where
       let own_rest = own_of_acts site rest in
       told setting (seq setting (ap (λ n. site.place + n) (sym (act-size setting.scope.basin setting.callees site a h.0)))
       (first site os h.0 pl (kinds_front setting.scope.locals site.free own_a own_rest lo))
-      (others (behind_act (heads setting) a site) os h.1 pl (kinds_back setting.scope.locals site.free _ own_a own_rest (act_locals_count (heads setting) a (names_in site.scope)) lo))) refl (omega arith)
+      (others (behind_act (heads setting) a site) os h.1 pl
+      (kinds_back setting.scope.locals site.free _ own_a own_rest (act_locals_count (heads setting) a (names_in site.scope)) lo))) refl
+      (omega arith)
 
   mutual
     flows_act : (a : Act) → Claim a
@@ -133,5 +149,6 @@ module _ (setting : Setting) (in_rule : setting.scope.head ≡ Rule) where
     flows_act (with_name x e body) = flow_with x e body (flows_acts body)
 
     pub flows_acts : (acts : Acts) → ClaimAll acts
-    flows_acts no_acts = λ site os h pl lo. told setting (goes_none setting.scope setting.lines setting.spots_are setting.pays setting.account site.place (here site os)) refl (omega arith)
+    flows_acts no_acts = λ site os h pl lo. told setting
+        (goes_none setting.scope setting.lines setting.spots_are setting.pays setting.account site.place (here site os)) refl (omega arith)
     flows_acts (act a rest) = flow_act a rest (flows_act a) (flows_acts rest)

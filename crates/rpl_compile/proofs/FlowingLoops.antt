@@ -39,14 +39,19 @@ module _ (setting : Setting) where
       subst (λ n. HasAt setting.scope.locals n (code_kinds (local_kinds (heads setting) names e ++ inner))) z lo.1 in
       let a = value first os h.0 pl (own_front setting first e inner own) in
       let low = a.tall in
-      let sum : setting.pays.step (weight kind) + cost setting ((x, kind) ∷ names) b ≡ setting.pays.step (weight (tree_kind (costed_heads setting.functions) names e)) + cost setting ((x, tree_kind (costed_heads setting.functions) names e) ∷ names) b =
+      let sum : setting.pays.step (weight kind) + cost setting ((x, kind) ∷ names) b
+      ≡ setting.pays.step (weight (tree_kind (costed_heads setting.functions) names e)) + cost setting
+      ((x, tree_kind (costed_heads setting.functions) names e) ∷ names) b =
       ap (λ k. setting.pays.step (weight k) + cost setting ((x, k) ∷ names) b) (same_kind setting names e) in
-      let high : tall_of setting ((x, kind) ∷ names) b ≡ tall_of setting ((x, tree_kind (costed_heads setting.deep) names e) ∷ names) b = ap (λ k. tall_of setting ((x, k) ∷ names) b) (deep_kind setting names e) in
-      told setting (seq setting (far setting first e h.0) a (seq setting refl (stores setting (behind (heads setting) e first).place site.free kind ls os lo.0)
+      let high : tall_of setting ((x, kind) ∷ names) b ≡ tall_of setting ((x, tree_kind (costed_heads setting.deep) names e) ∷ names) b =
+      ap (λ k. tall_of setting ((x, k) ∷ names) b) (deep_kind setting names e) in
+      told setting (seq setting (far setting first e h.0) a
+      (seq setting refl (stores setting (behind (heads setting) e first).place site.free kind ls os lo.0)
       (body inside os h.1 (lo.0, pl) (own_back setting first e inner own)))) (omega (arith, sum)) (omega (arith, low, high))
 
   -- a loop's turns, with the line that ends each
-  turned_lines : (body room : List Instruction) (i j k : Instruction) → body ++ (room ++ (i ∷ j ∷ k ∷ [])) ≡ (body ++ (room ++ i ∷ [])) ++ (j ∷ k ∷ [])
+  turned_lines : (body room : List Instruction) (i j k : Instruction)
+      → body ++ (room ++ (i ∷ j ∷ k ∷ [])) ≡ (body ++ (room ++ i ∷ [])) ++ (j ∷ k ∷ [])
   turned_lines body room i j k =
       ap (λ l. body ++ l) (sym (append_assoc room (i ∷ []) (j ∷ k ∷ []))) ∙ sym (append_assoc body (room ++ i ∷ []) (j ∷ k ∷ []))
 
@@ -58,7 +63,8 @@ module _ (setting : Setting) where
   each_cost names x l a f b hs =
       let total : Kind = tree_kind hs names f in
       let inside : Names = (a, total) ∷ (x, element_of (tree_kind hs names l)) ∷ names in
-      setting.pays.step (2 * weight total + 1) + room_of (tree_kind hs names l) * (cost setting inside b + (room_cost setting total (tree_kind hs inside b) + setting.pays.step (weight total + 1)))
+      setting.pays.step (2 * weight total + 1) + room_of (tree_kind hs names l) *
+      (cost setting inside b + (room_cost setting total (tree_kind hs inside b) + setting.pays.step (weight total + 1)))
 
   abbrev each_height : Names → List ℕ → Tree → List ℕ → Tree → Tree → List Head → ℕ
   each_height names x l a f b hs =
@@ -66,7 +72,8 @@ module _ (setting : Setting) where
       let total : Kind = tree_kind hs names f in
       max (weight all + tall_of setting names f) (room_of all + 3 + max (tall_of setting ((a, total) ∷ (x, element_of all) ∷ names) b) (weight total))
 
-  pub flow_each : (x : List ℕ) (l : Tree) (a : List ℕ) (f b : Tree) → Claim setting l → Claim setting f → Claim setting b → Claim setting (each x l a f b)
+  pub flow_each : (x : List ℕ) (l : Tree) (a : List ℕ) (f b : Tree) → Claim setting l → Claim setting f → Claim setting b
+      → Claim setting (each x l a f b)
   flow_each x l a f b items first body site os h pl lo =
       let names : Names = names_in site.scope in
       let all : Kind = kind_of_code setting site l in
@@ -74,7 +81,8 @@ module _ (setting : Setting) where
       let start_site : Site = keeping 2 site in
       let start : Site = over all (behind (heads setting) l start_site) in
       let q : ℕ = (behind (heads setting) f start).place in
-      let inside : Site = knowing (bound a total (site.free + 1)) (knowing (bound x (element_of all) site.free) (on 2 (behind (heads setting) f (behind (heads setting) l start_site)))) in
+      let inside : Site = knowing (bound a total (site.free + 1))
+      (knowing (bound x (element_of all) site.free) (on 2 (behind (heads setting) f (behind (heads setting) l start_site)))) in
       let inner_names : Names = (a, total) ∷ (x, element_of all) ∷ names in
       let turn_kind : Kind = kind_of_code setting inside b in
       let ls : List ValueKind = code_kinds site.below in
@@ -82,9 +90,12 @@ module _ (setting : Setting) where
       let inner = local_kinds (heads setting) inner_names b in
       let z1 : suc site.free ≡ site.free + 1 = omega arith in
       let z2 : suc (suc site.free) ≡ site.free + 2 = omega arith in
-      let in_total : slice_get setting.scope.locals (site.free + 1) ≡ Some (code_kind total) = ap (slice_get setting.scope.locals) (sym z1) ∙ lo.1.0 in
-      let own : HasAt setting.scope.locals start_site.free (code_kinds (local_kinds (heads setting) names l ++ (local_kinds (heads setting) names f ++ inner))) =
-      subst (λ n. HasAt setting.scope.locals n (code_kinds (local_kinds (heads setting) names l ++ (local_kinds (heads setting) names f ++ inner)))) z2 lo.1.1 in
+      let in_total : slice_get setting.scope.locals (site.free + 1) ≡ Some (code_kind total) =
+      ap (slice_get setting.scope.locals) (sym z1) ∙ lo.1.0 in
+      let own : HasAt setting.scope.locals start_site.free
+      (code_kinds (local_kinds (heads setting) names l ++ (local_kinds (heads setting) names f ++ inner))) =
+      subst (λ n. HasAt setting.scope.locals n (code_kinds (local_kinds (heads setting) names l ++ (local_kinds (heads setting) names f ++ inner))))
+      z2 lo.1.1 in
       let own_f = own_back setting start_site l (local_kinds (heads setting) names f ++ inner) own in
       let own_b = own_back setting start f inner own_f in
       let r : ℕ = (behind (heads setting) b inside).place in
@@ -108,38 +119,55 @@ module _ (setting : Setting) where
       let body_high : ℕ = kept setting (before ls (o ∷ os)) + max (tall_of setting inner_names b) (weight total) in
       let turn_lines : List Instruction = body_lines ++ (room ++ I.Store (site.free + 1) ∷ []) in
       let turn_way : Leads setting turn_lines inside.place (before ls (o ∷ os)) (before ls (o ∷ os)) body_cost body_high =
-      subst (λ xs. Leads setting xs inside.place (before ls (o ∷ os)) (before ls (o ∷ os)) body_cost body_high) (append_assoc body_lines room (I.Store (site.free + 1) ∷ []))
+      subst (λ xs. Leads setting xs inside.place (before ls (o ∷ os)) (before ls (o ∷ os)) body_cost body_high)
+      (append_assoc body_lines room (I.Store (site.free + 1) ∷ []))
       (told setting (seq setting there way_b (stores setting s (site.free + 1) total ls (o ∷ os) in_total)) refl (omega (arith, w_total))) in
       let n_turn = length-append body_lines (room ++ I.Store (site.free + 1) ∷ []) in
       let n_store = length-append room (I.Store (site.free + 1) ∷ []) in
       let n_loop = length-append turn_lines (I.Next ∷ []) in
-      let loop_way = goes_loop setting.scope setting.lines setting.spots_are setting.pays setting.account turn_lines (q + 1) inside.place e (room_of all) body_cost body_high
+      let loop_way = goes_loop setting.scope setting.lines setting.spots_are setting.pays setting.account turn_lines (q + 1) inside.place e
+      (room_of all) body_cost body_high
       (I.Foreach site.free) I.Next o (before (code_kind all ∷ ls) os) (before ls (o ∷ os)) (before ls (o ∷ os)) (before ls os)
-      (omega arith) (omega (arith, n_b, n_room, n_turn, n_store)) (foreach_fits setting.scope (q + 1) site.free all ls os h.1 lo.0) refl tt (room_code all) turn_way refl refl
+      (omega arith) (omega (arith, n_b, n_room, n_turn, n_store)) (foreach_fits setting.scope (q + 1) site.free all ls os h.1 lo.0) refl tt
+      (room_code all) turn_way refl refl
       (next_fits setting.scope e (q + 1) (room_of all) ls os) refl tt in
-      let regrouped : body_lines ++ (room ++ (I.Store (site.free + 1) ∷ I.Next ∷ I.Load (site.free + 1) ∷ [])) ≡ (turn_lines ++ I.Next ∷ []) ++ I.Load (site.free + 1) ∷ [] =
-      turned_lines body_lines room (I.Store (site.free + 1)) I.Next (I.Load (site.free + 1)) ∙ sym (append_assoc turn_lines (I.Next ∷ []) (I.Load (site.free + 1) ∷ [])) in
+      let regrouped : body_lines ++ (room ++ (I.Store (site.free + 1) ∷ I.Next ∷ I.Load (site.free + 1) ∷ []))
+      ≡ (turn_lines ++ I.Next ∷ []) ++ I.Load (site.free + 1) ∷ [] =
+      turned_lines body_lines room (I.Store (site.free + 1)) I.Next (I.Load (site.free + 1))
+      ∙ sym (append_assoc turn_lines (I.Next ∷ []) (I.Load (site.free + 1) ∷ [])) in
       let tail_cost : ℕ = setting.pays.step 1 + room_of all * (body_cost + setting.pays.step 1) + setting.pays.step (weight total) in
       let low_loop : kept setting (before ls os) ≤ body_high = omega arith in
-      let tail_way : Leads setting (I.Foreach site.free ∷ (body_lines ++ (room ++ (I.Store (site.free + 1) ∷ I.Next ∷ I.Load (site.free + 1) ∷ [])))) (q + 1) (before (code_kind all ∷ ls) os)
-      (before (code_kind total ∷ ls) os) tail_cost (max (kept setting (before (code_kind all ∷ ls) os)) (max body_high (kept setting (before (code_kind total ∷ ls) os)))) =
+      let tail_way : Leads setting (I.Foreach site.free ∷ (body_lines ++ (room ++ (I.Store (site.free + 1) ∷ I.Next ∷ I.Load (site.free + 1) ∷ []))))
+      (q + 1) (before (code_kind all ∷ ls) os)
+      (before (code_kind total ∷ ls) os) tail_cost
+      (max (kept setting (before (code_kind all ∷ ls) os)) (max body_high (kept setting (before (code_kind total ∷ ls) os)))) =
       subst (λ xs. Leads setting (I.Foreach site.free ∷ xs) (q + 1) (before (code_kind all ∷ ls) os) (before (code_kind total ∷ ls) os) tail_cost
       (max (kept setting (before (code_kind all ∷ ls) os)) (max body_high (kept setting (before (code_kind total ∷ ls) os))))) (sym regrouped)
-      (told setting (seq setting {xs = I.Foreach site.free ∷ (turn_lines ++ I.Next ∷ [])} {q = e + 1} (omega (arith, n_b, n_room, n_turn, n_store, n_loop)) loop_way
+      (told setting (seq setting {xs = I.Foreach site.free ∷ (turn_lines ++ I.Next ∷ [])} {q = e + 1}
+      (omega (arith, n_b, n_room, n_turn, n_store, n_loop)) loop_way
       (loads setting (e + 1) (site.free + 1) total ls os in_total)) refl (omega (arith, low_loop))) in
       -- by the heads of those that are costed
       let w1 : setting.pays.step (2 * weight total + 1) ≡ setting.pays.step (weight total) + setting.pays.step (weight total) + setting.pays.step 1 =
-      ap setting.pays.step (double (weight total)) ∙ setting.account.prices.adds (weight total + weight total) 1 ∙ ap (λ n. n + setting.pays.step 1) (setting.account.prices.adds (weight total) (weight total)) in
+      ap setting.pays.step (double (weight total)) ∙ setting.account.prices.adds (weight total + weight total) 1
+      ∙ ap (λ n. n + setting.pays.step 1) (setting.account.prices.adds (weight total) (weight total)) in
       let w2 = setting.account.prices.adds (weight total) 1 in
-      let in_turn : body_cost + setting.pays.step 1 ≡ cost setting inner_names b + (room_cost setting total turn_kind + setting.pays.step (weight total + 1)) = omega (arith, w2) in
-      let in_turns : room_of all * (body_cost + setting.pays.step 1) ≡ room_of all * (cost setting inner_names b + (room_cost setting total turn_kind + setting.pays.step (weight total + 1))) = ap (λ n. room_of all * n) in_turn in
-      let sum : each_cost names x l a f b (heads setting) ≡ each_cost names x l a f b (costed_heads setting.functions) = ap (each_cost names x l a f b) setting.same_heads in
-      let high : each_height names x l a f b (heads setting) ≡ each_height names x l a f b (costed_heads setting.deep) = ap (each_height names x l a f b) setting.deep_heads in
-      told setting (seq setting (far setting start_site l h.0) way_l (seq setting (far setting start f h.2) way_f (seq setting refl (stores setting q (site.free + 1) total (code_kind all ∷ ls) os in_total) tail_way)))
+      let in_turn : body_cost + setting.pays.step 1
+      ≡ cost setting inner_names b + (room_cost setting total turn_kind + setting.pays.step (weight total + 1)) = omega (arith, w2) in
+      let in_turns : room_of all * (body_cost + setting.pays.step 1)
+      ≡ room_of all * (cost setting inner_names b + (room_cost setting total turn_kind + setting.pays.step (weight total + 1))) =
+      ap (λ n. room_of all * n) in_turn in
+      let sum : each_cost names x l a f b (heads setting) ≡ each_cost names x l a f b (costed_heads setting.functions) =
+      ap (each_cost names x l a f b) setting.same_heads in
+      let high : each_height names x l a f b (heads setting) ≡ each_height names x l a f b (costed_heads setting.deep) =
+      ap (each_height names x l a f b) setting.deep_heads in
+      told setting (seq setting (far setting start_site l h.0) way_l
+      (seq setting (far setting start f h.2) way_f
+      (seq setting refl (stores setting q (site.free + 1) total (code_kind all ∷ ls) os in_total) tail_way)))
       (omega (arith, w1, in_turns, sum)) (omega (arith, low_l, low_f, w_all, w_total, high))
 
   abbrev mapped_cost : Names → List ℕ → Tree → Tree → List Head → ℕ
-  mapped_cost names x l b hs = room_of (tree_kind hs names l) * (cost setting ((x, element_of (tree_kind hs names l)) ∷ names) b + setting.pays.step 1)
+  mapped_cost names x l b hs = room_of (tree_kind hs names l) *
+      (cost setting ((x, element_of (tree_kind hs names l)) ∷ names) b + setting.pays.step 1)
 
   abbrev mapped_height : Names → List ℕ → Tree → Tree → List Head → ℕ
   mapped_height names x l b hs = 2 * room_of (tree_kind hs names l) + 4 + tall_of setting ((x, element_of (tree_kind hs names l)) ∷ names) b
@@ -160,11 +188,16 @@ module _ (setting : Setting) where
       subst (λ n. HasAt setting.scope.locals n (code_kinds (local_kinds (heads setting) names l ++ inner))) z lo.1 in
       let way_l = items start_site os h.0 pl (own_front setting start_site l inner own) in
       let low_l = way_l.tall in
-      let way_b = to setting (ap (λ k. before (code_kind k ∷ ls) (o ∷ os)) h.3) (body inside (o ∷ os) h.2 (lo.0, pl) (own_back setting start_site l inner own)) in
-      let loop_way = goes_loop setting.scope setting.lines setting.spots_are setting.pays setting.account (code_of setting.callees inside b) q inside.place (behind (heads setting) b inside).place (room_of all) _ _
-      (I.Map site.free) I.Yield o (before (code_kind all ∷ ls) os) (before ls (o ∷ os)) (before (K.N ∷ ls) (o ∷ os)) (before (K.NList (room_of all) ∷ ls) os)
+      let way_b = to setting (ap (λ k. before (code_kind k ∷ ls) (o ∷ os)) h.3)
+      (body inside (o ∷ os) h.2 (lo.0, pl) (own_back setting start_site l inner own)) in
+      let loop_way = goes_loop setting.scope setting.lines setting.spots_are setting.pays setting.account
+      (code_of setting.callees inside b) q inside.place (behind (heads setting) b inside).place (room_of all) _ _
+      (I.Map site.free) I.Yield o (before (code_kind all ∷ ls) os) (before ls (o ∷ os)) (before (K.N ∷ ls) (o ∷ os))
+      (before (K.NList (room_of all) ∷ ls) os)
       refl (far setting inside b h.2) (map_fits setting.scope q site.free all ls os h.1 lo.0) refl tt (room_code all) way_b refl refl
       (yield_fits setting.scope (behind (heads setting) b inside).place q (room_of all) ls os) refl tt in
-      let sum : mapped_cost names x l b (heads setting) ≡ mapped_cost names x l b (costed_heads setting.functions) = ap (mapped_cost names x l b) setting.same_heads in
-      let high : mapped_height names x l b (heads setting) ≡ mapped_height names x l b (costed_heads setting.deep) = ap (mapped_height names x l b) setting.deep_heads in
+      let sum : mapped_cost names x l b (heads setting) ≡ mapped_cost names x l b (costed_heads setting.functions) =
+      ap (mapped_cost names x l b) setting.same_heads in
+      let high : mapped_height names x l b (heads setting) ≡ mapped_height names x l b (costed_heads setting.deep) =
+      ap (mapped_height names x l b) setting.deep_heads in
       told setting (seq setting (far setting start_site l h.0) way_l loop_way) (omega (arith, sum)) (omega (arith, low_l, high))

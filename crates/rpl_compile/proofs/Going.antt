@@ -30,11 +30,13 @@ drop_front (x ∷ xs) ys = drop_front xs ys
 enough : (ks ls : List ValueKind) → nat_lt (length (ks ++ ls)) (length ks) ≡ false
 enough ks ls = let e = length-append ks ls in grind (arith, nat_tests, e)
 
-behind_row : (r : Row) (ks left ls : List ValueKind) → operand_count r ≡ length ks → left_of r ks ≡ Ok left → operands_behind r (ks ++ ls) ≡ Ok (left ++ ls)
+behind_row : (r : Row) (ks left ls : List ValueKind) → operand_count r ≡ length ks → left_of r ks ≡ Ok left
+    → operands_behind r (ks ++ ls) ≡ Ok (left ++ ls)
 behind_row r ks left ls n h = by (nat_lt (length (ks ++ ls)) (operand_count r)) (ap (nat_lt (length (ks ++ ls))) n ∙ enough ks ls)
   where
     by : (t : Bool) → t ≡ false
-        → (if t then Err MissingOperand else on_top_of (drop (operand_count r) (ks ++ ls)) (left_of r (take (operand_count r) (ks ++ ls)))) ≡ Ok (left ++ ls)
+        → (if t then Err MissingOperand else on_top_of (drop (operand_count r) (ks ++ ls)) (left_of r (take (operand_count r) (ks ++ ls))))
+        ≡ Ok (left ++ ls)
     by true e = absurd (cc e)
     by false e =
         ap₂ (λ d t. on_top_of d (left_of r t)) (ap (λ m. drop m (ks ++ ls)) n ∙ drop_front ks ls) (ap (λ m. take m (ks ++ ls)) n ∙ take_front ks ls)
@@ -53,7 +55,8 @@ module _ (scope : Scope) where
 
   -- one that goes by kinds
   pub takes_by : (i : Instruction) (n : ℕ) (left_for : List ValueKind → Option (List ValueKind)) (ks left ls : List ValueKind) (os : List Open)
-      → row scope.heads scope.locals i ≡ goes_by n left_for → n ≡ length ks → left_for ks ≡ Some left → taken scope i (before (ks ++ ls) os) ≡ Ok (before (left ++ ls) os)
+      → row scope.heads scope.locals i ≡ goes_by n left_for → n ≡ length ks → left_for ks ≡ Some left
+      → taken scope i (before (ks ++ ls) os) ≡ Ok (before (left ++ ls) os)
   takes_by i n left_for ks left ls os r e h =
       ap (λ (o : Result (List ValueKind) VerifyKind). then_do o (λ kinds. Ok (before kinds os)))
       (ap (λ r. operands_behind r (ks ++ ls)) r ∙ behind_row (goes_by n left_for) ks left ls e (ap or_wrong h))
@@ -112,14 +115,17 @@ module _ (scope : Scope) (lines : List Instruction) (spots_are : scope.spots ≡
   }
 
   -- an instruction that comes to so much and calls no block
-  pub goes_line : {i : Instruction} {p s : ℕ} {b c : Before} → judged scope p b i ≡ Ok c → way_of i ≡ onward → (IsInvoke i → ⊥) → account.sum_at b i ≡ s
+  pub goes_line : {i : Instruction} {p s : ℕ} {b c : Before} → judged scope p b i ≡ Ok c → way_of i ≡ onward → (IsInvoke i → ⊥)
+      → account.sum_at b i ≡ s
       → Goes (i ∷ []) p b c s (max (words_kept scope.locals b) (words_kept scope.locals c))
   goes_line {i} {p} {s} {b} {c} j w none e =
       subst (λ n. Goes (i ∷ []) p b c n (max (kept b) (kept c))) e
       (subst (λ n. Goes (i ∷ []) p b c (account.sum_at b i) (max n (kept c))) (account.high_is b i none) (goes_one p b c i j w))
 
-  pub goes_cons : {i : Instruction} {xs : List Instruction} {p q s t g : ℕ} {b c d : Before} → q ≡ p + 1 → judged scope p b i ≡ Ok c → way_of i ≡ onward
-      → (IsInvoke i → ⊥) → account.sum_at b i ≡ s → Goes xs q c d t g → Goes (i ∷ xs) p b d (s + t) (max (max (words_kept scope.locals b) (words_kept scope.locals c)) g)
+  pub goes_cons : {i : Instruction} {xs : List Instruction} {p q s t g : ℕ} {b c d : Before} → q ≡ p + 1 → judged scope p b i ≡ Ok c
+      → way_of i ≡ onward
+      → (IsInvoke i → ⊥) → account.sum_at b i ≡ s → Goes xs q c d t g
+      → Goes (i ∷ xs) p b d (s + t) (max (max (words_kept scope.locals b) (words_kept scope.locals c)) g)
   goes_cons {i} {xs} {p} {q} {s} {t} {g} {b} {c} {d} e j w none f way =
       goes_then {xs = i ∷ []} {ys = xs} {p = p} {q = q} {b = b} {c = c} {d = d} e (goes_line {i = i} {p = p} {s = s} {b = b} {c = c} j w none f) way
 
@@ -132,23 +138,29 @@ module _ (scope : Scope) (lines : List Instruction) (spots_are : scope.spots ≡
   goes_as {xs} {p} {s} {t} {h} {g} {b} {c} way e f = subst (λ n. Goes xs p b c n g) e (subst (λ n. Goes xs p b c s n) f way)
 
   -- the branch and the jump of an IF
-  branch_fits : (p to : ℕ) (below : List ValueKind) (os : List Open) → p < to → slice_get lines to ≡ Some (I.Target (reverse below)) → openers_before lines to ≡ openers_of os
+  branch_fits : (p to : ℕ) (below : List ValueKind) (os : List Open) → p < to → slice_get lines to ≡ Some (I.Target (reverse below))
+      → openers_before lines to ≡ openers_of os
       → judged scope p (before (K.B ∷ below) os) (I.Branch to) ≡ Ok (before below os)
   branch_fits p to below os lt h o =
       let b : Before = before (K.B ∷ below) os in
-      ap (λ (f : Result (List ValueKind) VerifyKind). then_do f (λ declared. then_do (taken scope (I.Branch to) b) (carried declared))) (lands scope lines spots_are p to b below lt h o)
-      ∙ ap (λ (t : Result Before VerifyKind). then_do t (carried below)) (takes_kinds scope (I.Branch to) (K.B ∷ []) [] below os refl) ∙ carries scope below os
+      ap (λ (f : Result (List ValueKind) VerifyKind). then_do f (λ declared. then_do (taken scope (I.Branch to) b) (carried declared)))
+      (lands scope lines spots_are p to b below lt h o)
+      ∙ ap (λ (t : Result Before VerifyKind). then_do t (carried below)) (takes_kinds scope (I.Branch to) (K.B ∷ []) [] below os refl)
+      ∙ carries scope below os
 
   jump_fits : (p to : ℕ) (below result : List ValueKind) (os : List Open) → p < to → slice_get lines (suc p) ≡ Some (I.Target (reverse below))
-      → slice_get lines to ≡ Some (I.Target (reverse result)) → openers_before lines to ≡ openers_of os → judged scope p (before result os) (I.Jump to) ≡ Ok (before below os)
+      → slice_get lines to ≡ Some (I.Target (reverse result)) → openers_before lines to ≡ openers_of os
+      → judged scope p (before result os) (I.Jump to) ≡ Ok (before below os)
   jump_fits p to below result os lt g h o =
       let b : Before = before result os in
-      ap (λ (f : Result (List ValueKind) VerifyKind). then_do f (λ declared. then_do (carried declared b) (restarted (declared_at (slice_get scope.spots (suc p))))))
+      ap (λ (f : Result (List ValueKind) VerifyKind). then_do f
+      (λ declared. then_do (carried declared b) (restarted (declared_at (slice_get scope.spots (suc p))))))
       (lands scope lines spots_are p to b result lt h o)
       ∙ ap (λ (t : Result Before VerifyKind). then_do t (restarted (declared_at (slice_get scope.spots (suc p))))) (carries scope result os)
       ∙ ap (λ (s : Option Spot). restarted (declared_at s) b) (declares_at scope lines spots_are (suc p) below g)
 
-  pub goes_choice : (xs ys : List Instruction) (p q to r last s h t g : ℕ) (below result : List ValueKind) (os : List Open) → q ≡ p + 1 → to ≡ q + length xs + 1 → r ≡ to + 1
+  pub goes_choice : (xs ys : List Instruction) (p q to r last s h t g : ℕ) (below result : List ValueKind) (os : List Open) → q ≡ p + 1
+      → to ≡ q + length xs + 1 → r ≡ to + 1
       → last ≡ r + length ys → Goes xs q (before below os) (before result os) s h → Goes ys r (before below os) (before result os) t g
       → Goes (choosing to last below result xs ys) p (before (K.B ∷ below) os) (before result os) (max s t + pays.step 3)
       (max (words_kept scope.locals (before (K.B ∷ below) os)) (max h g))
@@ -173,18 +185,22 @@ module _ (scope : Scope) (lines : List Instruction) (spots_are : scope.spots ≡
         let at_jump : HasAt lines jump_at rest = has_back lines q xs rest at_q in
         let at_to : slice_get lines to ≡ Some (I.Target (reverse below)) = ap (slice_get lines) (sym z1) ∙ at_jump.1.0 in
         let at_r : HasAt lines r others = subst (λ n. HasAt lines n others) z2 (subst (λ n. HasAt lines (suc n) others) z1 at_jump.1.1) in
-        let at_last : slice_get lines last ≡ Some (I.Target (reverse result)) = ap (slice_get lines) el ∙ (has_back lines r ys (I.Target (reverse result) ∷ []) at_r).0 in
+        let at_last : slice_get lines last ≡ Some (I.Target (reverse result)) =
+        ap (slice_get lines) el ∙ (has_back lines r ys (I.Target (reverse result) ∷ []) at_r).0 in
         -- which loops are open
         let o_q : openers_before lines q ≡ openers_of os = ap (openers_before lines) (sym z0) ∙ level_on lines p (I.Branch to) at.0 refl ∙ o in
         let f1 = first.go (has_front lines q xs rest at_q) o_q in
-        let o_to : openers_before lines to ≡ openers_of os = ap (openers_before lines) (sym z1) ∙ level_on lines jump_at (I.Jump last) at_jump.0 refl ∙ f1.1 in
-        let o_r : openers_before lines r ≡ openers_of os = ap (openers_before lines) (sym z2) ∙ level_on lines to (I.Target (reverse below)) at_to refl ∙ o_to in
+        let o_to : openers_before lines to ≡ openers_of os =
+        ap (openers_before lines) (sym z1) ∙ level_on lines jump_at (I.Jump last) at_jump.0 refl ∙ f1.1 in
+        let o_r : openers_before lines r ≡ openers_of os =
+        ap (openers_before lines) (sym z2) ∙ level_on lines to (I.Target (reverse below)) at_to refl ∙ o_to in
         let f2 = second.go (has_front lines r ys (I.Target (reverse result) ∷ []) at_r) o_r in
         let o_last : openers_before lines last ≡ openers_of os = ap (openers_before lines) el ∙ f2.1 in
         let o_end : openers_before lines (suc last) ≡ openers_of os = level_on lines last (I.Target (reverse result)) at_last refl ∙ o_last in
         let base : kept b1 ≤ kept b0 = omega arith in
         let all : account.F p b0 (max s t + pays.step 3) (max (kept b0) (max h g)) (suc last) b2 =
-        account.choice p q jump_at to r last s h t g (reverse below) (reverse result) b0 b1 b2 z0 z1 z2 (omega (arith, eq, et)) (omega (arith, et, er, el))
+        account.choice p q jump_at to r last s h t g (reverse below) (reverse result) b0 b1 b2 z0 z1 z2 (omega (arith, eq, et))
+        (omega (arith, et, er, el))
         at.0 (branch_fits p to below os (omega (arith, eq, et)) at_to o_to) f1.0
         at_jump.0 (jump_fits jump_at last below result os (omega (arith, et, er, el)) at_jump.1.0 at_last o_last)
         at_to (target_fits scope to below os) (subst (λ n. account.F r b1 t g n b2) z3 f2.0)
@@ -195,7 +211,8 @@ module _ (scope : Scope) (lines : List Instruction) (spots_are : scope.spots ≡
 
   -- a loop, which its first and last line open and close
   pub goes_loop : (xs : List Instruction) (p q last room s h : ℕ) (i j : Instruction) (o : Open) (b c d e : Before) → q ≡ p + 1 → last ≡ q + length xs
-      → judged scope p b i ≡ Ok c → way_of i ≡ entering → IsUnit i → room_on_top b.kinds ≡ room → Goes xs q c d s h → o.start ≡ p → d.loops ≡ o ∷ e.loops
+      → judged scope p b i ≡ Ok c → way_of i ≡ entering → IsUnit i → room_on_top b.kinds ≡ room → Goes xs q c d s h → o.start ≡ p
+      → d.loops ≡ o ∷ e.loops
       → judged scope last d j ≡ Ok e → way_of j ≡ turning → IsUnit j
       → Goes (i ∷ (xs ++ j ∷ [])) p b e (pays.step 1 + room * (s + pays.step 1)) (max (words_kept scope.locals b) (max h (words_kept scope.locals e)))
   goes_loop xs p q last room s h i j o b c d e eq el enters is_entering i_unit room_is body start opened_here leaves is_turning j_unit = record {
@@ -205,13 +222,16 @@ module _ (scope : Scope) (lines : List Instruction) (spots_are : scope.spots ≡
         let z1 : suc last ≡ p + length (i ∷ (xs ++ j ∷ [])) = omega (arith, eq, el, n1) in
         let at_q : HasAt lines q (xs ++ j ∷ []) = subst (λ n. HasAt lines n (xs ++ j ∷ [])) z0 at.1 in
         let at_last : slice_get lines last ≡ Some j = ap (slice_get lines) el ∙ (has_back lines q xs (j ∷ []) at_q).0 in
-        let o_q : openers_before lines q ≡ openers_of c.loops = ap (openers_before lines) (sym z0) ∙ opens_on scope lines spots_are p b c i at.0 enters openers in
+        let o_q : openers_before lines q ≡ openers_of c.loops =
+        ap (openers_before lines) (sym z0) ∙ opens_on scope lines spots_are p b c i at.0 enters openers in
         let f = body.go (has_front lines q xs (j ∷ []) at_q) o_q in
         let o_last : openers_before lines last ≡ openers_of d.loops = ap (openers_before lines) el ∙ f.1 in
         let o_end : openers_before lines (suc last) ≡ openers_of e.loops = opens_on scope lines spots_are last d e j at_last leaves o_last in
         let inside : account.F q c s h last d = subst (λ n. account.F q c s h n d) (sym el) f.0 in
         let all : account.F p b (pays.step 1 + room * (s + pays.step 1)) (max (kept b) (max h (kept e))) (suc last) e =
-        account.loop p q last room s h i j o b c d e z0 (omega (arith, eq, el)) at.0 enters is_entering i_unit room_is inside start opened_here at_last leaves is_turning j_unit body.tall in
-        subst (λ n. account.F p b (pays.step 1 + room * (s + pays.step 1)) (max (kept b) (max h (kept e))) n e × (openers_before lines n ≡ openers_of e.loops)) z1 (all, o_end);
+        account.loop p q last room s h i j o b c d e z0
+        (omega (arith, eq, el)) at.0 enters is_entering i_unit room_is inside start opened_here at_last leaves is_turning j_unit body.tall in
+        subst (λ n. account.F p b (pays.step 1 + room * (s + pays.step 1)) (max (kept b) (max h (kept e))) n e
+        × (openers_before lines n ≡ openers_of e.loops)) z1 (all, o_end);
     tall = omega arith;
   }

@@ -71,7 +71,8 @@ module _ (scope : Scope) where
       → judged scope p (before ls os) (I.Slot o s) ≡ Ok (before (K.S ∷ ls) os)
   slot_fits p o s ls os h = named (slot_named scope.basin.objects o s) h ∙ takes_kinds scope (I.Slot o s) [] (K.S ∷ []) ls os refl
     where
-      named : (found : Option ℕ) → IsSome found → unless_misfit (unless_there found) (taken scope (I.Slot o s) (before ls os)) ≡ taken scope (I.Slot o s) (before ls os)
+      named : (found : Option ℕ) → IsSome found
+          → unless_misfit (unless_there found) (taken scope (I.Slot o s) (before ls os)) ≡ taken scope (I.Slot o s) (before ls os)
       named None h = absurd (cc h)
       named (Some n) h = refl
 
@@ -83,44 +84,54 @@ module _ (scope : Scope) where
       let same : V.is_kind (slice_get scope.locals n) (V.element_of (code_kind k)) ≡ true =
       ap₂ (λ a b. V.is_kind a b) g (element_code k h) ∙ same_kind_refl (code_kind (element_of k)) in
       ap (λ (t : Result Before VerifyKind). then_do t (λ (c : Before). if_fits (V.is_kind (slice_get scope.locals n) (element_on_top b.kinds))
-      (before c.kinds (loop_at loop p (room_on_top b.kinds) c.kinds ∷ os)))) (takes_by scope i 1 (of_list []) (code_kind k ∷ []) [] ls os r refl (list_left [] k h))
+      (before c.kinds (loop_at loop p (room_on_top b.kinds) c.kinds ∷ os))))
+      (takes_by scope i 1 (of_list []) (code_kind k ∷ []) [] ls os r refl (list_left [] k h))
       ∙ ap₂ (λ t m. if_fits t (before ls (loop_at loop p m ls ∷ os))) same (room_code k)
 
-  pub foreach_fits : (p n : ℕ) (k : Kind) (ls : List ValueKind) (os : List Open) → IsAnyList k → slice_get scope.locals n ≡ Some (code_kind (element_of k))
+  pub foreach_fits : (p n : ℕ) (k : Kind) (ls : List ValueKind) (os : List Open) → IsAnyList k
+      → slice_get scope.locals n ≡ Some (code_kind (element_of k))
       → judged scope p (before (code_kind k ∷ ls) os) (I.Foreach n) ≡ Ok (before ls (loop_at visiting p (room_of k) ls ∷ os))
   foreach_fits p n k ls os h g = opening p n visiting (I.Foreach n) k ls os h g refl
 
-  pub map_fits : (p n : ℕ) (k : Kind) (ls : List ValueKind) (os : List Open) → IsAnyList k → slice_get scope.locals n ≡ Some (code_kind (element_of k))
+  pub map_fits : (p n : ℕ) (k : Kind) (ls : List ValueKind) (os : List Open) → IsAnyList k
+      → slice_get scope.locals n ≡ Some (code_kind (element_of k))
       → judged scope p (before (code_kind k ∷ ls) os) (I.Map n) ≡ Ok (before ls (loop_at mapping p (room_of k) ls ∷ os))
   map_fits p n k ls os h g = opening p n mapping (I.Map n) k ls os h g refl
 
-  pub next_fits : (p start room : ℕ) (ls : List ValueKind) (os : List Open) → judged scope p (before ls (loop_at visiting start room ls ∷ os)) I.Next ≡ Ok (before ls os)
+  pub next_fits : (p start room : ℕ) (ls : List ValueKind) (os : List Open)
+      → judged scope p (before ls (loop_at visiting start room ls ∷ os)) I.Next ≡ Ok (before ls os)
   next_fits p start room ls os =
       let o : Open = loop_at visiting start room ls in
-      ap (λ (t : Result Before VerifyKind). then_do t (λ (c : Before). shut visiting c.kinds c.loops)) (takes_kinds scope I.Next [] [] ls (o ∷ os) refl)
+      ap (λ (t : Result Before VerifyKind). then_do t (λ (c : Before). shut visiting c.kinds c.loops))
+      (takes_kinds scope I.Next [] [] ls (o ∷ os) refl)
       ∙ ap (λ t. if_fits t (before ls os)) (same_kinds_refl ls)
 
   pub yield_fits : (p start room : ℕ) (ls : List ValueKind) (os : List Open)
       → judged scope p (before (K.N ∷ ls) (loop_at mapping start room ls ∷ os)) I.Yield ≡ Ok (before (K.NList room ∷ ls) os)
   yield_fits p start room ls os =
       let o : Open = loop_at mapping start room ls in
-      ap (λ (t : Result Before VerifyKind). then_do t (λ (c : Before). shut mapping c.kinds c.loops)) (takes_kinds scope I.Yield (K.N ∷ []) [] ls (o ∷ os) refl)
+      ap (λ (t : Result Before VerifyKind). then_do t (λ (c : Before). shut mapping c.kinds c.loops))
+      (takes_kinds scope I.Yield (K.N ∷ []) [] ls (o ∷ os) refl)
       ∙ ap (λ t. if_fits t (before (K.NList room ∷ ls) os)) (same_kinds_refl ls)
 
-  pub put_fits : (p : ℕ) (o s : List ℕ) (ahead : ℤ) (ls : List ValueKind) (os : List Open) → scope.head ≡ Rule → IsTarget scope.basin [] (slot_named scope.basin.objects o s) ahead
+  pub put_fits : (p : ℕ) (o s : List ℕ) (ahead : ℤ) (ls : List ValueKind) (os : List Open) → scope.head ≡ Rule
+      → IsTarget scope.basin [] (slot_named scope.basin.objects o s) ahead
       → judged scope p (before (K.N ∷ ls) os) (I.Put o s (unsigned_abs ahead)) ≡ Ok (before ls os)
   put_fits p o s ahead ls os rule h =
-      ap (λ n. unless_misfit (put_misfit scope (slot_named scope.basin.objects o s) (unsigned_abs n)) (taken scope (I.Put o s (unsigned_abs ahead)) (before (K.N ∷ ls) os))) h.1
+      ap (λ n. unless_misfit (put_misfit scope (slot_named scope.basin.objects o s) (unsigned_abs n))
+      (taken scope (I.Put o s (unsigned_abs ahead)) (before (K.N ∷ ls) os))) h.1
       ∙ named (slot_named scope.basin.objects o s) h.0 ∙ takes_kinds scope (I.Put o s (unsigned_abs ahead)) (K.N ∷ []) [] ls os refl
     where
       step : put_step_misfit scope.head 0 ≡ None
       step = ap (λ head. put_step_misfit head 0) rule
 
-      named : (found : Option ℕ) → IsSomeAnd found (λ s. IsTrue (can_set scope.basin s)) → unless_misfit (put_misfit scope found 0) (taken scope (I.Put o s (unsigned_abs ahead)) (before (K.N ∷ ls) os))
+      named : (found : Option ℕ) → IsSomeAnd found (λ s. IsTrue (can_set scope.basin s))
+          → unless_misfit (put_misfit scope found 0) (taken scope (I.Put o s (unsigned_abs ahead)) (before (K.N ∷ ls) os))
           ≡ taken scope (I.Put o s (unsigned_abs ahead)) (before (K.N ∷ ls) os)
       named None h = absurd h
       named (Some n) h =
-          ap (λ t. unless_misfit (if t then put_step_misfit scope.head 0 else Some NotSettable) (taken scope (I.Put o s (unsigned_abs ahead)) (before (K.N ∷ ls) os))) h
+          ap (λ t. unless_misfit (if t then put_step_misfit scope.head 0 else Some NotSettable)
+          (taken scope (I.Put o s (unsigned_abs ahead)) (before (K.N ∷ ls) os))) h
           ∙ ap (λ misfit. unless_misfit misfit (taken scope (I.Put o s (unsigned_abs ahead)) (before (K.N ∷ ls) os))) step
 
   all_same : (n : ℕ) (k : ValueKind) → list_all (V.is_same_kind k) (replicate n k) ≡ true
@@ -132,8 +143,10 @@ module _ (scope : Scope) where
       ap (λ t. if t then option_map (λ kind. kind ∷ []) (V.list_kind (suc n) (code_kind k)) else None) (all_same n (code_kind k)) ∙ by h
     where
       by : IsElement k → option_map (λ kind. kind ∷ []) (V.list_kind (suc n) (code_kind k)) ≡ Some (code_kind (list_kind (suc n) k) ∷ [])
-      by (inl e) = subst (λ k. option_map (λ kind. kind ∷ []) (V.list_kind (suc n) (code_kind k)) ≡ Some (code_kind (list_kind (suc n) k) ∷ [])) (sym e) refl
-      by (inr e) = subst (λ k. option_map (λ kind. kind ∷ []) (V.list_kind (suc n) (code_kind k)) ≡ Some (code_kind (list_kind (suc n) k) ∷ [])) (sym e) refl
+      by (inl e) = subst (λ k. option_map (λ kind. kind ∷ []) (V.list_kind (suc n) (code_kind k)) ≡ Some (code_kind (list_kind (suc n) k) ∷ []))
+          (sym e) refl
+      by (inr e) = subst (λ k. option_map (λ kind. kind ∷ []) (V.list_kind (suc n) (code_kind k)) ≡ Some (code_kind (list_kind (suc n) k) ∷ []))
+          (sym e) refl
 
   pub list_fits : (p n : ℕ) (k : Kind) (ls : List ValueKind) (os : List Open) → 1 ≤ n → IsElement k
       → judged scope p (before (replicate n (code_kind k) ++ ls) os) (I.List n) ≡ Ok (before (code_kind (list_kind n k) ∷ ls) os)

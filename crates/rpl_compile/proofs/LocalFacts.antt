@@ -17,7 +17,8 @@ pub kinds_front : (locals : List ValueKind) (n : ℕ) (ks ls : List Kind) → Ha
 kinds_front locals n [] ls h = tt
 kinds_front locals n (k ∷ ks) ls h = (h.0, kinds_front locals (suc n) ks ls h.1)
 
-pub kinds_back : (locals : List ValueKind) (n m : ℕ) (ks ls : List Kind) → length ks ≡ m → HasAt locals n (code_kinds (ks ++ ls)) → HasAt locals (n + m) (code_kinds ls)
+pub kinds_back : (locals : List ValueKind) (n m : ℕ) (ks ls : List Kind) → length ks ≡ m → HasAt locals n (code_kinds (ks ++ ls))
+    → HasAt locals (n + m) (code_kinds ls)
 kinds_back locals n m [] ls e h = let z : n ≡ n + m = omega (arith, e) in subst (λ k. HasAt locals k (code_kinds ls)) z h
 kinds_back locals n zero (k ∷ ks) ls e h = absurd (cc e)
 kinds_back locals n (suc m) (k ∷ ks) ls e h =

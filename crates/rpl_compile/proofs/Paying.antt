@@ -29,7 +29,8 @@ closes_at I.Next p ends h = refl
 closes_at I.Yield p ends h = refl
 closes_at _ p ends h = absurd (cc h)
 
-module _ (scope : Scope) (lines : List Instruction) (bs : List Before) (spotted : scope.spots ≡ spots lines) (fits : befores scope 0 (before [] []) lines ≡ Ok bs)
+module _ (scope : Scope) (lines : List Instruction) (bs : List Before) (spotted : scope.spots ≡ spots lines)
+    (fits : befores scope 0 (before [] []) lines ≡ Ok bs)
     (budgets : List Budget) (pays : Price) (price : Before → Instruction → ℕ) (prices : Prices scope pays price) where
   abbrev kept : Before → ℕ
   kept b = words_kept scope.locals b
@@ -101,7 +102,13 @@ module _ (scope : Scope) (lines : List Instruction) (bs : List Before) (spotted 
       let low = room_there (suc p) within in
       let low_c : kept (T (suc p)) ≡ kept c = ap (words_kept scope.locals) there in
       let same : words_at scope budgets (T p) i ≡ words_at scope budgets b i = ap (λ b. words_at scope budgets b i) here in
-      record { there = there; within = within; sum = s ∙ ap (λ n. n + sum_from (suc p)) (ap (λ b. price b i) here); high = omega (arith, h, low, low_c, same) }
+      record {
+        there = there;
+        within = within;
+        sum = s ∙ ap (λ n. n + sum_from (suc p)) (ap (λ b. price b i) here);
+        high =
+            omega (arith, h, low, low_c, same);
+      }
 
   pub pays_next : (p q r s h t g : ℕ) (b c d : Before) → F p b s h q c → F q c t g r d → F p b (s + t) (max h g) r d
   pays_next p q r s h t g b c d first second here le =
@@ -116,7 +123,8 @@ module _ (scope : Scope) (lines : List Instruction) (bs : List Before) (spotted 
       let same : kept (T p) ≡ kept b = ap (words_kept scope.locals) here in
       record { there = here; within = le; sum = omega arith; high = omega (arith, low, same) }
 
-  pub pays_choice : (p q jump_at to r last s h t g : ℕ) (ks ls : List ValueKind) (b c d : Before) → suc p ≡ q → suc jump_at ≡ to → suc to ≡ r → p < to → jump_at < last
+  pub pays_choice : (p q jump_at to r last s h t g : ℕ) (ks ls : List ValueKind) (b c d : Before) → suc p ≡ q → suc jump_at ≡ to → suc to ≡ r
+      → p < to → jump_at < last
       → slice_get lines p ≡ Some (I.Branch to) → judged scope p b (I.Branch to) ≡ Ok c → F q c s h jump_at d
       → slice_get lines jump_at ≡ Some (I.Jump last) → judged scope jump_at d (I.Jump last) ≡ Ok c
       → slice_get lines to ≡ Some (I.Target ks) → judged scope to c (I.Target ks) ≡ Ok c → F r c t g last d
@@ -176,9 +184,11 @@ module _ (scope : Scope) (lines : List Instruction) (bs : List Before) (spotted 
       let in_end : suc last ≤ length lines = inside last j at_last in
       -- the loop's end
       let open_loops : (T last).loops ≡ o ∷ e.loops = ap (λ (b : Before). b.loops) f.there ∙ open_there in
-      let link = subst (Linked scope lines bs spotted fits (P scope lines bs spotted fits last) 0) open_loops (linked scope lines bs spotted fits last) in
+      let link = subst (Linked scope lines bs spotted fits (P scope lines bs spotted fits last) 0) open_loops
+      (linked scope lines bs spotted fits last) in
       let ends : past scope lines bs spotted fits p ≡ suc last =
-      ap (past scope lines bs spotted fits) (sym start) ∙ link.0 ∙ ap (λ (ns : List ℕ). slice_index ns 0) (ends_at scope lines bs spotted fits last j at_last)
+      ap (past scope lines bs spotted fits) (sym start) ∙ link.0
+      ∙ ap (λ (ns : List ℕ). slice_index ns 0) (ends_at scope lines bs spotted fits last j at_last)
       ∙ closes_at j last (P scope lines bs spotted fits (suc last)) v in
       let far : p < past scope lines bs spotted fits p = omega (arith, ends, lt) in
       let s1 = by_far_entry m lines bs p i at w far in

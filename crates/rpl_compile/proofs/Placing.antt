@@ -23,7 +23,8 @@ has_front xs p (y ∷ ys) zs h = (h.0, has_front xs (suc p) ys zs h.1)
 
 pub has_back : {A : Type 0} (xs : List A) (p : ℕ) (ys zs : List A) → HasAt xs p (ys ++ zs) → HasAt xs (p + length ys) zs
 has_back xs p [] zs h = let z : p ≡ p + 0 = omega arith in subst (λ n. HasAt xs n zs) z h
-has_back xs p (y ∷ ys) zs h = let z : suc p + length ys ≡ p + suc (length ys) = omega arith in subst (λ n. HasAt xs n zs) z (has_back xs (suc p) ys zs h.1)
+has_back xs p (y ∷ ys) zs h = let z : suc p + length ys ≡ p + suc (length ys) =
+    omega arith in subst (λ n. HasAt xs n zs) z (has_back xs (suc p) ys zs h.1)
 
 later_at : {A : Type 0} (x : A) (xs : List A) (p : ℕ) (ys : List A) → HasAt xs p ys → HasAt (x ∷ xs) (suc p) ys
 later_at x xs p [] h = tt
@@ -87,19 +88,22 @@ same_innermost (o ∷ os) = grind (arith, nat_tests)
 abbrev pub openers_before : List Instruction → ℕ → List Opener
 openers_before lines p = openers_at 0 [] lines p
 
-pub level_on : (lines : List Instruction) (p : ℕ) (i : Instruction) → slice_get lines p ≡ Some i → bracket i ≡ level → openers_before lines (suc p) ≡ openers_before lines p
+pub level_on : (lines : List Instruction) (p : ℕ) (i : Instruction) → slice_get lines p ≡ Some i → bracket i ≡ level
+    → openers_before lines (suc p) ≡ openers_before lines p
 level_on lines p i h e = openers_next 0 [] lines p i h ∙ ap (λ b. openers_behind b (0 + p) (openers_before lines p)) e
 
 module _ (scope : Scope) (lines : List Instruction) (spots_are : scope.spots ≡ spots lines) where
   -- an instruction that fits leads from the loops that are open to those that are open behind it
-  pub opens_on : (p : ℕ) (b c : Before) (i : Instruction) → slice_get lines p ≡ Some i → judged scope p b i ≡ Ok c → openers_before lines p ≡ openers_of b.loops
+  pub opens_on : (p : ℕ) (b c : Before) (i : Instruction) → slice_get lines p ≡ Some i → judged scope p b i ≡ Ok c
+      → openers_before lines p ≡ openers_of b.loops
       → openers_before lines (suc p) ≡ openers_of c.loops
   opens_on p b c i h j e =
       let z : 0 + p ≡ p = omega arith in
       openers_next 0 [] lines p i h ∙ ap₂ (λ n os. openers_behind (bracket i) n os) z e ∙ openers_go p (bracket i) b.loops c (rel_of scope p b i c j)
 
   -- a jump to a target in the same loop lands there
-  pub lands : (p to : ℕ) (b : Before) (kinds : List ValueKind) → p < to → slice_get lines to ≡ Some (I.Target (reverse kinds)) → openers_before lines to ≡ openers_of b.loops
+  pub lands : (p to : ℕ) (b : Before) (kinds : List ValueKind) → p < to → slice_get lines to ≡ Some (I.Target (reverse kinds))
+      → openers_before lines to ≡ openers_of b.loops
       → found scope p to b ≡ Ok kinds
   lands p to b kinds lt h e =
       let forward : nat_lt p to ≡ true = grind (arith, nat_tests, lt) in

@@ -40,7 +40,8 @@ same_type own t h = ap (type_or own) h
 pub same_kind : (own t : RplType) → typed own ≡ Ok t → kind_of_rpl_type own ≡ kind_of_rpl_type t
 same_kind own t h = ap kind_of_rpl_type (same_type own t h)
 
-pub unrefused : (found : Option TypeKind) (own t : RplType) → unless_refused found own ≡ typed t → (found ≡ None) × (kind_of_rpl_type own ≡ kind_of_rpl_type t)
+pub unrefused : (found : Option TypeKind) (own t : RplType) → unless_refused found own ≡ typed t
+    → (found ≡ None) × (kind_of_rpl_type own ≡ kind_of_rpl_type t)
 unrefused None own t h = (refl, same_kind own t h)
 unrefused (Some kind) own t h = absurd (cc h)
 
@@ -98,7 +99,8 @@ kinds_fit (Numeric a) (Numeric b) h = inl refl
 kinds_fit Boolean Boolean h = inl refl
 kinds_fit Datetime Datetime h = inl refl
 kinds_fit (Slot a) (Slot b) h = inl refl
-kinds_fit (NumericList n a) (NumericList m b) h = numbers_fit n m (same_or_below n m (few n m ((none_of_two (unit_misfit a b) (length_misfit n m) h).1)))
+kinds_fit (NumericList n a) (NumericList m b) h =
+    numbers_fit n m (same_or_below n m (few n m ((none_of_two (unit_misfit a b) (length_misfit n m) h).1)))
 kinds_fit (SlotList n a) (SlotList m b) h = slots_fit n m (same_or_below n m (few n m ((none_of_two (unit_misfit a b) (length_misfit n m) h).1)))
 kinds_fit _ _ h = absurd (cc h)
 
@@ -106,7 +108,8 @@ abbrev pub Joins : Kind → Kind → RplType → Type 0
 Joins a b t = (join a b ≡ kind_of_rpl_type t) × FitsIn (join a b) a × FitsIn (join a b) b
 
 numbers_join : (n m : ℕ) (test : Bool) → nat_lt n m ≡ test
-    → let kind = if test then numbers_kind m else numbers_kind n in (kind ≡ numbers_kind (max n m)) × FitsIn kind (numbers_kind n) × FitsIn kind (numbers_kind m)
+    → let kind = if test then numbers_kind m else numbers_kind n in (kind ≡ numbers_kind (max n m)) × FitsIn kind (numbers_kind n)
+    × FitsIn kind (numbers_kind m)
 numbers_join n m true e =
     let lt : n < m = grind (arith, nat_tests, e) in
     let most : m ≡ max n m = omega (arith, lt) in
@@ -117,7 +120,8 @@ numbers_join n m false e =
     (ap numbers_kind most, inl refl, numbers_fit m n (same_or_below m n le))
 
 slots_join : (n m : ℕ) (test : Bool) → nat_lt n m ≡ test
-    → let kind = if test then slots_kind m else slots_kind n in (kind ≡ slots_kind (max n m)) × FitsIn kind (slots_kind n) × FitsIn kind (slots_kind m)
+    → let kind = if test then slots_kind m else slots_kind n in (kind ≡ slots_kind (max n m)) × FitsIn kind (slots_kind n)
+    × FitsIn kind (slots_kind m)
 slots_join n m true e =
     let lt : n < m = grind (arith, nat_tests, e) in
     let most : m ≡ max n m = omega (arith, lt) in
@@ -257,7 +261,8 @@ convert_takes word true true part t h =
     let q = unrefused (misfit part (Numeric (asks word))) (Numeric (answers word)) t h in
     (q.1, refl, measured_number part (asks word) q.0)
 
-pub element_is : (all item : RplType) → element_type all ≡ Ok item → IsAnyList (kind_of_rpl_type all) × (element_of (kind_of_rpl_type all) ≡ kind_of_rpl_type item)
+pub element_is : (all item : RplType) → element_type all ≡ Ok item
+    → IsAnyList (kind_of_rpl_type all) × (element_of (kind_of_rpl_type all) ≡ kind_of_rpl_type item)
 element_is (NumericList m d) item h = ((m, inl refl), same_kind (Numeric d) item h)
 element_is (SlotList m d) item h = ((m, inr refl), same_kind (Slot d) item h)
 element_is _ item h = absurd (cc h)
@@ -301,9 +306,27 @@ list_takes [] t h = absurd (cc h)
 list_takes (Numeric d ∷ ts) t h =
     let q = unrefused (sooner (misfit_among ts (Numeric d)) (length_misfit (length ts + 1) longest)) (NumericList (length ts + 1) d) t h in
     let r = none_of_two (misfit_among ts (Numeric d)) (length_misfit (length ts + 1) longest) q.0 in
-    record { first = Numeric d; rest = ts; are = refl; element = inl refl; alike = numbers_alike ts d r.0; short = few (length ts + 1) longest r.1; whole = q.1 }
+    record {
+      first = Numeric d;
+      rest = ts;
+      are = refl;
+      element = inl refl;
+      alike = numbers_alike ts d r.0;
+      short =
+          few (length ts + 1) longest r.1;
+      whole = q.1;
+    }
 list_takes (Slot d ∷ ts) t h =
     let q = unrefused (sooner (misfit_among ts (Slot d)) (length_misfit (length ts + 1) longest)) (SlotList (length ts + 1) d) t h in
     let r = none_of_two (misfit_among ts (Slot d)) (length_misfit (length ts + 1) longest) q.0 in
-    record { first = Slot d; rest = ts; are = refl; element = inr refl; alike = slots_alike ts d r.0; short = few (length ts + 1) longest r.1; whole = q.1 }
+    record {
+      first = Slot d;
+      rest = ts;
+      are = refl;
+      element = inr refl;
+      alike = slots_alike ts d r.0;
+      short =
+          few (length ts + 1) longest r.1;
+      whole = q.1;
+    }
 list_takes (_ ∷ ts) t h = absurd (cc h)

@@ -42,7 +42,8 @@ slot_found : (basin : Draft) (found : Option ℕ) (t : RplType) → found_slot_t
 slot_found basin None t h = absurd (cc h)
 slot_found basin (Some s) t h = (same_kind (Slot (dim_of basin.objects s)) t h, refl)
 
-name_found : (scope : Scope) (x : List ℕ) (t : RplType) → name_type scope x ≡ Ok t → (kind_named (type_names scope) x ≡ kind_of_rpl_type t) × HasName (type_names scope) x
+name_found : (scope : Scope) (x : List ℕ) (t : RplType) → name_type scope x ≡ Ok t
+    → (kind_named (type_names scope) x ≡ kind_of_rpl_type t) × HasName (type_names scope) x
 name_found [] x t h = absurd (cc h)
 name_found (variable ∷ scope) x t h = by (bytes_eq variable.0 x) h (λ g. name_found scope x t g)
   where
@@ -102,7 +103,8 @@ module _ (basin : Draft) (callable : Callable) (heads : List Head) (matches : Ma
   looked (at s d) names h = (tt, refl)
   looked _ names h = absurd (cc h)
 
-  of_kind : (scope : Scope) (es : Trees) (ts : List RplType) (kind : Kind) → AllKinded scope es ts → AreAlike kind ts → AreOfKind basin heads (type_names scope) kind es
+  of_kind : (scope : Scope) (es : Trees) (ts : List RplType) (kind : Kind) → AllKinded scope es ts → AreAlike kind ts
+      → AreOfKind basin heads (type_names scope) kind es
   of_kind scope no_trees ts kind h a = tt
   of_kind scope (tree e es) ts kind h a = let b = subst (AreAlike kind) h.2 a in (h.3.1, h.3.0 ∙ b.0, of_kind scope es h.1 kind h.4 b.1)
 
@@ -110,7 +112,8 @@ module _ (basin : Draft) (callable : Callable) (heads : List Head) (matches : Ma
   count_is scope no_trees ts h = ap length (sym h)
   count_is scope (tree e es) ts h = let c = count_is scope es h.1 h.4 in let n = ap length h.2 in omega (arith, c, n)
 
-  arguments : (scope : Scope) (es : Trees) (ts : List RplType) (kinds : List Kind) → AllKinded scope es ts → FitTypes kinds ts → AreArguments basin heads (type_names scope) kinds es
+  arguments : (scope : Scope) (es : Trees) (ts : List RplType) (kinds : List Kind) → AllKinded scope es ts → FitTypes kinds ts
+      → AreArguments basin heads (type_names scope) kinds es
   arguments scope no_trees ts [] h f = tt
   arguments scope no_trees ts (k ∷ kinds) h f = absurd (subst (FitTypes (k ∷ kinds)) h f)
   arguments scope (tree e es) ts [] h f = absurd (subst (FitTypes []) h.2 f)
@@ -122,7 +125,8 @@ module _ (basin : Draft) (callable : Callable) (heads : List Head) (matches : Ma
       let c = call_takes callable heads f h.0 t matches h.2 in
       (c.result_is, (c.has, arguments scope es h.0 (takes_named heads f) (all scope h.0 h.1) c.fit))
 
-  listed : (scope : Scope) (es : Trees) (ts : List RplType) (t : RplType) → AllKinded scope es ts → Listed ts t → Kinded (type_names scope) (list es) (kind_of_rpl_type t)
+  listed : (scope : Scope) (es : Trees) (ts : List RplType) (t : RplType) → AllKinded scope es ts → Listed ts t
+      → Kinded (type_names scope) (list es) (kind_of_rpl_type t)
   listed scope no_trees ts t h l = absurd (cc (h, l.are))
   listed scope (tree e es) ts t h l =
       let names : Names = type_names scope in
@@ -223,7 +227,12 @@ module _ (basin : Draft) (callable : Callable) (heads : List Head) (matches : Ma
       let b = right scope h.1 h.3 in
       let q = two_takes word h.0 h.1 t h.4 in (
         ap₂ (two_kind word) a.0 b.0 ∙ q.0,
-        (a.1, b.1, subst (λ k. TwoTakes word k (tree_kind heads (type_names scope) r)) (sym a.0) (subst (TwoTakes word (kind_of_rpl_type h.0)) (sym b.0) q.1)),
+        (
+          a.1,
+          b.1,
+          subst (λ k. TwoTakes word k (tree_kind heads (type_names scope) r)) (sym a.0)
+              (subst (TwoTakes word (kind_of_rpl_type h.0)) (sym b.0) q.1),
+        ),
       )
 
   on_convert : (word : ConvertWord) (o : List ℕ) (e : Tree) → Claim e → Claim (convert word o e)
@@ -300,7 +309,8 @@ module _ (basin : Draft) (callable : Callable) (heads : List Head) (matches : Ma
 
 -- ---- rulesets
 
-kinded_from : (basin : Draft) (rules : List Declared) (k : ℕ) (earlier : List Signature) (heads : List Head) (ds : List Declared) → Matches earlier heads
+kinded_from : (basin : Draft) (rules : List Declared) (k : ℕ) (earlier : List Signature) (heads : List Head) (ds : List Declared)
+    → Matches earlier heads
     → AreDeclared basin rules k earlier ds → AreKindedFrom basin heads ds
 kinded_from basin rules k earlier heads [] m h = tt
 kinded_from basin rules k earlier heads (rule f body ∷ ds) m h =
@@ -312,7 +322,8 @@ kinded_from basin rules k earlier heads (function f ps result body ∷ ds) m h =
     let new = fresh earlier f ps result own.0 in
     let b = tree_kinded basin callable heads m body (param_scope ps) own.1 own.2 in
     let fit = kinds_fit own.1 (type_here result) own.3 in
-    let typed_body : IsKindedBody basin heads (type_names (param_scope ps)) (kind_of_type result) body = (b.1, subst (FitsIn (kind_of_type result)) (sym b.0) (subst (λ k. FitsIn k (kind_of_rpl_type own.1)) new.kinds.result_is fit)) in (
+    let typed_body : IsKindedBody basin heads (type_names (param_scope ps)) (kind_of_type result) body =
+    (b.1, subst (FitsIn (kind_of_type result)) (sym b.0) (subst (λ k. FitsIn k (kind_of_rpl_type own.1)) new.kinds.result_is fit)) in (
       subst (λ names. IsKindedBody basin heads names (kind_of_type result) body) new.kinds.names typed_body,
       kinded_from basin rules (k + 1) (and_function (function f ps result body) earlier) _ ds (with_function earlier heads f ps result m new) h.2,
     )

@@ -76,23 +76,28 @@ module _ (scope : Scope) (lines : List Instruction) (spots_are : scope.spots ≡
       → (p : ℕ) (ls : List ValueKind) (os : List Open) → account.sum_at (before (ks ++ ls) os) i ≡ s
       → Leads (i ∷ []) p (before (ks ++ ls) os) (before (left ++ ls) os) s (max (kept (before (ks ++ ls) os)) (kept (before (left ++ ls) os)))
   line_by i n left_for ks left s simple r e h p ls os f =
-      goes_line scope lines spots_are pays account (simple.0 p (before (ks ++ ls) os) ∙ takes_by scope i n left_for ks left ls os r e h) simple.1 simple.2 f
+      goes_line scope lines spots_are pays account
+      (simple.0 p (before (ks ++ ls) os) ∙ takes_by scope i n left_for ks left ls os r e h) simple.1 simple.2 f
 
   told : {xs : List Instruction} {p s t h g : ℕ} {b c : Before} → Leads xs p b c s h → s ≡ t → h ≡ g → Leads xs p b c t g
-  told {xs} {p} {s} {t} {h} {g} {b} {c} way e f = goes_as scope lines spots_are pays account {xs = xs} {p = p} {s = s} {t = t} {h = h} {g = g} {b = b} {c = c} way e f
+  told {xs} {p} {s} {t} {h} {g} {b} {c} way e f =
+      goes_as scope lines spots_are pays account {xs = xs} {p = p} {s = s} {t = t} {h = h} {g = g} {b = b} {c = c} way e f
 
   -- ---- one operand
 
   abbrev OneGoes : OneWord → Kind → Type 0
   OneGoes word k =
       (p : ℕ) (ls : List ValueKind) (os : List Open)
-      → Leads (one_line word ∷ []) p (before (code_kind k ∷ ls) os) (before (code_kind (one_kind word) ∷ ls) os) (pays.step 1) (kept (before (code_kind k ∷ ls) os))
+      → Leads (one_line word ∷ []) p (before (code_kind k ∷ ls) os) (before (code_kind (one_kind word) ∷ ls) os) (pays.step 1)
+      (kept (before (code_kind k ∷ ls) os))
 
   one_of : (word : OneWord) (a k : Kind) → k ≡ a → OneGoes word a → OneGoes word k
   one_of word a k e g = subst (OneGoes word) (sym e) g
 
-  unary : (i : Instruction) (k l : ValueKind) → IsSimple i → IsUnit i → row scope.heads scope.locals i ≡ takes (k ∷ []) (l ∷ []) → words_of l ≤ words_of k
-      → (p : ℕ) (ls : List ValueKind) (os : List Open) → Leads (i ∷ []) p (before (k ∷ ls) os) (before (l ∷ ls) os) (pays.step 1) (kept (before (k ∷ ls) os))
+  unary : (i : Instruction) (k l : ValueKind) → IsSimple i → IsUnit i → row scope.heads scope.locals i ≡ takes (k ∷ []) (l ∷ [])
+      → words_of l ≤ words_of k
+      → (p : ℕ) (ls : List ValueKind) (os : List Open)
+      → Leads (i ∷ []) p (before (k ∷ ls) os) (before (l ∷ ls) os) (pays.step 1) (kept (before (k ∷ ls) os))
   unary i k l simple u r le p ls os =
       told (line i (k ∷ []) (l ∷ []) (pays.step 1) simple r p ls os (account.prices.unit (before (k ∷ ls) os) i u)) refl (omega (arith, le))
 
@@ -106,7 +111,8 @@ module _ (scope : Scope) (lines : List Instruction) (spots_are : scope.spots ≡
   one_goes Not k plain h = one_of Not truth_kind k h (unary I.Not K.B K.B (λ p b. refl, refl, λ x. x) tt refl (omega arith))
   one_goes Minus k plain h = one_of Minus number_kind k h (unary I.Neg K.N K.N (λ p b. refl, refl, λ x. x) tt refl (omega arith))
   one_goes Known k plain h = absurd plain
-  one_goes Length k plain h = of_lists (OneGoes Length) (λ m. counting (K.NList m) refl (omega arith)) (λ m. counting (K.SList m) refl (omega arith)) k h
+  one_goes Length k plain h = of_lists (OneGoes Length) (λ m. counting (K.NList m) refl (omega arith))
+      (λ m. counting (K.SList m) refl (omega arith)) k h
   one_goes Month k plain h = one_of Month date_kind k h (unary I.Month K.D K.N (λ p b. refl, refl, λ x. x) tt refl (omega arith))
   one_goes Day k plain h = one_of Day date_kind k h (unary I.Day K.D K.N (λ p b. refl, refl, λ x. x) tt refl (omega arith))
   one_goes Year k plain h = one_of Year date_kind k h (unary I.Year K.D K.N (λ p b. refl, refl, λ x. x) tt refl (omega arith))
@@ -127,20 +133,24 @@ module _ (scope : Scope) (lines : List Instruction) (spots_are : scope.spots ≡
       → words_of left ≤ words_of k → (p : ℕ) (ls : List ValueKind) (os : List Open)
       → Leads (i ∷ []) p (before (l ∷ k ∷ ls) os) (before (left ∷ ls) os) (pays.step 1) (kept (before (l ∷ k ∷ ls) os))
   binary i k l left simple u r le p ls os =
-      told (line i (l ∷ k ∷ []) (left ∷ []) (pays.step 1) simple r p ls os (account.prices.unit (before (l ∷ k ∷ ls) os) i u)) refl (omega (arith, le))
+      told (line i (l ∷ k ∷ []) (left ∷ []) (pays.step 1) simple r p ls os (account.prices.unit (before (l ∷ k ∷ ls) os) i u)) refl
+      (omega (arith, le))
 
-  numbers_line : (i : Instruction) (left : ValueKind) → IsSimple i → IsUnit i → row scope.heads scope.locals i ≡ takes (K.N ∷ K.N ∷ []) (left ∷ []) → words_of left ≤ 1
+  numbers_line : (i : Instruction) (left : ValueKind) → IsSimple i → IsUnit i → row scope.heads scope.locals i ≡ takes (K.N ∷ K.N ∷ []) (left ∷ [])
+      → words_of left ≤ 1
       → (p : ℕ) (ls : List ValueKind) (os : List Open)
       → Leads (i ∷ []) p (before (K.N ∷ K.N ∷ ls) os) (before (left ∷ ls) os) (pays.step 1) (kept (before (K.N ∷ K.N ∷ ls) os))
   numbers_line i left simple u r le = binary i K.N K.N left simple u r le
 
-  dates_line : (i : Instruction) (left : ValueKind) → IsSimple i → IsUnit i → row scope.heads scope.locals i ≡ takes (K.D ∷ K.D ∷ []) (left ∷ []) → words_of left ≤ 1
+  dates_line : (i : Instruction) (left : ValueKind) → IsSimple i → IsUnit i → row scope.heads scope.locals i ≡ takes (K.D ∷ K.D ∷ []) (left ∷ [])
+      → words_of left ≤ 1
       → (p : ℕ) (ls : List ValueKind) (os : List Open)
       → Leads (i ∷ []) p (before (K.D ∷ K.D ∷ ls) os) (before (left ∷ ls) os) (pays.step 1) (kept (before (K.D ∷ K.D ∷ ls) os))
   dates_line i left simple u r le = binary i K.D K.D left simple u r le
 
   -- a test and its opposite
-  then_not : (i : Instruction) (p : ℕ) (b : Before) (ls : List ValueKind) (os : List Open) → Leads (i ∷ []) p b (before (K.B ∷ ls) os) (pays.step 1) (kept b)
+  then_not : (i : Instruction) (p : ℕ) (b : Before) (ls : List ValueKind) (os : List Open)
+      → Leads (i ∷ []) p b (before (K.B ∷ ls) os) (pays.step 1) (kept b)
       → Leads (i ∷ I.Not ∷ []) p b (before (K.B ∷ ls) os) (pays.step 2) (kept b)
   then_not i p b ls os g =
       let c : Before = before (K.B ∷ ls) os in
@@ -149,11 +159,13 @@ module _ (scope : Scope) (lines : List Instruction) (spots_are : scope.spots ≡
       told (goes_then scope lines spots_are pays account {xs = i ∷ []} {ys = I.Not ∷ []} {p = p} {q = p + 1} {b = b} {c = c} {d = c} refl g
       (unary I.Not K.B K.B (λ p b. refl, refl, λ x. x) tt refl (omega arith) (p + 1) ls os)) (sym two) (omega (arith, low))
 
-  compared_goes : (word : TwoWord) (k l : Kind) → AreComparable k l → TwoGoes word number_kind number_kind → TwoGoes word date_kind date_kind → TwoGoes word k l
+  compared_goes : (word : TwoWord) (k l : Kind) → AreComparable k l → TwoGoes word number_kind number_kind → TwoGoes word date_kind date_kind
+      → TwoGoes word k l
   compared_goes word k l (inl h) n d = two_of word number_kind number_kind k l h n
   compared_goes word k l (inr h) n d = two_of word date_kind date_kind k l h d
 
-  added_goes : (word : TwoWord) (k l : Kind) → CanAdd k l → TwoGoes word number_kind number_kind → TwoGoes word date_kind number_kind → TwoGoes word k l
+  added_goes : (word : TwoWord) (k l : Kind) → CanAdd k l → TwoGoes word number_kind number_kind → TwoGoes word date_kind number_kind
+      → TwoGoes word k l
   added_goes word k l (inl h) n d = two_of word number_kind number_kind k l h n
   added_goes word k l (inr h) n d = two_of word date_kind number_kind k l h d
 
@@ -167,7 +179,8 @@ module _ (scope : Scope) (lines : List Instruction) (spots_are : scope.spots ≡
   appending : (m : ℕ) (make : ℕ → ValueKind) (one : ValueKind) → appended (one ∷ make m ∷ []) ≡ Some (make (m + 1) ∷ []) → words_of one ≡ 1
       → ((n : ℕ) → words_of (make n) ≡ n + 1) → V.room_of (make m) ≡ m
       → (p : ℕ) (ls : List ValueKind) (os : List Open)
-      → Leads (I.Append ∷ []) p (before (one ∷ make m ∷ ls) os) (before (make (m + 1) ∷ ls) os) (pays.step (m + 2)) (kept (before (one ∷ make m ∷ ls) os))
+      → Leads (I.Append ∷ []) p (before (one ∷ make m ∷ ls) os) (before (make (m + 1) ∷ ls) os) (pays.step (m + 2))
+      (kept (before (one ∷ make m ∷ ls) os))
   appending m make one e w1 w room p ls os =
       let low : words_of (make (m + 1)) ≡ words_of one + words_of (make m) = let a = w (m + 1) in let b = w m in omega (arith, a, b, w1) in
       told (line_by I.Append 2 appended (one ∷ make m ∷ []) (make (m + 1) ∷ []) (pays.step (m + 2)) (λ p b. refl, refl, λ x. x) refl refl e p ls os
@@ -188,25 +201,32 @@ module _ (scope : Scope) (lines : List Instruction) (spots_are : scope.spots ≡
 
   picked_goes : (k l : Kind) → IsAnyList k → l ≡ number_kind → TwoGoes Item k l
   picked_goes k l h e =
-      subst (TwoGoes Item k) (sym e) (of_lists (λ k. TwoGoes Item k number_kind) (λ m. picking (K.NList m) K.N refl refl) (λ m. picking (K.SList m) K.S refl refl) k h)
+      subst (TwoGoes Item k) (sym e)
+      (of_lists (λ k. TwoGoes Item k number_kind) (λ m. picking (K.NList m) K.N refl refl) (λ m. picking (K.SList m) K.S refl refl) k h)
 
   pub two_goes : (word : TwoWord) (k l : Kind) → IsLine word → TwoTakes word k l → TwoGoes word k l
   two_goes Or k l plain h = absurd plain
   two_goes And k l plain h = absurd plain
   two_goes Equal k l plain h =
-      compared_goes Equal k l h (numbers_line I.Eq K.B (λ p b. refl, refl, λ x. x) tt refl (omega arith)) (dates_line I.Deq K.B (λ p b. refl, refl, λ x. x) tt refl (omega arith))
+      compared_goes Equal k l h (numbers_line I.Eq K.B (λ p b. refl, refl, λ x. x) tt refl (omega arith))
+      (dates_line I.Deq K.B (λ p b. refl, refl, λ x. x) tt refl (omega arith))
   two_goes Unequal k l plain h =
-      compared_goes Unequal k l h (λ p ls os. then_not I.Eq p _ ls os (numbers_line I.Eq K.B (λ p b. refl, refl, λ x. x) tt refl (omega arith) p ls os))
+      compared_goes Unequal k l h (λ p ls os. then_not I.Eq p _ ls os
+      (numbers_line I.Eq K.B (λ p b. refl, refl, λ x. x) tt refl (omega arith) p ls os))
       (λ p ls os. then_not I.Deq p _ ls os (dates_line I.Deq K.B (λ p b. refl, refl, λ x. x) tt refl (omega arith) p ls os))
   two_goes Less k l plain h =
-      compared_goes Less k l h (numbers_line I.Lt K.B (λ p b. refl, refl, λ x. x) tt refl (omega arith)) (dates_line I.Dlt K.B (λ p b. refl, refl, λ x. x) tt refl (omega arith))
+      compared_goes Less k l h (numbers_line I.Lt K.B (λ p b. refl, refl, λ x. x) tt refl (omega arith))
+      (dates_line I.Dlt K.B (λ p b. refl, refl, λ x. x) tt refl (omega arith))
   two_goes LessEqual k l plain h =
-      compared_goes LessEqual k l h (numbers_line I.Le K.B (λ p b. refl, refl, λ x. x) tt refl (omega arith)) (dates_line I.Dle K.B (λ p b. refl, refl, λ x. x) tt refl (omega arith))
+      compared_goes LessEqual k l h (numbers_line I.Le K.B (λ p b. refl, refl, λ x. x) tt refl (omega arith))
+      (dates_line I.Dle K.B (λ p b. refl, refl, λ x. x) tt refl (omega arith))
   two_goes Greater k l plain h =
-      compared_goes Greater k l h (λ p ls os. then_not I.Le p _ ls os (numbers_line I.Le K.B (λ p b. refl, refl, λ x. x) tt refl (omega arith) p ls os))
+      compared_goes Greater k l h (λ p ls os. then_not I.Le p _ ls os
+      (numbers_line I.Le K.B (λ p b. refl, refl, λ x. x) tt refl (omega arith) p ls os))
       (λ p ls os. then_not I.Dle p _ ls os (dates_line I.Dle K.B (λ p b. refl, refl, λ x. x) tt refl (omega arith) p ls os))
   two_goes GreaterEqual k l plain h =
-      compared_goes GreaterEqual k l h (λ p ls os. then_not I.Lt p _ ls os (numbers_line I.Lt K.B (λ p b. refl, refl, λ x. x) tt refl (omega arith) p ls os))
+      compared_goes GreaterEqual k l h
+      (λ p ls os. then_not I.Lt p _ ls os (numbers_line I.Lt K.B (λ p b. refl, refl, λ x. x) tt refl (omega arith) p ls os))
       (λ p ls os. then_not I.Dlt p _ ls os (dates_line I.Dlt K.B (λ p b. refl, refl, λ x. x) tt refl (omega arith) p ls os))
   two_goes Plus k l plain h =
       added_goes Plus k l h (numbers_line I.Add K.N (λ p b. refl, refl, λ x. x) tt refl (omega arith))
@@ -232,11 +252,13 @@ module _ (scope : Scope) (lines : List Instruction) (spots_are : scope.spots ≡
   same_room : (k : Kind) → WidenGoes k k
   same_room k p ls os =
       let b : Before = before (code_kind k ∷ ls) os in
-      subst (λ t. Leads (if t then [] else I.Widen (room_of k) ∷ []) p b b (if t then 0 else pays.step (weight k)) (max (kept b) (kept b))) (sym (tree_same k))
+      subst (λ t. Leads (if t then [] else I.Widen (room_of k) ∷ []) p b b (if t then 0 else pays.step (weight k)) (max (kept b) (kept b)))
+      (sym (tree_same k))
       (told (goes_none scope lines spots_are pays account p b) refl (omega arith))
 
   filling : (m n : ℕ) (make : ℕ → ValueKind) → widened m (make n ∷ []) ≡ Some (make m ∷ []) → (p : ℕ) (ls : List ValueKind) (os : List Open)
-      → Leads (I.Widen m ∷ []) p (before (make n ∷ ls) os) (before (make m ∷ ls) os) (pays.step (m + 1)) (max (kept (before (make n ∷ ls) os)) (kept (before (make m ∷ ls) os)))
+      → Leads (I.Widen m ∷ []) p (before (make n ∷ ls) os) (before (make m ∷ ls) os) (pays.step (m + 1))
+      (max (kept (before (make n ∷ ls) os)) (kept (before (make m ∷ ls) os)))
   filling m n make e p ls os =
       line_by (I.Widen m) 1 (widened m) (make n ∷ []) (make m ∷ []) (pays.step (m + 1)) (λ p b. refl, refl, λ x. x) refl refl e p ls os
       (account.prices.widened (before (make n ∷ ls) os) m)
@@ -244,13 +266,18 @@ module _ (scope : Scope) (lines : List Instruction) (spots_are : scope.spots ≡
   wider : (place kind : Kind) → IsWider place kind → WidenGoes place kind
   wider place kind h = by h.0 h.1 h.2 h.3
     where
-      by : (m n : ℕ) → n < m → ((place ≡ numbers_kind m) × (kind ≡ numbers_kind n)) ⊎ ((place ≡ slots_kind m) × (kind ≡ slots_kind n)) → WidenGoes place kind
+      by : (m n : ℕ) → n < m → ((place ≡ numbers_kind m) × (kind ≡ numbers_kind n)) ⊎ ((place ≡ slots_kind m) × (kind ≡ slots_kind n))
+          → WidenGoes place kind
       by m n lt (inl e) = subst (λ place. WidenGoes place kind) (sym e.0) (subst (WidenGoes (numbers_kind m)) (sym e.1) (λ p ls os.
-          subst (λ t. Leads (if t then [] else I.Widen m ∷ []) p (before (K.NList n ∷ ls) os) (before (K.NList m ∷ ls) os) (if t then 0 else pays.step (m + 1))
-          (max (kept (before (K.NList n ∷ ls) os)) (kept (before (K.NList m ∷ ls) os)))) (sym (other_room m n lt)) (filling m n K.NList (fills n m K.NList lt) p ls os)))
+          subst (λ t. Leads (if t then [] else I.Widen m ∷ []) p (before (K.NList n ∷ ls) os) (before (K.NList m ∷ ls) os)
+          (if t then 0 else pays.step (m + 1))
+          (max (kept (before (K.NList n ∷ ls) os)) (kept (before (K.NList m ∷ ls) os)))) (sym (other_room m n lt))
+          (filling m n K.NList (fills n m K.NList lt) p ls os)))
       by m n lt (inr e) = subst (λ place. WidenGoes place kind) (sym e.0) (subst (WidenGoes (slots_kind m)) (sym e.1) (λ p ls os.
-          subst (λ t. Leads (if t then [] else I.Widen m ∷ []) p (before (K.SList n ∷ ls) os) (before (K.SList m ∷ ls) os) (if t then 0 else pays.step (m + 1))
-          (max (kept (before (K.SList n ∷ ls) os)) (kept (before (K.SList m ∷ ls) os)))) (sym (other_room m n lt)) (filling m n K.SList (fills n m K.SList lt) p ls os)))
+          subst (λ t. Leads (if t then [] else I.Widen m ∷ []) p (before (K.SList n ∷ ls) os) (before (K.SList m ∷ ls) os)
+          (if t then 0 else pays.step (m + 1))
+          (max (kept (before (K.SList n ∷ ls) os)) (kept (before (K.SList m ∷ ls) os)))) (sym (other_room m n lt))
+          (filling m n K.SList (fills n m K.SList lt) p ls os)))
 
   pub widen_goes : (place kind : Kind) → FitsIn place kind → WidenGoes place kind
   widen_goes place kind (inl e) = subst (WidenGoes place) e (same_room place)
