@@ -3,5 +3,8 @@ pub mod Size
 pub mod Site
 pub mod Kinded
 pub mod Translate
+pub mod Written
+pub mod Seen
+pub mod Writes
 pub mod Worked
 pub mod Fires

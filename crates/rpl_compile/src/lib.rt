@@ -2,5 +2,11 @@
 //! worked rules, line by line (`law`), and that their code does what they mean (`firings`). No call makes code yet.
 #![tactic(auto)]
 
+pub mod ahead;
+pub mod expression;
 pub mod firings;
+pub mod kind;
+pub mod known;
 pub mod law;
+pub mod operator;
+pub mod writing;
