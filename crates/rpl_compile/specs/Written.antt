@@ -287,6 +287,13 @@ module _ (callees : List Callee) where
     compiled_arguments w [] (tree t ts) = w
     compiled_arguments w (kind ∷ kinds) (tree t ts) = compiled_arguments (with_argument kind (compiled w t)) kinds ts
 
+  -- a value under a name
+  abbrev pub with_value : List ℕ → Tree → Written → Written
+  with_value x e w =
+      let local = length w.locals in
+      let value = compiled (with_local w) e in
+      with_name (bound x value.kind local) (with_line (I.Store local) (with_kind local value.kind value.on))
+
   abbrev mutual
     pub compiled_act : Written → Act → Written
     compiled_act w (assign o s ahead e) = with_line (I.Put (spelt o) (spelt s) (byte (unsigned_abs ahead))) (compiled w e).on
@@ -295,11 +302,7 @@ module _ (callees : List Callee) where
         let middle = compiled_acts (with_branch test) first in
         let last = compiled_acts (with_second (length test.lines) middle) second in
         with_end (length middle.lines) last.below last
-    compiled_act w (with x e body) =
-        let local = length w.locals in
-        let value = compiled (with_local w) e in
-        let ahead = with_line (I.Store local) (with_kind local value.kind value.on) in
-        without_name (compiled_acts (with_name (bound x value.kind local) ahead) body)
+    compiled_act w (with x e body) = without_name (compiled_acts (with_value x e w) body)
 
     pub compiled_acts : Written → Acts → Written
     compiled_acts w no_acts = w

@@ -9,4 +9,5 @@ pub mod kind;
 pub mod known;
 pub mod law;
 pub mod operator;
+pub mod statement;
 pub mod writing;
