@@ -1,20 +1,22 @@
 -- How code is written on one way over a tree: line after line, and a jump's place once it is known. What TRANSLATE can't say of a
 -- ruleset that isn't kinded, as a name that is no text or a list with too much room, is written here in some way.
-use Rattle.std.specs.Prelude.{ℕ, ◌+◌, ◌-◌, ◌*ℤ◌, ℤ, nat_lt, pos, unsigned_abs, Bool, true, false, List, [], ◌∷◌, ◌++◌, length, take, Option, Some, None, unwrap_or, bytes_eq, slice_set, if◌then◌else◌}
+use Rattle.std.specs.Prelude.{ℕ, ◌+◌, ◌-◌, ◌*ℤ◌, ℤ, nat_lt, pos, unsigned_abs, true, false, List, [], ◌∷◌, ◌++◌, drop, length, map, take, Option, Some, None, unwrap_or, bytes_eq, slice_set, if◌then◌else◌}
 use Rattle.std.specs.Str.{is_utf8}
 use Rattle.rw_base.specs.Unit.{units, unit_in}
 use Rattle.rpl_code.specs.declared.kind.ValueKind.{ValueKind}
 use Rattle.rpl_code.specs.declared.instruction.Instruction.{Instruction}
 use Rattle.rpl_code.specs.declared.instruction.Instruction.TheVariants as I
+use Rattle.rpl_code.specs.declared.block.BlockHead.TheVariants.{Rule, Function}
+use Rattle.rpl_code.specs.declared.block.Block.{Block}
 use Rattle.rpl_tree.specs.declared.words.OneWord.{OneWord}
 use Rattle.rpl_tree.specs.declared.words.OneWord.TheVariants.{Known}
 use Rattle.rpl_tree.specs.declared.words.TwoWord.{TwoWord}
 use Rattle.rpl_tree.specs.declared.words.TwoWord.TheVariants.{Or, And, Equal, Unequal, Less, LessEqual, Greater, GreaterEqual, Plus, Minus as Less_by, Times, Divide, Append, Item}
 use Rattle.rpl_tree.specs.Operators.{is_quantity}
 use Rattle.rpl_tree.specs.Value.{Kind, number_kind, truth_kind, date_kind, slot_kind, numbers_kind, slots_kind, element_of, is_same_kind, list_kind, room_of}
-use Rattle.rpl_tree.specs.Tree.{TypeName, numeric, boolean, datetime, slot_type, numeric_list, slot_list, Tree, Trees, literal, truth, now, slot, name, call, brackets, list, choice, bind, each, mapped, one, two, convert, at, no_trees, tree, Act, Acts, assign, branch, with_name as with, no_acts, act}
+use Rattle.rpl_tree.specs.Tree.{TypeName, numeric, boolean, datetime, slot_type, numeric_list, slot_list, Tree, Trees, literal, truth, now, slot, name, call, brackets, list, choice, bind, each, mapped, one, two, convert, at, no_trees, tree, Act, Acts, assign, branch, with_name as with, no_acts, act, Parameter, Declared, rule, function}
 use Rattle.rpl_tree.specs.Kinds.{Names, count_of, join, kind_named, one_kind, two_kind}
-use Rattle.rpl_compile.specs.Operations.{code_kind, convert_line, difference_line, factor_of, one_line, sum_line, test_line}
+use Rattle.rpl_compile.specs.Operations.{code_kind, code_kinds, convert_line, difference_line, factor_of, one_line, sum_line, test_line}
 use Rattle.rpl_compile.specs.Site.{Bound, bound, local_named, names_in}
 use Rattle.rpl_compile.specs.Translate.{Callee}
 
@@ -307,3 +309,42 @@ module _ (callees : List Callee) where
     pub compiled_acts : Written → Acts → Written
     compiled_acts w no_acts = w
     compiled_acts w (act a rest) = compiled_acts (compiled_act w a) rest
+
+-- ---- rulesets
+
+-- at the beginning of a block whose parameters have these kinds
+abbrev pub begun : List Bound → List ValueKind → Written
+begun scope locals = written scope locals [] []
+
+-- parameters are the first locals
+abbrev pub written_parameters : ℕ → List Parameter → List Bound
+written_parameters n [] = []
+written_parameters n (p ∷ ps) = bound p.name (written_kind p.of_type) n ∷ written_parameters (n + 1) ps
+
+abbrev pub written_takes : List Parameter → List Kind
+written_takes ps = map (λ (p : Parameter). written_kind p.of_type) ps
+
+abbrev pub written_rule : List Callee → Acts → Block
+written_rule callees body =
+    let w = compiled_acts callees (begun [] []) body in
+    record { head = Rule; locals = w.locals; lines = w.lines }
+
+abbrev pub written_function : List Callee → List Parameter → Kind → Tree → Block
+written_function callees params result body =
+    let takes = code_kinds (written_takes params) in
+    let w = with_room result (compiled callees (begun (written_parameters 0 params) takes) body) in
+    record { head = Function (code_kind result) takes; locals = drop (length params) w.locals; lines = w.lines }
+
+abbrev pub written_block : List Callee → Declared → Block
+written_block callees (rule called_so body) = written_rule callees body
+written_block callees (function called_so params result body) = written_function callees params (written_kind result) body
+
+-- what those behind a declaration of a number may call
+abbrev pub and_callee : List Callee → ℕ → Declared → List Callee
+and_callee callees number (rule called_so body) = callees
+and_callee callees number (function called_so params result body) =
+    record { head = record { name = called_so; takes = written_takes params; result = written_kind result }; block = Some number } ∷ callees
+
+abbrev pub written_from : List Callee → ℕ → List Declared → List Block
+written_from callees number [] = []
+written_from callees number (d ∷ ds) = written_block callees d ∷ written_from (and_callee callees number d) (number + 1) ds

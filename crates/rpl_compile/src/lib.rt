@@ -9,5 +9,6 @@ pub mod kind;
 pub mod known;
 pub mod law;
 pub mod operator;
+pub mod ruleset;
 pub mod statement;
 pub mod writing;
