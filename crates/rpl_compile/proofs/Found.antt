@@ -1,10 +1,13 @@
 -- Of the functions that have a name, the last of a list is the first of the list in reverse. The local of a name.
-use Rattle.rw_base.proofs.Common.{◌≡◌, ℕ, Bool, List, [], ◌∷◌, ◌++◌, Option, true, false, reverse, Some, bytes_eq, unwrap_or, refl, sym, ap, ◌∙◌, if◌then◌else◌, reverse-append}
-use Rattle.rpl_code.specs.declared.kind.ValueKind.TheVariants.{N}
+use Rattle.rw_base.proofs.Common.{◌≡◌, ℕ, Bool, List, [], ◌∷◌, ◌++◌, Option, true, false, reverse, Some, bytes_eq, unwrap_or, refl, sym, ap, ◌∙◌, if◌then◌else◌, reverse-append, length, length-map, map}
+use Rattle.rpl_code.specs.declared.kind.ValueKind.{ValueKind}
+use Rattle.rpl_code.specs.declared.kind.ValueKind.TheVariants.{N, B, D, S, NList, SList}
 use Rattle.rpl_scope.specs.Scope.{first_named as first_found}
-use Rattle.rpl_tree.specs.Kinds.{kind_named}
+use Rattle.rpl_tree.specs.declared.rules.Param.{Param}
+use Rattle.rpl_tree.proofs.Common.{Kind, kind_named, parameter_of}
 use Rattle.rpl_compile.specs.declared.writing.Local.{Local}
-use Rattle.rpl_compile.specs.Seen.{kind_seen, scope_seen}
+use Rattle.rpl_compile.specs.Operations.{code_kind, code_kinds}
+use Rattle.rpl_compile.specs.Seen.{kind_seen, kinds_seen, scope_seen}
 use Rattle.rpl_compile.specs.Site.{local_named, names_in}
 use Rattle.rpl_compile.specs.Translate.{Callee}
 use Rattle.rpl_compile.specs.Written.{callee_named, no_callee}
@@ -55,3 +58,23 @@ module _ (x : List ℕ) where
   number_found [] = refl
   number_found (entry ∷ names) =
       by_test (λ (found : Option Local). (unwrap_or found nothing).number) (bytes_eq entry.0 x) (Some entry.1) (first_found names x) _ (number_found names)
+
+-- ---- kinds
+
+pub code_of_seen : (kind : ValueKind) → code_kind (kind_seen kind) ≡ kind
+code_of_seen N = refl
+code_of_seen B = refl
+code_of_seen D = refl
+code_of_seen S = refl
+code_of_seen (NList m) = refl
+code_of_seen (SList m) = refl
+
+pub codes_of_seen : (kinds : List ValueKind) → code_kinds (kinds_seen kinds) ≡ kinds
+codes_of_seen [] = refl
+codes_of_seen (kind ∷ kinds) = λ i. code_of_seen kind i ∷ codes_of_seen kinds i
+
+pub codes_seen : (kinds : List ValueKind) (seen : List Kind) → kinds_seen kinds ≡ seen → kinds ≡ code_kinds seen
+codes_seen kinds seen e = sym (codes_of_seen kinds) ∙ ap code_kinds e
+
+pub params_length : (params : List Param) → length (map parameter_of params) ≡ length params
+params_length params = length-map params parameter_of

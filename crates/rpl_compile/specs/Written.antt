@@ -329,15 +329,25 @@ written_rule callees body =
     let w = compiled_acts callees (begun [] []) body in
     record { head = Rule; locals = w.locals; lines = w.lines }
 
+abbrev pub begun_function : List Parameter → Written
+begun_function params = begun (written_parameters 0 params) (code_kinds (written_takes params))
+
+-- of a function whose body is written
+abbrev pub function_block : List Parameter → Kind → Written → Block
+function_block params result w =
+    record { head = Function (code_kind result) (code_kinds (written_takes params)); locals = drop (length params) w.locals; lines = w.lines }
+
 abbrev pub written_function : List Callee → List Parameter → Kind → Tree → Block
 written_function callees params result body =
-    let takes = code_kinds (written_takes params) in
-    let w = with_room result (compiled callees (begun (written_parameters 0 params) takes) body) in
-    record { head = Function (code_kind result) takes; locals = drop (length params) w.locals; lines = w.lines }
+    function_block params result (with_room result (compiled callees (begun_function params) body))
 
 abbrev pub written_block : List Callee → Declared → Block
 written_block callees (rule called_so body) = written_rule callees body
 written_block callees (function called_so params result body) = written_function callees params (written_kind result) body
+
+-- a function of numbers that there is in each ruleset
+abbrev pub of_numbers : List ℕ → List Kind → Callee
+of_numbers called_so takes = record { head = record { name = called_so; takes = takes; result = number_kind }; block = None }
 
 -- what those behind a declaration of a number may call
 abbrev pub and_callee : List Callee → ℕ → Declared → List Callee
