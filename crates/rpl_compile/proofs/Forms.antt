@@ -24,7 +24,7 @@ use Rattle.rpl_compile.proofs.Steps.{At, kind_at, line_at, lines_as, local_at, l
 
 -- ---- lists
 
-codes_append : (a b : List Kind) → code_kinds (a ++ b) ≡ code_kinds a ++ code_kinds b
+pub codes_append : (a b : List Kind) → code_kinds (a ++ b) ≡ code_kinds a ++ code_kinds b
 codes_append [] b = refl
 codes_append (k ∷ a) b = ap (λ ks. code_kind k ∷ ks) (codes_append a b)
 

@@ -3,12 +3,14 @@ use Rattle.rw_base.proofs.Common.{◌≡◌, ◌<◌, ◌≤◌, ◌+◌, ◌*�
 use Rattle.std.proofs.lemmas.Bool.{ltb-true, lt-ltb}
 use Rattle.rw_base.specs.Dimension.{Dimension}
 use Rattle.rw_base.specs.Unit.{units, unit_in}
-use Rattle.rw_model.proofs.Common.{IsBasin, Draft, Object, object_named, slot_named}
+use Rattle.rw_model.proofs.Common.{IsBasin, Draft, Object, slot_named}
 use Rattle.rpl_code.specs.declared.instruction.Instruction.TheVariants as I
 use Rattle.rpl_tree.specs.Operators.{is_quantity}
-use Rattle.rpl_tree.proofs.Common.{Head, Kind, result_named, takes_named}
+use Rattle.rw_model.specs.Objects.{object_at}
+use Rattle.rpl_tree.proofs.Common.{result_named, table_in, table_named, takes_named}
 use Rattle.rpl_types.proofs.Texts.{no_owner, no_slot}
 use Rattle.rpl_compile.specs.Kinded.{HasHead, IsLiteral}
+use Rattle.rpl_compile.proofs.Texts.{no_object}
 use Rattle.rpl_compile.specs.Operations.{factor_of}
 use Rattle.rpl_compile.specs.Translate.{Callee, call_by, call_line, callee_heads}
 use Rattle.rpl_compile.specs.Written.{byte, call_of, callee_named, no_callee, number_of, short, spelt, within}
@@ -84,3 +86,8 @@ call_is (c ∷ callees) f s h = elim (cases_Bool (bytes_eq c.head.name f)) [
   | inl e ↦ rw e (called f c.block (λ none. subst IsUtf8 ((bytes_eq-Decides c.head.name f).0 e) (s.0 none)))
   | inr e ↦ rw e (call_is callees f s.1 (other_head (bytes_eq c.head.name f) _ e h))
 ]
+
+module _ (basin : Draft) (valid : IsBasin basin) where
+  pub table_spelt : (o : List ℕ) → IsSome (table_named basin o) → spelt o ≡ o
+  table_spelt o h = spelt_unless o (λ none. absurd (false≢true (subst IsSome (ap (λ (found : Option ℕ). option_and_then (λ (object : Object). table_in object.kind)
+      (option_and_then (λ number. object_at basin.objects number) found)) (no_object basin o valid none)) h)))

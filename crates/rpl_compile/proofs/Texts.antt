@@ -1,5 +1,6 @@
 -- What is no text names no unit.
-use Rattle.rw_base.proofs.Common.{◌≡◌, ◌<◌, ℕ, ℤ, Bool, true, List, [], ◌∷◌, Option, None, refl, subst, inl, inr, bytes_eq, nat_lt, list_all, IsAscii, IsUtf8, IsUtf8-from_ascii, IsUtf8-from_is_utf8, is_utf8-from_IsUtf8, is_utf8, if◌then◌else◌, false, sym, ap, ◌∙◌, IsAscii-nil, IsAscii-cons, and_parts, cases_Bool, ltb-true, bytes_eq-Decides}
+use Rattle.rw_base.proofs.Common.{arith, AllByRecursion, recursion_from_All, ◌+◌, ◌⊎◌, ◌≡◌, ◌<◌, ℕ, ℤ, Bool, true, List, [], ◌∷◌, Option, None, refl, subst, inl, inr, bytes_eq, nat_lt, list_all, IsAscii, IsUtf8, IsUtf8-from_ascii, IsUtf8-from_is_utf8, is_utf8-from_IsUtf8, is_utf8, if◌then◌else◌, false, sym, ap, ◌∙◌, IsAscii-nil, IsAscii-cons, and_parts, cases_Bool, ltb-true, bytes_eq-Decides}
+use Rattle.rw_model.proofs.Common.{Draft, IsBasin, IsDigit, IsLetter, IsName, IsSound, Object, object_from, object_named}
 use Rattle.rw_base.specs.Dimension.{Dimension}
 use Rattle.rw_base.specs.Unit.{units, unit_in}
 use Rattle.rpl_compile.specs.Written.{spelt}
@@ -41,3 +42,28 @@ spelt_none word not = elim (cases_Bool (is_utf8 word)) [
   | inl e ↦ absurd (not (IsUtf8-from_is_utf8 word e))
   | inr e ↦ spelt_by false word [] e refl
 ]
+
+-- ---- objects
+
+letter_small : (b : ℕ) → IsLetter b → b < 128
+letter_small b (inl h) = omega (arith, h)
+letter_small b (inr (inl h)) = omega (arith, h)
+letter_small b (inr (inr h)) = omega (arith, h)
+
+bytes_ascii : (word : List ℕ) → AllByRecursion (λ b. IsLetter b ⊎ IsDigit b) word → IsAscii word
+bytes_ascii [] h = IsAscii-nil
+bytes_ascii (b ∷ bs) (inl letter, rest) = IsAscii-cons b bs (letter_small b letter) (bytes_ascii bs rest)
+bytes_ascii (b ∷ bs) (inr digit, rest) = IsAscii-cons b bs (omega (arith, digit)) (bytes_ascii bs rest)
+
+name_text : (word : List ℕ) → IsName word → IsUtf8 word
+name_text word h = IsUtf8-from_ascii word (bytes_ascii word (recursion_from_All (λ b. IsLetter b ⊎ IsDigit b) word h.goes_on))
+
+no_object_from : (n : ℕ) (objects : List Object) (name : List ℕ) → AllByRecursion IsSound objects → ¬ (IsUtf8 name) → object_from n objects name ≡ None
+no_object_from n [] name sound not = refl
+no_object_from n (object ∷ objects) name sound not = elim (cases_Bool (bytes_eq name object.name)) [
+  | inl here ↦ absurd (not (subst IsUtf8 (sym ((bytes_eq-Decides name object.name).0 here)) (name_text object.name sound.0.name)))
+  | inr other ↦ rw other (no_object_from (n + 1) objects name sound.1 not)
+]
+
+pub no_object : (basin : Draft) (name : List ℕ) → IsBasin basin → ¬ (IsUtf8 name) → object_named basin.objects name ≡ None
+no_object basin name h not = no_object_from 1 basin.objects name (recursion_from_All IsSound basin.objects h.whole.sound) not

@@ -6,5 +6,6 @@ pub mod Translate
 pub mod Written
 pub mod Seen
 pub mod Writes
+pub mod Rooms
 pub mod Worked
 pub mod Fires
