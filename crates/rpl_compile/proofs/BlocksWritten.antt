@@ -76,7 +76,7 @@ module _ (basin : Draft) (valid : IsBasin basin) where
         place = refl;
       } in
       let inside : IsKinded basin (callee_heads callees) (names_in scope) body =
-          subst (λ names. IsKinded basin (callee_heads callees) names body) (sym (names_are 0 params)) h.0 in
+      subst (λ names. IsKinded basin (callee_heads callees) names body) (sym (names_are 0 params)) h.0 in
       let own = claim basin callees spelled valid body _ site _ _ begin inside in
       let left = room_at _ _ (kind_of_type result) (kind_of_tree callees site body) kind own.kind own.on in
       let kept = code_kinds (local_kinds (callee_heads callees) (names_in scope) body) in

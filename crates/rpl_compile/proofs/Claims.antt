@@ -80,7 +80,7 @@ module _ (basin : Draft) (callees : List Callee) where
       let kept_f = code_kinds (local_kinds heads names f) in
       let number : length w.locals ≡ length ls = ap (λ (ks : List ValueKind). length ks) start.locals in
       let sum : length (w.locals ++ N ∷ []) ≡ length (ls ++ code_kind item ∷ []) =
-          ap (λ (ks : List ValueKind). length (ks ++ N ∷ [])) start.locals ∙ as_long ls [] N (code_kind item) in
+      ap (λ (ks : List ValueKind). length (ks ++ N ∷ [])) start.locals ∙ as_long ls [] N (code_kind item) in
       let sum_free : length (w.locals ++ N ∷ []) ≡ s.free + 1 = sum ∙ longer ls (code_kind item ∷ []) start.free in
       let element = ap element_of all.kind in
       let first = kind_at ls (N ∷ (kept_l ++ kept_f)) N _ item (length w.locals) number element
@@ -122,14 +122,17 @@ module _ (basin : Draft) (callees : List Callee) where
       let waits = operand_at (compiled callees w t).kind own first.kind first.on in
       let rest = claim_ts _ (over own (after_tree callees t s)) _ _ waits kind h.2 in
       let long : length (code_kind own ∷ rest.0) ≡ count_of ts + 1 = let e = rest.1 in omega (arith, e) in
-      let row = rest.2 in
-      (code_kind own ∷ rest.0, long, record {
-        scope = row.scope;
-        below = row.below ∙ (λ i. ((first.on.below ∙ sym start.below) i ++ code_kind (first.kind i) ∷ []) ++ rest.0)
-            ∙ append_assoc w.below (code_kind own ∷ []) rest.0;
-        locals = row.locals ∙ two_more ls (local_kinds heads names t) (all_local_kinds heads names ts);
-        lines = row.lines ∙ append_assoc is (code_of callees s t) _;
-      })
+      let row = rest.2 in (
+        code_kind own ∷ rest.0,
+        long,
+        record {
+          scope = row.scope;
+          below = row.below ∙ (λ i. ((first.on.below ∙ sym start.below) i ++ code_kind (first.kind i) ∷ []) ++ rest.0)
+              ∙ append_assoc w.below (code_kind own ∷ []) rest.0;
+          locals = row.locals ∙ two_more ls (local_kinds heads names t) (all_local_kinds heads names ts);
+          lines = row.lines ∙ append_assoc is (code_of callees s t) _;
+        },
+      )
 
   on_list : (ts : Trees) → ClaimAll ts → Claim basin callees (list ts)
   on_list ts claim_ts w s ls is start h =

@@ -3,7 +3,9 @@ ghost use Rattle.std.specs.Prelude.{◌≡◌, ◌+◌, IfOk, OnOk, drop, map};
 ghost use Rattle.rpl_tree.specs.Seen.{acts_in, declared_of, parameter_of, rules_of, tree_of, type_of};
 ghost use Rattle.rpl_compile.specs.Operations.{code_kind, code_kinds};
 ghost use Rattle.rpl_compile.specs.Seen.{callee_seen, callees_of, kind_seen, kinds_seen, scope_seen, written_of};
-ghost use Rattle.rpl_compile.specs.Translate.{predefined_callees};
+ghost use Rattle.rpl_compile.specs.Translate.{predefined_callees, translate};
+ghost use Rattle.rpl_compile.specs.Kinded.{AreKinded};
+ghost use Rattle.rpl_compile.specs.Rooms.{AreRoomy};
 ghost use Rattle.rpl_compile.specs.Written as Written;
 
 use crate::expression::code;
@@ -15,6 +17,7 @@ use rpl_code::{Block, BlockHead, Kinds, Lines, ValueKind};
 use rpl_scope::Scope;
 use rpl_tree::{Declaration, Expr, Param, ParsedRules, Statement, TypeText};
 use rw_base::NoMemory;
+use rw_model::Basin;
 use std::alloc::Global;
 
 // The kinds of parameters, in order.
@@ -200,7 +203,7 @@ fn predefined(alloc: Global) -> Result<Vec<Known<'static>>, NoMemory>
 }
 
 // The blocks of all declarations, as they are written.
-fn blocks(alloc: Global, rules: &ParsedRules) -> Result<Vec<Block>, NoMemory>
+fn written_blocks(alloc: Global, rules: &ParsedRules) -> Result<Vec<Block>, NoMemory>
     ensures { IfOk result (λ blocks. blocks.items
         ≡ Written.written_from predefined_callees 1 (rules_of rules.now)) }
 {
@@ -213,5 +216,16 @@ fn blocks(alloc: Global, rules: &ParsedRules) -> Result<Vec<Block>, NoMemory>
         let block = block_of(alloc, &mut known, number, declaration)?;
         blocks.push(block)?;
     }
+    Ok(blocks)
+}
+
+/// The blocks of a ruleset for a basin. `NoMemory` tells nothing of the ruleset.
+pub fn blocks_of(alloc: Global, rules: &ParsedRules, basin: &Basin) -> Result<Vec<Block>, NoMemory>
+    requires kinded { AreKinded basin.now (rules_of rules.now) }
+    requires rooms { AreRoomy (rules_of rules.now) }
+    ensures { IfOk result (λ blocks. blocks.items ≡ translate (rules_of rules.now)) }
+{
+    let _objects = basin.object_count();
+    let blocks = written_blocks(alloc, rules)?;
     Ok(blocks)
 }

@@ -3,7 +3,7 @@ use Rattle.rpl_tree.specs.Seen.{declared_of, rules_of}
 use Rattle.rpl_compile.specs.Seen.{callees_of}
 use Rattle.rpl_compile.specs.Translate.{predefined_callees}
 use Rattle.rpl_compile.specs.Written.{written_from}
-use Rattle.rpl_compile.proofs.ruleset.blocks.Given as goal
+use Rattle.rpl_compile.proofs.ruleset.written_blocks.Given as goal
 
 abbrev pub invariant-loop-declaration : goal.invariant-loop-declaration
 invariant-loop-declaration l =
