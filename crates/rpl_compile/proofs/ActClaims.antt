@@ -18,11 +18,12 @@ use Rattle.rpl_compile.proofs.Forms.{behind_one, branch_lines, three_more, two_m
 use Rattle.rpl_compile.proofs.KindsFound.{act_counted, acts_counted}
 use Rattle.rpl_compile.proofs.Plain.{IsSpelt, no_steps, owner_spelt, slot_spelt}
 use Rattle.rpl_compile.proofs.Sizes.{act-size, acts-size}
-use Rattle.rpl_compile.proofs.Steps.{At, as_long, end_at, kind_at, line_at, lines_as, local_at, locals_as, longer, name_at, second_at}
+use Rattle.rpl_compile.proofs.AtSites.{At, as_long, end_at, kind_at, line_at, lines_as, local_at, locals_as, longer, name_at, second_at}
 
 -- places and numbers follow
 left_at : {w : Written} {s : Site} {ls : List ValueKind} {is : List Instruction} (r : Written) (kinds : List Kind) (code : List Instruction) (m n : ℕ)
-    → At w s ls is → length kinds ≡ m → length code ≡ n → r.scope ≡ s.scope → r.below ≡ reverse (code_kinds s.below) → r.locals ≡ ls ++ code_kinds kinds
+    → At w s ls is → length kinds ≡ m → length code ≡ n → r.scope ≡ s.scope → r.below ≡ reverse (code_kinds s.below) → r.locals ≡ ls
+    ++ code_kinds kinds
     → r.lines ≡ is ++ code → At r (on n (keeping m s)) (ls ++ code_kinds kinds) (is ++ code)
 left_at {w} {s} {ls} {is} r kinds code m n start counted long scope below locals lines = record {
   scope = scope;
@@ -40,14 +41,17 @@ is_there (Some n) P h = refl
 module _ (basin : Draft) (callees : List Callee) (spelled : AllByRecursion IsSpelt callees) (valid : IsBasin basin) where
   abbrev ClaimAct : Act → Type 0
   ClaimAct a =
-      (w : Written) (s : Site) (ls : List ValueKind) (is : List Instruction) → At w s ls is → IsKindedAct basin (callee_heads callees) (names_in s.scope) a
+      (w : Written) (s : Site) (ls : List ValueKind) (is : List Instruction) → At w s ls is → IsKindedAct basin (callee_heads callees)
+      (names_in s.scope) a
       → At (compiled_act callees w a) (after_act callees a s) (ls ++ code_kinds (act_local_kinds (callee_heads callees) (names_in s.scope) a))
       (is ++ act_code callees s a)
 
   abbrev ClaimActs : Acts → Type 0
   ClaimActs acts =
-      (w : Written) (s : Site) (ls : List ValueKind) (is : List Instruction) → At w s ls is → AreKindedActs basin (callee_heads callees) (names_in s.scope) acts
-      → At (compiled_acts callees w acts) (after_acts callees acts s) (ls ++ code_kinds (acts_local_kinds (callee_heads callees) (names_in s.scope) acts))
+      (w : Written) (s : Site) (ls : List ValueKind) (is : List Instruction) → At w s ls is → AreKindedActs basin (callee_heads callees)
+      (names_in s.scope) acts
+      → At (compiled_acts callees w acts) (after_acts callees acts s) (ls ++ code_kinds (acts_local_kinds (callee_heads callees)
+      (names_in s.scope) acts))
       (is ++ acts_code callees s acts)
 
   -- a statement, once its lines are known
@@ -86,7 +90,8 @@ module _ (basin : Draft) (callees : List Callee) (spelled : AllByRecursion IsSpe
       let no = claim_second _ (on 2 middle) _ _ (second_at lines _ _ tested room) h.3 in
       let last = lines_as _ (append_assoc branched (I.Jump 0 ∷ target middle.below ∷ []) (acts_code callees (on 2 middle) second)) no in
       let behind = ap (λ (js : List Instruction). length js) room.lines ∙ as_long lines _ (I.Branch 0) (I.Branch (middle.place + 1)) in
-      let all = end_at branched (target middle.below ∷ acts_code callees (on 2 middle) second) _ (target s.below) _ behind (ap I.Target last.below) last in
+      let all = end_at branched (target middle.below ∷ acts_code callees (on 2 middle) second) _ (target s.below) _ behind
+      (ap I.Target last.below) last in
       act_ended (branch c first second) start h all.scope all.below
       (all.locals ∙ three_more ls (local_kinds heads names c) (acts_local_kinds heads names first) (acts_local_kinds heads names second))
       (all.lines ∙ branch_lines is (code_of callees s c) (acts_code callees ahead first) (acts_code callees (on 2 middle) second) _ _ _ _)
@@ -98,7 +103,8 @@ module _ (basin : Draft) (callees : List Callee) (spelled : AllByRecursion IsSpe
       let kind = kind_of_tree callees s e in
       let number : length w.locals ≡ length ls = ap (λ (ks : List ValueKind). length ks) start.locals in
       let value = claim basin callees spelled valid e _ (keeping 1 s) _ _ (local_at start) h.0 in
-      let known = kind_at ls (code_kinds (local_kinds heads names e)) N (compiled callees (with_local w) e).kind kind (length w.locals) number value.kind
+      let known = kind_at ls (code_kinds (local_kinds heads names e)) N (compiled callees (with_local w) e).kind kind
+      (length w.locals) number value.kind
       (locals_as _ (append_assoc ls (N ∷ []) (code_kinds (local_kinds heads names e))) value.on) in
       let stored = line_at (I.Store (length w.locals)) (I.Store s.free) (ap I.Store (number ∙ start.free)) known in
       let named = name_at x (compiled callees (with_local w) e).kind kind (length w.locals) s.free value.kind (number ∙ start.free) stored in
@@ -118,8 +124,10 @@ module _ (basin : Draft) (callees : List Callee) (spelled : AllByRecursion IsSpe
       let names = names_in s.scope in
       let first = claim_a w s ls is start h.0 in
       let others = claim_rest _ (after_act callees a s) _ _ first h.1 in
-      left_at (compiled_acts callees w (act a rest)) (acts_local_kinds heads names (act a rest)) (acts_code callees s (act a rest)) (acts_locals (act a rest))
-      (size_of_acts heads names (act a rest)) start (acts_counted heads names (act a rest)) (acts-size basin callees s (act a rest) h) others.scope others.below
+      left_at (compiled_acts callees w (act a rest)) (acts_local_kinds heads names (act a rest)) (acts_code callees s (act a rest)) (acts_locals
+      (act a rest))
+      (size_of_acts heads names (act a rest)) start (acts_counted heads names (act a rest)) (acts-size basin callees s
+      (act a rest) h) others.scope others.below
       (others.locals ∙ two_more ls (act_local_kinds heads names a) (acts_local_kinds heads names rest))
       (others.lines ∙ append_assoc is (act_code callees s a) (acts_code callees (after_act callees a s) rest))
 

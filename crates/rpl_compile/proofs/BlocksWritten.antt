@@ -15,7 +15,7 @@ use Rattle.rpl_compile.specs.Written.{begun, begun_function, compiled, written_f
 use Rattle.rpl_compile.proofs.ActClaims.{claim_acts}
 use Rattle.rpl_compile.proofs.Claims.{claim}
 use Rattle.rpl_compile.proofs.Plain.{IsSpelt, short_is}
-use Rattle.rpl_compile.proofs.Steps.{At, room_at}
+use Rattle.rpl_compile.proofs.AtSites.{At, room_at}
 use Rattle.rpl_compile.proofs.Texts.{small_text}
 
 -- ---- types that are written
@@ -54,7 +54,14 @@ module _ (basin : Draft) (valid : IsBasin basin) where
   rule_is : (callees : List Callee) (body : Acts) → AllByRecursion IsSpelt callees → AreKindedActs basin (callee_heads callees) [] body
       → written_rule callees body ≡ rule_block callees body
   rule_is callees body spelled h =
-      let begin : At (begun [] []) (start [] 0) [] [] = record { scope = refl; below = refl; locals = refl; lines = refl; free = refl; place = refl } in
+      let begin : At (begun [] []) (start [] 0) [] [] = record {
+        scope = refl;
+        below = refl;
+        locals = refl;
+        lines = refl;
+        free = refl;
+        place = refl;
+      } in
       let left = claim_acts basin callees spelled valid body _ _ _ _ begin h in
       λ i. record { head = Rule; locals = left.locals i; lines = left.lines i }
 

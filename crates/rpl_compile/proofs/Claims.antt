@@ -20,7 +20,7 @@ use Rattle.rpl_compile.specs.Written.{Written, callee_named, call_of, compiled, 
 use Rattle.rpl_compile.proofs.Forms.{Claim, Left, codes_append, ended, gathered_twice, on_and, on_at, on_bind, on_choice, on_known, on_leaf, on_mapped, on_one, on_or, on_two, two_more}
 use Rattle.rpl_compile.proofs.KindsFound.{first_is}
 use Rattle.rpl_compile.proofs.Plain.{IsSpelt, call_is, number_is, owner_spelt, result_is, short_is, slot_spelt, table_spelt, takes_is}
-use Rattle.rpl_compile.proofs.Steps.{At, as_long, kind_at, line_at, lines_as, local_at, locals_as, longer, name_at, operand_at, room_at, taken, taken_at, twice_on, two_locals_at, unnamed_at}
+use Rattle.rpl_compile.proofs.AtSites.{At, as_long, kind_at, line_at, lines_as, local_at, locals_as, longer, name_at, operand_at, room_at, taken, taken_at, twice_on, two_locals_at, unnamed_at}
 
 -- ---- lists
 
@@ -30,7 +30,8 @@ behind_two ls k l a b c =
     append_assoc (ls ++ code_kind k ∷ []) (code_kind l ∷ (code_kinds a ++ code_kinds b)) (code_kinds c)
     ∙ append_assoc ls (code_kind k ∷ []) (code_kind l ∷ ((code_kinds a ++ code_kinds b) ++ code_kinds c))
     ∙ ap (λ ks. ls ++ code_kind k ∷ code_kind l ∷ ks)
-    (append_assoc (code_kinds a) (code_kinds b) (code_kinds c) ∙ ap (λ ks. code_kinds a ++ ks) (sym (codes_append b c)) ∙ sym (codes_append a (b ++ c)))
+    (append_assoc (code_kinds a) (code_kinds b) (code_kinds c) ∙ ap (λ ks. code_kinds a ++ ks) (sym (codes_append b c)) ∙ sym (codes_append a (b
+    ++ c)))
 
 loop_lines : {A : Type 0} (before l f b r : List A) (s t n o : A)
     → (((((((((before ++ l) ++ f) ++ s ∷ []) ++ t ∷ []) ++ b) ++ r) ++ s ∷ []) ++ n ∷ []) ++ o ∷ [])
@@ -100,7 +101,8 @@ module _ (basin : Draft) (callees : List Callee) where
       let last = line_at (I.Load (length (w.locals ++ N ∷ []))) (I.Load (s.free + 1)) (ap I.Load sum_free) (line_at I.Next I.Next refl again) in
       ended basin callees (each x l a f b) (compiled callees w (each x l a f b)) start h total.kind last.scope last.below
       (last.locals ∙ behind_two ls item kind (local_kinds heads names l) (local_kinds heads names f) (local_kinds heads (names_in inside.scope) b))
-      (last.lines ∙ loop_lines is _ _ (code_of callees inside b) (room_lines callees kind inside b) (I.Store (s.free + 1)) (I.Foreach s.free) I.Next (I.Load (s.free + 1)))
+      (last.lines ∙ loop_lines is _ _ (code_of callees inside b) (room_lines callees kind inside b) (I.Store (s.free + 1)) (I.Foreach s.free) I.Next
+      (I.Load (s.free + 1)))
 
   -- ---- values in a row
 
@@ -108,7 +110,8 @@ module _ (basin : Draft) (callees : List Callee) where
   ClaimAll ts =
       (w : Written) (s : Site) (ls : List ValueKind) (is : List Instruction) → At w s ls is → (kind : Kind)
       → AreOfKind basin (callee_heads callees) (names_in s.scope) kind ts → (waiting : List ValueKind) × (length waiting ≡ count_of ts)
-      × Row (compiled_all callees w ts) w s (ls ++ code_kinds (all_local_kinds (callee_heads callees) (names_in s.scope) ts)) (is ++ all_code callees s ts) waiting
+      × Row (compiled_all callees w ts) w s (ls ++ code_kinds (all_local_kinds (callee_heads callees) (names_in s.scope) ts)) (is
+      ++ all_code callees s ts) waiting
 
   on_none : ClaimAll no_trees
   on_none w s ls is start kind h = ([], refl, empty_row start)
@@ -141,7 +144,8 @@ module _ (basin : Draft) (callees : List Callee) where
       let found = claim_ts w s ls is start (first_kind heads names ts) h.3 in
       let row = found.2 in
       let short_count = short_is (count_of ts) h.1 in
-      let first = ap (λ scope. first_ahead callees (names_in scope) ts) start.scope ∙ first_is basin callees names (first_kind heads names ts) ts h.3 in
+      let first = ap (λ scope. first_ahead callees (names_in scope) ts) start.scope ∙ first_is basin callees names
+      (first_kind heads names ts) ts h.3 in
       ended basin callees (list ts) (compiled callees w (list ts)) start h (λ i. list_kind (short_count i) (first i)) row.scope
       (ap (λ (b : List ValueKind). take (length b - count_of ts) b) row.below ∙ taken w.below found.0 (count_of ts) found.1 ∙ start.below)
       row.locals ((λ i. row.lines i ++ I.List (short_count i) ∷ []) ∙ append_assoc is _ (I.List (count_of ts) ∷ []))
@@ -185,7 +189,8 @@ module _ (basin : Draft) (callees : List Callee) where
         let same = takes_is callees f in
         let row = claim_ts w s ls is start takes (subst (λ kinds. AreArguments basin heads (names_in s.scope) kinds ts) (sym same) h.1) in
         ended basin callees (call f ts) (compiled callees w (call f ts)) start h (result_is callees f) row.scope
-        (ap (λ (b : List ValueKind). take (length b - length takes) b) row.below ∙ taken w.below (code_kinds takes) (length takes) (length-map takes code_kind)
+        (ap (λ (b : List ValueKind). take (length b - length takes) b) row.below ∙ taken w.below (code_kinds takes) (length takes)
+        (length-map takes code_kind)
         ∙ start.below)
         row.locals
         ((λ i. row.lines i ++ call_is callees f spelled h.0 i ∷ [])
@@ -195,14 +200,16 @@ module _ (basin : Draft) (callees : List Callee) where
     mutual
       pub claim : (t : Tree) → Claim basin callees t
       claim (literal n unit) = λ w s ls is start h.
-          on_leaf basin callees (literal n unit) number_kind (I.Num (number_of n unit)) (number_line n unit) w s ls is start h refl (ap I.Num (number_is n unit h)) refl refl
+          on_leaf basin callees (literal n unit) number_kind (I.Num (number_of n unit)) (number_line n unit) w s ls is start h refl (ap I.Num
+          (number_is n unit h)) refl refl
       claim (truth b) = λ w s ls is start h. on_leaf basin callees (truth b) truth_kind (I.Bool b) (I.Bool b) w s ls is start h refl refl refl refl
       claim now = λ w s ls is start h. on_leaf basin callees now date_kind I.Now I.Now w s ls is start h refl refl refl refl
       claim (slot o x) = λ w s ls is start h.
           on_leaf basin callees (slot o x) slot_kind (I.Slot (spelt o) (spelt x)) (I.Slot o x) w s ls is start h refl
           (λ i. I.Slot (owner_spelt basin valid o x h i) (slot_spelt basin valid o x h i)) refl refl
       claim (name x) = λ w s ls is start h.
-          on_leaf basin callees (name x) (kind_named (names_in w.scope) x) (I.Load (local_named w.scope x)) (I.Load (local_named s.scope x)) w s ls is start h
+          on_leaf basin callees (name x) (kind_named (names_in w.scope) x) (I.Load (local_named w.scope x)) (I.Load
+          (local_named s.scope x)) w s ls is start h
           (ap (λ scope. kind_named (names_in scope) x) start.scope) (ap (λ scope. I.Load (local_named scope x)) start.scope) refl refl
       claim (call f ts) = on_call f ts (claim_arguments ts)
       claim (brackets t) = λ w s ls is start h. let own = claim t w s ls is start h in record { kind = own.kind; on = own.on }
@@ -219,7 +226,8 @@ module _ (basin : Draft) (callees : List Callee) where
       claim (two Two.And l r) = on_and basin callees l r (claim l) (claim r)
       claim (two word l r) = λ w s ls is start h. on_two basin callees word l r (claim l) (claim r) w s ls is start h refl
       claim (convert word o e) = λ w s ls is start h.
-          on_one basin callees (convert word o e) e number_kind (convert_line word (spelt o)) (convert_line word o) (claim e) w s ls is start h h.1 refl
+          on_one basin callees (convert word o e) e number_kind (convert_line word (spelt o)) (convert_line word o)
+          (claim e) w s ls is start h h.1 refl
           (ap (convert_line word) (table_spelt basin valid o h.0)) refl refl
       claim (at sl d) = on_at basin callees sl d (claim sl) (claim d)
 

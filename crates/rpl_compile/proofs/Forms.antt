@@ -20,7 +20,7 @@ use Rattle.rpl_compile.specs.Translate.{Callee, after_room, after_tree, callee_h
 use Rattle.rpl_compile.specs.Written.{Step, Written, compiled, kind_ahead, kind_of_two, outer, step, with_branch, with_line, with_local, with_name, with_operand, with_two, without_operands, written}
 use Rattle.rpl_compile.proofs.KindsFound.{ahead_is, kind_of_two_is, locals_counted}
 use Rattle.rpl_compile.proofs.Sizes.{code-size}
-use Rattle.rpl_compile.proofs.Steps.{At, kind_at, line_at, lines_as, local_at, locals_as, longer, as_long, name_at, operand_at, room_at, second_at, taken_at, two_locals_at, unnamed_at, value_end_at}
+use Rattle.rpl_compile.proofs.AtSites.{At, kind_at, line_at, lines_as, local_at, locals_as, longer, as_long, name_at, operand_at, room_at, second_at, taken_at, two_locals_at, unnamed_at, value_end_at}
 
 -- ---- lists
 
@@ -34,7 +34,8 @@ two_more ls a b = append_assoc ls (code_kinds a) (code_kinds b) ∙ ap (λ ks. l
 pub three_more : (ls : List ValueKind) (a b c : List Kind)
     → ((ls ++ code_kinds a) ++ code_kinds b) ++ code_kinds c ≡ ls ++ code_kinds (a ++ (b ++ c))
 three_more ls a b c =
-    append_assoc (ls ++ code_kinds a) (code_kinds b) (code_kinds c) ∙ ap (λ ks. (ls ++ code_kinds a) ++ ks) (sym (codes_append b c)) ∙ two_more ls a (b ++ c)
+    append_assoc (ls ++ code_kinds a) (code_kinds b) (code_kinds c) ∙ ap (λ ks. (ls ++ code_kinds a) ++ ks) (sym (codes_append b c)) ∙ two_more ls a
+    (b ++ c)
 
 -- behind a local whose kind is known by now
 pub behind_one : (ls : List ValueKind) (k : Kind) (a b : List Kind)
@@ -91,7 +92,8 @@ module _ (basin : Draft) (callees : List Callee) where
 
   abbrev pub Claim : Tree → Type 0
   Claim t =
-      (w : Written) (s : Site) (ls : List ValueKind) (is : List Instruction) → At w s ls is → IsKinded basin (callee_heads callees) (names_in s.scope) t
+      (w : Written) (s : Site) (ls : List ValueKind) (is : List Instruction) → At w s ls is → IsKinded basin (callee_heads callees)
+      (names_in s.scope) t
       → Left t (compiled callees w t) s ls is
 
   -- two values one after the other, of which the second waits on top of the first, and both are taken
@@ -164,7 +166,8 @@ module _ (basin : Draft) (callees : List Callee) where
       let behind = ap (λ (js : List Instruction). length js) room.lines ∙ as_long lines _ (I.Branch 0) (I.Branch (middle.place + 1)) in
       let all = value_end_at _ _ _ kind _ behind joined last in
       ended (choice c y n) (compiled callees w (choice c y n)) start h joined all.scope all.below
-      (all.locals ∙ three_more ls (local_kinds heads (names_in s.scope) c) (local_kinds heads (names_in s.scope) y) (local_kinds heads (names_in s.scope) n))
+      (all.locals ∙ three_more ls (local_kinds heads (names_in s.scope) c) (local_kinds heads (names_in s.scope) y) (local_kinds heads
+      (names_in s.scope) n))
       (all.lines ∙ branch_lines is (code_of callees s c) _ _ _ _ _ _)
 
   -- ---- names
@@ -176,7 +179,8 @@ module _ (basin : Draft) (callees : List Callee) where
       let kind = kind_of_tree callees s e in
       let number : length w.locals ≡ length ls = ap (λ (ks : List ValueKind). length ks) start.locals in
       let value = claim_e _ (keeping 1 s) _ _ (local_at start) h.0 in
-      let known = kind_at ls (code_kinds (local_kinds heads names e)) N (compiled callees (with_local w) e).kind kind (length w.locals) number value.kind
+      let known = kind_at ls (code_kinds (local_kinds heads names e)) N (compiled callees (with_local w) e).kind kind
+      (length w.locals) number value.kind
       (locals_as _ (append_assoc ls (N ∷ []) (code_kinds (local_kinds heads names e))) value.on) in
       let stored = line_at (I.Store (length w.locals)) (I.Store s.free) (ap I.Store (number ∙ start.free)) known in
       let named = name_at x (compiled callees (with_local w) e).kind kind (length w.locals) s.free value.kind (number ∙ start.free) stored in
@@ -265,7 +269,8 @@ module _ (basin : Draft) (callees : List Callee) where
             (lines_as _ (append_assoc is (code_of callees s l) _) (taken_at (kind_of_tree callees s l) behind right.on));
       }
 
-  pub on_two : (word : TwoWord) (l r : Tree) → Claim l → Claim r → (w : Written) (s : Site) (ls : List ValueKind) (is : List Instruction) → At w s ls is
+  pub on_two : (word : TwoWord) (l r : Tree) → Claim l → Claim r → (w : Written) (s : Site) (ls : List ValueKind) (is : List Instruction)
+      → At w s ls is
       → (h : IsKinded basin (callee_heads callees) (names_in s.scope) (two word l r)) → code_of callees s (two word l r) ≡ plain_two word l r s
       → Left (two word l r) (operated word l r w) s ls is
   on_two word l r claim_l claim_r w s ls is start h code =
@@ -286,7 +291,8 @@ module _ (basin : Draft) (callees : List Callee) where
   on_at sl d claim_s claim_d w s ls is start h =
       let both = both_at sl d claim_s claim_d w s ls is start h.0 h.2 in
       ended (at sl d) (compiled callees w (at sl d)) start h refl both.on.scope both.on.below both.on.locals
-      ((λ i. both.on.lines i ++ I.Read ∷ []) ∙ append_assoc is _ (I.Read ∷ []) ∙ ap (λ js. is ++ js) (append_assoc (code_of callees s sl) _ (I.Read ∷ [])))
+      ((λ i. both.on.lines i ++ I.Read ∷ []) ∙ append_assoc is _ (I.Read ∷ []) ∙ ap (λ js. is ++ js) (append_assoc (code_of callees s sl) _
+      (I.Read ∷ [])))
 
   pub on_known : (sl d : Tree) → Claim sl → Claim d → Claim (one One.Known (at sl d))
   on_known sl d claim_s claim_d w s ls is start h =
@@ -295,7 +301,8 @@ module _ (basin : Draft) (callees : List Callee) where
       ((λ i. both.on.lines i ++ I.Known ∷ []) ∙ append_assoc is _ (I.Known ∷ []))
 
   -- a line behind an expression
-  pub on_one : (t e : Tree) (kind : Kind) (i j : Instruction) → Claim e → (w : Written) (s : Site) (ls : List ValueKind) (is : List Instruction) → At w s ls is
+  pub on_one : (t e : Tree) (kind : Kind) (i j : Instruction) → Claim e → (w : Written) (s : Site) (ls : List ValueKind) (is : List Instruction)
+      → At w s ls is
       → IsKinded basin (callee_heads callees) (names_in s.scope) t → IsKinded basin (callee_heads callees) (names_in s.scope) e
       → kind ≡ kind_of_tree callees s t → i ≡ j → code_of callees s t ≡ code_of callees s e ++ j ∷ []
       → local_kinds (callee_heads callees) (names_in s.scope) t ≡ local_kinds (callee_heads callees) (names_in s.scope) e

@@ -49,15 +49,18 @@ module _ (x : List ℕ) where
   abbrev nothing : Local
   nothing = record { kind = N; number = 0 }
 
-  pub kind_found : (names : List (List ℕ × Local)) → kind_seen (unwrap_or (first_found names x) nothing).kind ≡ kind_named (names_in (scope_seen names)) x
+  pub kind_found : (names : List (List ℕ × Local)) → kind_seen (unwrap_or (first_found names x) nothing).kind ≡ kind_named (names_in
+      (scope_seen names)) x
   kind_found [] = refl
   kind_found (entry ∷ names) =
-      by_test (λ (found : Option Local). kind_seen (unwrap_or found nothing).kind) (bytes_eq entry.0 x) (Some entry.1) (first_found names x) _ (kind_found names)
+      by_test (λ (found : Option Local). kind_seen (unwrap_or found nothing).kind) (bytes_eq entry.0 x) (Some entry.1) (first_found names x) _
+      (kind_found names)
 
   pub number_found : (names : List (List ℕ × Local)) → (unwrap_or (first_found names x) nothing).number ≡ local_named (scope_seen names) x
   number_found [] = refl
   number_found (entry ∷ names) =
-      by_test (λ (found : Option Local). (unwrap_or found nothing).number) (bytes_eq entry.0 x) (Some entry.1) (first_found names x) _ (number_found names)
+      by_test (λ (found : Option Local). (unwrap_or found nothing).number) (bytes_eq entry.0 x) (Some entry.1) (first_found names x) _
+      (number_found names)
 
 -- ---- kinds
 

@@ -82,7 +82,11 @@ module _ (heads : List Head) where
     locals_counted names (each x l a f b) =
         two_longer (both_long _ _ (locals_counted names l) (both_long _ _ (locals_counted names f)
         (locals_counted ((a, tree_kind heads names f) ∷ (x, element_of (tree_kind heads names l)) ∷ names) b)))
-    locals_counted names (mapped x l b) = one_longer (both_long _ _ (locals_counted names l) (locals_counted ((x, element_of (tree_kind heads names l)) ∷ names) b))
+    locals_counted names (mapped x l b) = one_longer (both_long _ _ (locals_counted names l) (locals_counted ((
+      x,
+      element_of
+          (tree_kind heads names l),
+    ) ∷ names) b))
     locals_counted names (one word e) = locals_counted names e
     locals_counted names (two word l r) = both_long _ _ (locals_counted names l) (locals_counted names r)
     locals_counted names (convert word o e) = locals_counted names e
@@ -95,8 +99,10 @@ module _ (heads : List Head) where
   mutual
     pub act_counted : (names : Names) (a : Act) → length (act_local_kinds heads names a) ≡ act_locals a
     act_counted names (assign o s ahead e) = locals_counted names e
-    act_counted names (branch c first second) = both_long _ _ (locals_counted names c) (both_long _ _ (acts_counted names first) (acts_counted names second))
-    act_counted names (with_name x e body) = one_longer (both_long _ _ (locals_counted names e) (acts_counted ((x, tree_kind heads names e) ∷ names) body))
+    act_counted names (branch c first second) = both_long _ _ (locals_counted names c) (both_long _ _ (acts_counted names first)
+        (acts_counted names second))
+    act_counted names (with_name x e body) = one_longer (both_long _ _ (locals_counted names e) (acts_counted
+        ((x, tree_kind heads names e) ∷ names) body))
 
     pub acts_counted : (names : Names) (acts : Acts) → length (acts_local_kinds heads names acts) ≡ acts_locals acts
     acts_counted names no_acts = refl

@@ -89,5 +89,6 @@ call_is (c ∷ callees) f s h = elim (cases_Bool (bytes_eq c.head.name f)) [
 
 module _ (basin : Draft) (valid : IsBasin basin) where
   pub table_spelt : (o : List ℕ) → IsSome (table_named basin o) → spelt o ≡ o
-  table_spelt o h = spelt_unless o (λ none. absurd (false≢true (subst IsSome (ap (λ (found : Option ℕ). option_and_then (λ (object : Object). table_in object.kind)
+  table_spelt o h = spelt_unless o (λ none. absurd (false≢true (subst IsSome (ap (λ (found : Option ℕ). option_and_then (λ
+      (object : Object). table_in object.kind)
       (option_and_then (λ number. object_at basin.objects number) found)) (no_object basin o valid none)) h)))

@@ -58,7 +58,8 @@ bytes_ascii (b ∷ bs) (inr digit, rest) = IsAscii-cons b bs (omega (arith, digi
 name_text : (word : List ℕ) → IsName word → IsUtf8 word
 name_text word h = IsUtf8-from_ascii word (bytes_ascii word (recursion_from_All (λ b. IsLetter b ⊎ IsDigit b) word h.goes_on))
 
-no_object_from : (n : ℕ) (objects : List Object) (name : List ℕ) → AllByRecursion IsSound objects → ¬ (IsUtf8 name) → object_from n objects name ≡ None
+no_object_from : (n : ℕ) (objects : List Object) (name : List ℕ) → AllByRecursion IsSound objects → ¬ (IsUtf8 name)
+    → object_from n objects name ≡ None
 no_object_from n [] name sound not = refl
 no_object_from n (object ∷ objects) name sound not = elim (cases_Bool (bytes_eq name object.name)) [
   | inl here ↦ absurd (not (subst IsUtf8 (sym ((bytes_eq-Decides name object.name).0 here)) (name_text object.name sound.0.name)))

@@ -77,7 +77,8 @@ fn inside<'a>(
     kind: ValueKind,
     body: &'a Expr,
 ) -> Result<ValueKind, NoMemory>
-    ensures found { IfOk result (λ kind_found. kind_seen kind_found ≡ Written.kind_ahead (callees_of known.now)
+    ensures found { IfOk result (λ kind_found. kind_seen kind_found ≡ Written.kind_ahead
+        (callees_of known.now)
         ((name.now, kind_seen kind) ∷ names_in (scope_seen names.old)) (tree_of body.now)) }
     ensures names { OnOk result (names.new ≡ names.old) }
 {

@@ -26,7 +26,8 @@ use std::alloc::Global;
 #[cycle(code)]
 #[tactic(auto, using(rpl_tree::proofs::Viewed::tree_of_list, rpl_tree::proofs::Viewed::tree_of_call))]
 pub fn code<'a>(known: &[Known], w: &mut Writing<'a>, e: &'a Expr) -> Result<ValueKind, NoMemory>
-    ensures { Writes w.new result (compiled (callees_of known.now) (written_of w.old) (tree_of e.now)) }
+    ensures { Writes w.new result (compiled (callees_of known.now) (written_of w.old)
+        (tree_of e.now)) }
 {
     match e {
         Expr::Number { value, unit } => {
@@ -157,7 +158,8 @@ fn call<'a>(
 // Elements, each of which waits for those behind it.
 #[cycle(code)]
 fn elements<'a>(known: &[Known], w: &mut Writing<'a>, items: &'a [Expr]) -> Result<(), NoMemory>
-    ensures { Leaves w.new result (compiled_all (callees_of known.now) (written_of w.old) (trees_in items.now)) }
+    ensures { Leaves w.new result (compiled_all (callees_of known.now) (written_of w.old)
+        (trees_in items.now)) }
 {
     for item in items {
         let kind = code(known, w, item)?;
@@ -352,7 +354,8 @@ fn asked<'a>(
 // What KNOWN asks of an expression.
 #[cycle(code)]
 fn asked_of<'a>(known: &[Known], w: &mut Writing<'a>, e: &'a Expr) -> Result<(), NoMemory>
-    ensures { Leaves w.new result (Written.asked (callees_of known.now) (written_of w.old) (tree_of e.now)) }
+    ensures { Leaves w.new result (Written.asked (callees_of known.now) (written_of w.old)
+        (tree_of e.now)) }
 {
     match e {
         Expr::At { slot, step } => asked(known, w, slot, step),
@@ -435,7 +438,8 @@ fn begin_turns(
     item_kind: ValueKind,
     total_kind: ValueKind,
 ) -> Result<(), NoMemory>
-    ensures { Leaves w.new result (Written.with_turns item total (kind_seen item_kind) (kind_seen total_kind) (written_of w.old)) }
+    ensures { Leaves w.new result (Written.with_turns item total (kind_seen item_kind)
+        (kind_seen total_kind) (written_of w.old)) }
 {
     drop_operands(w, 1);
     fill(w, item, item_kind);

@@ -1,14 +1,16 @@
-//! The code of a ruleset, as a definition: `specs/Translate.antt` makes a block of each declaration, in order. Its laws are
-//! worked rules, line by line (`law`), and that their code does what they mean (`firings`). No call makes code yet.
+//! The code of a ruleset. As a definition `specs/Translate.antt` makes it: a block of each declaration, in order. `blocks_of`
+//! answers those blocks for a ruleset whose names and kinds are as code asks, or that memory was wanting. It goes over each
+//! tree once, line by line, and writes the places of jumps once they are known (`specs/Written.antt`). The laws are worked
+//! rules, line by line (`law`), and that their code does what they mean (`firings`).
 #![tactic(auto)]
 
-pub mod ahead;
-pub mod expression;
+mod ahead;
+mod expression;
 pub mod firings;
-pub mod kind;
-pub mod known;
+mod kind;
+mod known;
 pub mod law;
-pub mod operator;
+mod operator;
 pub mod ruleset;
-pub mod statement;
-pub mod writing;
+mod statement;
+mod writing;

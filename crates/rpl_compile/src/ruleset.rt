@@ -63,7 +63,8 @@ fn names_of<'a>(alloc: Global, params: &'a [Param]) -> Result<Scope<'a, Local>, 
 
 // The block of a rule.
 fn rule(alloc: Global, known: &[Known], body: &[Statement]) -> Result<Block, NoMemory>
-    ensures { IfOk result (λ block. block ≡ Written.written_rule (callees_of known.now) (acts_in body.now)) }
+    ensures { IfOk result (λ block. block ≡ Written.written_rule (callees_of known.now)
+        (acts_in body.now)) }
 {
     let mut w = Writing {
         alloc,
@@ -89,7 +90,8 @@ fn from_place(kinds: &[ValueKind], k: usize) -> &[ValueKind]
 
 // At the beginning of a function's block.
 fn begin_function<'a>(alloc: Global, params: &'a [Param]) -> Result<Writing<'a>, NoMemory>
-    ensures { IfOk result (λ w. written_of w ≡ Written.begun_function (map parameter_of params.now)) }
+    ensures { IfOk result (λ w. written_of w ≡ Written.begun_function
+        (map parameter_of params.now)) }
 {
     let names = names_of(alloc, params)?;
     let locals = parameters_of(alloc, params)?;

@@ -24,7 +24,8 @@ pub fn statements<'a>(
     w: &mut Writing<'a>,
     body: &'a [Statement],
 ) -> Result<(), NoMemory>
-    ensures { Leaves w.new result (compiled_acts (callees_of known.now) (written_of w.old) (acts_in body.now)) }
+    ensures { Leaves w.new result (compiled_acts (callees_of known.now) (written_of w.old)
+        (acts_in body.now)) }
 {
     for statement in body {
         write_statement(known, w, statement)?;
@@ -38,7 +39,8 @@ fn write_statement<'a>(
     w: &mut Writing<'a>,
     statement: &'a Statement,
 ) -> Result<(), NoMemory>
-    ensures { Leaves w.new result (compiled_act (callees_of known.now) (written_of w.old) (act_of statement.now)) }
+    ensures { Leaves w.new result (compiled_act (callees_of known.now) (written_of w.old)
+        (act_of statement.now)) }
 {
     match statement {
         Statement::Assign {
@@ -109,7 +111,8 @@ fn begin_with<'a>(
     name: &'a [u8],
     value: &'a Expr,
 ) -> Result<(), NoMemory>
-    ensures { Leaves w.new result (with_value (callees_of known.now) name.now (tree_of value.now) (written_of w.old)) }
+    ensures { Leaves w.new result (with_value (callees_of known.now) name.now (tree_of value.now)
+        (written_of w.old)) }
 {
     let number = reserve(w)?;
     let kind = code(known, w, value)?;

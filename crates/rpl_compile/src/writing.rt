@@ -117,7 +117,8 @@ pub fn fill(w: &mut Writing, local: u32, kind: ValueKind)
 /// A name for a local.
 pub fn add_name<'a>(w: &mut Writing<'a>, name: &'a [u8], local: Local) -> Result<(), NoMemory>
     ensures { OnOk result (written_of w.new
-        ≡ Written.with_name (bound name.now (kind_seen local.kind) local.number) (written_of w.old)) }
+        ≡ Written.with_name (bound name.now (kind_seen local.kind) local.number)
+        (written_of w.old)) }
 {
     w.names.push(name, local)
 }
@@ -132,7 +133,8 @@ pub fn drop_name(w: &mut Writing)
 #[tactic(auto, using(crate::proofs::Found::kind_found, crate::proofs::Found::number_found))]
 /// The local of a name. Where there is none, no name is asked for.
 pub fn local_named<'a>(names: &Scope<'a, Local>, name: &'a [u8]) -> Local
-    ensures kind { kind_seen result.kind ≡ kind_named (names_in (scope_seen names.now)) name.entry.now }
+    ensures kind { kind_seen result.kind ≡ kind_named (names_in
+        (scope_seen names.now)) name.entry.now }
     ensures number { result.number ≡ local_named (scope_seen names.now) name.entry.now }
 {
     names.find(name).unwrap_or(Local {

@@ -75,7 +75,13 @@ other_line_at {w} {s} {ls} before behind i j k n at same h = record {
   scope = h.scope;
   below = h.below;
   locals = h.locals;
-  lines = ap (λ (v : Written). v.lines) (λ x. at_line (at x) (same x) (record { scope = w.scope; locals = w.locals; below = w.below; lines = h.lines x }))
+  lines = ap (λ (v : Written). v.lines) (λ x. at_line (at x) (same x) (record {
+    scope = w.scope;
+    locals = w.locals;
+    below = w.below;
+    lines =
+        h.lines x;
+  }))
       ∙ set-append_seam before i behind k;
   free = h.free;
   place = as_long before behind k i ∙ h.place;
@@ -105,7 +111,8 @@ taken_at {w} {ls} {is} k s h = record {
   place = h.place;
 }
 
-pub local_at : {w : Written} {s : Site} {ls : List ValueKind} {is : List Instruction} → At w s ls is → At (with_local w) (keeping 1 s) (ls ++ N ∷ []) is
+pub local_at : {w : Written} {s : Site} {ls : List ValueKind} {is : List Instruction} → At w s ls is → At (with_local w) (keeping 1 s) (ls
+    ++ N ∷ []) is
 local_at {w} {s} {ls} {is} h = record {
   scope = h.scope;
   below = h.below;
@@ -132,7 +139,13 @@ pub kind_at : {w : Written} {s : Site} {is : List Instruction} (before behind : 
 kind_at {w} {s} {is} before behind c k l n at same h = record {
   scope = h.scope;
   below = h.below;
-  locals = ap (λ (v : Written). v.locals) (λ x. with_kind (at x) (same x) (record { scope = w.scope; locals = h.locals x; below = w.below; lines = w.lines }))
+  locals = ap (λ (v : Written). v.locals) (λ x. with_kind (at x) (same x) (record {
+    scope = w.scope;
+    locals = h.locals x;
+    below = w.below;
+    lines =
+        w.lines;
+  }))
       ∙ set-append_seam before c behind (code_kind l);
   lines = h.lines;
   free = as_long before behind (code_kind l) c ∙ h.free;
@@ -151,7 +164,8 @@ name_at {w} {s} {ls} {is} x k l m n e f h = record {
 }
 
 -- the name is taken away
-pub unnamed_at : {w : Written} {ls : List ValueKind} {is : List Instruction} (b : Bound) (s : Site) → At w (knowing b s) ls is → At (without_name w) s ls is
+pub unnamed_at : {w : Written} {ls : List ValueKind} {is : List Instruction} (b : Bound) (s : Site) → At w (knowing b s) ls is → At
+    (without_name w) s ls is
 unnamed_at {w} {ls} {is} b s h = record {
   scope = ap outer h.scope;
   below = h.below;
@@ -194,7 +208,8 @@ pub second_at : {w : Written} {s : Site} {ls : List ValueKind} (before first : L
 second_at {w} {s} {ls} before first n at h =
     let place : length w.lines + 1 ≡ s.place + 1 = ap (λ (xs : List Instruction). length xs + 1) h.lines ∙ ap (λ m. m + 1) h.place in
     let branched = before ++ I.Branch (s.place + 1) ∷ first in
-    let jump = line_at (I.Jump 0) (I.Jump 0) refl (other_line_at before first (I.Branch 0) (I.Branch (length w.lines + 1)) _ n at (ap I.Branch place) h) in
+    let jump = line_at (I.Jump 0) (I.Jump 0) refl (other_line_at before first (I.Branch 0) (I.Branch (length w.lines + 1)) _ n at
+    (ap I.Branch place) h) in
     let there = line_at (I.Target w.below) (target s.below) (ap I.Target h.below) jump in
     twice_on s (lines_as (branched ++ I.Jump 0 ∷ target s.below ∷ []) (append_assoc branched (I.Jump 0 ∷ []) (target s.below ∷ [])) there)
 
