@@ -7,12 +7,12 @@ use Rattle.rpl_code.specs.declared.instruction.Instruction.{Instruction}
 use Rattle.rpl_code.specs.declared.instruction.Instruction.TheVariants as I
 use Rattle.rpl_tree.specs.Count.{act_locals, acts_locals}
 use Rattle.rpl_tree.proofs.Common.{Kind, act_local_kinds, acts_local_kinds, local_kinds, Tree, Act, Acts, assign, branch, with_name, no_acts, act}
-use Rattle.rpl_compile.specs.Kinded.{AreKindedActs, IsKindedAct, IsTarget}
+use Rattle.rpl_compile.specs.Kinded.{AreKindedActs, IsKindedAct}
 use Rattle.rpl_compile.specs.Operations.{code_kind, code_kinds, target}
 use Rattle.rpl_compile.specs.Site.{Site, bound, keeping, knowing, names_in, on}
 use Rattle.rpl_compile.specs.Size.{size_of_act, size_of_acts}
 use Rattle.rpl_compile.specs.Translate.{Callee, act_code, acts_code, after_act, after_acts, after_tree, callee_heads, code_of, kind_of_tree}
-use Rattle.rpl_compile.specs.Written.{Written, byte, compiled, compiled_act, compiled_acts, outer, spelt, with_line, with_local, with_value}
+use Rattle.rpl_compile.specs.Written.{Written, compiled, compiled_act, compiled_acts, outer, with_local}
 use Rattle.rpl_compile.proofs.Claims.{claim}
 use Rattle.rpl_compile.proofs.Forms.{behind_one, branch_lines, three_more, two_more, value_lines}
 use Rattle.rpl_compile.proofs.KindsFound.{act_counted, acts_counted}

@@ -1,5 +1,5 @@
 -- Statements with others inside, written one after the other.
-use Rattle.rw_base.proofs.Common.{◌≡◌, ℕ, List, length, refl, sym, ap}
+use Rattle.rw_base.proofs.Common.{◌≡◌, ℕ, List, length, refl}
 use Rattle.rpl_tree.proofs.Common.{Tree, Acts, branch}
 use Rattle.rpl_compile.specs.Translate.{Callee}
 use Rattle.rpl_compile.specs.Written.{Written, compiled, compiled_act, compiled_acts, with_branch, with_end, with_second}

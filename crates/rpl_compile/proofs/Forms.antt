@@ -1,6 +1,6 @@
 -- The lines of expressions, written one after the other, are those that TRANSLATE gives: what each form writes, over its parts.
-use Rattle.rw_base.proofs.Common.{◌≡◌, ℕ, ◌+◌, ℤ, Bool, true, false, List, [], ◌∷◌, ◌++◌, length, length-map, reverse, Option, refl, sym, ap, ◌∙◌, subst, arith, AllByRecursion, append-nil, append_assoc, length-append}
-use Rattle.rw_model.proofs.Common.{Draft, IsBasin}
+use Rattle.rw_base.proofs.Common.{◌≡◌, ℕ, ◌+◌, true, false, List, [], ◌∷◌, ◌++◌, length, length-map, reverse, refl, sym, ap, ◌∙◌, arith, append-nil, append_assoc}
+use Rattle.rw_model.proofs.Common.{Draft}
 use Rattle.rpl_code.specs.declared.kind.ValueKind.{ValueKind}
 use Rattle.rpl_code.specs.declared.kind.ValueKind.TheVariants.{N}
 use Rattle.rpl_code.specs.declared.instruction.Instruction.{Instruction}
@@ -8,19 +8,17 @@ use Rattle.rpl_code.specs.declared.instruction.Instruction.TheVariants as I
 use Rattle.rpl_tree.specs.declared.words.OneWord.TheVariants as One
 use Rattle.rpl_tree.specs.declared.words.TwoWord.{TwoWord}
 use Rattle.rpl_tree.specs.declared.words.TwoWord.TheVariants as Two
-use Rattle.rpl_tree.specs.Count.{local_count}
 use Rattle.rpl_tree.specs.Kinds.{join}
-use Rattle.rpl_tree.proofs.Common.{Kind, Head, Names, element_of, local_kinds, room_of, tree_kind, Tree, Trees, literal, truth, now, slot, name, call, brackets, list, choice, bind, each, mapped, one, two, convert, at, no_trees, tree}
+use Rattle.rpl_tree.proofs.Common.{Kind, element_of, local_kinds, room_of, Tree, choice, bind, mapped, one, two, at}
 use Rattle.rpl_tree.specs.Value.{truth_kind, numbers_kind}
 use Rattle.rpl_compile.specs.Kinded.{IsKinded}
 use Rattle.rpl_compile.specs.Operations.{code_kind, code_kinds, target, test_line, two_lines}
 use Rattle.rpl_compile.specs.Site.{Site, bound, keeping, knowing, names_in, on, over}
-use Rattle.rpl_compile.specs.Size.{size}
 use Rattle.rpl_compile.specs.Translate.{Callee, after_room, after_tree, callee_heads, code_of, kind_of_tree}
-use Rattle.rpl_compile.specs.Written.{Step, Written, compiled, kind_ahead, kind_of_two, outer, step, with_branch, with_line, with_local, with_name, with_operand, with_two, without_operands, written}
+use Rattle.rpl_compile.specs.Written.{Step, Written, compiled, kind_ahead, kind_of_two, outer, step, with_line, with_local, with_operand, with_two, without_operands, written}
 use Rattle.rpl_compile.proofs.KindsFound.{ahead_is, kind_of_two_is, locals_counted}
 use Rattle.rpl_compile.proofs.Sizes.{code-size}
-use Rattle.rpl_compile.proofs.AtSites.{At, kind_at, line_at, lines_as, local_at, locals_as, longer, as_long, name_at, operand_at, room_at, second_at, taken_at, two_locals_at, unnamed_at, value_end_at}
+use Rattle.rpl_compile.proofs.AtSites.{At, kind_at, line_at, lines_as, local_at, locals_as, longer, as_long, name_at, operand_at, room_at, second_at, taken_at, value_end_at}
 
 -- ---- lists
 

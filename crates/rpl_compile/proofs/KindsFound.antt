@@ -1,5 +1,5 @@
 -- The kinds that are found and the locals that are kept, where an expression is kinded.
-use Rattle.rw_base.proofs.Common.{◌≡◌, ◌<◌, ◌≤◌, ◌+◌, ◌⊎◌, ℕ, suc, List, [], ◌∷◌, ◌++◌, length, length-append, refl, ap, ap₂, ◌∙◌, arith, inl, inr}
+use Rattle.rw_base.proofs.Common.{◌≡◌, ◌+◌, ◌⊎◌, ℕ, suc, List, ◌∷◌, ◌++◌, length, length-append, refl, ap, ap₂, ◌∙◌, arith, inl, inr}
 use Rattle.rw_model.proofs.Common.{Draft}
 use Rattle.rpl_tree.specs.declared.words.TwoWord.{TwoWord}
 use Rattle.rpl_tree.specs.declared.words.TwoWord.TheVariants.{Append}

@@ -1,6 +1,6 @@
 -- What is written where a ruleset is kinded is what TRANSLATE says: numbers, names, kinds and functions.
-use Rattle.rw_base.proofs.Common.{◌≡◌, ◌<◌, ◌≤◌, ◌+◌, ◌*ℤ◌, ◌⊎◌, ℕ, ℤ, pos, unsigned_abs, Bool, true, false, List, [], ◌∷◌, map, nat_lt, Option, Some, None, IsSome, IsSomeAnd, IsTrue, IsUtf8, is_utf8, IsUtf8-from_is_utf8, is_utf8-from_IsUtf8, refl, sym, ap, ◌∙◌, subst, arith, inl, inr, bytes_eq, bytes_eq-Decides, cases_Bool, false≢true, ◌||◌, AllByRecursion, option_and_then, unwrap_or, if◌then◌else◌, list_any}
-use Rattle.std.proofs.lemmas.Bool.{ltb-true, lt-ltb}
+use Rattle.rw_base.proofs.Common.{◌≡◌, ◌≤◌, ◌*ℤ◌, ℕ, ℤ, pos, unsigned_abs, Bool, true, false, List, [], ◌∷◌, nat_lt, Option, Some, None, IsSome, IsTrue, IsUtf8, is_utf8, is_utf8-from_IsUtf8, refl, sym, ap, subst, arith, inl, inr, bytes_eq, bytes_eq-Decides, cases_Bool, false≢true, ◌||◌, AllByRecursion, option_and_then, unwrap_or, if◌then◌else◌}
+use Rattle.std.proofs.lemmas.Bool.{lt-ltb}
 use Rattle.rw_base.specs.Dimension.{Dimension}
 use Rattle.rw_base.specs.Unit.{units, unit_in}
 use Rattle.rw_model.proofs.Common.{IsBasin, Draft, Object, slot_named}
@@ -13,7 +13,7 @@ use Rattle.rpl_compile.specs.Kinded.{HasHead, IsLiteral}
 use Rattle.rpl_compile.proofs.Texts.{no_object}
 use Rattle.rpl_compile.specs.Operations.{factor_of}
 use Rattle.rpl_compile.specs.Translate.{Callee, call_by, call_line, callee_heads}
-use Rattle.rpl_compile.specs.Written.{byte, call_of, callee_named, no_callee, number_of, short, spelt, within}
+use Rattle.rpl_compile.specs.Written.{byte, call_of, callee_named, number_of, short, spelt, within}
 
 -- ---- numbers
 

@@ -1,5 +1,5 @@
 use Rattle.std.proofs.Common.{◌∙◌, ap, ap₂, subst, sym, List, ℕ}
-use Rattle.rpl_tree.proofs.Common.{Act, Acts, branch, with_name, act_of, acts_in, tree_of}
+use Rattle.rpl_tree.proofs.Common.{Acts, branch, with_name, acts_in, tree_of}
 use Rattle.rpl_types.proofs.Viewed.{act_of_branch, act_of_with}
 use Rattle.rpl_compile.specs.Seen.{callees_of, written_of}
 use Rattle.rpl_compile.specs.Writes.{Leaves}
