@@ -34,7 +34,7 @@ left_at {w} {s} {ls} {is} r kinds code m n start counted long scope below locals
   place = longer is code start.place ∙ ap (λ k. s.place + k) long;
 }
 
-is_there : (found : Option ℕ) (P : ℕ → Type 0) → IsSomeAnd found P → IsSome found
+pub is_there : (found : Option ℕ) (P : ℕ → Type 0) → IsSomeAnd found P → IsSome found
 is_there None P h = absurd h
 is_there (Some n) P h = refl
 

@@ -24,8 +24,8 @@ kind_is (numeric unit) h = refl
 kind_is boolean h = refl
 kind_is datetime h = refl
 kind_is (slot_type unit) h = refl
-kind_is (numeric_list m unit) h = ap numbers_kind (short_is _ h)
-kind_is (slot_list m unit) h = ap slots_kind (short_is _ h)
+kind_is (numeric_list m unit) h = ap numbers_kind (short_is _ h.1)
+kind_is (slot_list m unit) h = ap slots_kind (short_is _ h.1)
 
 takes_are : (params : List Parameter) → HaveRoom params → written_takes params ≡ param_kinds params
 takes_are [] h = refl
