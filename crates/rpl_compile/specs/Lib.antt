@@ -3,6 +3,10 @@ pub mod Size
 pub mod Site
 pub mod Kinded
 pub mod Translate
+pub mod Written
+pub mod Seen
+pub mod Writes
+pub mod Rooms
 pub mod Worked
 pub mod Fires
 pub mod Budgets

@@ -4,18 +4,47 @@ ghost use Rattle.rpl_types.specs.Judged.{judged};
 ghost use Rattle.rpl_verify.specs.Verified.{verified};
 ghost use Rattle.rpl_compile.specs.Translate.{translate};
 
+use crate::accepted::compiled_code_is_accepted;
+use crate::ruleset::blocks_of;
+use rpl_code::Code;
+use rpl_parse::law::bounds;
 use rpl_types::Typed;
-use rpl_verify::Verified;
+use rpl_types::law::accepted;
+use rpl_verify::{Verified, VerifyFault, verify};
 use rw_base::NoMemory;
 use rw_model::Basin;
 use std::alloc::Global;
 
-/// The code of a ruleset that was accepted for the basin.
-pub fn compile(_alloc: Global, typed: &Typed, basin: &Basin) -> Result<Verified, NoMemory>
+// The code of a ruleset that was accepted for the basin.
+fn code_of(alloc: Global, typed: &Typed, basin: &Basin) -> Result<Code, NoMemory>
+    requires { IsOk (judged basin.now (rules_of typed.now.rules)) }
+    ensures { IfOk result (λ code. code ≡ translate (rules_of typed.now.rules)) }
+{
+    accepted();
+    bounds();
+    let rules = typed.rules();
+    let _objects = basin.object_count();
+    let blocks = blocks_of(alloc, rules, basin)?;
+    Ok(Code::of(blocks))
+}
+
+/// The code of a ruleset that was accepted for the basin: a block for each declaration, in order, as `docs/LANGUAGE.md` says
+/// under "What rules become". It is verified, and that of an accepted ruleset is never refused: want of memory is the one
+/// other answer.
+pub fn compile(alloc: Global, typed: &Typed, basin: &Basin) -> Result<Verified, NoMemory>
     requires { IsOk (judged basin.now (rules_of typed.now.rules)) }
     ensures code { IfOk result (λ code. code.blocks ≡ translate (rules_of typed.now.rules)) }
     ensures verified { IfOk result (λ code.
         verified basin.now (translate (rules_of typed.now.rules)) ≡ Ok code) }
 {
-    Err(NoMemory)
+    accepted();
+    bounds();
+    compiled_code_is_accepted();
+    let _rules = typed.rules();
+    let code = code_of(alloc, typed, basin)?;
+    match verify(alloc, code, basin) {
+        Ok(code) => Ok(code),
+        Err(VerifyFault::NoMemory) => Err(NoMemory),
+        Err(VerifyFault::Refused { .. }) => unreachable!(),
+    }
 }

@@ -1,0 +1,12 @@
+-- Statements with others inside, written one after the other.
+use Rattle.rw_base.proofs.Common.{◌≡◌, ℕ, List, length, refl}
+use Rattle.rpl_tree.proofs.Common.{Tree, Acts, branch}
+use Rattle.rpl_compile.specs.Translate.{Callee}
+use Rattle.rpl_compile.specs.Written.{Written, compiled, compiled_act, compiled_acts, with_branch, with_end, with_second}
+
+pub branch_written : (callees : List Callee) (w a b c d : Written) (t : Tree) (ys ns : Acts) (place jump : ℕ)
+    → a ≡ with_branch (compiled callees w t).on → place ≡ length (compiled callees w t).on.lines → b ≡ compiled_acts callees a ys
+    → c ≡ with_second place b → jump ≡ length b.lines → d ≡ compiled_acts callees c ns
+    → with_end jump d.below d ≡ compiled_act callees w (branch t ys ns)
+branch_written callees w a b c d t ys ns place jump on_a on_place on_b on_c on_jump on_d =
+    rw (on_d, on_c, on_jump, on_b, on_a, on_place) refl

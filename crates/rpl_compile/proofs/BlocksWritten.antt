@@ -1,0 +1,112 @@
+-- The blocks of a ruleset, as they are written, are those that TRANSLATE gives.
+use Rattle.rw_base.proofs.Common.{◌≡◌, ◌+◌, ℕ, List, [], ◌∷◌, drop, length, length-map, Some, IsSome, refl, sym, ap, ◌∙◌, subst, arith, false≢true, AllByRecursion, drop-append_seam}
+use Rattle.rw_model.proofs.Common.{Draft, IsBasin}
+use Rattle.rpl_code.specs.declared.block.BlockHead.TheVariants.{Rule, Function}
+use Rattle.rpl_tree.specs.Tree.{numeric, boolean, datetime, slot_type, numeric_list, slot_list}
+use Rattle.rpl_tree.specs.Value.{slots_kind}
+use Rattle.rpl_tree.proofs.Common.{Acts, Declared, Parameter, Tree, TypeName, function, rule, kind_of_type, local_kinds, numbers_kind, param_kinds, param_names}
+use Rattle.rpl_compile.specs.Kinded.{AreKinded, AreKindedActs, AreKindedFrom, IsKinded, IsKindedBody}
+use Rattle.rpl_compile.specs.Operations.{code_kind, code_kinds}
+use Rattle.rpl_compile.specs.Rooms.{AreRoomy, HasRoom, HaveRoom}
+use Rattle.rpl_compile.specs.Site.{bound, names_in, parameters_from, start}
+use Rattle.rpl_compile.specs.Translate.{Callee, blocks_from, callee_heads, function_block, kind_of_tree, predefined_callees, rule_block, translate}
+use Rattle.rpl_compile.specs.Written.{begun, begun_function, written_function, written_from, written_kind, written_parameters, written_rule, written_takes}
+use Rattle.rpl_compile.proofs.ActClaims.{claim_acts}
+use Rattle.rpl_compile.proofs.Claims.{claim}
+use Rattle.rpl_compile.proofs.Plain.{IsSpelt, short_is}
+use Rattle.rpl_compile.proofs.AtSites.{At, room_at}
+use Rattle.rpl_compile.proofs.Texts.{small_text}
+
+-- ---- types that are written
+
+kind_is : (written : TypeName) → HasRoom written → written_kind written ≡ kind_of_type written
+kind_is (numeric unit) h = refl
+kind_is boolean h = refl
+kind_is datetime h = refl
+kind_is (slot_type unit) h = refl
+kind_is (numeric_list m unit) h = ap numbers_kind (short_is _ h.1)
+kind_is (slot_list m unit) h = ap slots_kind (short_is _ h.1)
+
+takes_are : (params : List Parameter) → HaveRoom params → written_takes params ≡ param_kinds params
+takes_are [] h = refl
+takes_are (p ∷ ps) h = λ i. kind_is p.of_type h.0 i ∷ takes_are ps h.1 i
+
+parameters_are : (n : ℕ) (params : List Parameter) → HaveRoom params → written_parameters n params ≡ parameters_from n params
+parameters_are n [] h = refl
+parameters_are n (p ∷ ps) h = λ i. bound p.name (kind_is p.of_type h.0 i) n ∷ parameters_are (n + 1) ps h.1 i
+
+names_are : (n : ℕ) (params : List Parameter) → names_in (parameters_from n params) ≡ param_names params
+names_are n [] = refl
+names_are n (p ∷ ps) = ap (λ names. (p.name, kind_of_type p.of_type) ∷ names) (names_are (n + 1) ps)
+
+takes_long : (params : List Parameter) → length (param_kinds params) ≡ length params
+takes_long [] = refl
+takes_long (p ∷ ps) = let rest = takes_long ps in omega (arith, rest)
+
+predefined_spelt : AllByRecursion IsSpelt predefined_callees
+predefined_spelt = (
+  λ none. small_text _ refl,
+  (λ none. small_text _ refl, (λ none. small_text _ refl, (λ none. small_text _ refl, (λ none. small_text _ refl, (λ none. small_text _ refl, tt))))),
+)
+
+module _ (basin : Draft) (valid : IsBasin basin) where
+  rule_is : (callees : List Callee) (body : Acts) → AllByRecursion IsSpelt callees → AreKindedActs basin (callee_heads callees) [] body
+      → written_rule callees body ≡ rule_block callees body
+  rule_is callees body spelled h =
+      let begin : At (begun [] []) (start [] 0) [] [] = record {
+        scope = refl;
+        below = refl;
+        locals = refl;
+        lines = refl;
+        free = refl;
+        place = refl;
+      } in
+      let left = claim_acts basin callees spelled valid body _ _ _ _ begin h in
+      λ i. record { head = Rule; locals = left.locals i; lines = left.lines i }
+
+  function_is : (callees : List Callee) (params : List Parameter) (result : TypeName) (body : Tree) → AllByRecursion IsSpelt callees → HaveRoom params
+      → HasRoom result → IsKindedBody basin (callee_heads callees) (param_names params) (kind_of_type result) body
+      → written_function callees params (written_kind result) body ≡ function_block callees params (kind_of_type result) body
+  function_is callees params result body spelled rooms room h =
+      let scope = parameters_from 0 params in
+      let site = start scope (length params) in
+      let takes = code_kinds (param_kinds params) in
+      let kind = kind_is result room in
+      let long : length takes ≡ length params = length-map (param_kinds params) code_kind ∙ takes_long params in
+      let begin : At (begun_function params) site takes [] = record {
+        scope = parameters_are 0 params rooms;
+        below = refl;
+        locals = ap code_kinds (takes_are params rooms);
+        lines = refl;
+        free = long;
+        place = refl;
+      } in
+      let inside : IsKinded basin (callee_heads callees) (names_in scope) body =
+      subst (λ names. IsKinded basin (callee_heads callees) names body) (sym (names_are 0 params)) h.0 in
+      let own = claim basin callees spelled valid body _ site _ _ begin inside in
+      let left = room_at _ _ (kind_of_type result) (kind_of_tree callees site body) kind own.kind own.on in
+      let kept = code_kinds (local_kinds (callee_heads callees) (names_in scope) body) in
+      let locals = (λ i. drop (sym long i) (left.locals i)) ∙ drop-append_seam takes kept in
+      λ i. record { head = Function (code_kind (kind i)) (code_kinds (takes_are params rooms i)); locals = locals i; lines = left.lines i }
+
+  blocks_are : (callees : List Callee) (number : ℕ) (rules : List Declared) → AllByRecursion IsSpelt callees → AreRoomy rules
+      → AreKindedFrom basin (callee_heads callees) rules → written_from callees number rules ≡ blocks_from callees number rules
+  blocks_are callees number [] spelled rooms h = refl
+  blocks_are callees number (rule called_so body ∷ rest) spelled rooms h =
+      λ i. rule_is callees body spelled h.0 i ∷ blocks_are callees (number + 1) rest spelled rooms h.1 i
+  blocks_are callees number (function called_so params result body ∷ rest) spelled (room, answers, rooms) (kinded, others) =
+      let made : Callee = record {
+        head = record { name = called_so; takes = param_kinds params; result = kind_of_type result };
+        block = Some number;
+      } in
+      let first = function_is callees params result body spelled room answers kinded in
+      let spelled_here : IsSpelt made = λ none. absurd (false≢true (subst IsSome none refl)) in
+      let behind = blocks_are (made ∷ callees) (number + 1) rest (spelled_here, spelled) rooms others in
+      (λ i. first i ∷ written_from (record {
+        head = record { name = called_so; takes = takes_are params room i; result = kind_is result answers i };
+        block = Some number;
+      } ∷ callees) (number + 1) rest)
+      ∙ ap (λ bs. function_block callees params (kind_of_type result) body ∷ bs) behind
+
+  pub translated : (rules : List Declared) → AreRoomy rules → AreKinded basin rules → written_from predefined_callees 1 rules ≡ translate rules
+  translated rules rooms h = blocks_are predefined_callees 1 rules predefined_spelt rooms h

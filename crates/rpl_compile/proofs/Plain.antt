@@ -1,0 +1,94 @@
+-- What is written where a ruleset is kinded is what TRANSLATE says: numbers, names, kinds and functions.
+use Rattle.rw_base.proofs.Common.{◌≡◌, ◌≤◌, ◌*ℤ◌, ℕ, ℤ, pos, unsigned_abs, Bool, true, false, List, [], ◌∷◌, nat_lt, Option, Some, None, IsSome, IsTrue, IsUtf8, is_utf8, is_utf8-from_IsUtf8, refl, sym, ap, subst, arith, inl, inr, bytes_eq, bytes_eq-Decides, cases_Bool, false≢true, ◌||◌, AllByRecursion, option_and_then, unwrap_or, if◌then◌else◌}
+use Rattle.std.proofs.lemmas.Bool.{lt-ltb}
+use Rattle.rw_base.specs.Dimension.{Dimension}
+use Rattle.rw_base.specs.Unit.{units, unit_in}
+use Rattle.rw_model.proofs.Common.{IsBasin, Draft, Object, slot_named}
+use Rattle.rpl_code.specs.declared.instruction.Instruction.TheVariants as I
+use Rattle.rpl_tree.specs.Operators.{is_quantity}
+use Rattle.rw_model.specs.Objects.{object_at}
+use Rattle.rpl_tree.proofs.Common.{result_named, table_in, table_named, takes_named}
+use Rattle.rpl_types.proofs.Texts.{no_owner, no_slot}
+use Rattle.rpl_compile.specs.Kinded.{HasHead, IsLiteral}
+use Rattle.rpl_compile.proofs.Texts.{no_object}
+use Rattle.rpl_compile.specs.Operations.{factor_of}
+use Rattle.rpl_compile.specs.Translate.{Callee, call_by, call_line, callee_heads}
+use Rattle.rpl_compile.specs.Written.{byte, call_of, callee_named, number_of, short, spelt, within}
+
+-- ---- numbers
+
+by_test : {A : Type 0} (b : Bool) (x y : A) → b ≡ true → (if b then x else y) ≡ x
+by_test true x y e = refl
+by_test false x y e = absurd (grind arith)
+
+pub short_is : (n : ℕ) → n ≤ 4096 → short n ≡ n
+short_is n h = by_test (nat_lt n 65536) n 0 (lt-ltb n 65536 (omega (arith, h)))
+
+pub no_steps : (ahead : ℤ) → ahead ≡ pos 0 → byte (unsigned_abs ahead) ≡ unsigned_abs ahead
+no_steps ahead e = rw e refl
+
+literal_by : (n : ℤ) (found : Option (Dimension × ℤ)) → IsLiteral n found → within (n *ℤ factor_of found) ≡ n *ℤ factor_of found
+literal_by n None h = absurd h
+literal_by n (Some unit) h = by_test (is_quantity (n *ℤ unit.1)) (n *ℤ unit.1) (pos 0) h
+
+pub number_is : (n : ℤ) (unit : Option (List ℕ)) → IsLiteral n (unit_in units (unwrap_or unit []))
+    → number_of n unit ≡ n *ℤ factor_of (unit_in units (unwrap_or unit []))
+number_is n unit h = literal_by n (unit_in units (unwrap_or unit [])) h
+
+-- ---- names
+
+pub spelt_is : (word : List ℕ) → IsUtf8 word → spelt word ≡ word
+spelt_is word h = by_test (is_utf8 word) word [] (is_utf8-from_IsUtf8 word h)
+
+spelt_unless : (word : List ℕ) → (¬ (IsUtf8 word) → ⊥) → spelt word ≡ word
+spelt_unless word h = elim (cases_Bool (is_utf8 word)) [
+  | inl e ↦ by_test (is_utf8 word) word [] e
+  | inr e ↦ absurd (h (λ text. grind (arith, e, is_utf8-from_IsUtf8 word text)))
+]
+
+module _ (basin : Draft) (valid : IsBasin basin) where
+  pub owner_spelt : (o s : List ℕ) → IsSome (slot_named basin.objects o s) → spelt o ≡ o
+  owner_spelt o s h = spelt_unless o (λ none. absurd (false≢true (subst IsSome (no_owner basin o s valid none) h)))
+
+  pub slot_spelt : (o s : List ℕ) → IsSome (slot_named basin.objects o s) → spelt s ≡ s
+  slot_spelt o s h = spelt_unless s (λ none. absurd (false≢true (subst IsSome (no_slot basin o s valid none) h)))
+
+-- ---- functions
+
+-- the name of a predefined function is text
+abbrev pub IsSpelt : Callee → Type 0
+IsSpelt c = c.block ≡ None → IsUtf8 c.head.name
+
+of_choice : {A B : Type 0} (part : A → B) (b : Bool) (x y : A) (z : B) → part y ≡ z → part (if b then x else y) ≡ (if b then part x else z)
+of_choice part true x y z e = refl
+of_choice part false x y z e = e
+
+pub takes_is : (callees : List Callee) (f : List ℕ) → (callee_named callees f).head.takes ≡ takes_named (callee_heads callees) f
+takes_is [] f = refl
+takes_is (c ∷ callees) f = of_choice (λ (d : Callee). d.head.takes) (bytes_eq c.head.name f) c (callee_named callees f) _ (takes_is callees f)
+
+pub result_is : (callees : List Callee) (f : List ℕ) → (callee_named callees f).head.result ≡ result_named (callee_heads callees) f
+result_is [] f = refl
+result_is (c ∷ callees) f = of_choice (λ (d : Callee). d.head.result) (bytes_eq c.head.name f) c (callee_named callees f) _ (result_is callees f)
+
+called : (f : List ℕ) (block : Option ℕ) → (block ≡ None → IsUtf8 f) → call_of f block ≡ call_by f block
+called f None h = ap I.Call (spelt_is f (h refl))
+called f (Some number) h = refl
+
+other_head : (b rest : Bool) → b ≡ false → IsTrue (b || rest) → IsTrue rest
+other_head true rest e h = absurd (false≢true (sym e))
+other_head false rest e h = h
+
+pub call_is : (callees : List Callee) (f : List ℕ) → AllByRecursion IsSpelt callees → HasHead (callee_heads callees) f
+    → call_of f (callee_named callees f).block ≡ call_line callees f
+call_is [] f s h = absurd (false≢true h)
+call_is (c ∷ callees) f s h = elim (cases_Bool (bytes_eq c.head.name f)) [
+  | inl e ↦ rw e (called f c.block (λ none. subst IsUtf8 ((bytes_eq-Decides c.head.name f).0 e) (s.0 none)))
+  | inr e ↦ rw e (call_is callees f s.1 (other_head (bytes_eq c.head.name f) _ e h))
+]
+
+module _ (basin : Draft) (valid : IsBasin basin) where
+  pub table_spelt : (o : List ℕ) → IsSome (table_named basin o) → spelt o ≡ o
+  table_spelt o h = spelt_unless o (λ none. absurd (false≢true (subst IsSome (ap (λ (found : Option ℕ). option_and_then (λ
+      (object : Object). table_in object.kind)
+      (option_and_then (λ number. object_at basin.objects number) found)) (no_object basin o valid none)) h)))

@@ -1,0 +1,7 @@
+use Rattle.std.proofs.Common.{map}
+use Rattle.rpl_compile.specs.Seen.{callee_seen}
+use Rattle.rpl_compile.proofs.Found.{function_found}
+use Rattle.rpl_compile.proofs.known.function_named.Goals as goal
+
+pub loop-entry-init : goal.loop-entry-init
+loop-entry-init c = function_found c.args.name.now (map callee_seen c.args.known.now)

@@ -1,0 +1,14 @@
+use Rattle.std.proofs.Common.{◌≡◌, ◌≤◌, drop, length, map}
+use Rattle.rpl_tree.proofs.Common.{parameter_of}
+use Rattle.rpl_compile.specs.Seen.{scope_seen}
+use Rattle.rpl_compile.specs.Written.{written_parameters}
+use Rattle.rpl_compile.proofs.ruleset.names_of.Given as goal
+
+abbrev pub invariant-loop-k : goal.invariant-loop-k
+invariant-loop-k l = record {
+  found : scope_seen l.names ≡ written_parameters l.k (map parameter_of (drop l.k l.params));
+  within : l.k ≤ length l.params;
+}
+
+abbrev pub decreases-loop-k : goal.decreases-loop-k
+decreases-loop-k l = l.k

@@ -1,0 +1,50 @@
+ghost use Rattle.std.specs.Prelude.{◌≡◌, bytes_eq, option_map, if◌then◌else◌};
+ghost use Rattle.rpl_compile.specs.Seen.{callee_or_none, callee_seen, callees_of};
+ghost use Rattle.rpl_compile.specs.Written as Written;
+
+use rpl_code::ValueKind;
+
+/// A function that can be called, and the number of its block, but of a predefined one.
+#[derive(Drop)]
+pub struct Known<'a> {
+    pub name: &'a [u8],
+    pub takes: Vec<ValueKind>,
+    pub result: ValueKind,
+    pub block: Option<u32>,
+}
+
+/// Whether two names are the same.
+fn is_same_name(a: &[u8], b: &[u8]) -> bool
+    ensures { result ≡ bytes_eq a.now b.now }
+{
+    a == b
+}
+
+// This function, if it has the name.
+fn known_or<'a, 'b>(
+    f: &'a Known<'b>,
+    name: &[u8],
+    otherwise: Option<&'a Known<'b>>,
+) -> Option<&'a Known<'b>>
+    ensures { callee_or_none (option_map (λ g. g.now) result)
+        ≡ if bytes_eq f.entry.now.name.now name.now then callee_seen f.entry.now
+        else callee_or_none (option_map (λ g. g.now) otherwise.entry) }
+{
+    if is_same_name(f.name, name) {
+        Some(f)
+    } else {
+        otherwise
+    }
+}
+
+/// The function of a name that was declared last.
+pub fn function_named<'a, 'b>(known: &'a [Known<'b>], name: &[u8]) -> Option<&'a Known<'b>>
+    ensures { callee_or_none (option_map (λ f. f.now) result)
+        ≡ Written.callee_named (callees_of known.now) name.now }
+{
+    let mut found = None;
+    for entry in known {
+        found = known_or(entry, name, found);
+    }
+    found
+}

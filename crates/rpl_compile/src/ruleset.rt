@@ -1,0 +1,233 @@
+// The blocks of declarations, in order.
+ghost use Rattle.std.specs.Prelude.{◌≡◌, ◌+◌, IfOk, OnOk, drop, map};
+ghost use Rattle.rpl_tree.specs.Seen.{acts_in, declared_of, parameter_of, rules_of, tree_of, type_of};
+ghost use Rattle.rpl_compile.specs.Operations.{code_kind, code_kinds};
+ghost use Rattle.rpl_compile.specs.Seen.{callee_seen, callees_of, kind_seen, kinds_seen, scope_seen, written_of};
+ghost use Rattle.rpl_compile.specs.Translate.{predefined_callees, translate};
+ghost use Rattle.rpl_compile.specs.Kinded.{AreKinded};
+ghost use Rattle.rpl_compile.specs.Rooms.{AreRoomy};
+ghost use Rattle.rpl_compile.specs.Written as Written;
+
+use crate::expression::code;
+use crate::kind::written_kind;
+use crate::known::Known;
+use crate::statement::statements;
+use crate::writing::{Local, Writing, give_room};
+use rpl_code::{Block, BlockHead, Kinds, Lines, ValueKind};
+use rpl_scope::Scope;
+use rpl_tree::{Declaration, Expr, Param, ParsedRules, Statement, TypeText};
+use rw_base::NoMemory;
+use rw_model::Basin;
+use std::alloc::Global;
+
+// The kinds of parameters, in order.
+
+fn takes_of(alloc: Global, params: &[Param]) -> Result<Vec<ValueKind>, NoMemory>
+    ensures { IfOk result (λ kinds. kinds_seen kinds.items
+        ≡ Written.written_takes (map parameter_of params.now)) }
+{
+    let mut kinds = Vec::new(alloc);
+    for param in params {
+        kinds.push(written_kind(&param.kind))?;
+    }
+    Ok(kinds)
+}
+
+// The same, as a block's head has them.
+fn parameters_of(alloc: Global, params: &[Param]) -> Result<Vec<ValueKind>, NoMemory>
+    ensures { IfOk result (λ kinds. kinds.items
+        ≡ code_kinds (Written.written_takes (map parameter_of params.now))) }
+{
+    let kinds = takes_of(alloc, params)?;
+    Ok(kinds)
+}
+
+// The parameters as names, the first of them innermost.
+fn names_of<'a>(alloc: Global, params: &'a [Param]) -> Result<Scope<'a, Local>, NoMemory>
+    ensures { IfOk result (λ names. scope_seen names
+        ≡ Written.written_parameters 0 (map parameter_of params.now)) }
+{
+    let mut names = Scope::new(alloc);
+    let mut k = params.len();
+    while k > 0 {
+        k -= 1;
+        let param = &params[k];
+        let Ok(number) = u32::try_from(k) else {
+            return Err(NoMemory);
+        };
+        let kind = written_kind(&param.kind);
+        names.push(&param.name, Local { kind, number })?;
+    }
+    Ok(names)
+}
+
+// The block of a rule.
+fn rule(alloc: Global, known: &[Known], body: &[Statement]) -> Result<Block, NoMemory>
+    ensures { IfOk result (λ block. block ≡ Written.written_rule (callees_of known.now)
+        (acts_in body.now)) }
+{
+    let mut w = Writing {
+        alloc,
+        names: Scope::new(alloc),
+        locals: Vec::new(alloc),
+        below: Vec::new(alloc),
+        lines: Vec::new(alloc),
+    };
+    statements(known, &mut w, body)?;
+    Ok(Block {
+        head: BlockHead::Rule,
+        locals: Kinds::of(w.locals),
+        lines: Lines::of(w.lines),
+    })
+}
+
+// The kinds from a place on.
+fn from_place(kinds: &[ValueKind], k: usize) -> &[ValueKind]
+    ensures { result.now ≡ drop k kinds.entry.now }
+{
+    if k < kinds.len() { &kinds[k..] } else { &[] }
+}
+
+// At the beginning of a function's block.
+fn begin_function<'a>(alloc: Global, params: &'a [Param]) -> Result<Writing<'a>, NoMemory>
+    ensures { IfOk result (λ w. written_of w ≡ Written.begun_function
+        (map parameter_of params.now)) }
+{
+    let names = names_of(alloc, params)?;
+    let locals = parameters_of(alloc, params)?;
+    Ok(Writing {
+        alloc,
+        names,
+        locals,
+        below: Vec::new(alloc),
+        lines: Vec::new(alloc),
+    })
+}
+
+// The block of a function whose body is written.
+#[tactic(auto, using(crate::proofs::Found::code_of_seen, crate::proofs::Found::params_length))]
+fn end_function(
+    alloc: Global,
+    w: Writing,
+    params: &[Param],
+    answers: ValueKind,
+) -> Result<Block, NoMemory>
+    ensures { IfOk result (λ block. block ≡ Written.function_block (map parameter_of params.now)
+        (kind_seen answers) (written_of w.entry)) }
+{
+    let takes = parameters_of(alloc, params)?;
+    let locals = Vec::from_slice(alloc, from_place(&w.locals, params.len()))?;
+    Ok(Block {
+        head: BlockHead::Function {
+            result: answers,
+            parameters: Kinds::of(takes),
+        },
+        locals: Kinds::of(locals),
+        lines: Lines::of(w.lines),
+    })
+}
+
+// The block of a function.
+fn function(
+    alloc: Global,
+    known: &[Known],
+    params: &[Param],
+    answers: ValueKind,
+    body: &Expr,
+) -> Result<Block, NoMemory>
+    ensures { IfOk result (λ block. block ≡ Written.written_function (callees_of known.now)
+        (map parameter_of params.now) (kind_seen answers) (tree_of body.now)) }
+{
+    let mut w = begin_function(alloc, params)?;
+    let own = code(known, &mut w, body)?;
+    give_room(&mut w, answers, own)?;
+    end_function(alloc, w, params, answers)
+}
+
+// The block of a declaration of a number. A function can be called by those that follow.
+fn block_of<'a>(
+    alloc: Global,
+    known: &mut Vec<Known<'a>>,
+    number: u32,
+    declaration: &'a Declaration,
+) -> Result<Block, NoMemory>
+    ensures block { IfOk result (λ block. block
+        ≡ Written.written_block (callees_of known.old.items) (declared_of declaration.now)) }
+    ensures known { OnOk result (callees_of known.new.items
+        ≡ Written.and_callee (callees_of known.old.items) number (declared_of declaration.now)) }
+{
+    match declaration {
+        Declaration::Rule { body, .. } => rule(alloc, known, body),
+        Declaration::Function {
+            name,
+            params,
+            result,
+            body,
+        } => {
+            let result = written_kind(result);
+            let block = function(alloc, known, params, result, body)?;
+            known.push(Known {
+                name,
+                takes: takes_of(alloc, params)?,
+                result,
+                block: Some(number),
+            })?;
+            Ok(block)
+        }
+    }
+}
+
+// A function of numbers that there is in each ruleset.
+fn of_numbers(name: &'static [u8], takes: Vec<ValueKind>) -> Known<'static>
+    ensures { callee_seen result ≡ Written.of_numbers name.now (kinds_seen takes.items) }
+{
+    Known {
+        name,
+        takes,
+        result: ValueKind::N,
+        block: None,
+    }
+}
+
+// The functions that there are in each ruleset, the last of them first.
+fn predefined(alloc: Global) -> Result<Vec<Known<'static>>, NoMemory>
+    ensures { IfOk result (λ known. callees_of known.items ≡ predefined_callees) }
+{
+    let one = ValueKind::N;
+    let mut known = Vec::new(alloc);
+    known.push(of_numbers(b"Sign", vec![in alloc; one]?))?;
+    known.push(of_numbers(b"RoundDown", vec![in alloc; one, one]?))?;
+    known.push(of_numbers(b"Clamp", vec![in alloc; one, one, one]?))?;
+    known.push(of_numbers(b"Abs", vec![in alloc; one]?))?;
+    known.push(of_numbers(b"Max", vec![in alloc; one, one]?))?;
+    known.push(of_numbers(b"Min", vec![in alloc; one, one]?))?;
+    Ok(known)
+}
+
+// The blocks of all declarations, as they are written.
+fn written_blocks(alloc: Global, rules: &ParsedRules) -> Result<Vec<Block>, NoMemory>
+    ensures { IfOk result (λ blocks. blocks.items
+        ≡ Written.written_from predefined_callees 1 (rules_of rules.now)) }
+{
+    let mut known = predefined(alloc)?;
+    let mut blocks = Vec::new(alloc);
+    for declaration in &rules.declarations {
+        let Ok(number) = u32::try_from(blocks.len() + 1) else {
+            return Err(NoMemory);
+        };
+        let block = block_of(alloc, &mut known, number, declaration)?;
+        blocks.push(block)?;
+    }
+    Ok(blocks)
+}
+
+/// The blocks of a ruleset for a basin. `NoMemory` tells nothing of the ruleset.
+pub fn blocks_of(alloc: Global, rules: &ParsedRules, basin: &Basin) -> Result<Vec<Block>, NoMemory>
+    requires kinded { AreKinded basin.now (rules_of rules.now) }
+    requires rooms { AreRoomy (rules_of rules.now) }
+    ensures { IfOk result (λ blocks. blocks.items ≡ translate (rules_of rules.now)) }
+{
+    let _objects = basin.object_count();
+    let blocks = written_blocks(alloc, rules)?;
+    Ok(blocks)
+}

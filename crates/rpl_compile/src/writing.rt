@@ -1,0 +1,200 @@
+// What is written of a block so far, and its parts that forms share.
+ghost use Rattle.std.specs.Prelude.{◌≡◌, ◌+◌, [], ◌∷◌, ◌++◌, IfOk, OnOk, length};
+ghost use Rattle.rpl_code.specs.declared.instruction.Instruction.TheVariants as Instruction;
+ghost use Rattle.rpl_tree.specs.Kinds.{kind_named};
+ghost use Rattle.rpl_compile.specs.Operations.{code_kind};
+ghost use Rattle.rpl_compile.specs.Seen.{kind_seen, scope_seen, written_of};
+ghost use Rattle.rpl_compile.specs.Site.{bound, local_named, names_in};
+ghost use Rattle.rpl_compile.specs.Written as Written;
+
+use crate::kind::{is_same_kind, room_of};
+use rpl_code::{Instruction, Kinds, ValueKind};
+use rpl_scope::Scope;
+use rw_base::NoMemory;
+use std::alloc::Global;
+
+/// A name's local, and the kind of its values.
+#[derive(Clone, Copy)]
+pub struct Local {
+    pub kind: ValueKind,
+    pub number: u32,
+}
+
+/// What is written of a block so far.
+#[derive(Drop)]
+pub struct Writing<'a> {
+    pub alloc: Global,
+    /// The names that can be used.
+    pub names: Scope<'a, Local>,
+    /// The kinds of the locals, parameters first.
+    pub locals: Vec<ValueKind>,
+    /// The kinds of the operands that are there, the last one last.
+    pub below: Vec<ValueKind>,
+    pub lines: Vec<Instruction>,
+}
+
+// ---- lines
+
+/// One line more.
+pub fn line(w: &mut Writing, instruction: Instruction) -> Result<(), NoMemory>
+    ensures { OnOk result (written_of w.new ≡ Written.with_line instruction (written_of w.old)) }
+{
+    w.lines.push(instruction)?;
+    Ok(())
+}
+
+// The line at a place is another.
+fn put_line(w: &mut Writing, place: usize, instruction: Instruction)
+    ensures { written_of w.new ≡ Written.at_line place instruction (written_of w.old) }
+{
+    if let Some(kept) = w.lines.get_mut(place) {
+        *kept = instruction;
+    }
+}
+
+// There is no memory for more lines or locals than 32 bits can count.
+fn number(n: usize) -> Result<u32, NoMemory>
+    ensures { IfOk result (λ number. number ≡ n) }
+{
+    match u32::try_from(n) {
+        Ok(number) => Ok(number),
+        Err(_) => Err(NoMemory),
+    }
+}
+
+// ---- operands
+
+/// An operand more.
+pub fn operand(w: &mut Writing, kind: ValueKind) -> Result<(), NoMemory>
+    ensures { OnOk result (written_of w.new
+        ≡ Written.with_operand (kind_seen kind) (written_of w.old)) }
+{
+    w.below.push(kind)?;
+    Ok(())
+}
+
+/// The last operands are taken.
+pub fn drop_operands(w: &mut Writing, n: usize)
+    ensures { written_of w.new ≡ Written.without_operands n (written_of w.old) }
+{
+    let rest = w.below.len().saturating_sub(n);
+    w.below.truncate(rest);
+}
+
+/// Gives a value of a kind the room of its place.
+pub fn give_room(w: &mut Writing, place: ValueKind, kind: ValueKind) -> Result<(), NoMemory>
+    ensures { OnOk result (written_of w.new ≡ Written.with_room (kind_seen place)
+        (Written.step (kind_seen kind) (written_of w.old))) }
+{
+    if is_same_kind(place, kind) {
+        Ok(())
+    } else {
+        line(w, Instruction::Widen(room_of(place)))
+    }
+}
+
+// ---- names and locals
+
+/// A local more, whose number is answered. Its kind isn't known yet.
+pub fn reserve(w: &mut Writing) -> Result<u32, NoMemory>
+    ensures written { OnOk result (written_of w.new ≡ Written.with_local (written_of w.old)) }
+    ensures number { IfOk result (λ local. local ≡ length (written_of w.old).locals) }
+{
+    let local = number(w.locals.len())?;
+    w.locals.push(ValueKind::N)?;
+    Ok(local)
+}
+
+/// Sets the kind of a local.
+pub fn fill(w: &mut Writing, local: u32, kind: ValueKind)
+    ensures { written_of w.new ≡ Written.with_kind local (kind_seen kind) (written_of w.old) }
+{
+    if let Some(kept) = w.locals.get_mut(local as usize) {
+        *kept = kind;
+    }
+}
+
+/// A name for a local.
+pub fn add_name<'a>(w: &mut Writing<'a>, name: &'a [u8], local: Local) -> Result<(), NoMemory>
+    ensures { OnOk result (written_of w.new
+        ≡ Written.with_name (bound name.now (kind_seen local.kind) local.number)
+        (written_of w.old)) }
+{
+    w.names.push(name, local)
+}
+
+/// Takes the name away that was added last.
+pub fn drop_name(w: &mut Writing)
+    ensures { written_of w.new ≡ Written.without_name (written_of w.old) }
+{
+    w.names.pop();
+}
+
+#[tactic(auto, using(crate::proofs::Found::kind_found, crate::proofs::Found::number_found))]
+/// The local of a name. Where there is none, no name is asked for.
+pub fn local_named<'a>(names: &Scope<'a, Local>, name: &'a [u8]) -> Local
+    ensures kind { kind_seen result.kind ≡ kind_named (names_in
+        (scope_seen names.now)) name.entry.now }
+    ensures number { result.number ≡ local_named (scope_seen names.now) name.entry.now }
+{
+    names.find(name).unwrap_or(Local {
+        kind: ValueKind::N,
+        number: 0,
+    })
+}
+
+// ---- branches
+
+/// A branch to a place that isn't known yet. Its own place is answered.
+pub fn begin_branch(w: &mut Writing) -> Result<usize, NoMemory>
+    ensures written { OnOk result (written_of w.new ≡ Written.with_branch (written_of w.old)) }
+    ensures place { IfOk result (λ place. place ≡ length (written_of w.old).lines) }
+{
+    let place = w.lines.len();
+    line(w, Instruction::Branch(0))?;
+    Ok(place)
+}
+
+/// A place that is jumped to, where all operands are there.
+fn target(w: &mut Writing) -> Result<(), NoMemory>
+    ensures { OnOk result (written_of w.new
+        ≡ Written.with_line (Instruction.Target (written_of w.old).below) (written_of w.old)) }
+{
+    let kinds = w.below.clone()?;
+    line(w, Instruction::Target(Kinds::of(kinds)))
+}
+
+/// Behind the first part. The place of the jump at its end is answered.
+pub fn begin_second(w: &mut Writing, branch: usize) -> Result<usize, NoMemory>
+    ensures written { OnOk result (written_of w.new
+        ≡ Written.with_second branch (written_of w.old)) }
+    ensures place { IfOk result (λ place. place ≡ length (written_of w.old).lines) }
+{
+    let place = w.lines.len();
+    let behind = number(place + 1)?;
+    put_line(w, branch, Instruction::Branch(behind));
+    line(w, Instruction::Jump(0))?;
+    target(w)?;
+    Ok(place)
+}
+
+/// Behind the second part of an IF of statements.
+pub fn end_second(w: &mut Writing, jump: usize) -> Result<(), NoMemory>
+    ensures { OnOk result (written_of w.new
+        ≡ Written.with_end jump (written_of w.old).below (written_of w.old)) }
+{
+    let behind = number(w.lines.len())?;
+    put_line(w, jump, Instruction::Jump(behind));
+    target(w)
+}
+
+/// Behind the second part of an IF that has a value.
+pub fn end_value(w: &mut Writing, jump: usize, kind: ValueKind) -> Result<(), NoMemory>
+    ensures { OnOk result (written_of w.new
+        ≡ Written.with_value_end jump (kind_seen kind) (written_of w.old)) }
+{
+    operand(w, kind)?;
+    end_second(w, jump)?;
+    drop_operands(w, 1);
+    Ok(())
+}
