@@ -1,5 +1,5 @@
 -- The types that an accepted ruleset declares have room for as many elements as code can say.
-use Rattle.rw_base.proofs.Common.{◌≡◌, ◌&&◌, ℕ, ◌+◌, ℤ, pos, negsuc, Bool, true, false, List, [], ◌∷◌, Option, None, Some, IsSome, Ok, Err, nat_le, nat_lt, int_le, unsigned_abs, refl, sym, subst, ap, false≢true, and_parts, leb-true, if◌then◌else◌}
+use Rattle.rw_base.proofs.Common.{◌≡◌, ◌&&◌, ℕ, ◌+◌, ℤ, pos, negsuc, Bool, true, false, List, [], ◌∷◌, Option, None, Some, IsSome, Ok, Err, nat_le, nat_lt, int_le, unsigned_abs, refl, subst, false≢true, and_parts, leb-true, if◌then◌else◌}
 use Rattle.rw_base.specs.Dimension.{Dimension}
 use Rattle.rw_base.specs.Unit.{units, unit_in}
 use Rattle.rw_model.proofs.Common.{Draft}
@@ -10,10 +10,9 @@ use Rattle.rpl_tree.specs.declared.rpl_type.RplType.TheVariants.{NumericList, Sl
 use Rattle.rpl_tree.proofs.Common.{Declared, Parameter, TypeName, function, rule}
 use Rattle.rpl_types.specs.declared.type_kind.TypeKind.{TypeKind}
 use Rattle.rpl_types.specs.declared.type_kind.TypeKind.TheVariants.{DuplicateName, ListTooLong}
-use Rattle.rpl_types.specs.Fits.{Typed, longest, order, sooner}
+use Rattle.rpl_types.specs.Fits.{longest, order, sooner}
 use Rattle.rpl_types.specs.Functions.{Signature, head_misfit, is_duplicate, refusal_in, with_room, with_unit, written_type}
 use Rattle.rpl_types.specs.HasType.{AreDeclared, IsTyped}
-use Rattle.rpl_types.specs.Judged.{head_refusal}
 use Rattle.rpl_compile.specs.Rooms.{AreRoomy, HasRoom, HaveRoom}
 
 no_some : {A : Type 0} (x : A) → Some x ≡ None → ⊥

@@ -4,12 +4,10 @@ ghost use Rattle.rpl_types.specs.Judged.{judged};
 ghost use Rattle.rpl_verify.specs.Verified.{verified};
 ghost use Rattle.rpl_compile.specs.Translate.{translate};
 
-use crate::accepted::compiled_code_is_accepted;
 use crate::ruleset::blocks_of;
 use rpl_code::Code;
 use rpl_parse::law::bounds;
 use rpl_types::Typed;
-use rpl_types::law::accepted;
 use rpl_verify::{Verified, VerifyFault, verify};
 use rw_base::NoMemory;
 use rw_model::Basin;
@@ -20,7 +18,6 @@ fn code_of(alloc: Global, typed: &Typed, basin: &Basin) -> Result<Code, NoMemory
     requires { IsOk (judged basin.now (rules_of typed.now.rules)) }
     ensures { IfOk result (λ code. code ≡ translate (rules_of typed.now.rules)) }
 {
-    accepted();
     bounds();
     let rules = typed.rules();
     let _objects = basin.object_count();
@@ -37,9 +34,7 @@ pub fn compile(alloc: Global, typed: &Typed, basin: &Basin) -> Result<Verified, 
     ensures verified { IfOk result (λ code.
         verified basin.now (translate (rules_of typed.now.rules)) ≡ Ok code) }
 {
-    accepted();
     bounds();
-    compiled_code_is_accepted();
     let _rules = typed.rules();
     let code = code_of(alloc, typed, basin)?;
     match verify(alloc, code, basin) {

@@ -130,8 +130,8 @@ pub fn drop_name(w: &mut Writing)
     w.names.pop();
 }
 
-#[tactic(auto, using(crate::proofs::Found::kind_found, crate::proofs::Found::number_found))]
 /// The local of a name. Where there is none, no name is asked for.
+#[tactic(auto, using(crate::proofs::Found::kind_found, crate::proofs::Found::number_found))]
 pub fn local_named<'a>(names: &Scope<'a, Local>, name: &'a [u8]) -> Local
     ensures kind { kind_seen result.kind ≡ kind_named (names_in
         (scope_seen names.now)) name.entry.now }
