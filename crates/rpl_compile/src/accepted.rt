@@ -14,26 +14,29 @@ ghost use Rattle.rpl_compile.specs.Translate.{translate};
 /// A ruleset that is accepted is of the kinds that its code asks for.
 #[tactic(auto, using(crate::proofs::TypedKinds::typed_is_kinded))]
 pub fn typed_is_kinded()
-    ensures { (basin : Draft) (rules : List Declared) → IsTyped basin rules → AreKinded basin rules }
+    ensures { (basin : Draft) (rules : List Declared)
+        → IsTyped basin rules → AreKinded basin rules }
 {}
 
 /// Code fits the basin where the ruleset is of these kinds and has no more declarations than a parsed one has.
 #[tactic(auto, using(crate::proofs::CompiledFits::compiled_code_fits))]
 pub fn compiled_code_fits()
-    ensures { (basin : Draft) (rules : List Declared) → AreKinded basin rules → rule_count rules ≤ 200
-        → function_count rules ≤ 200 → AreFit basin (translate rules) }
+    ensures { (basin : Draft) (rules : List Declared) → AreKinded basin rules
+        → rule_count rules ≤ 200 → function_count rules ≤ 200 → AreFit basin (translate rules) }
 {}
 
 /// The budget of each block is that of its declaration.
 #[tactic(auto, using(crate::proofs::CompiledBudgets::compiled_budgets))]
 pub fn compiled_budgets()
-    ensures { (basin : Draft) (rules : List Declared) → IsTyped basin rules → rule_count rules ≤ 200
-        → function_count rules ≤ 200 → ruling basin (translate rules) ≡ Ok (budgets_of rules) }
+    ensures { (basin : Draft) (rules : List Declared) → IsTyped basin rules
+        → rule_count rules ≤ 200 → function_count rules ≤ 200
+        → ruling basin (translate rules) ≡ Ok (budgets_of rules) }
 {}
 
 /// The code of an accepted ruleset is accepted.
 #[tactic(auto, using(crate::proofs::CompiledBudgets::compiled_code_is_accepted))]
 pub fn compiled_code_is_accepted()
-    ensures { (basin : Draft) (rules : List Declared) → IsTyped basin rules → rule_count rules ≤ 200
-        → function_count rules ≤ 200 → verified basin (translate rules) ≡ Ok (accepted_code basin rules) }
+    ensures { (basin : Draft) (rules : List Declared) → IsTyped basin rules
+        → rule_count rules ≤ 200 → function_count rules ≤ 200
+        → verified basin (translate rules) ≡ Ok (accepted_code basin rules) }
 {}

@@ -14,7 +14,8 @@ pub fn rulesets()
     ensures base { FiresAlike cap_and_base (basin_of 1 (dam ∷ [])) 2 1 unknown_cells }
     ensures unknown { RulesAlike raise_and_reset unknown_cells }
     ensures raised { RulesAlike raise_and_reset (all_cells (pos 0)) }
-    ensures reset { FiresAlike raise_and_reset (basin_of 2 (numbers_object ∷ [])) 2 1 unknown_cells }
+    ensures reset { FiresAlike
+        raise_and_reset (basin_of 2 (numbers_object ∷ [])) 2 1 unknown_cells }
     ensures third { RulesAlike hundredth (only_slot 2 (pos 3)) }
     ensures below { RulesAlike hundredth (only_slot 2 (neg_ℤ (pos 3))) }
     ensures zero { RulesAlike hundredth (only_slot 2 (pos 0)) }
@@ -28,8 +29,10 @@ pub fn rulesets()
 pub fn choices()
     ensures first_ends { TreeAlike (choice (truth true) y_now (whole (pos 1))) }
     ensures second_ends { TreeAlike (choice (truth false) (whole (pos 1)) y_now) }
-    ensures and_ends { TreeAlike (one_or_two (two And (truth true) (two Equal y_now (whole (pos 1))))) }
-    ensures or_ends { TreeAlike (one_or_two (two Or (truth false) (two Equal y_now (whole (pos 1))))) }
+    ensures and_ends { TreeAlike
+        (one_or_two (two And (truth true) (two Equal y_now (whole (pos 1))))) }
+    ensures or_ends { TreeAlike
+        (one_or_two (two Or (truth false) (two Equal y_now (whole (pos 1))))) }
     ensures first { TreeAlike (choice (truth true) (whole (pos 7)) y_now) }
     ensures second { TreeAlike (choice (truth false) y_now (whole (pos 7))) }
     ensures and { TreeAlike (one_or_two (two And (truth false) (two Equal y_now (whole (pos 1))))) }
@@ -40,11 +43,14 @@ pub fn choices()
 pub fn bodies()
     ensures for_first { TreeAlike (over (pair (pos 0) (pos 1)) part_of_n) }
     ensures for_second { TreeAlike (over (pair (pos 1) (pos 0)) part_of_n) }
-    ensures map_first { TreeAlike (one Length (mapped (codes "n") (pair (pos 0) (pos 1)) part_of_n)) }
-    ensures map_second { TreeAlike (one Length (mapped (codes "n") (pair (pos 1) (pos 0)) part_of_n)) }
+    ensures map_first { TreeAlike
+        (one Length (mapped (codes "n") (pair (pos 0) (pos 1)) part_of_n)) }
+    ensures map_second { TreeAlike
+        (one Length (mapped (codes "n") (pair (pos 1) (pos 0)) part_of_n)) }
     ensures ends { TreeAlike (bind (codes "l") (pair (pos 7) (pos 8)) y_now) }
     ensures variable { TreeAlike (bind (codes "l") (pair (pos 7) (pos 8)) first_of_l) }
-    ensures innermost { TreeAlike (bind (codes "n") (whole (pos 1)) (bind (codes "n") one_more n_name)) }
+    ensures innermost { TreeAlike
+        (bind (codes "n") (whole (pos 1)) (bind (codes "n") one_more n_name)) }
     ensures accumulator { TreeAlike (turns_of_one_name (pair (pos 5) (pos 6))) }
 {}
 
@@ -66,7 +72,8 @@ pub fn tests()
     ensures less { TreeAlike (one_or_two (two Less (whole (pos 2)) (whole (pos 2)))) }
     ensures less_equal { TreeAlike (one_or_two (two LessEqual (whole (pos 2)) (whole (pos 2)))) }
     ensures greater { TreeAlike (one_or_two (two Greater (whole (pos 2)) (whole (pos 2)))) }
-    ensures greater_equal { TreeAlike (one_or_two (two GreaterEqual (whole (pos 2)) (whole (pos 2)))) }
+    ensures greater_equal { TreeAlike
+        (one_or_two (two GreaterEqual (whole (pos 2)) (whole (pos 2)))) }
 {}
 
 /// Dates, looks before the run and behind it, and tables.
