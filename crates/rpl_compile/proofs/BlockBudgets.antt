@@ -24,7 +24,7 @@ use Rattle.rpl_compile.specs.Kinded.{AreKindedActs, IsKindedBody}
 use Rattle.rpl_compile.specs.Translate.{Callee, call_by, callee_heads, function_block, rule_block}
 use Rattle.rpl_compile.proofs.Placing.{has_all}
 use Rattle.rpl_compile.proofs.Counting.{Prices}
-use Rattle.rpl_compile.proofs.BlockSetting.{CallsFit}
+use Rattle.rpl_compile.proofs.Costing.{CallsFit}
 use Rattle.rpl_compile.proofs.TreeCosts.{words_added}
 use Rattle.rpl_compile.proofs.Calling.{AreCallable, IsCallable, call_onward, calls_fit}
 use Rattle.rpl_compile.proofs.CallCosts.{AreCosted, CallCost, call_count, call_part, called_cost, costed_same, count_prices, counts_call, looks_call, looks_prices, puts_call, puts_prices, words_above, words_call, words_of_kinds}

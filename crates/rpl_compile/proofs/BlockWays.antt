@@ -26,7 +26,7 @@ use Rattle.rpl_compile.proofs.Going.{Goes, goes_as, goes_then}
 use Rattle.rpl_compile.proofs.WordLines.{widen_goes}
 use Rattle.rpl_compile.proofs.TreeCosts.{words_weight}
 use Rattle.rpl_compile.proofs.FlowingTrees.{flows}
-use Rattle.rpl_compile.proofs.BlockSetting.{CallsFit, Setting}
+use Rattle.rpl_compile.proofs.Costing.{CallsFit, Costing}
 use Rattle.rpl_compile.proofs.FlowingActs.{flows_acts}
 
 -- ---- parameters
@@ -61,7 +61,7 @@ module _ (basin : Draft) (all : List Block) (number : ℕ) (callees : List Calle
   rule_goes body account calls h =
       let block : Block = rule_block callees body in
       let scope : Scope = scope_of basin all number block in
-      let setting : Setting = record {
+      let costing : Costing = record {
         callees = callees;
         functions = functions;
         deep = deep;
@@ -74,7 +74,7 @@ module _ (basin : Draft) (all : List Block) (number : ℕ) (callees : List Calle
         account = account;
         calls = calls;
       } in
-      flows_acts setting refl body (start [] 0) [] h tt
+      flows_acts costing refl body (start [] 0) [] h tt
       (has_all (code_kinds (acts_local_kinds (callee_heads callees) [] body)))
 
   -- of a function's body, by the heads of functions and the names that it uses
@@ -104,7 +104,7 @@ module _ (basin : Draft) (all : List Block) (number : ℕ) (callees : List Calle
       let own_there : HasAt scope.locals (length params) own =
       subst (λ n. HasAt scope.locals n own) (parameter_count params) (has_behind (code_kinds (param_kinds params)) own) in
       let kind : Kind = tree_kind heads (names_in bounds) body in
-      let setting : Setting = record {
+      let costing : Costing = record {
         callees = callees;
         functions = functions;
         deep = deep;
@@ -117,7 +117,7 @@ module _ (basin : Draft) (all : List Block) (number : ℕ) (callees : List Calle
         account = account;
         calls = calls;
       } in
-      let g = flows setting body site [] kinded.0 placed own_there in
+      let g = flows costing body site [] kinded.0 placed own_there in
       let low = g.tall in
       let w = words_weight result in
       let sum : most_by result body heads (names_in bounds) ≡ most_by result body (costed_heads functions) (param_names params) =

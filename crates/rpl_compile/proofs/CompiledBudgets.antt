@@ -22,6 +22,7 @@ use Rattle.rpl_verify.specs.declared.verify_kind.VerifyKind.TheVariants.{TooCost
 use Rattle.rpl_verify.specs.Fits.{Before, Misplaced, at_place, each_block, heads_of, in_block, scope_of, then_do}
 use Rattle.rpl_verify.specs.Budget.{IsWithinLimits, block_ruling, budget_by, part_of, ruling, within_limits}
 use Rattle.rpl_verify.specs.Verified.{verified, with_budgets}
+use Rattle.rpl_verify.proofs.KindFacts.{and_true}
 use Rattle.rpl_verify.proofs.Accepted.{numbered_by}
 use Rattle.rpl_compile.specs.Budgets.{accepted_code, budgets_from, budgets_of}
 use Rattle.rpl_compile.specs.Kinded.{AreKindedFrom}
@@ -35,10 +36,6 @@ use Rattle.rpl_compile.proofs.CompiledFits.{AreFew, Reached, befores_found, behi
 use Rattle.rpl_compile.proofs.BlockBudgets.{AllCosted, Comes, comes_to, function_comes, rule_comes}
 
 -- ---- budgets that keep within the limits
-
-both : (a b : Bool) → (a && b) ≡ true → (a ≡ true) × (b ≡ true)
-both true b h = (refl, h)
-both false b h = absurd (cc h)
 
 unrefused : (b : Budget) → cost_refusal b ≡ None → is_affordable b ≡ true
 unrefused b h = by (is_affordable b) refl h
@@ -56,9 +53,9 @@ not_above m n le = grind (arith, nat_tests, le)
 limited : (b : Budget) → cost_refusal b ≡ None → IsWithinLimits b
 limited b h =
     let count_looks_puts : Bool = nat_le b.count limits.count && nat_le b.looks limits.looks && nat_le b.puts limits.puts in
-    let one = both count_looks_puts (nat_le b.words limits.words) (unrefused b h) in
-    let two = both (nat_le b.count limits.count && nat_le b.looks limits.looks) (nat_le b.puts limits.puts) one.0 in
-    let three = both (nat_le b.count limits.count) (nat_le b.looks limits.looks) two.0 in
+    let one = and_true count_looks_puts (nat_le b.words limits.words) (unrefused b h) in
+    let two = and_true (nat_le b.count limits.count && nat_le b.looks limits.looks) (nat_le b.puts limits.puts) one.0 in
+    let three = and_true (nat_le b.count limits.count) (nat_le b.looks limits.looks) two.0 in
     record {
       count = at_most b.count limits.count three.0;
       looks = at_most b.looks limits.looks three.1;

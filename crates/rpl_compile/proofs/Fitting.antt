@@ -1,5 +1,5 @@
 -- Compiled code fits: what is before each place of each block is found.
-use Rattle.rw_base.proofs.Common.{map, bytes_eq, Bool, true, false, if◌then◌else◌, ◌≡◌, ℕ, suc, ◌+◌, List, [], ◌∷◌, length, drop, Some, Result, Ok, refl, sym, ap, ◌∙◌, subst, arith, slice_get}
+use Rattle.rw_base.proofs.Common.{drop_all, map, bytes_eq, Bool, true, false, if◌then◌else◌, ◌≡◌, ℕ, suc, ◌+◌, List, [], ◌∷◌, length, drop, Some, Result, Ok, refl, sym, ap, ◌∙◌, subst, arith, slice_get}
 use Rattle.rw_model.specs.Draft.{Draft}
 use Rattle.rpl_code.specs.declared.kind.ValueKind.{ValueKind}
 use Rattle.rpl_code.specs.declared.instruction.Instruction.{Instruction}
@@ -18,13 +18,9 @@ use Rattle.rpl_compile.specs.Translate.{Callee, callee_heads, function_block, ru
 use Rattle.rpl_compile.proofs.Placing.{has_all}
 use Rattle.rpl_compile.proofs.Counting.{Account}
 use Rattle.rpl_compile.proofs.Going.{carries}
-use Rattle.rpl_compile.proofs.BlockSetting.{CallsFit}
+use Rattle.rpl_compile.proofs.Costing.{CallsFit}
 use Rattle.rpl_compile.proofs.Calling.{LinesFit, call_onward}
 use Rattle.rpl_compile.proofs.BlockWays.{function_goes, rule_goes}
-
-drop_all : {A : Type 0} (xs : List A) → drop (length xs) xs ≡ []
-drop_all [] = refl
-drop_all (x ∷ xs) = drop_all xs
 
 -- ---- what is before each place, from the last one back
 
@@ -54,7 +50,7 @@ module _ (scope : Scope) (lines : List Instruction) where
   fitted_end p e =
       let b : Before = before (end_kinds scope.head) [] in (
         b ∷ [],
-        ap (befores scope p b) (ap (λ n. drop n lines) e ∙ drop_all lines)
+        ap (befores scope p b) (ap (λ n. drop n lines) e ∙ drop_all (length lines) lines (omega arith))
             ∙ ap (λ (r : Result Before VerifyKind). at_place p r (λ c. Ok (c ∷ []))) (carries scope (end_kinds scope.head) []),
       )
 

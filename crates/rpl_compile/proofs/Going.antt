@@ -1,5 +1,5 @@
 -- Lines that lead from what is before their first place to what is before the place behind them, put together from single instructions.
-use Rattle.rw_base.proofs.Common.{◌≡◌, ℕ, suc, ◌+◌, ◌*◌, max, ◌≤◌, ◌<◌, nat_lt, Bool, true, false, List, [], ◌∷◌, ◌++◌, length, length-append, drop, take, reverse, reverse-reverse, Option, Some, Result, Ok, Err, refl, sym, ap, ap₂, ◌∙◌, subst, arith, nat_tests, if◌then◌else◌, slice_get}
+use Rattle.rw_base.proofs.Common.{◌≡◌, ℕ, suc, ◌+◌, ◌*◌, max, ◌≤◌, ◌<◌, nat_lt, Bool, true, false, List, [], ◌∷◌, ◌++◌, length, length-append, drop, drop-append_seam, take, take-append_seam, reverse, reverse-reverse, Option, Some, Result, Ok, Err, refl, sym, ap, ap₂, ◌∙◌, subst, arith, nat_tests, if◌then◌else◌, slice_get}
 use Rattle.rpl_code.specs.declared.kind.ValueKind.{ValueKind}
 use Rattle.rpl_code.specs.declared.kind.ValueKind.TheVariants as K
 use Rattle.rpl_code.specs.declared.instruction.Instruction.{Instruction}
@@ -19,14 +19,6 @@ use Rattle.rpl_compile.proofs.Placing.{HasAt, declares_at, has_back, has_front, 
 
 -- ---- operands
 
-take_front : {A : Type 0} (xs ys : List A) → take (length xs) (xs ++ ys) ≡ xs
-take_front [] ys = refl
-take_front (x ∷ xs) ys = ap (λ l. x ∷ l) (take_front xs ys)
-
-drop_front : {A : Type 0} (xs ys : List A) → drop (length xs) (xs ++ ys) ≡ ys
-drop_front [] ys = refl
-drop_front (x ∷ xs) ys = drop_front xs ys
-
 enough : (ks ls : List ValueKind) → nat_lt (length (ks ++ ls)) (length ks) ≡ false
 enough ks ls = let e = length-append ks ls in grind (arith, nat_tests, e)
 
@@ -39,7 +31,7 @@ behind_row r ks left ls n h = by (nat_lt (length (ks ++ ls)) (operand_count r)) 
         ≡ Ok (left ++ ls)
     by true e = absurd (cc e)
     by false e =
-        ap₂ (λ d t. on_top_of d (left_of r t)) (ap (λ m. drop m (ks ++ ls)) n ∙ drop_front ks ls) (ap (λ m. take m (ks ++ ls)) n ∙ take_front ks ls)
+        ap₂ (λ d t. on_top_of d (left_of r t)) (ap (λ m. drop m (ks ++ ls)) n ∙ drop-append_seam ks ls) (ap (λ m. take m (ks ++ ls)) n ∙ take-append_seam ks ls)
         ∙ ap (on_top_of ls) h
 
 taken_kinds : (ks left : List ValueKind) → left_of (takes ks left) ks ≡ Ok left

@@ -15,6 +15,7 @@ use Rattle.rpl_types.specs.declared.type_kind.TypeKind.{TypeKind}
 use Rattle.rpl_types.specs.declared.type_kind.TypeKind.TheVariants.{ListTooLong}
 use Rattle.rpl_types.specs.Fits.{Typed, joined, length_misfit, longest, misfit, misfit_among, order, sooner, unit_misfit}
 use Rattle.rpl_types.specs.Forms.{a_dimension, answers, append_type, asks, compared_type, convert_type, difference_type, element_type, is_boolean, is_datetime, item_type, length_type, list_type, look_type, mapped_type, measured_in, negative_type, one_type, only_if, product_type, sum_type, two_type}
+use Rattle.rpl_verify.proofs.KindFacts.{and_true}
 use Rattle.rpl_compile.specs.Kinded.{AreComparable, FitsIn, IsAnyList, IsElement, OneTakes, TwoTakes}
 
 abbrev pub kind_of_rpl_type : RplType → Kind
@@ -72,10 +73,6 @@ truth_is _ h = absurd (cc h)
 date_is : (t : RplType) → is_datetime t ≡ true → kind_of_rpl_type t ≡ date_kind
 date_is Datetime h = refl
 date_is _ h = absurd (cc h)
-
-both_true : (a b : Bool) → (a && b) ≡ true → (a ≡ true) × (b ≡ true)
-both_true true b h = (refl, h)
-both_true false b h = absurd (cc h)
 
 -- ---- one kind for another
 
@@ -187,7 +184,7 @@ compared _ _ t h = absurd (cc h)
 truths : (a b t : RplType) → only_if (is_boolean a && is_boolean b) Boolean ≡ Ok t → TakesTwo Or a b t
 truths a b t h =
     let q = only (is_boolean a && is_boolean b) Boolean t h in
-    let both = both_true (is_boolean a) (is_boolean b) q.0 in
+    let both = and_true (is_boolean a) (is_boolean b) q.0 in
     (q.1, (truth_is a both.0, truth_is b both.1))
 
 summed : (a b t : RplType) → sum_type a b ≡ Ok t → TakesTwo Plus a b t

@@ -44,7 +44,7 @@ CallsFit scope lines pays account callees functions deep =
 
 -- what the code of a declaration is told in: the functions that can be called, with what they cost and how high they stand; the block; and the
 -- account
-pub record Setting : Type 1 where
+pub record Costing : Type 1 where
   pub callees : List Callee
   pub functions : List Costed
   pub deep : List Costed
@@ -67,95 +67,95 @@ with_one kind site os = before (code_kind kind ∷ code_kinds site.below) os
 abbrev pub names_at : Site → Names
 names_at site = names_in site.scope
 
-module _ (setting : Setting) where
+module _ (costing : Costing) where
   abbrev pub heads : List Head
-  heads = callee_heads setting.callees
+  heads = callee_heads costing.callees
 
   abbrev pub Leads : List Instruction → ℕ → Before → Before → ℕ → ℕ → Type 0
-  Leads xs p b c s h = Goes setting.scope setting.lines setting.spots_are setting.pays setting.account xs p b c s h
+  Leads xs p b c s h = Goes costing.scope costing.lines costing.spots_are costing.pays costing.account xs p b c s h
 
   abbrev pub kept : Before → ℕ
-  kept b = words_kept setting.scope.locals b
+  kept b = words_kept costing.scope.locals b
 
   pub seq : {xs ys : List Instruction} {p q s t h g : ℕ} {b c d : Before} → q ≡ p + length xs → Leads xs p b c s h → Leads ys q c d t g
       → Leads (xs ++ ys) p b d (s + t) (max h g)
   seq {xs} {ys} {p} {q} {s} {t} {h} {g} {b} {c} {d} e f l =
-      goes_then setting.scope setting.lines setting.spots_are setting.pays setting.account {xs = xs} {ys = ys} {p = p} {q = q} {s = s} {t = t}
+      goes_then costing.scope costing.lines costing.spots_are costing.pays costing.account {xs = xs} {ys = ys} {p = p} {q = q} {s = s} {t = t}
       {h = h} {g = g} {b = b} {c = c} {d = d} e f l
 
   pub told : {xs : List Instruction} {p s t h g : ℕ} {b c : Before} → Leads xs p b c s h → s ≡ t → h ≡ g → Leads xs p b c t g
   told {xs} {p} {s} {t} {h} {g} {b} {c} way e f =
-      goes_as setting.scope setting.lines setting.spots_are setting.pays setting.account {xs = xs} {p = p} {s = s} {t = t} {h = h} {g = g} {b = b}
+      goes_as costing.scope costing.lines costing.spots_are costing.pays costing.account {xs = xs} {p = p} {s = s} {t = t} {h = h} {g = g} {b = b}
       {c = c} way e f
 
   pub to : {xs : List Instruction} {p s h : ℕ} {b c d : Before} → c ≡ d → Leads xs p b c s h → Leads xs p b d s h
   to {xs} {p} {s} {h} {b} {c} {d} e way =
-      goes_to setting.scope setting.lines setting.spots_are setting.pays setting.account {xs = xs} {p = p} {s = s} {h = h} {b = b} {c = c} {d = d} e
+      goes_to costing.scope costing.lines costing.spots_are costing.pays costing.account {xs = xs} {p = p} {s = s} {h = h} {b = b} {c = c} {d = d} e
       way
 
-  pub line : {i : Instruction} {p s : ℕ} {b c : Before} → judged setting.scope p b i ≡ Ok c → way_of i ≡ onward → (IsInvoke i → ⊥)
-      → setting.account.sum_at b i ≡ s
-      → Leads (i ∷ []) p b c s (max (words_kept setting.scope.locals b) (words_kept setting.scope.locals c))
+  pub line : {i : Instruction} {p s : ℕ} {b c : Before} → judged costing.scope p b i ≡ Ok c → way_of i ≡ onward → (IsInvoke i → ⊥)
+      → costing.account.sum_at b i ≡ s
+      → Leads (i ∷ []) p b c s (max (words_kept costing.scope.locals b) (words_kept costing.scope.locals c))
   line {i} {p} {s} {b} {c} j w none e =
-      goes_line setting.scope setting.lines setting.spots_are setting.pays setting.account {i = i} {p = p} {s = s} {b = b} {c = c} j w none e
+      goes_line costing.scope costing.lines costing.spots_are costing.pays costing.account {i = i} {p = p} {s = s} {b = b} {c = c} j w none e
 
-  pub stores : (p n : ℕ) (k : Kind) (ls : List ValueKind) (os : List Open) → slice_get setting.scope.locals n ≡ Some (code_kind k)
-      → Leads (I.Store n ∷ []) p (before (code_kind k ∷ ls) os) (before ls os) (setting.pays.step (weight k)) (kept (before (code_kind k ∷ ls) os))
+  pub stores : (p n : ℕ) (k : Kind) (ls : List ValueKind) (os : List Open) → slice_get costing.scope.locals n ≡ Some (code_kind k)
+      → Leads (I.Store n ∷ []) p (before (code_kind k ∷ ls) os) (before ls os) (costing.pays.step (weight k)) (kept (before (code_kind k ∷ ls) os))
   stores p n k ls os h =
-      told (line (store_fits setting.scope p n (code_kind k) ls os h) refl (λ x. x)
-      (setting.account.prices.store (before (code_kind k ∷ ls) os) n (code_kind k) h ∙ ap setting.pays.step (words_weight k)))
+      told (line (store_fits costing.scope p n (code_kind k) ls os h) refl (λ x. x)
+      (costing.account.prices.store (before (code_kind k ∷ ls) os) n (code_kind k) h ∙ ap costing.pays.step (words_weight k)))
       refl (omega arith)
 
-  pub loads : (p n : ℕ) (k : Kind) (ls : List ValueKind) (os : List Open) → slice_get setting.scope.locals n ≡ Some (code_kind k)
-      → Leads (I.Load n ∷ []) p (before ls os) (before (code_kind k ∷ ls) os) (setting.pays.step (weight k)) (kept (before (code_kind k ∷ ls) os))
+  pub loads : (p n : ℕ) (k : Kind) (ls : List ValueKind) (os : List Open) → slice_get costing.scope.locals n ≡ Some (code_kind k)
+      → Leads (I.Load n ∷ []) p (before ls os) (before (code_kind k ∷ ls) os) (costing.pays.step (weight k)) (kept (before (code_kind k ∷ ls) os))
   loads p n k ls os h =
-      told (line (load_fits setting.scope p n (code_kind k) ls os h) refl (λ x. x)
-      (setting.account.prices.load (before ls os) n (code_kind k) h ∙ ap setting.pays.step (words_weight k))) refl (omega arith)
+      told (line (load_fits costing.scope p n (code_kind k) ls os h) refl (λ x. x)
+      (costing.account.prices.load (before ls os) n (code_kind k) h ∙ ap costing.pays.step (words_weight k))) refl (omega arith)
 
   abbrev pub kind_of_code : Site → Tree → Kind
   kind_of_code site t = tree_kind heads (names_in site.scope) t
 
   -- the kinds by which a tree is costed are those of its code
-  pub same_kind : (names : Names) (t : Tree) → tree_kind heads names t ≡ tree_kind (costed_heads setting.functions) names t
-  same_kind names t = ap (λ hs. tree_kind hs names t) setting.same_heads
+  pub same_kind : (names : Names) (t : Tree) → tree_kind heads names t ≡ tree_kind (costed_heads costing.functions) names t
+  same_kind names t = ap (λ hs. tree_kind hs names t) costing.same_heads
 
-  pub deep_kind : (names : Names) (t : Tree) → tree_kind heads names t ≡ tree_kind (costed_heads setting.deep) names t
-  deep_kind names t = ap (λ hs. tree_kind hs names t) setting.deep_heads
+  pub deep_kind : (names : Names) (t : Tree) → tree_kind heads names t ≡ tree_kind (costed_heads costing.deep) names t
+  deep_kind names t = ap (λ hs. tree_kind hs names t) costing.deep_heads
 
   abbrev pub cost : Names → Tree → ℕ
-  cost names t = most setting.pays setting.functions names t
+  cost names t = most costing.pays costing.functions names t
 
   abbrev pub tall_of : Names → Tree → ℕ
-  tall_of names t = height setting.deep names t
+  tall_of names t = height costing.deep names t
 
   -- what gives an expression the room of its place
   abbrev pub room_cost : Kind → Kind → ℕ
-  room_cost place kind = to_widen setting.pays setting.functions place kind
+  room_cost place kind = to_widen costing.pays costing.functions place kind
 
   -- an expression may stand at a site: it is of the kinds that are asked for, and its names and itself have their locals
   abbrev pub Own : Site → Tree → Type 0
-  Own site t = HasAt setting.scope.locals site.free (code_kinds (local_kinds heads (names_in site.scope) t))
+  Own site t = HasAt costing.scope.locals site.free (code_kinds (local_kinds heads (names_in site.scope) t))
 
   abbrev pub Claim : Tree → Type 0
   Claim t =
-      (site : Site) (os : List Open) → IsKinded setting.scope.basin heads (names_in site.scope) t → Placed setting.scope.locals site.scope
+      (site : Site) (os : List Open) → IsKinded costing.scope.basin heads (names_in site.scope) t → Placed costing.scope.locals site.scope
       → Own site t
-      → Leads (code_of setting.callees site t) site.place (here site os) (with_one (kind_of_code site t) site os)
-      (most setting.pays setting.functions (names_in site.scope) t)
-      (words_kept setting.scope.locals (here site os) + height setting.deep (names_in site.scope) t)
+      → Leads (code_of costing.callees site t) site.place (here site os) (with_one (kind_of_code site t) site os)
+      (most costing.pays costing.functions (names_in site.scope) t)
+      (words_kept costing.scope.locals (here site os) + height costing.deep (names_in site.scope) t)
 
   -- the place behind the code of an expression
-  pub far : (site : Site) (t : Tree) → IsKinded setting.scope.basin heads (names_in site.scope) t
-      → (behind heads t site).place ≡ site.place + length (code_of setting.callees site t)
-  far site t h = ap (λ n. site.place + n) (sym (code-size setting.scope.basin setting.callees site t h))
+  pub far : (site : Site) (t : Tree) → IsKinded costing.scope.basin heads (names_in site.scope) t
+      → (behind heads t site).place ≡ site.place + length (code_of costing.callees site t)
+  far site t h = ap (λ n. site.place + n) (sym (code-size costing.scope.basin costing.callees site t h))
 
   -- the locals behind those of an expression
   pub own_back : (site : Site) (t : Tree) (ks : List Kind)
-      → HasAt setting.scope.locals site.free (code_kinds (local_kinds heads (names_in site.scope) t ++ ks))
-      → HasAt setting.scope.locals (behind heads t site).free (code_kinds ks)
-  own_back site t ks h = kinds_back setting.scope.locals site.free _ (local_kinds heads (names_in site.scope) t) ks
+      → HasAt costing.scope.locals site.free (code_kinds (local_kinds heads (names_in site.scope) t ++ ks))
+      → HasAt costing.scope.locals (behind heads t site).free (code_kinds ks)
+  own_back site t ks h = kinds_back costing.scope.locals site.free _ (local_kinds heads (names_in site.scope) t) ks
       (locals_count heads t (names_in site.scope)) h
 
   pub own_front : (site : Site) (t : Tree) (ks : List Kind)
-      → HasAt setting.scope.locals site.free (code_kinds (local_kinds heads (names_in site.scope) t ++ ks)) → Own site t
-  own_front site t ks h = kinds_front setting.scope.locals site.free (local_kinds heads (names_in site.scope) t) ks h
+      → HasAt costing.scope.locals site.free (code_kinds (local_kinds heads (names_in site.scope) t ++ ks)) → Own site t
+  own_front site t ks h = kinds_front costing.scope.locals site.free (local_kinds heads (names_in site.scope) t) ks h
