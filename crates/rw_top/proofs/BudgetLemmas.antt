@@ -1,11 +1,9 @@
 -- The rules that there are, and the blocks that they are.
-use Rattle.rw_base.proofs.Common.{◌≡◌, ℕ, ◌+◌, ◌-◌, zero, suc, ◌≤◌, ◌<◌, Bool, true, false, List, [], ◌∷◌, length, Some, IsSome, refl, arith, if◌then◌else◌, ◌==◌}
+use Rattle.rw_top.proofs.Common.{Bool, Declared, IsSome, List, Some, [], arith, declaration_from, declaration_of_rule, false, function, if◌then◌else◌, length, refl, rule, suc, true, zero, ℕ, ◌+◌, ◌-◌, ◌<◌, ◌==◌, ◌∷◌, ◌≡◌, ◌≤◌}
 use Rattle.rpl_code.specs.declared.block.Block.{Block}
 use Rattle.rpl_code.specs.declared.block.BlockHead.TheVariants.{Rule}
 use Rattle.rpl_verify.proofs.Common.{is_alike, rule_from}
-use Rattle.rpl_tree.specs.Tree.{Declared, rule, function}
 use Rattle.rpl_parse.specs.Bounds.{rule_count}
-use Rattle.rpl_types.specs.Checked.{declaration_from, declaration_of_rule}
 
 -- a rule within the count is declared
 declared_from : (k : ℕ) (ds : List Declared) (n : ℕ) → 1 ≤ n → n ≤ rule_count ds → IsSome (declaration_from k ds n)

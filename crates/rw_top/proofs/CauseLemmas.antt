@@ -1,20 +1,13 @@
 -- Causes as the code comes to them, step by step.
-use Rattle.std.proofs.Common.{◌≡◌, ◌∙◌, inr, ℕ, ◌<◌, List, refl, sym, ap, arith, subst, Some, None, true, false, Option, option_map, Result, Ok, Err, IsErrOf, MatchResult, IsSomeAnd}
+use Rattle.rw_top.proofs.Common.{BadInputs, BadModel, BadPolicy, Cause, Change, Checked, Command, Declared, Err, FILE_MAX, File, FileCause, Holds, IsErrOf, IsPolicyRefusal, IsReading, IsSomeAnd, IsTooLong, List, LongFile, MatchResult, ModelRefusal, None, NoneFell, Ok, Option, Reaches, ReadsPolicy, Reason, Refusal, Result, Rose, ShelfView, SinkView, Some, WasFound, ap, arith, change, checked, false, inr, option_map, path_of, reason_of, refl, refusal_after, refusal_of_code, refusal_of_grammar, spelt, status_by, status_of, subst, sym, true, with_types, ℕ, ◌<◌, ◌∙◌, ◌≡◌}
 use Rattle.rw_inputs.specs.declared.fault.InputFault.TheVariants.{Refused}
-use Rattle.rw_io.specs.Causes.{NoneFell, Rose}
-use Rattle.rw_io.specs.Outside.{Change, Holds, ShelfView, SinkView, change}
-use Rattle.rw_io.specs.declared.whole_file.TheConstants.{FILE_MAX}
 use Rattle.rw_io.specs.declared.whole_file.ReadEnd.{ReadEnd}
 use Rattle.rw_io.specs.declared.whole_file.ReadEnd.TheVariants.{ReadFault, TooLong as EndTooLong, NoMemory as EndNoMemory}
 use Rattle.rw_model.specs.Draft.{Draft}
 use Rattle.rw_model_toml.specs.Fault.{refusal_of}
-use Rattle.rw_model_toml.specs.Refusal.{ModelRefusal}
 use Rattle.rpl_parse.specs.declared.fault.ParseFault.{ParseFault}
-use Rattle.rpl_tree.specs.Tree.{Declared}
 use Rattle.rpl_parse.specs.declared.fault.ParseFault.TheVariants as P
 use Rattle.rpl_parse.specs.Parsing.{Answers as Parses}
-use Rattle.rpl_parse.specs.Declarations.{IsReading, spelt}
-use Rattle.rpl_types.specs.Checked.{Checked, checked, with_types}
 use Rattle.rpl_types.specs.Judged.{Refusal as NodeRefusal, judged, refusal}
 use Rattle.rpl_code.specs.Answers.{Answers as AnswersCode}
 use Rattle.rpl_code.specs.Reading.{bad_line, truncated, read}
@@ -22,13 +15,7 @@ use Rattle.rpl_code.specs.declared.fault.CodeFault.{CodeFault}
 use Rattle.rpl_code.specs.declared.fault.CodeFault.TheVariants as C
 use Rattle.rpl_verify.specs.Fits.{refusal as block_refusal}
 use Rattle.rpl_types.specs.Nodes.{Types as NodeTypes}
-use Rattle.rw_top.specs.Command.{Command, path_of}
 use Rattle.rw_top.specs.Policy.{Unread, Misfit, Policy, BadRules, BadBlocks, BadToken, BadDeclaration, TooMany, BadNode, IsRulesetOf, RefusesNode}
-use Rattle.rw_top.specs.Reason.{Reason, BadModel, BadPolicy, BadInputs, LongFile, status_by}
-use Rattle.rw_top.specs.Reading.{IsTooLong, Reaches, ReadsPolicy}
-use Rattle.rw_top.specs.Refusal.{Cause, FileCause, IsPolicyRefusal, WasFound, reason_of, refusal_after, refusal_of_code, refusal_of_grammar, status_of}
-use Rattle.rw_top.specs.declared.refusal.File.{File}
-use Rattle.rw_top.specs.declared.refusal.Refusal.{Refusal}
 use Rattle.rw_top.specs.declared.refusal.Refusal.TheVariants.{CannotRead, CannotWrite, NoMemory, Model, Grammar, Types, Code, Block as BlockAt, Inputs, TooLong}
 
 -- a fault that doesn't tell nothing tells why

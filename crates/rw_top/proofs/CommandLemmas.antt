@@ -1,6 +1,5 @@
 -- Words ask for one command.
-use Rattle.rw_base.proofs.Common.{◌≡◌, ◌==◌, false, nat_tests, ℕ, List, [], ap, length, slice_index_or, sym, ◌∙◌, subst, arith, Option, None, Some, IsSome, IsSomeAnd, refl}
-use Rattle.rw_top.specs.Command.{Asks, Command, Names, Simulate, Check, Compile, words_of}
+use Rattle.rw_top.proofs.Common.{Asks, Check, Command, Compile, IsSome, IsSomeAnd, List, Names, None, Option, Simulate, Some, [], ap, arith, false, length, nat_tests, refl, slice_index_or, subst, sym, words_of, ℕ, ◌==◌, ◌∙◌, ◌≡◌}
 use Rattle.rw_top.specs.declared.refusal.File.TheVariants.{Policy, Inputs}
 
 -- the length of the word that names it

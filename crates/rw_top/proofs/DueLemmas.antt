@@ -1,16 +1,7 @@
 -- A refusal that is due is given, and none is given that isn't.
-use Rattle.rw_base.proofs.Common.{◌≡◌, inl, inr, ℕ, List, refl, ◌∙◌, Option, None, Some, IfSome, IsSome, IsSomeAnd, cases_lt}
-use Rattle.rw_io.specs.Causes.{Rose}
-use Rattle.rw_io.specs.Outside.{Change, Holds, ShelfView, SinkView}
-use Rattle.rw_top.specs.Command.{Command, Simulate, Check, Compile, order, path_of}
+use Rattle.rw_top.proofs.Common.{AcceptsAll, Cause, Change, Check, Command, Compile, EndsWith, FailsToRead, File, HasText, Holds, IfSome, IsFound, IsHonest, IsHonestFor, IsHonestOfAll, IsHonestUpTo, IsSome, IsSomeAnd, List, LongFile, None, Option, Reason, Refusal, Rose, ShelfView, Simulate, SinkView, Some, WasFound, cases_lt, file_of, inl, inr, order, path_of, refl, status_by, status_of, ℕ, ◌∙◌, ◌≡◌}
 use Rattle.rw_top.specs.Policy.{Ruleset}
-use Rattle.rw_top.specs.Reason.{Reason, LongFile, IsFound, IsHonestFor, file_of, status_by}
-use Rattle.rw_top.specs.Reading.{AcceptsAll, IsHonest, IsHonestOfAll, IsHonestUpTo}
-use Rattle.rw_top.specs.Refusal.{Cause, EndsWith, FailsToRead, WasFound, status_of}
-use Rattle.rw_top.specs.Written.{HasText}
-use Rattle.rw_top.specs.declared.refusal.File.{File}
 use Rattle.rw_top.specs.declared.refusal.File.TheVariants.{Model as ModelFile, Policy as PolicyFile, Inputs as InputsFile}
-use Rattle.rw_top.specs.declared.refusal.Refusal.{Refusal}
 use Rattle.rw_top.specs.declared.refusal.Refusal.TheVariants.{CannotRead, CannotWrite, NoMemory}
 use Rattle.rw_top.proofs.CauseLemmas.{told_status}
 use Rattle.rw_top.proofs.Findings.{IsToldUpTo, names, not_found, one_reason}

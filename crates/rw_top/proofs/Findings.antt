@@ -1,19 +1,9 @@
 -- What is found of a file is one thing, where the shelf tells what its path holds: the file is accepted, or refused with
 -- one status, or too long.
-use Rattle.rw_base.proofs.Common.{◌≡◌, ◌⊎◌, inl, inr, ℕ, ◌<◌, ◌≤◌, List, length, refl, sym, ap, ◌∙◌, subst, arith, None, Some, Ok, Err, IfSome, Option, IsSome, IsSomeAnd, cases_lt}
+use Rattle.rw_top.proofs.Common.{Accepts, BadInputs, BadModel, BadPolicy, Command, Err, FILE_MAX, File, Holds, HoldsTooLong, IfSome, InputFault, IsFound, IsSome, IsSomeAnd, IsTextAt, IsTooLong, List, LongFile, ModelRefusal, Names, None, Ok, Option, Reaches, ReadsBoth, ReadsModel, ReadsPolicy, Reason, Refuses, RefusesInputs, RefusesModel, RefusesPolicy, Some, WasRead, ap, arith, cases_lt, file_of, inl, inr, length, model_of, order, path_of, policy_status, reads_code, refl, status_by, subst, sym, ℕ, ◌<◌, ◌∙◌, ◌≡◌, ◌≤◌, ◌⊎◌}
 use Rattle.rw_model.specs.Draft.{Draft}
-use Rattle.rw_model_toml.specs.Model.{model_of}
-use Rattle.rw_model_toml.specs.Refusal.{ModelRefusal}
-use Rattle.rw_inputs.specs.declared.fault.InputFault.{InputFault}
 use Rattle.rw_inputs.specs.Inputs.{Inputs as Given}
-use Rattle.rw_inputs.specs.Reading.{Refuses}
-use Rattle.rw_io.specs.Outside.{Holds}
-use Rattle.rw_io.specs.declared.whole_file.TheConstants.{FILE_MAX}
-use Rattle.rw_top.specs.Command.{Command, Names, order, path_of}
 use Rattle.rw_top.specs.Policy.{Policy as Rules, PolicyRefusal, RefusesText}
-use Rattle.rw_top.specs.Reason.{Reason, BadModel, BadPolicy, BadInputs, LongFile, IsFound, file_of, policy_status, status_by}
-use Rattle.rw_top.specs.Reading.{Accepts, HoldsTooLong, IsTextAt, IsTooLong, Reaches, ReadsBoth, ReadsModel, ReadsPolicy, RefusesInputs, RefusesModel, RefusesPolicy, WasRead, reads_code}
-use Rattle.rw_top.specs.declared.refusal.File.{File}
 use Rattle.rw_top.specs.declared.refusal.File.TheVariants.{Model, Policy, Inputs}
 use Rattle.rw_top.proofs.CommandLemmas.{inputs_alone, is_there}
 use Rattle.rw_top.proofs.OneReading.{one_policy_status, policy_clash, refuses_clash}

@@ -1,20 +1,9 @@
 -- A call on one plain reservoir, by the law on the text of its run.
-use Rattle.std.proofs.Common.{◌≡◌, ◌↔◌, ℕ, ◌≤◌, ℤ, List, Option, None, IfOk, refl, sym, ap, ◌∙◌, subst, arith}
+use Rattle.rw_top.proofs.Common.{Call, Command, Fault, GrowsBy, HasRunText, IfOk, IsFirstText, IsRunText, List, None, Option, Promise, Reads, RunEnd, Settled, Simulate, WritesAll, ap, arith, model_of, refl, status_of_end, subst, sym, ℕ, ℤ, ◌↔◌, ◌∙◌, ◌≡◌, ◌≤◌}
 use Rattle.rw_plain_reservoir.specs.FirstForm.{FirstModel, IsFirstForm, IsFirstFlows}
-use Rattle.rw_plain_reservoir.specs.Table.{IsFirstText}
 use Rattle.rw_inputs.specs.Inputs.{Inputs as Given}
-use Rattle.rw_inputs.specs.Reading.{Reads}
-use Rattle.rw_io.specs.Known.{GrowsBy}
-use Rattle.rw_run.specs.declared.run.RunEnd.{RunEnd}
-use Rattle.rw_run.specs.declared.run.RunEnd.TheVariants.{Settled, Fault}
 use Rattle.rw_model.proofs.Common.{IsBasin, Draft}
-use Rattle.rw_model_toml.specs.Model.{model_of}
-use Rattle.rw_top.specs.Call.{Call}
-use Rattle.rw_top.specs.Command.{Command, Simulate}
 use Rattle.rw_top.specs.FirstCall.{IsFirstCall}
-use Rattle.rw_top.specs.Promise.{Promise}
-use Rattle.rw_top.specs.RunText.{IsRunText}
-use Rattle.rw_top.specs.Written.{HasRunText, WritesAll, status_of_end}
 use Rattle.rw_top.specs.declared.refusal.File.TheVariants.{Inputs}
 use Rattle.rw_top.proofs.CommandLemmas.{of_command}
 use Rattle.rw_top.proofs.Findings.{one_basin, same_text}

@@ -1,17 +1,12 @@
 -- What is read of a text is one thing.
-use Rattle.std.proofs.Common.{◌≡◌, Bool, ℕ, List, Ok, Err, true, false, refl, sym, ap, ◌∙◌}
-use Rattle.rpl_parse.specs.Declarations.{IsReading, spelt, bad_token, bad_declaration, too_many}
+use Rattle.rw_top.proofs.Common.{Bool, Declared, Err, InputFault, IsReading, List, Ok, Reads, Refuses, ap, bad_declaration, bad_token, false, policy_status, read_records, refl, spelt, sym, too_many, true, ℕ, ◌∙◌, ◌≡◌}
 use Rattle.rpl_parse.proofs.CutFacts.{one_reading_holds}
-use Rattle.rpl_tree.specs.Tree.{Declared}
 use Rattle.rpl_types.specs.Judged.{judged}
 use Rattle.rw_inputs.proofs.Same.{one_list}
 use Rattle.rw_model.specs.Draft.{Draft}
-use Rattle.rw_inputs.specs.declared.fault.InputFault.{InputFault}
 use Rattle.rw_inputs.specs.Inputs.{Inputs, value_at, given_at}
-use Rattle.rw_inputs.specs.Reading.{Reads, Refuses, read_records}
 use Rattle.rpl_verify.specs.Verified.{Accepted, verified}
 use Rattle.rw_top.specs.Policy.{BadCode, Unread, Misfit, Policy, Ruleset, Code, PolicyRefusal, BadRules, BadBlocks, RulesRefusal, BadToken, BadDeclaration, TooMany, BadNode, IsCodeOf, IsPolicyOf, IsRulesetOf, RefusesCode, RefusesRules, RefusesText}
-use Rattle.rw_top.specs.Reason.{policy_status}
 
 -- inputs that are refused aren't read
 pub refuses_clash : (basin : Draft) (text : List ℕ) (inputs : Inputs) (fault : InputFault)

@@ -1,17 +1,13 @@
 -- A run has one end and one text.
-use Rattle.rw_base.proofs.Common.{◌≡◌, ℕ, zero, suc, ◌++◌, List, refl, sym, ap, ap₂, ◌∙◌, subst, ℤ, option_map, length}
+use Rattle.rw_top.proofs.Common.{IsRunText, List, RunEnd, ap, ap₂, held, length, option_map, refl, section_of, subst, suc, sym, text_of, values_in, zero, ℕ, ℤ, ◌++◌, ◌∙◌, ◌≡◌}
 use Rattle.rw_base.specs.declared.number.Cell.{Cell}
 use Rattle.rw_model.specs.declared.content.Content.{Content}
 use Rattle.rw_model.proofs.Common.{Draft, all_slots}
-use Rattle.rw_series.specs.Series.{held}
 use Rattle.rw_inputs.specs.Inputs.{Inputs, value_at}
 use Rattle.rw_run.specs.declared.run.Run.{Run}
-use Rattle.rw_run.specs.declared.run.RunEnd.{RunEnd}
 use Rattle.rw_run.proofs.Common.{Log, cells_of, cell_at, Policy, no_rules, IsRun, end_of}
-use Rattle.rw_report.specs.Section.{section_of, values_in}
 use Rattle.rw_engine.specs.Givens.{if_given, givens_of, givens_to, givens}
 use Rattle.rw_engine.specs.Passing.{ComesTo}
-use Rattle.rw_top.specs.RunText.{IsRunText, text_of}
 
 module _ (inputs others : Inputs) (same : (slot step : ℕ) → value_at inputs slot step ≡ value_at others slot step) where
   same_of : (slot steps : ℕ) → givens_of inputs slot steps ≡ givens_of others slot steps

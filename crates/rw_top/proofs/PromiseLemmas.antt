@@ -1,14 +1,5 @@
 -- A call that wrote its run, or was refused, keeps the promise.
-use Rattle.std.proofs.Common.{◌≡◌, inl, inr, ℕ, ◌≤◌, List, None, Some, ◌∙◌, arith}
-use Rattle.rw_io.specs.Outside.{Holds}
-use Rattle.rw_run.specs.declared.run.RunEnd.{RunEnd}
-use Rattle.rw_run.specs.declared.run.RunEnd.TheVariants.{Settled, Fault}
-use Rattle.rw_top.specs.Call.{Call}
-use Rattle.rw_top.specs.Command.{Asks, Command, Simulate, Check, Compile}
-use Rattle.rw_top.specs.Promise.{Promise, RefusedCommand, RefusedWords, WasRefused, Wrote}
-use Rattle.rw_top.specs.Refusal.{Cause, status_of}
-use Rattle.rw_top.specs.Written.{HasText, WritesAll, status_of_end}
-use Rattle.rw_top.specs.declared.refusal.Refusal.{Refusal}
+use Rattle.rw_top.proofs.Common.{Asks, Call, Cause, Check, Command, Compile, Fault, HasText, Holds, List, None, Promise, Refusal, RefusedCommand, RefusedWords, RunEnd, Settled, Simulate, Some, WasRefused, WritesAll, Wrote, arith, inl, inr, status_of, status_of_end, ℕ, ◌∙◌, ◌≡◌, ◌≤◌}
 use Rattle.rw_top.specs.declared.refusal.Refusal.TheVariants.{Words}
 use Rattle.rw_top.proofs.CommandLemmas.{of_command}
 use Rattle.rw_top.proofs.DueLemmas.{complete, due, none_due}

@@ -1,22 +1,7 @@
 -- What each status says of a call that keeps its promise.
-use Rattle.std.proofs.Common.{◌≡◌, ◌≢◌, ◌⊎◌, inl, inr, ℕ, ◌≤◌, List, refl, ◌∙◌, arith}
-use Rattle.rw_inputs.specs.declared.fault.InputFault.{InputFault}
-use Rattle.rw_io.specs.Causes.{Rose}
-use Rattle.rw_io.specs.Known.{GrowsBy}
+use Rattle.rw_top.proofs.Common.{AskFor, AskNothing, Asks, BadInputs, BadModel, BadPolicy, Call, Check, Command, Compile, FailsToRead, Fault, File, FindsTooLong, GrowsBy, HasText, InputFault, List, LongFile, ModelRefusal, Promise, Reason, Refusal, RefusedCommand, RefusesInputs, RefusesModel, RefusesPolicy, Rose, RunEnd, Settled, Simulate, WasFound, WasRefused, WritesFront, WroteCheck, WroteCode, WroteRun, arith, inl, inr, refl, status_by, status_of, status_of_end, ℕ, ◌∙◌, ◌≡◌, ◌≢◌, ◌≤◌, ◌⊎◌}
 use Rattle.rw_run.specs.declared.fault.RunFault.{RunFault}
-use Rattle.rw_run.specs.declared.run.RunEnd.{RunEnd}
-use Rattle.rw_run.specs.declared.run.RunEnd.TheVariants.{Settled, Fault}
-use Rattle.rw_model_toml.specs.Refusal.{ModelRefusal}
-use Rattle.rw_top.specs.Call.{Call}
-use Rattle.rw_top.specs.Command.{AskFor, AskNothing, Asks, Command, Simulate, Check, Compile}
-use Rattle.rw_top.specs.Reason.{Reason, BadModel, BadPolicy, BadInputs, LongFile, status_by}
-use Rattle.rw_top.specs.Promise.{Promise, RefusedCommand, WasRefused, WroteCheck, WroteCode, WroteRun}
 use Rattle.rw_top.specs.Policy.{BadCode, RulesRefusal, BadRules, BadBlocks}
-use Rattle.rw_top.specs.Reading.{RefusesInputs, RefusesModel, RefusesPolicy}
-use Rattle.rw_top.specs.Refusal.{FailsToRead, FindsTooLong, WasFound, status_of}
-use Rattle.rw_top.specs.Written.{HasText, WritesFront, status_of_end}
-use Rattle.rw_top.specs.declared.refusal.File.{File}
-use Rattle.rw_top.specs.declared.refusal.Refusal.{Refusal}
 use Rattle.rw_top.specs.declared.refusal.Refusal.TheVariants.{Words, CannotRead, CannotWrite, NoMemory}
 use Rattle.rw_top.proofs.CauseLemmas.{told_status}
 

@@ -1,10 +1,5 @@
 -- Parts of a line that are written one after another.
-use Rattle.rw_base.proofs.Common.{inl, inr, ℕ, ◌≤◌, List, ◌++◌, length, Bool, true, false, sym, subst, arith, MatchBool, take_all}
-use Rattle.rw_io.specs.Causes.{Rose}
-use Rattle.rw_io.specs.Known.{GrowsBy, PrefixGrew}
-use Rattle.rw_io.specs.Outside.{SinkView, change}
-use Rattle.rw_io.proofs.KnownLemmas.{GrowsBy-trans, PrefixGrew-left, PrefixGrew-right}
-use Rattle.rw_top.specs.Written.{Tells}
+use Rattle.rw_top.proofs.Common.{Bool, GrowsBy, GrowsBy-trans, List, MatchBool, PrefixGrew, PrefixGrew-left, PrefixGrew-right, Rose, SinkView, Tells, arith, change, false, inl, inr, length, subst, sym, take_all, true, ℕ, ◌++◌, ◌≤◌}
 
 -- the first part was cut off
 pub tells_cut : (a b : SinkView) (xs ys : List ℕ) → PrefixGrew a.contents b.contents xs → Rose a.faults b.faults

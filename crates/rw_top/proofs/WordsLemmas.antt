@@ -1,7 +1,5 @@
 -- The words of a command are three.
-use Rattle.rw_base.proofs.Common.{◌≡◌, ◌⊎◌, inl, inr, ℕ, ◌<◌, ◌≤◌, List, [], ◌∷◌, length, get_or, codes, slice_index_or, refl, sym, subst, arith, IfSome}
-use Rattle.rw_top.specs.Command.{Asks, Command, IsPath, Simulate, Check, Compile, path_of}
-use Rattle.rw_top.specs.declared.refusal.File.{File}
+use Rattle.rw_top.proofs.Common.{Asks, Check, Command, Compile, File, IfSome, IsPath, List, Simulate, [], arith, codes, get_or, inl, inr, length, path_of, refl, slice_index_or, subst, sym, ℕ, ◌<◌, ◌∷◌, ◌≡◌, ◌≤◌, ◌⊎◌}
 use Rattle.rw_top.specs.declared.refusal.File.TheVariants.{Model, Policy, Inputs}
 
 -- a list of three, by its elements

@@ -1,7 +1,5 @@
-use Rattle.std.proofs.Common.{◌++◌, ◌+◌, string_bytes, sym, ap, ◌∙◌, arith}
+use Rattle.rw_top.proofs.Common.{ap, arith, counts_line, functions_in, line_if, policy_of, rule_line, rules_in, string_bytes, sym, ◌++◌, ◌+◌, ◌∙◌}
 use Rattle.rw_report.proofs.Growing.{next}
-use Rattle.rw_top.specs.Budgets.{counts_line, functions_in, line_if, rule_line, rules_in}
-use Rattle.rw_top.specs.Seen.{policy_of}
 use Rattle.rw_top.proofs.check.budgets.Goals as goal
 
 pub cost-requires : goal.cost-requires

@@ -1,7 +1,4 @@
-use Rattle.std.proofs.Common.{◌≡◌, ◌++◌, string_bytes}
-use Rattle.rw_report.specs.Section.{for_each}
-use Rattle.rw_top.specs.Budgets.{counts_line, functions_in, rule_line, rules_in}
-use Rattle.rw_top.specs.Seen.{policy_of}
+use Rattle.rw_top.proofs.Common.{counts_line, for_each, functions_in, policy_of, rule_line, rules_in, string_bytes, ◌++◌, ◌≡◌}
 use Rattle.rw_top.proofs.check.budgets.Given as goal
 
 -- what is there: the counts, and the lines so far

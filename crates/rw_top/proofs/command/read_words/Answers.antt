@@ -1,5 +1,4 @@
-use Rattle.rw_base.proofs.Common.{◌≡◌, string_bytes, ap, codes, ◌∙◌, sym, arith, rules, common_steps}
-use Rattle.rw_top.specs.Command.{texts_of}
+use Rattle.rw_top.proofs.Common.{ap, arith, codes, common_steps, rules, string_bytes, sym, texts_of, ◌∙◌, ◌≡◌}
 use Rattle.rw_top.proofs.WordsLemmas.{IsCommand, asks_words, check_paths, compile_paths, simulate_paths, spelt, three}
 use Rattle.rw_top.proofs.command.read_words.Goals as goal
 

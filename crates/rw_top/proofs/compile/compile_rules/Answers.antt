@@ -1,5 +1,4 @@
-use Rattle.rw_top.specs.Command.{command_of}
-use Rattle.rw_top.specs.Written.{HasCodeText}
+use Rattle.rw_top.proofs.Common.{HasCodeText, command_of}
 use Rattle.rw_top.proofs.CauseLemmas.{found_later}
 use Rattle.rw_top.proofs.compile.compile_rules.Goals as goal
 

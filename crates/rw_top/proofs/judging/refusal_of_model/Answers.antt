@@ -1,6 +1,5 @@
-use Rattle.std.proofs.Common.{inr, ap, option_map}
+use Rattle.rw_top.proofs.Common.{BadModel, ap, inr, option_map}
 use Rattle.rw_model_toml.specs.Fault.{refusal_of}
-use Rattle.rw_top.specs.Reason.{BadModel}
 use Rattle.rw_top.proofs.CauseLemmas.{tells_why}
 use Rattle.rw_top.proofs.judging.refusal_of_model.Goals as goal
 

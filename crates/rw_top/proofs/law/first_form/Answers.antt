@@ -1,6 +1,4 @@
-use Rattle.std.proofs.Common.{◌≡◌, ◌↔◌, None, sym, subst}
-use Rattle.rw_run.specs.declared.run.RunEnd.TheVariants.{Settled}
-use Rattle.rw_plain_reservoir.specs.Table.{IsFirstText}
+use Rattle.rw_top.proofs.Common.{IsFirstText, None, Settled, subst, sym, ◌↔◌, ◌≡◌}
 use Rattle.rw_top.proofs.law.first_form.Goals as goal
 
 pub returns : goal.returns

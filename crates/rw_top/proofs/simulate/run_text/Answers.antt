@@ -1,7 +1,4 @@
-use Rattle.std.proofs.Common.{sym, ap, subst, ◌∙◌}
-use Rattle.rw_report.specs.Section.{section_of, values_in}
-use Rattle.rw_series.specs.Series.{Series, held}
-use Rattle.rw_top.specs.RunText.{IsRunText}
+use Rattle.rw_top.proofs.Common.{IsRunText, Series, ap, held, section_of, subst, sym, values_in, ◌∙◌}
 use Rattle.rw_top.proofs.OneText.{text_is_run}
 use Rattle.rw_top.proofs.simulate.run_text.Goals as goal
 

@@ -1,0 +1,32 @@
+-- The names that proofs cite, passed on from one place. Declares nothing.
+pub use Rattle.rpl_parse.specs.Declarations.{IsReading, bad_declaration, bad_token, spelt, too_many}
+pub use Rattle.rpl_tree.specs.Tree.{Declared, function, rule}
+pub use Rattle.rpl_types.specs.Checked.{Checked, checked, declaration_from, declaration_of_rule, with_types}
+pub use Rattle.rw_base.proofs.Common.{IfSome, IsSome, MatchBool, [], ap₂, cases_lt, codes, common_steps, get_or, if◌then◌else◌, length, nat_tests, rules, slice_index_or, suc, take_all, zero, ◌-◌, ◌==◌, ◌∷◌}
+pub use Rattle.rw_inputs.specs.Reading.{Reads, Refuses, read_records}
+pub use Rattle.rw_inputs.specs.declared.fault.InputFault.{InputFault}
+pub use Rattle.rw_io.proofs.KnownLemmas.{GrowsBy-trans, PrefixGrew-left, PrefixGrew-right}
+pub use Rattle.rw_io.specs.Causes.{NoneFell, Rose}
+pub use Rattle.rw_io.specs.Known.{GrowsBy, PrefixGrew}
+pub use Rattle.rw_io.specs.Outside.{Change, Holds, ShelfView, SinkView, change}
+pub use Rattle.rw_io.specs.declared.whole_file.TheConstants.{FILE_MAX}
+pub use Rattle.rw_model_toml.specs.Model.{model_of}
+pub use Rattle.rw_model_toml.specs.Refusal.{ModelRefusal}
+pub use Rattle.rw_plain_reservoir.specs.Table.{IsFirstText}
+pub use Rattle.rw_report.specs.Section.{for_each, section_of, values_in}
+pub use Rattle.rw_run.specs.declared.run.RunEnd.{RunEnd}
+pub use Rattle.rw_run.specs.declared.run.RunEnd.TheVariants.{Fault, Settled}
+pub use Rattle.rw_series.specs.Series.{Series, held}
+pub use Rattle.rw_top.specs.Budgets.{counts_line, functions_in, line_if, rule_line, rules_in}
+pub use Rattle.rw_top.specs.Call.{Call}
+pub use Rattle.rw_top.specs.Command.{AskFor, AskNothing, Asks, Check, Command, Compile, IsPath, Names, Simulate, command_of, order, path_of, texts_of, words_of}
+pub use Rattle.rw_top.specs.Promise.{Promise, RefusedCommand, RefusedWords, WasRefused, Wrote, WroteCheck, WroteCode, WroteRun}
+pub use Rattle.rw_top.specs.Reading.{Accepts, AcceptsAll, HoldsTooLong, IsHonest, IsHonestOfAll, IsHonestUpTo, IsTextAt, IsTooLong, Reaches, ReadsBoth, ReadsModel, ReadsPolicy, RefusesInputs, RefusesModel, RefusesPolicy, WasRead, reads_code}
+pub use Rattle.rw_top.specs.Reason.{BadInputs, BadModel, BadPolicy, IsFound, IsHonestFor, LongFile, Reason, file_of, policy_status, status_by}
+pub use Rattle.rw_top.specs.Refusal.{Cause, EndsWith, FailsToRead, FileCause, FindsTooLong, IsPolicyRefusal, WasFound, reason_of, refusal_after, refusal_of_code, refusal_of_grammar, status_of}
+pub use Rattle.rw_top.specs.RunText.{IsRunText, text_of}
+pub use Rattle.rw_top.specs.Seen.{policy_of}
+pub use Rattle.rw_top.specs.Written.{HasCodeText, HasRunText, HasText, Tells, WritesAll, WritesFront, status_of_end}
+pub use Rattle.rw_top.specs.declared.refusal.File.{File}
+pub use Rattle.rw_top.specs.declared.refusal.Refusal.{Refusal}
+pub use Rattle.std.proofs.Common.{Bool, Err, IfOk, IsErrOf, IsSomeAnd, List, MatchResult, None, Ok, Option, Result, Some, ap, arith, false, inl, inr, option_map, refl, string_bytes, subst, sym, true, ℕ, ℤ, ◌++◌, ◌+◌, ◌<◌, ◌↔◌, ◌∙◌, ◌≡◌, ◌≢◌, ◌≤◌, ◌⊎◌}
