@@ -1,4 +1,4 @@
-ghost use Rattle.std.specs.Prelude.{◌≡◌, ℕ, ◌<◌, ◌≤◌, List, length, IfOk, IfSome, IsErrOf};
+ghost use Rattle.std.specs.Prelude.{◌≡◌, ℕ, ◌+◌, ◌<◌, ◌≤◌, List, ◌++◌, length, OnOk, IfOk, IfSome, IsErrOf};
 ghost use Rattle.rw_io.specs.Causes.{Rose, NoneFell};
 
 use crate::Shelf;
@@ -19,6 +19,24 @@ pub enum ReadEnd {
     TooLong,
     /// There was no memory.
     NoMemory,
+}
+
+// Appends a piece to what was read, of `FILE_MAX` bytes at most.
+fn keep(bytes: &mut Vec<u8>, piece: &[u8]) -> Result<(), ReadEnd>
+    requires { length bytes.old.items ≤ FILE_MAX }
+    ensures kept { OnOk result (bytes.new.items ≡ bytes.old.items ++ piece.now) }
+    ensures short { OnOk result (length bytes.new.items ≤ FILE_MAX) }
+    ensures long { IsErrOf result ReadEnd.TooLong
+        → FILE_MAX < length bytes.old.items + length piece.now }
+    ensures no_fault { ¬ IsErrOf result ReadEnd.ReadFault }
+{
+    if piece.len() > FILE_MAX - bytes.len() {
+        return Err(ReadEnd::TooLong);
+    }
+    if bytes.extend_from_slice(piece).is_err() {
+        return Err(ReadEnd::NoMemory);
+    }
+    Ok(())
 }
 
 /// Reads the whole file of that path. After a refusal the file is left partly read.
@@ -55,11 +73,6 @@ pub fn read_all<S: Shelf>(alloc: Global, shelf: &mut S, path: &str) -> Result<Ve
         if count == 0 {
             return Ok(bytes);
         }
-        if count > FILE_MAX - bytes.len() {
-            return Err(ReadEnd::TooLong);
-        }
-        if bytes.extend_from_slice(&piece[..count]).is_err() {
-            return Err(ReadEnd::NoMemory);
-        }
+        keep(&mut bytes, &piece[..count])?;
     }
 }

@@ -2,7 +2,7 @@ ghost use Rattle.std.specs.Prelude.{◌≡◌, ◌+◌, [], ◌∷◌, ◌++◌,
 ghost use Rattle.rw_base.specs.Answers.{Answers, Finds};
 ghost use Rattle.rw_model.specs.Objects.{slot_named};
 ghost use Rattle.rw_model.specs.Basin.{IsDraft, IsBasin, finish_refusal};
-ghost use Rattle.rw_model.specs.Kept.{numbers_of};
+ghost use Rattle.rw_model.specs.Kept.{numbers_of, links_of, KeepsBasin};
 ghost use Rattle.rw_model.specs.Draft.{IsControl};
 ghost use Rattle.rw_model.specs.Refusal.{refusal_of};
 ghost use Rattle.rw_model.specs.Build.{with_object, with_link, with_bound, finished};
@@ -16,7 +16,7 @@ use crate::lookups::Tables;
 use crate::objects::Objects;
 use crate::own_bounds::OwnBounds;
 use crate::{BuildFault, Kind, RunControl};
-use rw_base::{NoMemory, ObjectNo, SlotNo};
+use rw_base::{ObjectNo, SlotNo};
 use std::alloc::Global;
 use std::marker::Model;
 
@@ -151,12 +151,15 @@ impl BasinBuilder {
         ensures valid { OnOk result (IsBasin self) }
         ensures memory { IsErrOf result BuildFault.NoMemory → IsOk (finished self) }
     {
-        if let Some(fault) = self.judge_finish() {
-            return Err(fault);
-        }
-        match self.completed() {
-            Ok(basin) => Ok(basin),
-            Err(_) => Err(BuildFault::NoMemory),
+        match self.tables() {
+            Ok(tables) => Ok(Basin {
+                control: self.control,
+                objects: self.objects,
+                links: self.links,
+                given: self.bounds,
+                tables,
+            }),
+            Err(fault) => Err(fault),
         }
     }
 
@@ -178,19 +181,21 @@ impl BasinBuilder {
         None
     }
 
-    // The basin of what was told, where nothing is wrong with that.
-    fn completed(self) -> Result<Basin, NoMemory>
-        requires { IsBasin self }
-        ensures { IfOk result (λ basin. basin ≡ self) }
+    // What a basin of what was told keeps besides.
+    fn tables(&self) -> Result<Tables, BuildFault>
+        ensures answers { Answers BuildFault.NoMemory refusal_of (λ _. self.now) result
+            (finished self.now) }
+        ensures memory { IsErrOf result BuildFault.NoMemory → IsOk (finished self.now) }
+        ensures kept { IfOk result (λ tables. KeepsBasin self.now (numbers_of tables.slots.items)
+            (links_of tables.groups.items) tables.bounds.items tables.numbers.items) }
     {
-        let tables = Tables::of(self.alloc, &self.objects, &self.links, &self.bounds)?;
-        Ok(Basin {
-            control: self.control,
-            objects: self.objects,
-            links: self.links,
-            given: self.bounds,
-            tables,
-        })
+        if let Some(fault) = self.judge_finish() {
+            return Err(fault);
+        }
+        match Tables::of(self.alloc, &self.objects, &self.links, &self.bounds) {
+            Ok(tables) => Ok(tables),
+            Err(_) => Err(BuildFault::NoMemory),
+        }
     }
 
     /// The slot with this name, of the object with that name. `None` exactly where there is no such object, or where it

@@ -1,4 +1,5 @@
-ghost use Rattle.std.specs.Prelude.{◌≡◌, ◌↔◌, ◌≤◌, ℕ, List, [], ◌∷◌, ◌++◌, length, All, None};
+ghost use Rattle.std.specs.Prelude.{◌≡◌, ◌↔◌, ◌≤◌, ◌&&◌, ℕ, List, [], ◌∷◌, ◌++◌, length, All, None};
+ghost use Rattle.std.specs.Ordering.{int_eq};
 ghost use Rattle.rw_base.specs.Answers.{Finds};
 ghost use Rattle.rw_model.specs.Slots.{slots_of};
 ghost use Rattle.rw_model.specs.Objects.{placed_from, slot_at};
@@ -136,10 +137,16 @@ fn is_alike(objects: &Objects, slot: u16, before: &[SlotNo]) -> bool
     }
 }
 
+fn is_same_step_and_energy(a: Dim, b: Dim) -> bool
+    ensures { result ≡ (int_eq a.step b.step && int_eq a.energy b.energy) }
+{
+    a.step == b.step && a.energy == b.energy
+}
+
 fn is_same_dim(a: Dim, b: Dim) -> bool
     ensures { result ≡ is_same_dim a b }
 {
-    a.volume == b.volume && a.length == b.length && a.step == b.step && a.energy == b.energy
+    a.volume == b.volume && a.length == b.length && is_same_step_and_energy(a, b)
 }
 
 // What is wrong with a slot that a link names after others.

@@ -8,6 +8,19 @@ returns-in_err-initial_storage c =
     gives-fault (λ kind. kind) c.from_residual.result _ c.in_err-initial_storage.field-0.0 c.from_residual.ensures.1
     (stops _ _ c.in_err-initial_storage.field-0.0 c.in_err-initial_storage.ensures.read)
 
+pub returns-in_err-rating : goal.returns-in_err-rating
+unfolding reservoir_of
+returns-in_err-rating c =
+    gives-fault (λ kind. kind) c.from_residual-in_err-rating.result _ c.in_err-rating.field-0.0 c.from_residual-in_err-rating.ensures.1
+    (goes-on _ _ _ _ c.in_ok-initial_storage.ensures.read (stops _ _ c.in_err-rating.field-0.0 c.in_err-rating.ensures))
+
+pub returns-in_err-options : goal.returns-in_err-options
+unfolding reservoir_of
+returns-in_err-options c =
+    gives-fault (λ kind. kind) c.from_residual-in_err-options.result _ c.in_err-options.field-0.0 c.from_residual-in_err-options.ensures.1
+    (goes-on _ _ _ _ c.in_ok-initial_storage.ensures.read (goes-on _ _ _ _ c.in_ok-rating.ensures
+    (stops _ _ c.in_err-options.field-0.0 c.in_err-options.ensures)))
+
 pub returns-in_err-evaporation : goal.returns-in_err-evaporation
 unfolding reservoir_of
 returns-in_err-evaporation c =
