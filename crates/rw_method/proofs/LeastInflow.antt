@@ -21,7 +21,7 @@ parts z (suc m) n all is =
     let next : all ≡ suc (m + n) = omega (arith, is) in
     rw next omega (arith, ints, parts z m n (m + n) refl, times_next z m, times_next z (m + n))
 
-times_rises : (y z : ℤ) (n : ℕ) → y ≤ℤ z → (y *ℤ pos n) ≤ℤ (z *ℤ pos n)
+pub times_rises : (y z : ℤ) (n : ℕ) → y ≤ℤ z → (y *ℤ pos n) ≤ℤ (z *ℤ pos n)
 times_rises y z zero le = omega (arith, ints, *ℤ-zero y, *ℤ-zero z)
 times_rises y z (suc n) le = omega (arith, ints, le, times_rises y z n le, times_next y n, times_next z n)
 

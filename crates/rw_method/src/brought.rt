@@ -1,15 +1,39 @@
-ghost use Rattle.std.specs.Prelude.{◌≡◌, ◌-◌, pos, ◌-ℤ◌, ◌*ℤ◌};
+ghost use Rattle.std.specs.Prelude.{◌≡◌, ◌≤◌, ◌-◌, pos, ◌-ℤ◌, ◌*ℤ◌};
 ghost use Rattle.rw_base.specs.Quotient.{floor_div};
 ghost use Rattle.rw_method.specs.Term.{per_mille, least_inflow, brought, bringing, brought_by, IsWithin};
 
 use crate::{Given, Seepage, Share};
+
+fn times_share(amount: i64, share: u16) -> i128
+    ensures amount { result ≡ amount *ℤ pos share }
+    ensures bound { IsWithin 7 result }
+{
+    i128::from(amount) * i128::from(share)
+}
 
 /// So many of a thousand parts of an amount, rounded down.
 pub fn per_mille(amount: i64, share: u16) -> i128
     ensures amount { result ≡ per_mille amount share }
     ensures bound { IsWithin 1 result }
 {
-    (i128::from(amount) * i128::from(share)).div_euclid(1000)
+    times_share(amount, share).div_euclid(1000)
+}
+
+fn thousandfold(outflow: i128) -> i128
+    requires { IsWithin 10 outflow }
+    ensures amount { result ≡ pos 1000 *ℤ (outflow -ℤ pos 1) }
+    ensures bound { IsWithin 100000 result }
+{
+    1000 * (outflow - 1)
+}
+
+fn quotient(amount: i128, divisor: u16) -> i128
+    requires bound { IsWithin 100000 amount }
+    requires divisor { 1 ≤ divisor }
+    ensures count { result ≡ floor_div amount (pos divisor) }
+    ensures bound { IsWithin 100000 result }
+{
+    amount.div_euclid(i128::from(divisor))
 }
 
 // How many inflows of 1000 parts there are below the outflow, less the parts that seep away.
@@ -18,7 +42,7 @@ fn whole_inflows(seepage: Seepage, outflow: i128) -> i128
     ensures count { result ≡ floor_div (pos 1000 *ℤ (outflow -ℤ pos 1)) (pos (1000 - seepage)) }
     ensures bound { IsWithin 100000 result }
 {
-    (1000 * (outflow - 1)).div_euclid(i128::from(1000 - seepage.get()))
+    quotient(thousandfold(outflow), 1000 - seepage.get())
 }
 
 // The least inflow that gives the outflow.

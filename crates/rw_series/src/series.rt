@@ -1,4 +1,4 @@
-ghost use Rattle.std.specs.Prelude.{◌≡◌, ◌≢◌, IfOk};
+ghost use Rattle.std.specs.Prelude.{◌≡◌, ◌≢◌, ◌↔◌, IfOk, true};
 ghost use Rattle.rw_base.specs.declared.number.Cell.{Cell};
 ghost use Rattle.rw_model.specs.declared.put.PutEnd.TheVariants as PutEnd;
 ghost use Rattle.std.specs.Prelude.{None, Some};
@@ -48,6 +48,13 @@ fn end_of(held: Option<Content>, new: &Content) -> PutEnd
     put_end(held, *new)
 }
 
+// Whether the put is written.
+fn is_written(end: &PutEnd) -> bool
+    ensures { (result ≡ true) ↔ (end.now ≡ PutEnd.Written) }
+{
+    *end == PutEnd::Written
+}
+
 impl Series {
     /// A series for the slots and timesteps of a basin, in which every cell is unknown.
     pub fn sized(alloc: Global, basin: &Basin) -> Result<Series, NoMemory>
@@ -93,7 +100,7 @@ impl Series {
         ensures made { IsSeriesOf basin.now self.new }
     {
         let end = end_of(self.get(c), &new);
-        if end == PutEnd::Written {
+        if is_written(&end) {
             self.restore(basin, c, Some(new));
         }
         end
