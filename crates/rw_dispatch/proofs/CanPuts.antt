@@ -1,16 +1,11 @@
 -- What an object puts, it can put.
-use Rattle.rw_base.proofs.Common.{◌≡◌, ◌<◌, ◌&&◌, ℕ, true, List, Option, Some, None, refl, sym, ap, ◌∙◌, arith, ℤ, int_le, IsSome, option_map, unwrap_or, slice_index_or, and_parts, ints}
-use Rattle.rw_model.specs.declared.kind.Kind.{Kind}
+use Rattle.rw_dispatch.proofs.Common.{ArePuts, CanPut, IsSome, Kind, List, None, Option, Put, Some, View, and_parts, ap, arith, bounds_at, int_le, ints, is_between, option_map, refl, slice_index_or, sym, true, unwrap_or, ℕ, ℤ, ◌&&◌, ◌<◌, ◌∙◌, ◌≡◌}
 use Rattle.rw_model.proofs.Common.{IsKind, Bounds, all_quantities, slot_in, Object, object_at, slot_in_place, Draft, IsObject, IsBetween}
-use Rattle.rw_method.specs.declared.put.Put.{Put}
 use Rattle.rw_method.specs.declared.solved.Solved.TheVariants.{Idle, Puts}
-use Rattle.rw_method.specs.declared.view.View.{View}
-use Rattle.rw_method.specs.View.{bounds_at, is_between}
 use Rattle.rw_method.specs.Puts.{is_bounded}
 use Rattle.rw_method.specs.Solve.{solve_of}
 use Rattle.rw_run.proofs.Common.{Cells, bounds_in_place, view_of, solved_by}
 use Rattle.rw_method.proofs.SolvedPuts.{solve-puts}
-use Rattle.rw_dispatch.specs.Putting.{ArePuts, CanPut}
 use Rattle.rw_dispatch.proofs.Viewed.{has_slot, bounds_at-view}
 
 -- a put to a slot of the kind, of a value that the slot can have

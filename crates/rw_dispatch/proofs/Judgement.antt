@@ -1,10 +1,8 @@
 -- Puts are judged one after another, all by what the cells hold before the first of them.
-use Rattle.rw_base.proofs.Common.{◌≡◌, ◌≤◌, ◌+◌, ℕ, Bool, true, false, List, [], ◌∷◌, ◌++◌, cond, length, sym, ap, ◌∙◌, arith, append_assoc, All, map-append, All-push, filter-append}
+use Rattle.rw_dispatch.proofs.Common.{All, All-push, Bool, CanPut, IsPassed, List, Put, [], ap, append_assoc, arith, cond, false, filter-append, length, map-append, sym, true, ℕ, ◌++◌, ◌+◌, ◌∙◌, ◌∷◌, ◌≡◌, ◌≤◌}
 use Rattle.std.proofs.lemmas.List.{length-append, append-nil}
 use Rattle.rw_model.specs.Draft.{Draft}
-use Rattle.rw_method.specs.declared.put.Put.{Put}
 use Rattle.rw_run.proofs.Common.{Asked, Cells, Event, asked_by, asked_for, end_in, is_written, judged, or_fault, puts_written}
-use Rattle.rw_dispatch.specs.Putting.{CanPut, IsPassed}
 
 -- what is left gives, with what is noted, what all give
 pub record IsJudging (basin : Draft) (cells : Cells) (object step place : ℕ) (all left written : List Put) : Type 0 where

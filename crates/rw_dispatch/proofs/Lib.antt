@@ -1,3 +1,4 @@
+mod Common
 pub mod Queues
 pub mod Filling
 pub mod Viewed

@@ -1,14 +1,8 @@
 -- Puts are made one after another.
-use Rattle.rw_base.proofs.Common.{◌≡◌, ◌<◌, ◌+◌, ℕ, suc, arith, drop, drop-cons, length, slice_index_or, Bool, true, false, List, [], ◌∷◌, Option, Some, None, refl, sym, ap, subst, ◌∙◌, if◌then◌else◌, option_map, unwrap_or, pos, option_or}
-use Rattle.rw_base.specs.declared.number.Cell.{Cell}
-use Rattle.rw_model.specs.declared.content.Content.{Content}
+use Rattle.rw_dispatch.proofs.Common.{AreBounded, Bool, CanPut, Cell, Content, List, None, Option, Put, Series, Sets, Some, [], ap, arith, drop, drop-cons, false, held, if◌then◌else◌, is_shared, length, option_map, option_or, pos, refl, slice_index_or, subst, suc, sym, true, unwrap_or, ℕ, ◌+◌, ◌<◌, ◌∙◌, ◌∷◌, ◌≡◌}
 use Rattle.rw_model.proofs.Common.{slot_in_place, Draft, IsBetween, bounds_in}
-use Rattle.rw_method.specs.declared.put.Put.{Put}
-use Rattle.rw_series.specs.Series.{Series, held, is_shared, Sets}
 use Rattle.rw_series.proofs.Bounds.{bounds-shared}
 use Rattle.rw_run.proofs.Common.{Asked, Cells, last_put, asked_by, bounds_in_place, slot_or_none}
-use Rattle.rw_dispatch.specs.Stage.{AreBounded}
-use Rattle.rw_dispatch.specs.Putting.{CanPut}
 use Rattle.rw_dispatch.proofs.CanPuts.{there}
 
 chosen : (test : Bool) (new : Content) (held : Option Content) → (if test then Some new else held) ≡ option_or (if test then Some new else None) held

@@ -1,9 +1,7 @@
 -- Who owns a slot that puts reach.
-use Rattle.rw_base.proofs.Common.{◌≡◌, ◌≤◌, ◌<◌, ◌+◌, ◌-◌, ◌==◌, ◌||◌, ℕ, Bool, true, false, List, [], ◌∷◌, length, take, Option, Some, None, refl, sym, ap, subst, ◌∙◌, arith, slice_index_or, IfSome, option_map, unwrap_or, list_any, eqb-true, take_all, list_any_more, Any-from_list_any}
-use Rattle.rw_base.specs.declared.number.SlotNo.{SlotNo}
+use Rattle.rw_dispatch.proofs.Common.{Any-from_list_any, Bool, IfSome, IsLeastAbove, List, None, Option, SlotNo, Some, [], ap, arith, eqb-true, false, length, list_any, list_any_more, option_map, refl, slice_index_or, subst, sym, take, take_all, true, unwrap_or, ℕ, ◌+◌, ◌-◌, ◌<◌, ◌==◌, ◌||◌, ◌∙◌, ◌∷◌, ◌≡◌, ◌≤◌}
 use Rattle.rw_model.proofs.Common.{place_of, numbers_of, Object, Placed, all_slots, slot_at, Draft, group_of, owner_of, numbered-found, StandsAt-stored}
 use Rattle.rw_run.specs.Waiting.{is_at, is_owner}
-use Rattle.rw_dispatch.specs.Owners.{IsLeastAbove}
 
 -- ---- one slot more
 

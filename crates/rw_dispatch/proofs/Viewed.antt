@@ -1,12 +1,7 @@
 -- What an object sees is a view of its kind.
-use Rattle.rw_base.proofs.Common.{◌≡◌, ◌≤◌, ◌<◌, ◌+◌, ◌-◌, ◌==◌, ◌&&◌, ℕ, zero, suc, Bool, true, false, List, [], ◌∷◌, length, Option, Some, None, refl, sym, ap, subst, ◌∙◌, arith, slice_index_or, if◌then◌else◌, ℤ, pos, ◌≤ℤ◌, map, slice_get, option_map, option_and_then, unwrap_or, take, nat_tests, get_or-map-range_with_len}
-use Rattle.rw_model.specs.declared.content.Content.{Content}
-use Rattle.rw_model.specs.declared.kind.Kind.{Kind}
+use Rattle.rw_dispatch.proofs.Common.{AreBounded, Bool, Content, IsBounded, IsViewOf, Kind, List, None, Option, Some, View, [], ap, arith, bounds_at, false, get_or-map-range_with_len, if◌then◌else◌, known, known_value, length, map, nat_tests, option_and_then, option_map, pos, refl, slice_get, slice_index_or, subst, suc, sym, take, true, unwrap_or, zero, ℕ, ℤ, ◌&&◌, ◌+◌, ◌-◌, ◌<◌, ◌==◌, ◌∙◌, ◌∷◌, ◌≡◌, ◌≤ℤ◌, ◌≤◌}
 use Rattle.rw_model.proofs.Common.{place_of, IsKind, Slot, Bounds, IsInside, slots_of, slot_in, Object, Placed, placed_from, slots_from, all_slots, object_at, slot_at, slot_in_place, first_from, is_in_place, Draft, IsObject, IsBetween, bounds_in, IsBasin, numbered-known, StandsAt-stored, first_from-all_slots, IsOfOwner-is_in_place, known_in_place, bounds_in-within}
-use Rattle.rw_method.specs.declared.view.View.{View}
-use Rattle.rw_method.specs.View.{known, known_value, bounds_at, IsBounded, IsViewOf}
 use Rattle.rw_run.proofs.Common.{Cells, cell_at, content_in, bounds_in_place, past_value, places, view_of}
-use Rattle.rw_dispatch.specs.Stage.{AreBounded}
 
 -- ---- an object's slot in a place is its kind's
 

@@ -1,18 +1,5 @@
 -- The state after the dispatch of an object.
-use Rattle.std.proofs.Common.{◌≡◌, ◌≤◌, ◌++◌, ◌-◌, ℕ, List, length, length-set, sym, ap, subst, ◌∙◌, [], append-nil, ◌<◌, Option, Some, None, Ok, arith}
-use Rattle.rw_model.specs.Draft.{Draft, IsObject}
-use Rattle.rw_series.specs.Series.{held}
-use Rattle.rw_run.specs.declared.fault.RunFault.{RunFault}
-use Rattle.rw_run.proofs.Common.{dispatched, looks_of, places, AreReady, queued_after-ready}
-use Rattle.rw_dispatch.specs.declared.dispatched.Dispatched.{Dispatched}
-use Rattle.rw_dispatch.specs.Answer.{Tells}
-use Rattle.rw_dispatch.specs.Stage.{IsStageOf, Leaves, stage}
-use Rattle.rw_dispatch.specs.Turn.{IsStep}
-use Rattle.rw_engine.specs.declared.state.State.{State}
-use Rattle.rw_engine.specs.Counts.{IsCounted, count_of, raised, room}
-use Rattle.rw_engine.specs.Lines.{Grows}
-use Rattle.rw_engine.specs.Undone.{AreCells, undone_in}
-use Rattle.rw_engine.specs.State.{IsOnTheWay, IsWithinStep, Keeps, end_by, ended_by}
+use Rattle.rw_engine.proofs.Common.{AreCells, AreReady, Dispatched, Draft, Grows, IsCounted, IsObject, IsOnTheWay, IsStageOf, IsStep, IsWithinStep, Keeps, Leaves, List, None, Ok, Option, RunFault, Some, State, Tells, [], ap, append-nil, arith, count_of, dispatched, end_by, ended_by, held, length, length-set, looks_of, places, queued_after-ready, raised, room, stage, subst, sym, undone_in, ℕ, ◌++◌, ◌-◌, ◌<◌, ◌∙◌, ◌≡◌, ◌≤◌}
 use Rattle.rw_engine.proofs.Raises.{room_falls}
 use Rattle.rw_engine.proofs.Own.{owns_cells, own_written}
 use Rattle.rw_engine.proofs.TakenBack.{undo-kept, undo-more}

@@ -1,24 +1,8 @@
 -- One event of the engine, over the log that its state holds.
-use Rattle.rw_base.proofs.Common.{◌≡◌, ◌<◌, ◌==◌, ℕ, Bool, true, false, List, [], ◌∷◌, ◌++◌, map, Option, Some, None, nat_le, refl, sym, ap, ap₂, subst, ◌∙◌, arith, if◌then◌else◌, option_or, nat_tests, none-some, same_Some}
-use Rattle.rw_base.specs.declared.number.Cell.{Cell}
-use Rattle.rw_model.specs.Draft.{Draft}
-use Rattle.rw_method.specs.declared.put.Put.{Put}
-use Rattle.rw_series.specs.Series.{held}
-use Rattle.rw_series.specs.declared.look.Look.{Look}
-use Rattle.rw_run.specs.declared.fault.RunFault.{RunFault}
+use Rattle.rw_engine.proofs.Common.{Bool, Cell, Cells, Dispatched, Draft, Engine, Event, Fault, GoesTo, HoldsWithin, IsCounted, List, Log, Look, None, Option, Put, RunFault, Settled, Shows, Some, State, [], ap, ap₂, arith, asked_for, cells_of, closed, count_if, count_of, dispatched, dispatches, end_by, end_of, ended_by, event_of, false, fault, fault_by, first_of, held, held_after, idles, if◌then◌else◌, inside, last_closed, last_put, line_by, line_of, lines, lines_by, map, nat_le, nat_tests, next, next_of, no_rules, none-some, option_or, queued_after, raised, refl, same_Some, seen, solves, standing, subst, sym, true, waiting, written_by, ℕ, ◌++◌, ◌<◌, ◌==◌, ◌∙◌, ◌∷◌, ◌≡◌}
 use Rattle.rw_run.specs.declared.fault.RunFault.TheVariants.{ObjectLimit}
-use Rattle.rw_run.specs.declared.run.RunEnd.TheVariants.{Settled, Fault}
 use Rattle.rw_run.specs.declared.trace.TraceEvent.TheVariants.{Solve}
-use Rattle.rw_run.proofs.Common.{Cells, Event, closed, fault, Log, cells_of, held_after, last_put, written_by, waiting, first_of, queued_after, asked_for, dispatched, count_if, dispatches, no_rules, next, next_of, inside, standing, line_of, lines, end_of, last_closed, idles, solves}
-use Rattle.rw_dispatch.specs.declared.dispatched.Dispatched.{Dispatched}
 use Rattle.rw_dispatch.specs.declared.dispatched.Dispatched.TheVariants.{Idle as IsIdle, Solved as IsSolved, Conflict as IsConflict, OutOfRange as IsOutOfRange}
-use Rattle.rw_dispatch.specs.Answer.{event_of}
-use Rattle.rw_engine.specs.Counts.{IsCounted, count_of, raised}
-use Rattle.rw_engine.specs.Engine.{Engine}
-use Rattle.rw_engine.specs.declared.state.State.{State}
-use Rattle.rw_engine.specs.Lines.{line_by, lines_by, fault_by}
-use Rattle.rw_engine.specs.Shows.{Shows}
-use Rattle.rw_engine.specs.State.{seen, GoesTo, HoldsWithin, end_by, ended_by}
 use Rattle.rw_engine.proofs.Raises.{raised_at}
 
 -- ---- which event follows

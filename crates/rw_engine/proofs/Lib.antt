@@ -1,3 +1,4 @@
+mod Common
 pub mod Raises
 pub mod Places
 pub mod TakenBack

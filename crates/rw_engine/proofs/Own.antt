@@ -1,16 +1,8 @@
 -- A dispatch writes to cells of its object's slots alone.
-use Rattle.rw_base.proofs.Common.{◌≡◌, ◌≤◌, ℕ, List, [], ◌∷◌, Option, Some, None, map, refl, sym, ap, subst, ◌∙◌, All, IsSome, option_map, unwrap_or, All-nil, All-cons, All-head, All-tail}
-use Rattle.rw_base.specs.declared.number.Cell.{Cell}
+use Rattle.rw_engine.proofs.Common.{All, All-cons, All-head, All-nil, All-tail, Cell, Dispatched, Event, IsCell, IsSome, IsStep, List, Look, None, Option, Put, Some, Tells, [], ap, asked_by, cell_at, cell_in, event_of, map, option_map, refl, subst, sym, unwrap_or, written_by, written_in, ℕ, ◌∙◌, ◌∷◌, ◌≡◌, ◌≤◌}
 use Rattle.rw_model.proofs.Common.{Draft, slot_in_place, known_in_place}
-use Rattle.rw_method.specs.declared.put.Put.{Put}
-use Rattle.rw_series.specs.Series.{IsCell}
-use Rattle.rw_series.specs.declared.look.Look.{Look}
-use Rattle.rw_run.proofs.Common.{Event, written_by, cell_at, cell_in, asked_by}
-use Rattle.rw_dispatch.specs.declared.dispatched.Dispatched.{Dispatched}
 use Rattle.rw_dispatch.specs.declared.dispatched.Dispatched.TheVariants.{Idle, Solved, Conflict, OutOfRange}
-use Rattle.rw_dispatch.specs.Answer.{Tells, event_of, written_in}
 use Rattle.rw_dispatch.specs.Putting.{CanPut}
-use Rattle.rw_dispatch.specs.Turn.{IsStep}
 use Rattle.rw_engine.proofs.TakenBack.{IsOwnCell, OwnsCells}
 
 in_place : (basin : Draft) (object step place : ℕ) (found : Option ℕ) (cell : Cell) → slot_in_place basin.objects object place ≡ found

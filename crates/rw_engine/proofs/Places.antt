@@ -1,14 +1,5 @@
 -- Inputs are placed one after another.
-use Rattle.rw_base.proofs.Common.{◌≡◌, ℕ, suc, ◌+◌, List, [], ◌∷◌, ◌++◌, Some, refl, sym, ap, subst, ◌∙◌, ℤ}
-use Rattle.std.proofs.Math.Numerals.{add-one}
-use Rattle.rw_base.specs.declared.number.Cell.{Cell}
-use Rattle.rw_model.specs.Draft.{Draft}
-use Rattle.rw_series.specs.Series.{Series, held, Sets}
-use Rattle.rw_inputs.specs.Inputs.{Inputs, IsInputsOf, value_at}
-use Rattle.rw_run.proofs.Common.{Log, input_content, placed}
-use Rattle.rw_dispatch.specs.Stage.{AreBounded}
-use Rattle.rw_dispatch.proofs.Makes.{AreBounded-put}
-use Rattle.rw_engine.specs.Givens.{if_given, givens_of, givens_to, HoldsAll}
+use Rattle.rw_engine.proofs.Common.{AreBounded, AreBounded-put, Cell, Draft, HoldsAll, Inputs, IsInputsOf, List, Log, Series, Sets, Some, [], add-one, ap, givens_of, givens_to, held, if_given, input_content, placed, refl, subst, suc, sym, value_at, ℕ, ℤ, ◌++◌, ◌+◌, ◌∙◌, ◌∷◌, ◌≡◌}
 
 -- inputs placed after others
 pub placed-append : (log : Log) (xs ys : List (Cell × ℤ)) → placed log (xs ++ ys) ≡ placed (placed log xs) ys

@@ -1,7 +1,6 @@
 -- Counts of numbered things.
-use Rattle.rw_base.proofs.Common.{◌≡◌, ◌<◌, ◌≤◌, ◌+◌, ◌-◌, ◌==◌, ℕ, zero, suc, List, [], ◌∷◌, length, get_or, set, refl, arith, if◌then◌else◌, nat_tests}
+use Rattle.rw_engine.proofs.Common.{IsCounted, List, [], arith, count_of, get_or, if◌then◌else◌, length, nat_tests, raised, refl, room, set, suc, zero, ℕ, ◌+◌, ◌-◌, ◌<◌, ◌==◌, ◌∷◌, ◌≡◌, ◌≤◌}
 use Rattle.rw_run.specs.Next.{count_if}
-use Rattle.rw_engine.specs.Counts.{IsCounted, count_of, raised, room}
 
 set_at : (xs : List ℕ) (k j v : ℕ) → k < length xs → get_or (set xs k v) j 0 ≡ (if k == j then v else get_or xs j 0)
 set_at [] k j v near = absurd (omega arith)

@@ -1,15 +1,7 @@
 -- A run, timestep by timestep.
-use Rattle.std.proofs.Common.{◌≡◌, ◌<◌, ◌+◌, ℕ, [], ◌∷◌, ◌++◌, refl, sym, ap, subst, ◌∙◌, arith}
-use Rattle.rw_model.specs.Draft.{Draft}
-use Rattle.rw_inputs.specs.Inputs.{Inputs}
-use Rattle.rw_run.specs.declared.fault.RunFault.{RunFault}
+use Rattle.rw_engine.proofs.Common.{ComesTo, Draft, Engine, Inputs, IsBefore, IsOver, IsRunOf, Log, Passes, RunFault, Shows, Stands, [], ap, arith, givens, no_rules, placed, refl, rests, standing, subst, sym, ℕ, ◌++◌, ◌+◌, ◌<◌, ◌∙◌, ◌∷◌, ◌≡◌}
 use Rattle.rw_run.specs.declared.run.Run.{Run}
-use Rattle.rw_run.proofs.Common.{Log, no_rules, rests, standing, placed, IsOver, IsRunOf}
-use Rattle.rw_engine.specs.Engine.{Engine}
 use Rattle.rw_engine.specs.declared.step_end.StepEnd.TheVariants.{Closed as IsClosed, Fault as IsFault}
-use Rattle.rw_engine.specs.Givens.{givens}
-use Rattle.rw_engine.specs.Shows.{Shows, IsBefore}
-use Rattle.rw_engine.specs.Passing.{Passes, Stands, ComesTo}
 use Rattle.rw_engine.proofs.Starts.{standing-placed}
 use Rattle.rw_engine.proofs.Steps.{leads_on}
 

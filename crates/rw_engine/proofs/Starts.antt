@@ -1,8 +1,5 @@
 -- The log of the inputs, and logs between timesteps.
-use Rattle.rw_base.proofs.Common.{◌≡◌, ℕ, List, [], ◌∷◌, refl, ◌∙◌, append-nil, ℤ}
-use Rattle.rw_base.specs.declared.number.Cell.{Cell}
-use Rattle.rw_run.specs.declared.run.RunEnd.TheVariants.{Settled}
-use Rattle.rw_run.proofs.Common.{given, fault, Log, placed, standing, rests, trace_of, end_of, last_closed}
+use Rattle.rw_engine.proofs.Common.{Cell, List, Log, Settled, [], append-nil, end_of, fault, given, last_closed, placed, refl, rests, standing, trace_of, ℕ, ℤ, ◌∙◌, ◌∷◌, ◌≡◌}
 
 pub trace-placed : (log : Log) (inputs : List (Cell × ℤ)) → trace_of (placed log inputs) ≡ trace_of log
 trace-placed log [] = refl

@@ -1,16 +1,6 @@
 -- A timestep of the engine, over the log that it shows.
-use Rattle.rw_base.proofs.Common.{◌≡◌, ◌≤◌, ◌+◌, ℕ, Bool, true, false, List, [], ◌∷◌, ◌++◌, Some, None, nat_lt, refl, sym, ap, subst, ◌∙◌, arith, append_assoc, nat_tests, if◌then◌else◌}
-use Rattle.rw_model.specs.Draft.{Draft}
-use Rattle.rw_series.specs.Series.{Series, held}
-use Rattle.rw_run.proofs.Common.{Log, Event, opened, all_waiting, Policy, no_rules, next, Leads, follows, follows_in, lines, opens}
-use Rattle.rw_run.specs.declared.run.RunEnd.TheVariants.{Settled}
-use Rattle.rw_engine.specs.declared.state.State.{State}
+use Rattle.rw_engine.proofs.Common.{Bool, Draft, Event, Goes, Grows, HoldsWithin, IsBefore, IsStill, Leads, List, Log, None, Passes, Policy, Reached, Series, Settled, Shows, Some, State, [], all_waiting, ap, append_assoc, arith, count_of, false, follows, follows_in, held, if◌then◌else◌, lines, nat_lt, nat_tests, next, no_rules, opened, opens, refl, seen, subst, sym, true, ℕ, ◌++◌, ◌+◌, ◌∙◌, ◌∷◌, ◌≡◌, ◌≤◌}
 use Rattle.rw_engine.specs.declared.step_end.StepEnd.{StepEnd}
-use Rattle.rw_engine.specs.Counts.{count_of}
-use Rattle.rw_engine.specs.Lines.{Grows}
-use Rattle.rw_engine.specs.Shows.{Shows, IsBefore}
-use Rattle.rw_engine.specs.State.{IsStill, seen, HoldsWithin, Goes, Reached}
-use Rattle.rw_engine.specs.Passing.{Passes}
 
 pub leads_more : (basin : Draft) (policy : Policy) (old : Log) (events : List Event) (event : Event) (new : Log) → Leads basin policy old events new
     → follows basin policy new ≡ Some event → Leads basin policy old (events ++ event ∷ []) (event ∷ new)

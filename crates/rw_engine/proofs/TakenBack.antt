@@ -1,13 +1,6 @@
 -- Putting back what cells held.
-use Rattle.rw_base.proofs.Common.{◌≡◌, ◌<◌, ◌≤◌, ℕ, zero, suc, Bool, true, false, ◌||◌, ◌+◌, ◌==◌, List, [], ◌∷◌, ◌++◌, Option, Some, None, refl, sym, ap, subst, ◌∙◌, append_assoc, arith, All, if◌then◌else◌, IsTrue, option_map, list_any, cons_option, filter_map, range_with_len, option_or, All-nil, All-cons, All-head, All-tail, filter_map-append, nat_tests}
-use Rattle.std.proofs.Math.Numerals.{add-one}
-use Rattle.rw_base.specs.declared.number.Cell.{Cell}
+use Rattle.rw_engine.proofs.Common.{All, All-cons, All-head, All-nil, All-tail, Asked, Bool, Cell, Cells, Draft, Event, IsCell, IsTrue, List, None, Option, Some, Undone, [], add-one, ap, append_assoc, arith, cell_in, cons_option, false, filter_map, filter_map-append, held_after, if◌then◌else◌, is_shared, last_put, list_any, nat_tests, option_map, option_or, places, range_with_len, refl, subst, suc, sym, taken_back, true, undone_at, undone_in, written_by, zero, ℕ, ◌++◌, ◌+◌, ◌<◌, ◌==◌, ◌||◌, ◌∙◌, ◌∷◌, ◌≡◌, ◌≤◌}
 use Rattle.rw_model.specs.declared.content.Content.{Content}
-use Rattle.rw_model.specs.Draft.{Draft}
-use Rattle.rw_series.specs.Series.{is_shared, IsCell}
-use Rattle.rw_run.proofs.Common.{Asked, Cells, Event, held_after, last_put, written_by, cell_in, places}
-use Rattle.rw_engine.specs.declared.undo.Undone.{Undone}
-use Rattle.rw_engine.specs.Undone.{taken_back, undone_at, undone_in}
 
 -- what stands last is put back first
 pub taken_back-append : (basin : Draft) (first last : List Undone) (cells : Cells) (cell : Cell)

@@ -1,9 +1,5 @@
 -- Which term gives way.
-use Rattle.rw_base.proofs.Common.{◌≡◌, refl, ap, arith, true, false, inl, inr, List, [], ◌∷◌, ◌++◌, append_assoc, All, Option, None, Some, All-append, All-push, cases_Bool, both_ways}
-use Rattle.std.proofs.lemmas.List.{append-nil}
-use Rattle.rw_method.specs.declared.given.Given.{Given}
-use Rattle.rw_method.specs.declared.term.Term.{Term}
-use Rattle.rw_method.specs.Settling.{gives_way_before, weakest, IsNoWeaker, IsStronger, GivesWay}
+use Rattle.rw_method.proofs.Common.{All, All-append, All-push, Given, GivesWay, IsNoWeaker, IsStronger, List, None, Option, Some, Term, [], ap, append-nil, append_assoc, arith, both_ways, cases_Bool, false, gives_way_before, inl, inr, refl, true, weakest, ◌++◌, ◌∷◌, ◌≡◌}
 
 -- ---- the order of terms
 

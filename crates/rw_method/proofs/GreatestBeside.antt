@@ -1,7 +1,5 @@
 -- The greatest number beside a term.
-use Rattle.rw_base.proofs.Common.{◌≡◌, ◌≢◌, ◌∙◌, refl, arith, ℕ, suc, ◌<◌, ◌≤◌, ◌==◌, max, if◌then◌else◌, Bool, true, false, ◌⊎◌, inl, inr, List, [], ◌∷◌, All, Contains, cases_Bool, cases_lt, both_ways, Decides-eqb}
-use Rattle.rw_method.specs.declared.term.Term.{Term}
-use Rattle.rw_method.specs.Settling.{number_of, greatest_beside, IsGreatestBeside}
+use Rattle.rw_method.proofs.Common.{All, Bool, Contains, Decides-eqb, IsGreatestBeside, List, Term, [], arith, both_ways, cases_Bool, cases_lt, false, greatest_beside, if◌then◌else◌, inl, inr, max, number_of, refl, suc, true, ℕ, ◌<◌, ◌==◌, ◌∙◌, ◌∷◌, ◌≡◌, ◌≢◌, ◌≤◌, ◌⊎◌}
 use Rattle.rw_method.proofs.GivingWay.{and_pass, none_pass}
 
 apart : (a b : ℕ) → (a == b) ≡ false → a ≢ b

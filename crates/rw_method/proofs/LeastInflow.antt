@@ -1,10 +1,8 @@
 -- The least inflow of a canal that gives an outflow.
-use Rattle.rw_base.proofs.Common.{◌≡◌, ◌≢◌, ◌∙◌, refl, ap, ℕ, zero, suc, ◌+◌, ◌-◌, ◌*◌, ◌/◌, ◌<◌, ◌≤◌, ℤ, pos, ◌+ℤ◌, ◌-ℤ◌, ◌*ℤ◌, ◌≤ℤ◌, ◌<ℤ◌, inl, inr, arith, ints, *ℤ_comm, *ℤ-zero, suc_ℤ-*ℤ}
+use Rattle.rw_method.proofs.Common.{*ℤ-zero, *ℤ_comm, Conveys, ap, arith, brought, inl, inr, ints, least_inflow, pos, refl, suc, suc_ℤ-*ℤ, zero, ℕ, ℤ, ◌*ℤ◌, ◌*◌, ◌+ℤ◌, ◌+◌, ◌-ℤ◌, ◌-◌, ◌/◌, ◌<ℤ◌, ◌<◌, ◌∙◌, ◌≡◌, ◌≢◌, ◌≤ℤ◌, ◌≤◌}
 use Rattle.rw_base.specs.Quotient.{floor_div}
 use Rattle.rw_base.proofs.Quotients.{IsFloor-floor_div}
 use Rattle.rw_table.proofs.Comparison.{same_or_not, eq_fails}
-use Rattle.rw_method.specs.declared.share.Share.TheVariants.{Conveys}
-use Rattle.rw_method.specs.Term.{least_inflow, brought}
 
 -- ---- products with a natural number
 

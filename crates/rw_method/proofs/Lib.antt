@@ -1,3 +1,4 @@
+mod Common
 pub mod PutFacts
 pub mod LeastInflow
 pub mod GivingWay

@@ -1,8 +1,6 @@
 -- Whether puts fit, when one more is added.
-use Rattle.rw_base.proofs.Common.{◌≡◌, refl, arith, Bool, true, false, List, [], ◌∷◌, ◌++◌, common_steps}
-use Rattle.rw_method.specs.declared.put.Put.{Put}
+use Rattle.rw_method.proofs.Common.{AllFit, Bool, List, Put, [], answer_of_puts, arith, common_steps, false, first_misfit, refl, true, ◌++◌, ◌∷◌, ◌≡◌}
 use Rattle.rw_method.specs.declared.solved.Solved.TheVariants.{OutOfRange}
-use Rattle.rw_method.specs.Solve.{first_misfit, AllFit, answer_of_puts}
 
 -- of puts of which the first fits, the others decide
 pub first_fits : (fit : Put → Bool) (p : Put) (ps : List Put) → AllFit fit (p ∷ ps) → (fit p ≡ true) × AllFit fit ps

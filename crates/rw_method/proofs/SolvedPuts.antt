@@ -1,26 +1,16 @@
 -- What a method puts stands in slots of its kind.
-use Rattle.rw_base.proofs.Common.{◌≡◌, ℕ, zero, suc, ◌+◌, ◌==◌, ◌<◌, ◌≤◌, ℤ, pos, ◌+ℤ◌, Bool, true, false, not, ◌&&◌, if◌then◌else◌, List, [], ◌∷◌, ◌++◌, length, All, Option, None, Some, is_some, IsSome, nat_le, refl, sym, ap, ap₂, subst, ◌∙◌, arith, int_eq, All-append, All-push, same_Some, none-some}
-use Rattle.std.proofs.lemmas.List.{length-append}
+use Rattle.rw_method.proofs.Common.{All, All-append, All-push, AllFit, Balanced, Bool, Conflicts, Given, Holds, Idle, IsSome, List, None, Option, Put, Solves, Some, Term, View, [], all_or_misfit, answer, ap, ap₂, arith, balanced_of, beside_basis, beside_given, evaporation_put, false, fault_of_contents, fault_of_past, first_misfit, fits, gives_way_before, if◌then◌else◌, int_eq, is_bounded, is_some, known_after, length, length-append, level_puts, missing, nat_le, net_of, none-some, not, or_else, pos, put_found, puts_of, refl, release_puts, same_Some, seepage_put, settled, settled_at, solve_of, solved_put, solves, subst, suc, sym, true, user_puts, value_from_others, weakest, zero, ℕ, ℤ, ◌&&◌, ◌++◌, ◌+ℤ◌, ◌+◌, ◌<◌, ◌==◌, ◌∙◌, ◌∷◌, ◌≡◌, ◌≤◌}
 use Rattle.rw_table.specs.Table.{Row}
 use Rattle.rw_model.specs.declared.kind.Kind.{Kind}
 use Rattle.rw_model.specs.declared.kind.Kind.TheVariants.{DataObject, Gage, Confluence, Bifurcation, Reach, Reservoir, WaterUser, Canal}
 use Rattle.rw_model.specs.declared.kind.Supply.TheVariants.{Request, Rule}
 use Rattle.rw_model.proofs.Common.{IsKind, IsStored, Slot, where_chosen, slot_in}
-use Rattle.rw_method.specs.declared.balanced.Balanced.{Balanced}
-use Rattle.rw_method.specs.declared.balanced.Balanced.TheVariants.{Idle, Holds, Solves, Conflicts}
 use Rattle.rw_method.specs.declared.basis.Basis.{Basis}
 use Rattle.rw_method.specs.declared.basis.Basis.TheVariants.{Nothing, Storage, Elevation}
-use Rattle.rw_method.specs.declared.given.Given.{Given}
-use Rattle.rw_method.specs.declared.put.Put.{Put}
 use Rattle.rw_method.specs.declared.solved.Solved.{Solved}
 use Rattle.rw_method.specs.declared.solved.Solved.TheVariants.{Idle as IdleAnswer, Puts, Conflict, OutOfRange}
-use Rattle.rw_method.specs.declared.term.Term.{Term}
-use Rattle.rw_method.specs.declared.view.View.{View}
 use Rattle.rw_method.specs.Balance.{balance_of, evaporation_of}
 use Rattle.rw_method.specs.Contents.{basis_of, fault_of_basis, disagreement, can_hold, elevation_of, volume_of, are_both_zero, agree}
-use Rattle.rw_method.specs.Puts.{puts_of, put_found, solved_put, beside_basis, beside_given, level_puts, evaporation_put, release_puts, user_puts, seepage_put, known_after, is_bounded}
-use Rattle.rw_method.specs.Settling.{missing, net_of, gives_way_before, weakest, value_from_others, solves, settled_at, settled}
-use Rattle.rw_method.specs.Solve.{or_else, fault_of_past, fault_of_contents, fits, first_misfit, AllFit, all_or_misfit, answer, balanced_of, solve_of}
 use Rattle.rw_method.specs.View.{given}
 use Rattle.rw_method.proofs.PutFacts.{first_fits}
 

@@ -1,13 +1,6 @@
 -- A solved term makes the balance true.
-use Rattle.rw_base.proofs.Common.{◌≡◌, refl, ap, arith, rules, ℕ, suc, ◌+◌, ◌≤◌, ◌==◌, nat_le, if◌then◌else◌, ℤ, pos, neg_ℤ, ◌+ℤ◌, ◌-ℤ◌, Bool, true, false, inl, inr, List, [], ◌∷◌, ◌++◌, All, Option, None, Some, IsSome, is_some, int_eq, ints, All-append, cases_Bool, both_ways}
-use Rattle.rw_method.specs.declared.given.Given.{Given}
+use Rattle.rw_method.proofs.Common.{All, All-append, Balanced, Bool, Brings, Conflicts, Conveys, Given, GivesWay, Holds, Idle, IsGreatestBeside, IsNoWeaker, IsShare, IsSolved, IsSome, IsStronger, List, None, Option, Solves, Some, Takes, Term, [], ap, arith, both_ways, bringing, brought, brought_by, cases_Bool, false, if◌then◌else◌, inl, inr, int_eq, ints, is_some, missing, nat_le, neg_ℤ, net_of, pos, refl, rules, settled, settled_at, solves, suc, true, value_from_others, weakest, ℕ, ℤ, ◌++◌, ◌+ℤ◌, ◌+◌, ◌-ℤ◌, ◌==◌, ◌∷◌, ◌≡◌, ◌≤◌}
 use Rattle.rw_method.specs.declared.share.Share.{Share}
-use Rattle.rw_method.specs.declared.share.Share.TheVariants.{Brings, Takes, Conveys}
-use Rattle.rw_method.specs.declared.term.Term.{Term}
-use Rattle.rw_method.specs.declared.balanced.Balanced.{Balanced}
-use Rattle.rw_method.specs.declared.balanced.Balanced.TheVariants.{Idle, Holds, Solves, Conflicts}
-use Rattle.rw_method.specs.Term.{IsShare, brought, bringing, brought_by}
-use Rattle.rw_method.specs.Settling.{missing, net_of, weakest, value_from_others, solves, settled_at, settled, IsNoWeaker, IsStronger, GivesWay, IsSolved, IsGreatestBeside}
 use Rattle.rw_method.proofs.LeastInflow.{conveyed}
 use Rattle.rw_method.proofs.GreatestBeside.{is_greatest_beside}
 use Rattle.rw_method.proofs.GivingWay.{and_pass, none_pass, gives_way}

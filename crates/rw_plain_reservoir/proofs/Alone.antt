@@ -1,11 +1,9 @@
 -- One plain reservoir alone with its flows. It has no links, since a link joins slots of two objects.
-use Rattle.rw_base.proofs.Common.{◌≡◌, ◌≤◌, ◌<◌, ◌+◌, ℕ, zero, suc, ℤ, pos, List, [], ◌∷◌, Some, refl, arith, nat_tests, All, slice_index_or}
+use Rattle.rw_plain_reservoir.proofs.Common.{All, FirstModel, List, Some, [], arith, nat_tests, plain_reservoir, pos, refl, slice_index_or, storage_at, suc, zero, ℕ, ℤ, ◌+◌, ◌<◌, ◌∷◌, ◌≡◌, ◌≤◌}
 use Rattle.std.specs.List.{IsDistinct}
 use Rattle.rw_model.specs.declared.control.RunControl.{RunControl}
 use Rattle.rw_model.proofs.Common.{Bound, Draft, IsLink, owner_of}
 use Rattle.rw_run.proofs.Common.{Cells, cell_at, value_in}
-use Rattle.rw_plain_reservoir.specs.FirstForm.{FirstModel, plain_reservoir}
-use Rattle.rw_plain_reservoir.specs.Reservoir.{storage_at}
 
 pub record Case : Type 0 where
   pub control : RunControl

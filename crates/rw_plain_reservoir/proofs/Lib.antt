@@ -1,3 +1,4 @@
+mod Common
 mod Alone
 mod Solves
 mod Placed

@@ -1,9 +1,7 @@
 -- A basin is in the first form in one way.
 use Rattle.std.proofs.Common.{◌≡◌, ℕ, List, [], ◌∷◌, Option, Some, None, ap, sym, ◌∙◌, ℤ}
-use Rattle.rw_model.specs.declared.kind.Kind.{Kind}
-use Rattle.rw_model.specs.declared.kind.Kind.TheVariants.{Reservoir}
+use Rattle.rw_plain_reservoir.proofs.Common.{FirstModel, IsFirstForm, Kind, Reservoir, plain_reservoir}
 use Rattle.rw_model.proofs.Common.{Object, Draft}
-use Rattle.rw_plain_reservoir.specs.FirstForm.{plain_reservoir, FirstModel, IsFirstForm}
 
 abbrev name_in : List Object → List ℕ
 name_in [] = []

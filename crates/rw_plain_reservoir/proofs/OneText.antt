@@ -1,9 +1,6 @@
 -- A run has one end and one text.
-use Rattle.rw_base.proofs.Common.{◌≡◌, ℕ, ◌<◌, ◌≤◌, ℤ, List, ◌++◌, refl, ap, sym, ◌∙◌, subst, arith, None, Some, Option}
-use Rattle.rw_plain_reservoir.specs.FirstForm.{FirstModel}
+use Rattle.rw_plain_reservoir.proofs.Common.{FirstModel, IsFirstText, IsReservoirRun, List, None, Option, Some, ap, arith, columns, heading, refl, rows, subst, sym, ℕ, ℤ, ◌++◌, ◌<◌, ◌∙◌, ◌≡◌, ◌≤◌}
 use Rattle.rw_model.specs.Kind.{IsAmount}
-use Rattle.rw_plain_reservoir.specs.Reservoir.{IsReservoirRun}
-use Rattle.rw_plain_reservoir.specs.Table.{IsFirstText, heading, columns, rows}
 
 -- the steps of a run are its end at most
 at_most : (steps : ℕ) (i : ℤ) (ins outs : List ℤ) (closed : ℕ) (fault : Option ℤ) → IsReservoirRun steps i ins outs closed fault → closed ≤ steps

@@ -1,11 +1,8 @@
 -- What the cells hold once the inputs are placed.
-use Rattle.rw_base.proofs.Common.{◌≡◌, ◌≤◌, ◌==◌, ℕ, zero, suc, ℤ, Bool, true, false, List, [], ◌∷◌, ◌++◌, Option, Some, None, refl, ap, ◌∙◌, arith, if◌then◌else◌, option_map, option_or, nat_tests}
-use Rattle.rw_base.specs.declared.number.Cell.{Cell}
+use Rattle.rw_plain_reservoir.proofs.Common.{Bool, Cell, Inputs, List, None, Option, Some, [], ap, arith, false, givens_of, givens_to, if_given, if◌then◌else◌, nat_tests, option_map, option_or, refl, suc, true, value_at, zero, ℕ, ℤ, ◌++◌, ◌==◌, ◌∙◌, ◌∷◌, ◌≡◌, ◌≤◌}
 use Rattle.rw_model.specs.Draft.{Draft}
 use Rattle.rw_series.specs.Series.{is_shared}
-use Rattle.rw_inputs.specs.Inputs.{Inputs, value_at}
 use Rattle.rw_run.proofs.Common.{Log, given, cells_of, input_content, cell_at, placed}
-use Rattle.rw_engine.specs.Givens.{if_given, givens_of, givens_to}
 use Rattle.rw_plain_reservoir.proofs.Alone.{Case, basin_of}
 
 or_none : {A : Type 0} → (a : Option A) → option_or a None ≡ a

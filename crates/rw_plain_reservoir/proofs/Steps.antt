@@ -1,16 +1,9 @@
 -- The run of a plain reservoir, event by event.
-use Rattle.rw_base.proofs.Common.{◌≡◌, ◌≢◌, ◌≤◌, ◌<◌, ◌+◌, ◌-◌, ◌==◌, ℕ, zero, suc, ℤ, pos, ◌-ℤ◌, Bool, true, false, List, [], ◌∷◌, length, Option, Some, None, nat_lt, refl, sym, ap, subst, ◌∙◌, arith, inl, inr, below_more, if◌then◌else◌, nat_le, option_map, option_or, find, nat_tests}
-use Rattle.rw_model.specs.declared.content.Content.{Content}
+use Rattle.rw_plain_reservoir.proofs.Common.{Bool, Content, Fault, IsReservoirRun, List, Look, None, ObjectLimit, ObjectOutOfRange, Option, RunEnd, Settled, Some, [], ap, arith, below_more, false, find, if◌then◌else◌, inl, inr, length, nat_le, nat_lt, nat_tests, option_map, option_or, plain_reservoir, pos, refl, subst, suc, sym, true, zero, ℕ, ℤ, ◌+◌, ◌-ℤ◌, ◌-◌, ◌<◌, ◌==◌, ◌∙◌, ◌∷◌, ◌≡◌, ◌≢◌, ◌≤◌}
 use Rattle.rw_model.specs.declared.control.AgendaOrder.{AgendaOrder}
 use Rattle.rw_model.specs.declared.control.AgendaOrder.TheVariants.{HighFirst, LowFirst}
 use Rattle.rw_model.proofs.Common.{before_of, IsAmount, bounds_in, from_zero}
-use Rattle.rw_series.specs.declared.look.Look.{Look}
-use Rattle.rw_run.specs.declared.fault.RunFault.TheVariants.{ObjectLimit, ObjectOutOfRange}
-use Rattle.rw_run.specs.declared.run.RunEnd.{RunEnd}
-use Rattle.rw_run.specs.declared.run.RunEnd.TheVariants.{Settled, Fault}
 use Rattle.rw_run.proofs.Common.{Cells, Event, Log, opened, closed, solved, fault, cells_of, input_content, value_in, first_waiting, first_of, cell_at, dispatched, past_value, no_rules, next_of, after_objects, agenda_of, is_due, first_due, Leads, IsOver, follows, follows_in, standing, rests, end_of, last_closed, opens, solves}
-use Rattle.rw_plain_reservoir.specs.FirstForm.{plain_reservoir}
-use Rattle.rw_plain_reservoir.specs.Reservoir.{IsReservoirRun}
 use Rattle.rw_plain_reservoir.proofs.Alone.{Case, HasValues, basin_of, count_of, inflow_at, outflow_at, storage_of}
 use Rattle.rw_plain_reservoir.proofs.Solves.{amount_or_not, dispatches, event_of, is_amount, leaves_range, looked_by, stores_at, storing}
 use Rattle.rw_plain_reservoir.proofs.Storages.{next-storage, first-storage}

@@ -1,9 +1,8 @@
 -- The text of the run of a plain reservoir.
-use Rattle.rw_base.proofs.Common.{◌≡◌, ◌≤◌, ◌<◌, ◌+◌, ℕ, zero, suc, ℤ, List, [], ◌∷◌, ◌++◌, Option, Some, None, refl, sym, ap, ap₂, ◌∙◌, arith, append_assoc, codes, decimal, signed_decimal, decimal_digit, suc-eq-add-one}
+use Rattle.rw_plain_reservoir.proofs.Common.{List, None, Option, Some, [], ap, append_assoc, ap₂, arith, codes, columns, decimal, decimal_digit, heading, refl, row, rows, signed_decimal, suc, suc-eq-add-one, sym, zero, ℕ, ℤ, ◌++◌, ◌+◌, ◌<◌, ◌∙◌, ◌∷◌, ◌≡◌, ◌≤◌}
 use Rattle.rw_calendar.specs.Stamps.{end_of, stamp_text}
 use Rattle.rw_run.specs.Log.{Cells}
 use Rattle.rw_report.specs.Section.{heading as heading_of, columns as columns_of, row as row_of, rows as rows_of, value_words, section_of, values_in}
-use Rattle.rw_plain_reservoir.specs.Table.{heading, columns, row, rows}
 use Rattle.rw_plain_reservoir.proofs.Alone.{Case, HasValues, basin_of, inflow_at, model_of, outflow_at, storage_of}
 use Rattle.rw_plain_reservoir.proofs.Steps.{run_end}
 

@@ -1,17 +1,10 @@
 -- The section of the run of a plain reservoir is the text of its run.
-use Rattle.rw_base.proofs.Common.{◌≡◌, ◌+◌, ℕ, ℤ, List, [], ◌∷◌, Option, Some, None, refl, sym, ap, subst, ◌∙◌, arith, ◌↔◌, All, none-some, option_map}
+use Rattle.rw_plain_reservoir.proofs.Common.{All, Cell, Fault, FirstModel, Inputs, IsFirstFlows, IsFirstForm, IsFirstText, List, None, Option, RunEnd, Settled, Some, [], ap, arith, givens, none-some, option_map, plain_reservoir, refl, subst, sym, ℕ, ℤ, ◌+◌, ◌↔◌, ◌∙◌, ◌∷◌, ◌≡◌}
 use Rattle.rw_calendar.specs.Stamps.{Timesteps}
 use Rattle.rw_model.proofs.Common.{IsBasin, IsLink, Draft, bounds_in}
-use Rattle.rw_base.specs.declared.number.Cell.{Cell}
-use Rattle.rw_inputs.specs.Inputs.{Inputs}
-use Rattle.rw_run.specs.declared.run.RunEnd.{RunEnd}
-use Rattle.rw_run.specs.declared.run.RunEnd.TheVariants.{Settled, Fault}
 use Rattle.rw_run.proofs.Common.{Log, cells_of, Policy, input_content, no_rules, end_of, last_closed, IsRun, placed}
 use Rattle.rw_report.specs.Section.{section_of, values_in}
-use Rattle.rw_plain_reservoir.specs.FirstForm.{FirstModel, IsFirstForm, IsFirstFlows, plain_reservoir}
-use Rattle.rw_engine.specs.Givens.{givens}
 use Rattle.rw_engine.proofs.Starts.{standing-placed, end-placed, closed-placed}
-use Rattle.rw_plain_reservoir.specs.Table.{IsFirstText}
 use Rattle.rw_plain_reservoir.proofs.Alone.{Case, basin_of, count_of, model_of, no-links}
 use Rattle.rw_plain_reservoir.proofs.Placed.{inflow-placed, outflow-placed, storage-placed}
 use Rattle.rw_plain_reservoir.proofs.Steps.{IsCase, Stands, Ends, Comes, run_end, runs_on}

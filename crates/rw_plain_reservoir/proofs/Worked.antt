@@ -1,8 +1,6 @@
 -- Worked values, where they don't compute by themselves.
-use Rattle.rw_base.proofs.Common.{◌≡◌, pos, negsuc, [], ◌∷◌, ◌++◌, Some, refl, ap, arith, decimal_digit, ints, decimal, codes}
+use Rattle.rw_plain_reservoir.proofs.Common.{IsReservoirRun, Some, [], ap, arith, codes, decimal, decimal_digit, heading, ints, negsuc, pos, refl, ◌++◌, ◌∷◌, ◌≡◌}
 use Rattle.rw_model.specs.Kind.{IsAmount}
-use Rattle.rw_plain_reservoir.specs.Reservoir.{IsReservoirRun}
-use Rattle.rw_plain_reservoir.specs.Table.{heading}
 
 one_written : decimal 1 ≡ 49 ∷ []
 one_written = decimal_digit 1 (omega arith)

@@ -1,10 +1,7 @@
 -- The volume at an elevation, row after row: where it has a value, that it never falls, and which two rows decide it.
-use Rattle.rw_base.proofs.Common.{◌≡◌, ℕ, zero, suc, ◌<◌, ◌≤◌, ℤ, ◌≤ℤ◌, ◌<ℤ◌, List, [], ◌∷◌, length, Option, Some, None, refl, sym, ap, ◌∙◌, arith, inl, inr, ints}
+use Rattle.rw_table.proofs.Common.{IsAbove, IsRisingAt, IsTable, List, None, Option, Row, Some, [], ap, arith, between, inl, inr, ints, length, refl, row_at, suc, sym, vol_from, zero, ℕ, ℤ, ◌<ℤ◌, ◌<◌, ◌∙◌, ◌∷◌, ◌≡◌, ◌≤ℤ◌, ◌≤◌}
 use Rattle.rw_table.proofs.Comparison.{below_or_not, same_or_not, le_passes, le_fails, lt_passes, lt_fails, eq_passes, eq_fails}
 use Rattle.rw_table.proofs.Line.{between_bounds, between_rises, between_low}
-use Rattle.rw_table.specs.Table.{Row, row_at, IsAbove, IsRisingAt, IsTable}
-use Rattle.rw_table.specs.Line.{between}
-use Rattle.rw_table.specs.Curve.{vol_from}
 
 -- each row is above the one before it
 abbrev pub IsChain : Row → List Row → Type 0

@@ -1,7 +1,5 @@
 -- The count down to the greatest elevation whose volume is at most s.
-use Rattle.rw_base.proofs.Common.{◌≡◌, ℕ, zero, suc, ◌<◌, ◌≤◌, ℤ, pos, ◌≤ℤ◌, Bool, true, false, cond, List, Option, Some, None, MatchOption, refl, arith, inl, inr, IsSomeAnd, cases_eq, ints}
-use Rattle.rw_table.specs.Table.{Row}
-use Rattle.rw_table.specs.Curve.{vol_of, is_at_most, greatest_up_to, IsAtMost}
+use Rattle.rw_table.proofs.Common.{Bool, IsAtMost, IsSomeAnd, List, MatchOption, None, Option, Row, Some, arith, cases_eq, cond, false, greatest_up_to, inl, inr, ints, is_at_most, pos, refl, suc, true, vol_of, zero, ℕ, ℤ, ◌<◌, ◌≡◌, ◌≤ℤ◌, ◌≤◌}
 
 -- the volume that is at most s
 pub volume_at_most : (o : Option ℤ) (s : ℤ) → IsSomeAnd o (λ v. v ≤ℤ s) → (v : ℤ) × (o ≡ Some v) × (v ≤ℤ s)

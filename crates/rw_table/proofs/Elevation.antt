@@ -1,12 +1,9 @@
 -- The elevation at a volume in a table: the count finds the greatest, and so does the last on the line of the interval.
-use Rattle.rw_base.proofs.Common.{◌≡◌, ℕ, zero, suc, ◌-◌, ◌<◌, ℤ, pos, negsuc, ◌+ℤ◌, ◌≤ℤ◌, ◌<ℤ◌, unsigned_abs, List, length, Option, Some, None, refl, ap, ◌∙◌, arith, inl, inr, ints}
+use Rattle.rw_table.proofs.Common.{IsAtMost, IsElevationInside, IsGreatest, IsLastOnLine, IsTable, IsVolumeInside, List, None, Option, Row, Some, ap, arith, elev_of, first_row, greatest_up_to, inl, inr, ints, last_row, length, negsuc, pos, refl, row_at, suc, unsigned_abs, vol_of, zero, ℕ, ℤ, ◌+ℤ◌, ◌-◌, ◌<ℤ◌, ◌<◌, ◌∙◌, ◌≡◌, ◌≤ℤ◌}
 use Rattle.rw_table.proofs.Comparison.{below_or_not, le_passes, le_fails}
 use Rattle.rw_table.proofs.Order.{no_less}
 use Rattle.rw_table.proofs.Volume.{inside, volume_of_row, volume_on_line, never_falls}
 use Rattle.rw_table.proofs.Count.{volume_at_most, at_most_from, IsCounted, Counts, counted}
-use Rattle.rw_table.specs.Table.{Row, row_at, IsTable}
-use Rattle.rw_table.specs.Curve.{vol_of, first_row, last_row, greatest_up_to, elev_of, IsElevationInside, IsVolumeInside, IsAtMost, IsGreatest}
-use Rattle.rw_table.specs.Line.{IsLastOnLine}
 
 -- an elevation of a table is a natural number, which the count meets
 natural_inside : (rows : List Row) (e : ℤ) → IsTable rows → IsElevationInside rows e → (k : ℕ) × (e ≡ pos k) × (k < suc (unsigned_abs (last_row rows).0))

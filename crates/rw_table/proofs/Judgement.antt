@@ -1,10 +1,8 @@
 -- Nothing is wrong with rows exactly where they are a table.
-use Rattle.rw_base.proofs.Common.{◌≡◌, ◌↔◌, ℕ, zero, suc, ◌<◌, ◌≤◌, nat_lt, List, length, Option, None, Some, refl, sym, subst, ◌∙◌, ap, ◌+◌, arith, below_more, inl, inr, option_or, Decides, cases_eq, nat_tests, Decides-and, Decides-like}
-use Rattle.rw_base.specs.Answers.{Finds}
+use Rattle.rw_table.proofs.Common.{Decides, Decides-and, Decides-like, Finds, IsAbove, IsGoodRow, IsRisingAt, IsTable, IsWithinBounds, List, None, Option, Row, Some, TableRefusal, ap, arith, below_more, cases_eq, inl, inr, is_above, is_rising_at, is_within_bounds, length, nat_lt, nat_tests, not_rising, option_or, refl, refusal_of, row_at, row_refusal, rows_refusal, subst, suc, sym, table_refusal, zero, ℕ, ◌+◌, ◌<◌, ◌↔◌, ◌∙◌, ◌≡◌, ◌≤◌}
 use Rattle.rw_base.proofs.Answering.{found}
 use Rattle.rw_base.proofs.Tests.{Decides-from_to, Decides-int_lt, passed, spared, unless, where-true}
 use Rattle.rw_table.specs.declared.fault.TableFault.{TableFault}
-use Rattle.rw_table.specs.Table.{Row, refusal_of, row_at, IsWithinBounds, IsAbove, IsRisingAt, IsGoodRow, IsTable, TableRefusal, not_rising, is_within_bounds, is_above, is_rising_at, row_refusal, rows_refusal, table_refusal}
 
 Decides-bounds : (row : Row) → Decides (is_within_bounds row) (IsWithinBounds row)
 Decides-bounds row = Decides-like (is_within_bounds row)

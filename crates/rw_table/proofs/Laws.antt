@@ -1,8 +1,5 @@
 -- The laws of tables, by the names that they have in src/law.rt.
-use Rattle.rw_base.proofs.Common.{◌≡◌, ℕ, suc, ◌+◌, ◌<◌, ℤ, ◌≤ℤ◌, ◌<ℤ◌, ◌↔◌, ◌⊎◌, inl, inr, subst, List, length, ◌-◌, Option, Some, None, MatchOption, refl, sym, arith, IsSome, IsSomeAnd, ints}
-use Rattle.rw_table.specs.Table.{Row, row_at, IsTable}
-use Rattle.rw_table.specs.Line.{between}
-use Rattle.rw_table.specs.Curve.{vol_of, elev_of, first_row, last_row, IsElevationInside, IsVolumeInside, IsGreatest}
+use Rattle.rw_table.proofs.Common.{IsElevationInside, IsGreatest, IsSome, IsSomeAnd, IsTable, IsVolumeInside, List, MatchOption, None, Option, Row, Some, arith, between, elev_of, first_row, inl, inr, ints, last_row, length, refl, row_at, subst, suc, sym, vol_of, ℕ, ℤ, ◌+◌, ◌-◌, ◌<ℤ◌, ◌<◌, ◌↔◌, ◌≡◌, ◌≤ℤ◌, ◌⊎◌}
 use Rattle.rw_table.proofs.Comparison.{below_or_not}
 use Rattle.rw_table.proofs.Volume.{inside, has_volume_inside, volume_of_row, volume_on_line, never_falls}
 use Rattle.rw_table.proofs.Count.{volume_at_most, at_most_from}

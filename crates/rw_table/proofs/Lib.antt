@@ -1,3 +1,4 @@
+mod Common
 pub mod Comparison
 pub mod Quotient
 pub mod Line

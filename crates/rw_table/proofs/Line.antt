@@ -1,7 +1,5 @@
 -- The volume on the line from one row to the next.
-use Rattle.rw_base.proofs.Common.{◌≡◌, ℕ, ◌≤◌, ◌+◌, ◌*◌, ◌/◌, ◌<◌, ℤ, pos, negsuc, ◌+ℤ◌, ◌-ℤ◌, ◌≤ℤ◌, ◌<ℤ◌, refl, arith, ints}
-use Rattle.rw_table.specs.Table.{Row, IsAbove}
-use Rattle.rw_table.specs.Line.{between, IsLastOnLine}
+use Rattle.rw_table.proofs.Common.{IsAbove, IsLastOnLine, Row, arith, between, ints, negsuc, pos, refl, ℕ, ℤ, ◌*◌, ◌+ℤ◌, ◌+◌, ◌-ℤ◌, ◌/◌, ◌<ℤ◌, ◌<◌, ◌≡◌, ◌≤ℤ◌, ◌≤◌}
 use Rattle.rw_table.proofs.Quotient.{share_below, share_rises}
 
 -- a number that isn't negative is a natural one

@@ -1,7 +1,6 @@
 -- The order of a table's rows, and what it gives the searches.
-use Rattle.rw_base.proofs.Common.{◌≡◌, ℕ, zero, suc, ◌<◌, ◌≤◌, ℤ, pos, ◌≤ℤ◌, ◌<ℤ◌, int_le, true, false, List, length, arith, inl, inr, slice_index_or, ints, cases_eq, get_or_default, IsPartitionedBy, IsPartitionPoint}
+use Rattle.rw_table.proofs.Common.{IsAbove, IsPartitionPoint, IsPartitionedBy, IsTable, List, Row, arith, cases_eq, false, get_or_default, inl, inr, int_le, ints, length, pos, row_at, slice_index_or, suc, true, zero, ℕ, ℤ, ◌<ℤ◌, ◌<◌, ◌≡◌, ◌≤ℤ◌, ◌≤◌}
 use Rattle.rw_table.proofs.Comparison.{le_passes}
-use Rattle.rw_table.specs.Table.{Row, row_at, IsAbove, IsTable}
 
 -- above what is above is above
 above_both : (low middle high : Row) → IsAbove middle low → IsAbove high middle → IsAbove high low

@@ -1,9 +1,6 @@
 -- The volume at an elevation in a table.
-use Rattle.rw_base.proofs.Common.{◌≡◌, ℕ, zero, suc, ◌-◌, ◌<◌, ℤ, ◌≤ℤ◌, ◌<ℤ◌, List, [], ◌∷◌, length, Option, Some, None, refl, ap, arith, ints}
+use Rattle.rw_table.proofs.Common.{IsElevationInside, IsTable, List, None, Option, Row, Some, [], ap, arith, between, first_row, ints, last_row, length, refl, row_at, suc, vol_of, zero, ℕ, ℤ, ◌-◌, ◌<ℤ◌, ◌<◌, ◌∷◌, ◌≡◌, ◌≤ℤ◌}
 use Rattle.rw_table.proofs.Chain.{chain, last, found, has_volume, volume_rises, volume_at_row, volume_between}
-use Rattle.rw_table.specs.Table.{Row, row_at, IsTable}
-use Rattle.rw_table.specs.Line.{between}
-use Rattle.rw_table.specs.Curve.{vol_of, first_row, last_row, IsElevationInside}
 
 -- the last row, by either name
 last_is : (low : Row) (rows : List Row) → last_row (low ∷ rows) ≡ last low rows

@@ -2,7 +2,7 @@
 pub use Rattle.rpl_parse.specs.Declarations.{IsReading, bad_declaration, bad_token, spelt, too_many}
 pub use Rattle.rpl_tree.specs.Tree.{Declared, function, rule}
 pub use Rattle.rpl_types.specs.Checked.{Checked, checked, declaration_from, declaration_of_rule, with_types}
-pub use Rattle.rw_base.proofs.Common.{IfSome, IsSome, MatchBool, [], ap₂, cases_lt, codes, common_steps, get_or, if◌then◌else◌, length, nat_tests, rules, slice_index_or, suc, take_all, zero, ◌-◌, ◌==◌, ◌∷◌}
+pub use Rattle.rw_base.proofs.Common.{Bool, Err, IfOk, IfSome, IsSome, IsSomeAnd, List, MatchBool, MatchResult, None, Ok, Option, Result, Some, [], ap, ap₂, arith, cases_lt, codes, common_steps, false, get_or, if◌then◌else◌, inl, inr, length, nat_tests, option_map, refl, rules, slice_index_or, string_bytes, subst, suc, sym, take_all, true, zero, ℕ, ℤ, ◌++◌, ◌+◌, ◌-◌, ◌<◌, ◌==◌, ◌↔◌, ◌∙◌, ◌∷◌, ◌≡◌, ◌≢◌, ◌≤◌, ◌⊎◌}
 pub use Rattle.rw_inputs.specs.Reading.{Reads, Refuses, read_records}
 pub use Rattle.rw_inputs.specs.declared.fault.InputFault.{InputFault}
 pub use Rattle.rw_io.proofs.KnownLemmas.{GrowsBy-trans, PrefixGrew-left, PrefixGrew-right}
@@ -14,8 +14,8 @@ pub use Rattle.rw_model_toml.specs.Model.{model_of}
 pub use Rattle.rw_model_toml.specs.Refusal.{ModelRefusal}
 pub use Rattle.rw_plain_reservoir.specs.Table.{IsFirstText}
 pub use Rattle.rw_report.specs.Section.{for_each, section_of, values_in}
-pub use Rattle.rw_run.specs.declared.run.RunEnd.{RunEnd}
 pub use Rattle.rw_run.specs.declared.run.RunEnd.TheVariants.{Fault, Settled}
+pub use Rattle.rw_run.specs.declared.run.RunEnd.{RunEnd}
 pub use Rattle.rw_series.specs.Series.{Series, held}
 pub use Rattle.rw_top.specs.Budgets.{counts_line, functions_in, line_if, rule_line, rules_in}
 pub use Rattle.rw_top.specs.Call.{Call}
@@ -29,4 +29,4 @@ pub use Rattle.rw_top.specs.Seen.{policy_of}
 pub use Rattle.rw_top.specs.Written.{HasCodeText, HasRunText, HasText, Tells, WritesAll, WritesFront, status_of_end}
 pub use Rattle.rw_top.specs.declared.refusal.File.{File}
 pub use Rattle.rw_top.specs.declared.refusal.Refusal.{Refusal}
-pub use Rattle.std.proofs.Common.{Bool, Err, IfOk, IsErrOf, IsSomeAnd, List, MatchResult, None, Ok, Option, Result, Some, ap, arith, false, inl, inr, option_map, refl, string_bytes, subst, sym, true, ℕ, ℤ, ◌++◌, ◌+◌, ◌<◌, ◌↔◌, ◌∙◌, ◌≡◌, ◌≢◌, ◌≤◌, ◌⊎◌}
+pub use Rattle.std.proofs.Common.{IsErrOf}

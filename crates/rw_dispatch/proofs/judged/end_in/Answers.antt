@@ -1,6 +1,5 @@
-use Rattle.std.proofs.Common.{ap, ap₂, ◌∙◌}
+use Rattle.rw_dispatch.proofs.Common.{ap, ap₂, held, ◌∙◌}
 use Rattle.rw_model.specs.Put.{end_of_put}
-use Rattle.rw_series.specs.Series.{held}
 use Rattle.rw_dispatch.proofs.judged.end_in.Goals as goal
 
 pub returns : goal.returns

@@ -1,6 +1,5 @@
-use Rattle.rw_base.proofs.Common.{◌≡◌, ◌+◌, ◌++◌, ◌∷◌, [], cond, drop, sym, ap, ◌∙◌, rules}
+use Rattle.rw_dispatch.proofs.Common.{[], ap, cond, drop, held, rules, sym, ◌++◌, ◌+◌, ◌∙◌, ◌∷◌, ◌≡◌}
 use Rattle.std.proofs.lemmas.List.{append-nil}
-use Rattle.rw_series.specs.Series.{held}
 use Rattle.rw_dispatch.proofs.Makes.{next-put}
 use Rattle.rw_dispatch.proofs.Judgement.{judging-more}
 use Rattle.rw_dispatch.proofs.judged.judge.Goals as goal

@@ -1,5 +1,4 @@
-use Rattle.std.proofs.Common.{drop}
-use Rattle.rw_series.specs.Series.{held}
+use Rattle.rw_dispatch.proofs.Common.{drop, held}
 use Rattle.rw_dispatch.proofs.Judgement.{IsJudging}
 use Rattle.rw_dispatch.proofs.judged.judge.Given as goal
 

@@ -1,7 +1,6 @@
-use Rattle.std.proofs.Common.{take}
+use Rattle.rw_dispatch.proofs.Common.{IsLeastAbove, take}
 use Rattle.rw_model.specs.Kept.{numbers_of}
 use Rattle.rw_run.specs.Waiting.{is_owner}
-use Rattle.rw_dispatch.specs.Owners.{IsLeastAbove}
 use Rattle.rw_dispatch.proofs.owners.nearest.Given as goal
 
 abbrev pub invariant-loop-slot : goal.invariant-loop-slot

@@ -1,6 +1,5 @@
-use Rattle.rw_base.proofs.Common.{ℕ, Bool, ◌==◌, ◌||◌, take, list_any}
+use Rattle.rw_dispatch.proofs.Common.{Bool, IsLeastAbove, list_any, take, ℕ, ◌==◌, ◌||◌}
 use Rattle.rw_model.proofs.Common.{owner_of, numbers_of}
-use Rattle.rw_dispatch.specs.Owners.{IsLeastAbove}
 use Rattle.rw_dispatch.proofs.owners.nearest_at.Given as goal
 
 abbrev pub invariant-loop-other : goal.invariant-loop-other

@@ -1,7 +1,4 @@
-use Rattle.std.proofs.Common.{◌≡◌, refl, sym, subst, ◌∙◌}
-use Rattle.rw_method.specs.View.{IsViewOf}
-use Rattle.rw_method.specs.declared.view.View.{View}
-use Rattle.rw_series.specs.Series.{held}
+use Rattle.rw_dispatch.proofs.Common.{IsViewOf, View, held, refl, subst, sym, ◌∙◌, ◌≡◌}
 use Rattle.rw_run.specs.Dispatch.{view_of}
 use Rattle.rw_dispatch.proofs.CanPuts.{are_puts, solved-is}
 use Rattle.rw_dispatch.proofs.Viewed.{IsViewOf-view, filled-view}

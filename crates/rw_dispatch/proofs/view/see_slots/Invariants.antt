@@ -1,5 +1,4 @@
-use Rattle.rw_base.proofs.Common.{◌≡◌, pos, None}
-use Rattle.rw_series.specs.Series.{held}
+use Rattle.rw_dispatch.proofs.Common.{None, held, pos, ◌≡◌}
 use Rattle.rw_run.specs.Dispatch.{bounds_in_place, content_in}
 use Rattle.rw_dispatch.proofs.Filling.{filled}
 use Rattle.rw_dispatch.proofs.view.see_slots.Given as goal

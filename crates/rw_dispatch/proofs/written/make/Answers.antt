@@ -1,5 +1,4 @@
-use Rattle.rw_base.proofs.Common.{◌≡◌, ◌+◌, ◌∷◌, [], sym, ap, ◌∙◌, Option, Some, None, refl, drop, option_or}
-use Rattle.rw_series.specs.Series.{held}
+use Rattle.rw_dispatch.proofs.Common.{None, Option, Some, [], ap, drop, held, option_or, refl, sym, ◌+◌, ◌∙◌, ◌∷◌, ◌≡◌}
 use Rattle.rw_run.proofs.Common.{last_put, asked_by, asked_for}
 use Rattle.rw_dispatch.proofs.Makes.{next-put}
 use Rattle.rw_dispatch.proofs.written.make.Goals as goal

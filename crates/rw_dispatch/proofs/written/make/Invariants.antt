@@ -1,7 +1,5 @@
-use Rattle.std.proofs.Common.{drop}
-use Rattle.rw_series.specs.Series.{held}
+use Rattle.rw_dispatch.proofs.Common.{IsHeldIn, drop, held}
 use Rattle.rw_run.specs.Dispatch.{asked_for}
-use Rattle.rw_dispatch.specs.Stage.{IsHeldIn}
 use Rattle.rw_dispatch.proofs.Makes.{IsPutting}
 use Rattle.rw_dispatch.proofs.written.make.Given as goal
 

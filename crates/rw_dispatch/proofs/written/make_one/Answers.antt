@@ -1,8 +1,5 @@
-use Rattle.std.proofs.Common.{ap₂, ◌∙◌, Some, if◌then◌else◌}
-use Rattle.rw_base.specs.declared.number.Cell.{Cell}
-use Rattle.rw_model.specs.declared.content.Content.{Content}
+use Rattle.rw_dispatch.proofs.Common.{Cell, Content, Some, ap₂, held, if◌then◌else◌, is_shared, ◌∙◌}
 use Rattle.rw_run.specs.Dispatch.{asked_by}
-use Rattle.rw_series.specs.Series.{held, is_shared}
 use Rattle.rw_dispatch.proofs.Makes.{put-set, AreBounded-set}
 use Rattle.rw_dispatch.proofs.written.make_one.Goals as goal
 

@@ -1,5 +1,4 @@
-use Rattle.rw_base.proofs.Common.{◌≡◌, ◌++◌, drop, length, All, take}
-use Rattle.rw_base.specs.declared.number.SlotNo.{SlotNo}
+use Rattle.rw_dispatch.proofs.Common.{All, SlotNo, drop, length, take, ◌++◌, ◌≡◌}
 use Rattle.rw_model.proofs.Common.{IsSlot, numbers_of}
 use Rattle.rw_run.proofs.Common.{slots_at, asked_for}
 use Rattle.rw_dispatch.proofs.written.slots_of.Given as goal

@@ -1,6 +1,4 @@
-use Rattle.std.proofs.Common.{◌≡◌, ap, ◌∙◌, arith}
-use Rattle.rw_run.proofs.Common.{cells_of, placed}
-use Rattle.rw_engine.specs.Givens.{givens_to}
+use Rattle.rw_engine.proofs.Common.{ap, arith, cells_of, givens_to, placed, ◌∙◌, ◌≡◌}
 use Rattle.rw_engine.proofs.Places.{slot-more}
 use Rattle.rw_engine.proofs.placing.place.Goals as goal
 

@@ -1,6 +1,4 @@
-use Rattle.rw_run.proofs.Common.{Log, placed}
-use Rattle.rw_dispatch.specs.Stage.{IsHeldIn}
-use Rattle.rw_engine.specs.Givens.{givens_to, HoldsAll}
+use Rattle.rw_engine.proofs.Common.{HoldsAll, IsHeldIn, Log, givens_to, placed}
 use Rattle.rw_engine.proofs.placing.place.Given as goal
 
 abbrev pub invariant-loop-before : goal.invariant-loop-before

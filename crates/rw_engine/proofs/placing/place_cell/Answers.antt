@@ -1,7 +1,4 @@
-use Rattle.rw_base.proofs.Common.{[], ◌∷◌, sym, ap, ◌∙◌, option_or}
-use Rattle.rw_dispatch.proofs.Makes.{put-set}
-use Rattle.rw_run.proofs.Common.{last_put, cells_of, input_content, placed}
-use Rattle.rw_engine.specs.Givens.{if_given}
+use Rattle.rw_engine.proofs.Common.{[], ap, cells_of, if_given, input_content, last_put, option_or, placed, put-set, sym, ◌∙◌, ◌∷◌}
 use Rattle.rw_engine.proofs.Places.{given-bounded}
 use Rattle.rw_engine.proofs.placing.place_cell.Goals as goal
 

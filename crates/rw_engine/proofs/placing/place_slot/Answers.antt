@@ -1,7 +1,4 @@
-use Rattle.std.proofs.Common.{◌≡◌, ap, ◌∙◌, arith}
-use Rattle.rw_model.specs.declared.control.RunControl.{RunControl}
-use Rattle.rw_run.proofs.Common.{cells_of, placed}
-use Rattle.rw_engine.specs.Givens.{givens_of}
+use Rattle.rw_engine.proofs.Common.{RunControl, ap, arith, cells_of, givens_of, placed, ◌∙◌, ◌≡◌}
 use Rattle.rw_engine.proofs.Places.{one-more}
 use Rattle.rw_engine.proofs.placing.place_slot.Goals as goal
 

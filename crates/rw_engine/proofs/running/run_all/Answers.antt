@@ -1,5 +1,4 @@
-use Rattle.std.proofs.Common.{◌≡◌, ◌<◌, ◌+◌, ◌∷◌, ap, arith}
-use Rattle.rw_model.specs.declared.control.RunControl.{RunControl}
+use Rattle.rw_engine.proofs.Common.{RunControl, ap, arith, ◌+◌, ◌<◌, ◌∷◌, ◌≡◌}
 use Rattle.rw_engine.proofs.Runs.{stands_first, before_step, stands_next, comes_settled, comes_faulted}
 use Rattle.rw_engine.proofs.running.run_all.Goals as goal
 

@@ -1,5 +1,4 @@
-use Rattle.rw_engine.specs.Shows.{IsEngineOf}
-use Rattle.rw_engine.specs.Passing.{Stands}
+use Rattle.rw_engine.proofs.Common.{IsEngineOf, Stands}
 use Rattle.rw_engine.proofs.running.run_all.Given as goal
 
 abbrev pub invariant-loop-before : goal.invariant-loop-before

@@ -1,5 +1,4 @@
-use Rattle.std.proofs.Common.{◌≡◌, ◌++◌, map, take}
-use Rattle.rw_engine.specs.Lines.{line_by, Grows}
+use Rattle.rw_engine.proofs.Common.{Grows, line_by, map, take, ◌++◌, ◌≡◌}
 use Rattle.rw_engine.proofs.trace_lines.tell_puts.Given as goal
 
 abbrev pub invariant-loop-put : goal.invariant-loop-put

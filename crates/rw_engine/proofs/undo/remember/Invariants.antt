@@ -1,7 +1,4 @@
-use Rattle.rw_base.proofs.Common.{◌≡◌, ◌++◌, All, range_with_len}
-use Rattle.rw_series.specs.Series.{held, IsCell}
-use Rattle.rw_engine.specs.declared.undo.Undone.{Undone}
-use Rattle.rw_engine.specs.Undone.{undone_in}
+use Rattle.rw_engine.proofs.Common.{All, IsCell, Undone, held, range_with_len, undone_in, ◌++◌, ◌≡◌}
 use Rattle.rw_engine.proofs.undo.remember.Given as goal
 
 abbrev pub invariant-loop-place : goal.invariant-loop-place

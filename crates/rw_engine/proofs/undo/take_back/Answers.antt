@@ -1,6 +1,4 @@
-use Rattle.rw_base.proofs.Common.{◌≡◌, ◌++◌, ◌∷◌, [], subst, ◌∙◌, All}
-use Rattle.rw_series.specs.Series.{held, IsCell}
-use Rattle.rw_engine.specs.declared.undo.Undone.{Undone}
+use Rattle.rw_engine.proofs.Common.{All, IsCell, Undone, [], held, subst, ◌++◌, ◌∙◌, ◌∷◌, ◌≡◌}
 use Rattle.rw_engine.proofs.TakenBack.{taken_back-last, all-first, all-last}
 use Rattle.rw_engine.proofs.undo.take_back.Goals as goal
 

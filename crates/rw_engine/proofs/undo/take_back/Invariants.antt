@@ -1,8 +1,4 @@
-use Rattle.rw_base.proofs.Common.{◌≡◌, length, All}
-use Rattle.rw_base.specs.declared.number.Cell.{Cell}
-use Rattle.rw_series.specs.Series.{held, IsCell, IsSeriesOf}
-use Rattle.rw_engine.specs.declared.undo.Undone.{Undone}
-use Rattle.rw_engine.specs.Undone.{taken_back}
+use Rattle.rw_engine.proofs.Common.{All, Cell, IsCell, IsSeriesOf, Undone, held, length, taken_back, ◌≡◌}
 use Rattle.rw_engine.proofs.undo.take_back.Given as goal
 
 abbrev pub invariant-loop-undone : goal.invariant-loop-undone

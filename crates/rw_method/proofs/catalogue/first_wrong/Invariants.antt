@@ -1,5 +1,4 @@
-use Rattle.std.proofs.Common.{◌≡◌, ◌+◌, map, drop}
-use Rattle.rw_method.specs.Catalogue.{first_wrong}
+use Rattle.rw_method.proofs.Common.{drop, first_wrong, map, ◌+◌, ◌≡◌}
 use Rattle.rw_method.proofs.catalogue.first_wrong.Given as goal
 
 abbrev pub invariant-loop-method : goal.invariant-loop-method

@@ -1,11 +1,5 @@
-use Rattle.rw_base.proofs.Common.{◌≡◌, ◌∙◌, refl, arith, rules, ℕ, ℤ, Bool, false, List, ◌++◌, None, FitsSigned, w128, to_z-of_z, All}
-use Rattle.rw_method.specs.declared.put.Put.{Put}
-use Rattle.rw_method.specs.declared.view.View.{View}
-use Rattle.rw_method.specs.declared.balanced.Balanced.{Balanced}
-use Rattle.rw_method.specs.declared.balanced.Balanced.TheVariants.{Solves}
+use Rattle.rw_method.proofs.Common.{All, Balanced, Bool, FitsSigned, List, None, Put, Solves, View, answer, arith, false, is_bounded, put, refl, rules, solved_put, to_z-of_z, w128, ℕ, ℤ, ◌++◌, ◌∙◌, ◌≡◌}
 use Rattle.rw_method.specs.declared.solved.Solved.TheVariants.{OutOfRange}
-use Rattle.rw_method.specs.Puts.{put, is_bounded, solved_put}
-use Rattle.rw_method.specs.Solve.{answer}
 use Rattle.rw_method.proofs.puts.begin_puts.Goals as goal
 
 -- a solved term that doesn't fit is the answer, whatever else would be put

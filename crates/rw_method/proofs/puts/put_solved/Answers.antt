@@ -1,6 +1,4 @@
-use Rattle.rw_base.proofs.Common.{refl, []}
-use Rattle.std.proofs.lemmas.List.{append-nil}
-use Rattle.rw_method.specs.Puts.{is_bounded, solved_put}
+use Rattle.rw_method.proofs.Common.{[], append-nil, is_bounded, refl, solved_put}
 use Rattle.rw_method.proofs.puts.put_solved.Goals as goal
 
 pub returns-in-Err : goal.returns-in-Err

@@ -1,5 +1,4 @@
-use Rattle.std.proofs.Common.{◌≡◌, drop, max}
-use Rattle.rw_method.specs.Settling.{greatest_beside}
+use Rattle.rw_method.proofs.Common.{drop, greatest_beside, max, ◌≡◌}
 use Rattle.rw_method.proofs.settling.greatest_beside.Given as goal
 
 abbrev pub invariant-loop-term : goal.invariant-loop-term

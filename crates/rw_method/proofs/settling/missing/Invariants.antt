@@ -1,5 +1,4 @@
-use Rattle.std.proofs.Common.{◌≡◌, ◌+◌, ◌≤◌, drop}
-use Rattle.rw_method.specs.Settling.{missing}
+use Rattle.rw_method.proofs.Common.{drop, missing, ◌+◌, ◌≡◌, ◌≤◌}
 use Rattle.rw_method.proofs.settling.missing.Given as goal
 
 abbrev pub invariant-loop-term : goal.invariant-loop-term

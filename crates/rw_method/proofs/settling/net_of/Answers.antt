@@ -1,7 +1,4 @@
-use Rattle.rw_base.proofs.Common.{rules, arith, ◌≡◌, ℕ, ◌+◌, ◌<◌, ℤ, ◌+ℤ◌, List, length, drop, get_or, drop-cons, add-one, FitsSigned, w128, ints, to_z-of_z}
-use Rattle.rw_method.specs.declared.term.Term.{Term}
-use Rattle.rw_method.specs.Term.{brought_by, IsWithin}
-use Rattle.rw_method.specs.Settling.{net_of}
+use Rattle.rw_method.proofs.Common.{FitsSigned, IsWithin, List, Term, add-one, arith, brought_by, drop, drop-cons, get_or, ints, length, net_of, rules, to_z-of_z, w128, ℕ, ℤ, ◌+ℤ◌, ◌+◌, ◌<◌, ◌≡◌}
 use Rattle.rw_method.proofs.settling.net_of.Goals as goal
 
 -- what is left, once the next term is counted

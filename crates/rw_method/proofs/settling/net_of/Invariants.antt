@@ -1,6 +1,4 @@
-use Rattle.rw_base.proofs.Common.{◌≡◌, drop, ◌+ℤ◌}
-use Rattle.rw_method.specs.Term.{IsWithin}
-use Rattle.rw_method.specs.Settling.{net_of}
+use Rattle.rw_method.proofs.Common.{IsWithin, drop, net_of, ◌+ℤ◌, ◌≡◌}
 use Rattle.rw_method.proofs.settling.net_of.Given as goal
 
 abbrev pub invariant-loop-term : goal.invariant-loop-term

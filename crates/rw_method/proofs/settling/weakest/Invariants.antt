@@ -1,5 +1,4 @@
-use Rattle.std.proofs.Common.{◌≡◌, drop}
-use Rattle.rw_method.specs.Settling.{weakest}
+use Rattle.rw_method.proofs.Common.{drop, weakest, ◌≡◌}
 use Rattle.rw_method.proofs.settling.weakest.Given as goal
 
 abbrev pub invariant-loop-term : goal.invariant-loop-term

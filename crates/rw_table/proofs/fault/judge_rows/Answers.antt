@@ -1,6 +1,4 @@
-use Rattle.std.proofs.Common.{subst}
-use Rattle.rw_base.specs.Answers.{Finds}
-use Rattle.rw_table.specs.Table.{refusal_of, row_refusal}
+use Rattle.rw_table.proofs.Common.{Finds, refusal_of, row_refusal, subst}
 use Rattle.rw_table.proofs.Judgement.{first-here, next-none}
 use Rattle.rw_table.proofs.fault.judge_rows.Goals as goal
 

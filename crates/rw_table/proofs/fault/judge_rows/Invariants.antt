@@ -1,5 +1,4 @@
-use Rattle.std.proofs.Common.{◌≡◌, None}
-use Rattle.rw_table.specs.Table.{rows_refusal}
+use Rattle.rw_table.proofs.Common.{None, rows_refusal, ◌≡◌}
 use Rattle.rw_table.proofs.fault.judge_rows.Given as goal
 
 abbrev pub invariant-loop-place : goal.invariant-loop-place

@@ -1,5 +1,4 @@
-use Rattle.rw_base.proofs.Common.{◌≡◌, pos, ◌-◌, ◌<◌, ◌<ℤ◌, w64, of_z, FitsSigned, Some, sym, ap, ◌∙◌, length, arith, rules, inl, inr, ints, to_z-of_z}
-use Rattle.rw_table.specs.Table.{row_at}
+use Rattle.rw_table.proofs.Common.{FitsSigned, Some, ap, arith, inl, inr, ints, length, of_z, pos, row_at, rules, sym, to_z-of_z, w64, ◌-◌, ◌<ℤ◌, ◌<◌, ◌∙◌, ◌≡◌}
 use Rattle.rw_table.proofs.Comparison.{below_or_not}
 use Rattle.rw_table.proofs.Volume.{volume_before, volume_after, line_volume, volume_of_row}
 use Rattle.rw_table.proofs.lookup.volume_at.Goals as goal

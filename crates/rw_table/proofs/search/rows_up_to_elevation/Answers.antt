@@ -1,5 +1,4 @@
-use Rattle.rw_base.proofs.Common.{rules, of_calls, int_le, always_returns_same}
-use Rattle.rw_table.specs.Table.{Row}
+use Rattle.rw_table.proofs.Common.{Row, always_returns_same, int_le, of_calls, rules}
 use Rattle.rw_table.proofs.Order.{elevations_rise, parted, parted_at}
 use Rattle.rw_table.proofs.search.rows_up_to_elevation.Goals as goal
 

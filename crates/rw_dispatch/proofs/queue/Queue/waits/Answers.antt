@@ -1,6 +1,5 @@
-use Rattle.rw_base.proofs.Common.{arith, ◌∙◌, ap, ◌-◌, ◌<◌, length, false, get_or_default}
+use Rattle.rw_dispatch.proofs.Common.{Queue, ap, arith, false, get_or_default, length, ◌-◌, ◌<◌, ◌∙◌}
 use Rattle.rw_dispatch.proofs.Queues.{waits_is}
-use Rattle.rw_dispatch.specs.Queue.{Queue}
 use Rattle.rw_dispatch.proofs.queue.Queue.waits.Goals as goal
 
 pub returns : goal.returns

@@ -1,5 +1,4 @@
-use Rattle.rw_base.proofs.Common.{rules, ◌∙◌, ap, length, option_map}
-use Rattle.rw_base.specs.declared.number.ObjectNo.{ObjectNo}
+use Rattle.rw_dispatch.proofs.Common.{ObjectNo, ap, length, option_map, rules, ◌∙◌}
 use Rattle.rw_model.specs.Kept.{numbers_of}
 use Rattle.rw_run.specs.Waiting.{is_woken}
 use Rattle.rw_dispatch.proofs.Queues.{woken-later, woken-free, woken-unowned, next_passed, none_left}

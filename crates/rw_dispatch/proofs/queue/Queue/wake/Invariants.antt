@@ -1,5 +1,4 @@
-use Rattle.rw_base.proofs.Common.{◌≡◌, ◌≤◌, ◌++◌, ◌-◌, length, option_map, filter}
-use Rattle.rw_base.specs.declared.number.ObjectNo.{ObjectNo}
+use Rattle.rw_dispatch.proofs.Common.{ObjectNo, filter, length, option_map, ◌++◌, ◌-◌, ◌≡◌, ◌≤◌}
 use Rattle.rw_model.specs.Kept.{numbers_of}
 use Rattle.rw_run.specs.Waiting.{is_woken, numbers}
 use Rattle.rw_dispatch.proofs.queue.Queue.wake.Given as goal

@@ -1,5 +1,4 @@
-use Rattle.rw_base.proofs.Common.{sym, refl, range_with_len}
-use Rattle.rw_series.specs.Series.{held}
+use Rattle.rw_engine.proofs.Common.{held, range_with_len, refl, sym}
 use Rattle.rw_run.specs.Dispatch.{dispatched, looks_of}
 use Rattle.rw_engine.proofs.After.{counted, keeps_noted, keeps_done, keeps_ended, on_the_way}
 use Rattle.rw_engine.proofs.Events.{next_is, goes_to}

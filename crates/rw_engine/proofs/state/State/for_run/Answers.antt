@@ -1,5 +1,4 @@
-use Rattle.std.proofs.Common.{refl, sym, [], ◌∙◌}
-use Rattle.rw_engine.specs.Givens.{givens}
+use Rattle.rw_engine.proofs.Common.{[], givens, refl, sym, ◌∙◌}
 use Rattle.rw_engine.proofs.Starts.{trace-placed, closed-placed, end-placed}
 use Rattle.rw_engine.proofs.state.State.for_run.Goals as goal
 

@@ -1,6 +1,5 @@
-use Rattle.rw_base.proofs.Common.{refl, rules, sym, subst, ◌∙◌, All-nil}
+use Rattle.rw_engine.proofs.Common.{All-nil, AreCells, refl, rules, subst, sym, ◌∙◌}
 use Rattle.rw_run.proofs.Ready.{all_waiting-ready, AreReady}
-use Rattle.rw_engine.specs.Undone.{AreCells}
 use Rattle.rw_engine.proofs.Starts.{settled_at_rest}
 use Rattle.rw_engine.proofs.Steps.{opens_step}
 use Rattle.rw_engine.proofs.state.State.open.Goals as goal

@@ -1,8 +1,5 @@
-use Rattle.std.proofs.Common.{◌∷◌}
+use Rattle.rw_engine.proofs.Common.{IsBefore, IsRevocable, IsStill, IsWithinStep, Reached, Shows, room, seen, ◌∷◌}
 use Rattle.rw_run.specs.Log.{Log, opened}
-use Rattle.rw_engine.specs.Counts.{room}
-use Rattle.rw_engine.specs.Shows.{Shows, IsBefore}
-use Rattle.rw_engine.specs.State.{seen, IsRevocable, IsStill, IsWithinStep, Reached}
 use Rattle.rw_engine.proofs.state.State.pass.Given as goal
 
 abbrev pub invariant-loop-end : goal.invariant-loop-end

@@ -1,5 +1,4 @@
-use Rattle.rw_base.proofs.Common.{◌≡◌, ◌∙◌, ap, sym, arith, ℕ, zero, suc, ◌+◌, ◌-◌, ◌<◌, ◌≤◌, rules, List, [], ◌∷◌, map, length, get_or, None, common_steps}
-use Rattle.rw_method.specs.Catalogue.{first_wrong}
+use Rattle.rw_method.proofs.Common.{List, None, [], ap, arith, common_steps, first_wrong, get_or, length, map, rules, suc, sym, zero, ℕ, ◌+◌, ◌-◌, ◌<◌, ◌∙◌, ◌∷◌, ◌≡◌, ◌≤◌}
 use Rattle.rw_method.proofs.catalogue.Catalogue.solve.Goals as goal
 
 -- where the first place is right, so are the others

@@ -1,0 +1,15 @@
+-- The names that proofs cite, passed on from one place. Declares nothing.
+pub use Rattle.rw_base.proofs.Common.{All, All-push, Any-from_list_any, Bool, IfSome, IsSome, List, None, Option, Some, [], add-one, and_parts, ap, append-nil, append_assoc, ap₂, arith, cond, drop, drop-cons, eqb-true, false, filter, filter-append, get_or, get_or-map-range_with_len, get_or_default, if◌then◌else◌, int_le, ints, length, list_any, list_any_more, map, map-append, nat_eq, nat_lt, nat_tests, not, option_and_then, option_map, option_or, pos, refl, rules, set, slice_get, slice_index_or, subst, suc, sym, take, take_all, true, unwrap_or, zero, ℕ, ℤ, ◌&&◌, ◌++◌, ◌+◌, ◌-◌, ◌<◌, ◌==◌, ◌||◌, ◌∙◌, ◌∷◌, ◌≡◌, ◌≤ℤ◌, ◌≤◌}
+pub use Rattle.rw_base.specs.declared.number.Cell.{Cell}
+pub use Rattle.rw_base.specs.declared.number.ObjectNo.{ObjectNo}
+pub use Rattle.rw_base.specs.declared.number.SlotNo.{SlotNo}
+pub use Rattle.rw_dispatch.specs.Owners.{IsLeastAbove}
+pub use Rattle.rw_dispatch.specs.Putting.{ArePuts, CanPut, IsPassed}
+pub use Rattle.rw_dispatch.specs.Queue.{KeepsQueue, Queue, is_marked, unmarked}
+pub use Rattle.rw_dispatch.specs.Stage.{AreBounded, IsHeldIn}
+pub use Rattle.rw_method.specs.View.{IsBounded, IsViewOf, bounds_at, is_between, known, known_value}
+pub use Rattle.rw_method.specs.declared.put.Put.{Put}
+pub use Rattle.rw_method.specs.declared.view.View.{View}
+pub use Rattle.rw_model.specs.declared.content.Content.{Content}
+pub use Rattle.rw_model.specs.declared.kind.Kind.{Kind}
+pub use Rattle.rw_series.specs.Series.{Series, Sets, held, is_shared}

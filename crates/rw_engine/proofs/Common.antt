@@ -1,0 +1,28 @@
+-- The names that proofs cite, passed on from one place. Declares nothing.
+pub use Rattle.rw_base.proofs.Common.{All, All-cons, All-head, All-nil, All-tail, Bool, IsSome, IsTrue, List, None, Ok, Option, Some, [], ap, append-nil, append_assoc, ap₂, arith, cons_option, false, filter_map, filter_map-append, get_or, if◌then◌else◌, length, length-set, list_any, map, nat_le, nat_lt, nat_tests, none-some, option_map, option_or, range_with_len, refl, rules, same_Some, set, subst, suc, sym, take, true, unwrap_or, zero, ℕ, ℤ, ◌++◌, ◌+◌, ◌-◌, ◌<◌, ◌==◌, ◌||◌, ◌∙◌, ◌∷◌, ◌≡◌, ◌≤◌}
+pub use Rattle.rw_base.specs.declared.number.Cell.{Cell}
+pub use Rattle.rw_dispatch.proofs.Makes.{AreBounded-put, put-set}
+pub use Rattle.rw_dispatch.specs.Answer.{Tells, event_of, written_in}
+pub use Rattle.rw_dispatch.specs.Stage.{AreBounded, IsHeldIn, IsStageOf, Leaves, stage}
+pub use Rattle.rw_dispatch.specs.Turn.{IsStep}
+pub use Rattle.rw_dispatch.specs.declared.dispatched.Dispatched.{Dispatched}
+pub use Rattle.rw_engine.specs.Counts.{IsCounted, count_of, raised, room}
+pub use Rattle.rw_engine.specs.Engine.{Engine}
+pub use Rattle.rw_engine.specs.Givens.{HoldsAll, givens, givens_of, givens_to, if_given}
+pub use Rattle.rw_engine.specs.Lines.{Grows, fault_by, line_by, lines_by}
+pub use Rattle.rw_engine.specs.Passing.{ComesTo, Passes, Stands}
+pub use Rattle.rw_engine.specs.Shows.{IsBefore, IsEngineOf, Shows}
+pub use Rattle.rw_engine.specs.State.{Goes, GoesTo, HoldsWithin, IsOnTheWay, IsRevocable, IsStill, IsWithinStep, Keeps, Reached, end_by, ended_by, seen}
+pub use Rattle.rw_engine.specs.Undone.{AreCells, taken_back, undone_at, undone_in}
+pub use Rattle.rw_engine.specs.declared.state.State.{State}
+pub use Rattle.rw_engine.specs.declared.undo.Undone.{Undone}
+pub use Rattle.rw_inputs.specs.Inputs.{Inputs, IsInputsOf, value_at}
+pub use Rattle.rw_method.specs.declared.put.Put.{Put}
+pub use Rattle.rw_model.specs.Draft.{Draft, IsObject}
+pub use Rattle.rw_model.specs.declared.control.RunControl.{RunControl}
+pub use Rattle.rw_run.proofs.Common.{AreReady, Asked, Cells, Event, IsOver, IsRunOf, Leads, Log, Policy, all_waiting, asked_by, asked_for, cell_at, cell_in, cells_of, closed, count_if, dispatched, dispatches, end_of, fault, first_of, follows, follows_in, given, held_after, idles, input_content, inside, last_closed, last_put, line_of, lines, looks_of, next, next_of, no_rules, opened, opens, placed, places, queued_after, queued_after-ready, rests, solves, standing, trace_of, waiting, written_by}
+pub use Rattle.rw_run.specs.declared.fault.RunFault.{RunFault}
+pub use Rattle.rw_run.specs.declared.run.RunEnd.TheVariants.{Fault, Settled}
+pub use Rattle.rw_series.specs.Series.{IsCell, IsSeriesOf, Series, Sets, held, is_shared}
+pub use Rattle.rw_series.specs.declared.look.Look.{Look}
+pub use Rattle.std.proofs.Math.Numerals.{add-one}
