@@ -1,11 +1,10 @@
 //! Answers of quantities, dimensions and words for units.
+use crate::shared::none_is_wrong;
 use rw_base::{ArithFault, Dim, Qty, unit_of};
-use std::process::Abort;
-use std::test::Fail;
 
 const Q: i64 = 100_000_000_000_000_000;
 
-#[derive(Clone, Copy, Debug)]
+#[derive(Clone, Copy)]
 enum Op {
     Add,
     Sub,
@@ -22,29 +21,16 @@ fn answer(op: Op, a: Qty, b: Qty) -> Result<Qty, ArithFault> {
     }
 }
 
-fn value(answer: Result<Qty, ArithFault>) -> Result<i64, ArithFault> {
-    match answer {
-        Ok(q) => Ok(q.get()),
-        Err(fault) => Err(fault),
+// Whether that is what the operation answers of the two quantities.
+fn is_answer(op: Op, a: i64, b: i64, want: Result<i64, ArithFault>) -> bool {
+    let (Some(first), Some(second)) = (Qty::of(a), Qty::of(b)) else {
+        return false;
+    };
+    match (answer(op, first, second), want) {
+        (Ok(found), Ok(value)) => found.get() == value,
+        (Err(found), Err(fault)) => found == fault,
+        _ => false,
     }
-}
-
-// Checks what the operation answers of the two quantities.
-fn answers(
-    rt: &impl Abort,
-    op: Op,
-    a: i64,
-    b: i64,
-    want: Result<i64, ArithFault>,
-) -> Result<(), Fail> {
-    let first = Qty::of(a).ok_or("no quantity")?;
-    let second = Qty::of(b).ok_or("no quantity")?;
-    assert_eq!(rt;
-        value(answer(op, first, second)),
-        want,
-        "{op:?} of {a} and {b}"
-    );
-    Ok(())
 }
 
 // An operation, its two quantities, and its answer.
@@ -118,12 +104,19 @@ const ANSWERS: &[(Op, i64, i64, Result<i64, ArithFault>)] = &[
     ),
 ];
 
-#[test]
-fn answers_are_exact_or_have_no_place(rt: HostRuntime) -> Result<(), Fail> {
-    for (op, a, b, want) in ANSWERS {
-        answers(&rt, *op, *a, *b, *want)?;
+fn first_wrong_answer(rows: &[(Op, i64, i64, Result<i64, ArithFault>)]) -> Option<usize> {
+    for k in 0..rows.len() {
+        let (op, a, b, want) = rows[k];
+        if !is_answer(op, a, b, want) {
+            return Some(k);
+        }
     }
-    Ok(())
+    None
+}
+
+#[test]
+fn answers_are_exact_or_have_no_place(rt: HostRuntime) {
+    none_is_wrong(&rt, first_wrong_answer(ANSWERS));
 }
 
 // Values, and whether they are quantities.
@@ -137,12 +130,26 @@ const BOUNDS: &[(i64, bool)] = &[
     (i64::MIN, false),
 ];
 
+fn is_bounded(value: i64, is_quantity: bool) -> bool {
+    match Qty::of(value) {
+        Some(found) => is_quantity && found.get() == value,
+        None => !is_quantity,
+    }
+}
+
+fn first_wrong_bound(rows: &[(i64, bool)]) -> Option<usize> {
+    for k in 0..rows.len() {
+        let (value, is_quantity) = rows[k];
+        if !is_bounded(value, is_quantity) {
+            return Some(k);
+        }
+    }
+    None
+}
+
 #[test]
 fn quantities_end_at_their_bounds(rt: HostRuntime) {
-    for (v, want) in BOUNDS {
-        let found = Qty::of(*v).map(Qty::get);
-        assert_eq!(rt; found, if *want { Some(*v) } else { None }, "at {v}");
-    }
+    none_is_wrong(&rt, first_wrong_bound(BOUNDS));
 }
 
 // Words for units, and their exponents of volume, length, step and energy and their factors.
@@ -164,14 +171,29 @@ const UNITS: &[(&str, Option<(i8, i8, i8, i8, i64)>)] = &[
     (" m3", None),
 ];
 
+fn is_unit(word: &str, want: Option<(i8, i8, i8, i8, i64)>) -> bool {
+    match (unit_of(word), want) {
+        (Some((dim, factor)), Some(row)) => {
+            (dim.volume, dim.length, dim.step, dim.energy, factor) == row
+        }
+        (None, None) => true,
+        _ => false,
+    }
+}
+
+fn first_wrong_unit(rows: &[(&str, Option<(i8, i8, i8, i8, i64)>)]) -> Option<usize> {
+    for k in 0..rows.len() {
+        let (word, want) = rows[k];
+        if !is_unit(word, want) {
+            return Some(k);
+        }
+    }
+    None
+}
+
 #[test]
 fn unit_words_have_their_rows(rt: HostRuntime) {
-    for (word, want) in UNITS {
-        let found = unit_of(*word).map(|(dim, factor)| (
-            dim.volume, dim.length, dim.step, dim.energy, factor,
-        ));
-        assert_eq!(rt; found, *want, "at {word}");
-    }
+    none_is_wrong(&rt, first_wrong_unit(UNITS));
 }
 
 // Exponents of 1, and exponents that are too far from 0.
@@ -179,37 +201,69 @@ const ONES: &[(i8, i8, i8, i8)] = &[(1, 0, 0, 0), (0, 1, 0, 0), (0, 0, 1, 0), (0
 
 const OVER: &[i8] = &[-128, -7, 7, 127];
 
-fn dim(rt: &impl Abort, volume: i8, length: i8, step: i8, energy: i8) -> Dim {
-    Dim::of(volume, length, step, energy).expect(rt, "a dimension")
+fn ends_have_products() -> bool {
+    let (Some(most), Some(least), Some(plain)) = (
+        Dim::of(6, 6, 6, 6),
+        Dim::of(-6, -6, -6, -6),
+        Dim::of(0, 0, 0, 0),
+    ) else {
+        return false;
+    };
+    most.times(least) == Some(plain)
+        && plain.per(most) == Some(least)
+        && plain.per(least) == Some(most)
 }
 
 #[test]
 fn products_and_quotients_have_exponents(rt: HostRuntime) {
-    let most = dim(&rt, 6, 6, 6, 6);
-    let least = dim(&rt, -6, -6, -6, -6);
-    let plain = dim(&rt, 0, 0, 0, 0);
-    assert_eq!(rt; most.times(least), Some(plain));
-    assert_eq!(rt; plain.per(most), Some(least));
-    assert_eq!(rt; plain.per(least), Some(most));
+    assert!(rt; ends_have_products());
+}
+
+// Whether these exponents can neither be added to the greatest ones nor taken from the least ones.
+fn leads_beyond_ends(volume: i8, length: i8, step: i8, energy: i8) -> bool {
+    let (Some(most), Some(least), Some(one)) = (
+        Dim::of(6, 6, 6, 6),
+        Dim::of(-6, -6, -6, -6),
+        Dim::of(volume, length, step, energy),
+    ) else {
+        return false;
+    };
+    most.times(one).is_none() && least.per(one).is_none()
+}
+
+fn first_within_ends(rows: &[(i8, i8, i8, i8)]) -> Option<usize> {
+    for k in 0..rows.len() {
+        let (volume, length, step, energy) = rows[k];
+        if !leads_beyond_ends(volume, length, step, energy) {
+            return Some(k);
+        }
+    }
+    None
 }
 
 #[test]
 fn exponents_end_at_six(rt: HostRuntime) {
-    let most = dim(&rt, 6, 6, 6, 6);
-    let least = dim(&rt, -6, -6, -6, -6);
-    for (volume, length, step, energy) in ONES {
-        let one = dim(&rt, *volume, *length, *step, *energy);
-        assert_eq!(rt; most.times(one), None);
-        assert_eq!(rt; least.per(one), None);
+    none_is_wrong(&rt, first_within_ends(ONES));
+}
+
+// Whether no dimension has that for one of its exponents.
+fn is_no_exponent(over: i8) -> bool {
+    Dim::of(over, 0, 0, 0).is_none()
+        && Dim::of(0, over, 0, 0).is_none()
+        && Dim::of(0, 0, over, 0).is_none()
+        && Dim::of(0, 0, 0, over).is_none()
+}
+
+fn first_exponent(rows: &[i8]) -> Option<usize> {
+    for k in 0..rows.len() {
+        if !is_no_exponent(rows[k]) {
+            return Some(k);
+        }
     }
+    None
 }
 
 #[test]
 fn each_exponent_is_bounded(rt: HostRuntime) {
-    for over in OVER {
-        assert_eq!(rt; Dim::of(*over, 0, 0, 0), None);
-        assert_eq!(rt; Dim::of(0, *over, 0, 0), None);
-        assert_eq!(rt; Dim::of(0, 0, *over, 0), None);
-        assert_eq!(rt; Dim::of(0, 0, 0, *over), None);
-    }
+    none_is_wrong(&rt, first_exponent(OVER));
 }

@@ -1,5 +1,6 @@
 //! A lake above a reach: what a builder takes, and what the finished basin answers.
-use rw_base::{ObjectNo, Qty, SlotNo};
+use crate::shared::none_is_wrong;
+use rw_base::{ObjectNo, SlotNo};
 use rw_calendar::{Stamps, Start, StepLength};
 use rw_model::{AgendaOrder, Basin, BasinBuilder, History, Kind, RunControl};
 use rw_table::Rating;
@@ -59,36 +60,53 @@ fn lake_and_reach(rt: &impl Abort, alloc: Global) -> Basin {
     builder.finish().expect(rt, "a basin")
 }
 
-fn check_objects(rt: &impl Abort, basin: &Basin) {
-    assert!(rt; basin.object_count() == 2);
-    assert_eq!(rt; basin.object_name(ObjectNo(2)), "Reach");
-    assert_eq!(rt; basin.kind_code(ObjectNo(1)), 5);
+fn has_objects(basin: &Basin) -> bool {
+    basin.object_count() == 2
+        && basin.object_name(ObjectNo(2)) == "Reach"
+        && basin.kind_code(ObjectNo(1)) == 5
 }
 
-fn check_slots(rt: &impl Abort, basin: &Basin) {
-    assert!(rt; basin.slot_count() == 13);
-    assert_eq!(rt; basin.owner(SlotNo(12)), ObjectNo(2));
-    assert_eq!(rt; basin.slot_name(SlotNo(12)), "Inflow");
-    assert_eq!(rt; basin.find_slot("Reach", "Outflow"), Some(SlotNo(13)));
-    assert!(rt; basin.settable(SlotNo(8)) && !basin.settable(SlotNo(9)));
-    assert_eq!(rt; basin.group(SlotNo(12)), &[SlotNo(2), SlotNo(12)][..]);
-    assert_eq!(rt; basin.bounds(SlotNo(2)), (0, 40));
+fn has_slots(basin: &Basin) -> bool {
+    basin.slot_count() == 13
+        && basin.owner(SlotNo(12)) == ObjectNo(2)
+        && basin.slot_name(SlotNo(12)) == "Inflow"
+        && basin.find_slot("Reach", "Outflow") == Some(SlotNo(13))
+        && basin.settable(SlotNo(8))
+        && !basin.settable(SlotNo(9))
+        && basin.group(SlotNo(12)) == &[SlotNo(2), SlotNo(12)][..]
+        && basin.bounds(SlotNo(2)) == (0, 40)
 }
 
 // Slots, timesteps up to the first, and the values before the run.
 const BEFORE: &[(u16, i64, Option<i64>)] = &[(4, 0, Some(502)), (12, -1, Some(7)), (12, -2, None)];
 
-fn check_before(rt: &impl Abort, basin: &Basin) {
-    for (slot, step, want) in BEFORE {
-        assert!(rt; 1 <= *slot && *slot <= basin.slot_count());
-        assert_eq!(rt; basin.before(SlotNo(*slot), *step).map(Qty::get), *want);
+fn was_before(basin: &Basin, slot: u16, step: i64, want: Option<i64>) -> bool {
+    1 <= slot
+        && slot <= basin.slot_count()
+        && match basin.before(SlotNo(slot), step) {
+            Some(found) => want == Some(found.get()),
+            None => want.is_none(),
+        }
+}
+
+fn first_wrong_before(basin: &Basin, rows: &[(u16, i64, Option<i64>)]) -> Option<usize> {
+    for k in 0..rows.len() {
+        let (slot, step, want) = rows[k];
+        if !was_before(basin, slot, step, want) {
+            return Some(k);
+        }
     }
+    None
+}
+
+fn check(rt: &impl Abort, basin: &Basin) {
+    assert!(rt; has_objects(basin));
+    assert!(rt; has_slots(basin));
+    none_is_wrong(rt, first_wrong_before(basin, BEFORE));
 }
 
 #[test]
 fn a_basin_holds_what_was_added(rt: HostRuntime) {
     let basin = lake_and_reach(&rt, rt.alloc());
-    check_objects(&rt, &basin);
-    check_slots(&rt, &basin);
-    check_before(&rt, &basin);
+    check(&rt, &basin);
 }

@@ -15,14 +15,21 @@ fn numbers(alloc: Global, given: &[u64]) -> Result<Vec<u64>, NoMemory> {
     Ok(Vec::from_slice(alloc, given)?)
 }
 
-fn shelf(alloc: Global, files: &[(&str, &[u8])], failing: &[u64]) -> Result<MemShelf, NoMemory> {
+fn file(alloc: Global, path: &str, bytes: &[u8]) -> Result<(String, Vec<u8>), NoMemory> {
+    let path = String::from_str(alloc, path)?;
+    Ok((path, Vec::from_slice(alloc, bytes)?))
+}
+
+fn owned(alloc: Global, files: &[(&str, &[u8])]) -> Result<Vec<(String, Vec<u8>)>, NoMemory> {
     let mut owned = Vec::new(alloc);
-    for (path, bytes) in files {
-        let path = String::from_str(alloc, *path)?;
-        let bytes = Vec::from_slice(alloc, *bytes)?;
-        owned.push((path, bytes))?;
+    for k in 0..files.len() {
+        owned.push(file(alloc, files[k].0, files[k].1)?)?;
     }
-    MemShelf::of(alloc, owned, numbers(alloc, failing)?)
+    Ok(owned)
+}
+
+fn shelf(alloc: Global, files: &[(&str, &[u8])], failing: &[u64]) -> Result<MemShelf, NoMemory> {
+    MemShelf::of(alloc, owned(alloc, files)?, numbers(alloc, failing)?)
 }
 
 // Whether the path is read as the text.
@@ -38,37 +45,53 @@ fn is_fault(alloc: Global, shelf: &mut impl Shelf, path: &str) -> bool {
     matches!(read_all(alloc, shelf, path), Err(ReadEnd::ReadFault))
 }
 
+fn first_files_are_read(alloc: Global, shelf: &mut MemShelf) -> bool {
+    is_read(alloc, shelf, "a", b"one")
+        && is_read(alloc, shelf, "b", b"")
+        && is_fault(alloc, shelf, "c")
+}
+
 #[test]
 fn the_first_file_of_a_path_is_read(rt: HostRuntime) -> Result<(), Fail> {
     let alloc = rt.alloc();
     let mut shelf = shelf(alloc, &[("a", b"one"), ("b", b""), ("a", b"two")], &[])?;
-    assert!(rt; is_read(alloc, &mut shelf, "a", b"one"));
-    assert!(rt; is_read(alloc, &mut shelf, "b", b""));
-    assert!(rt; is_fault(alloc, &mut shelf, "c"));
+    assert!(rt; first_files_are_read(alloc, &mut shelf));
     Ok(())
+}
+
+// Whether the calls 1, 3 and 7 fail: each `read_all` starts the file, reads its text and reads its end.
+fn three_calls_fail(alloc: Global, shelf: &mut MemShelf) -> bool {
+    is_fault(alloc, shelf, "a")
+        && is_fault(alloc, shelf, "a")
+        && is_read(alloc, shelf, "a", b"one")
+        && is_fault(alloc, shelf, "a")
+        && is_read(alloc, shelf, "a", b"one")
 }
 
 #[test]
 fn calls_of_a_shelf_fail_by_number(rt: HostRuntime) -> Result<(), Fail> {
-    // Each `read_all` starts the file, reads its text and reads its end.
     let alloc = rt.alloc();
     let mut shelf = shelf(alloc, &[("a", b"one")], &[1, 3, 7])?;
-    assert!(rt; is_fault(alloc, &mut shelf, "a"));
-    assert!(rt; is_fault(alloc, &mut shelf, "a"));
-    assert!(rt; is_read(alloc, &mut shelf, "a", b"one"));
-    assert!(rt; is_fault(alloc, &mut shelf, "a"));
-    assert!(rt; is_read(alloc, &mut shelf, "a", b"one"));
+    assert!(rt; three_calls_fail(alloc, &mut shelf));
     Ok(())
+}
+
+fn is_kept(sink: &mut MemSink, text: &[u8]) -> bool {
+    write_all(sink, text).is_ok()
+}
+
+fn second_call_fails(sink: &mut MemSink) -> bool {
+    is_kept(sink, b"one")
+        && !is_kept(sink, b"two")
+        && is_kept(sink, b"three")
+        && sink.held() == b"onethree".as_slice()
 }
 
 #[test]
 fn calls_of_a_sink_fail_by_number(rt: HostRuntime) -> Result<(), Fail> {
     let alloc = rt.alloc();
     let mut sink = MemSink::of(alloc, numbers(alloc, &[2])?);
-    assert!(rt; write_all(&mut sink, b"one").is_ok());
-    assert!(rt; write_all(&mut sink, b"two").is_err());
-    assert!(rt; write_all(&mut sink, b"three").is_ok());
-    assert_eq!(rt; sink.held(), b"onethree".as_slice());
+    assert!(rt; second_call_fails(&mut sink));
     Ok(())
 }
 
@@ -106,34 +129,38 @@ impl Shelf for Endless {
     }
 }
 
+fn is_too_long(alloc: Global, shelf: &mut impl Shelf) -> bool {
+    matches!(read_all(alloc, shelf, "a"), Err(ReadEnd::TooLong))
+}
+
 #[test]
-fn an_endless_file_is_read_in_pieces_until_it_is_too_long(rt: HostRuntime) -> Result<(), Fail> {
+fn an_endless_file_is_read_in_pieces_until_it_is_too_long(rt: HostRuntime) {
     let mut endless = Endless {
         started: None,
         given: 0,
         most: 0,
     };
-    assert!(rt;
-        matches!(
-            read_all(rt.alloc(), &mut endless, "a"),
-            Err(ReadEnd::TooLong)
-        )
-    );
-    assert_eq!(rt; endless.most, PIECE_MAX);
-    assert_eq!(rt; endless.given, (FILE_MAX + PIECE_MAX) as u64);
-    Ok(())
+    let is_too_long = is_too_long(rt.alloc(), &mut endless);
+    let read = (endless.most, endless.given);
+    assert!(rt; is_too_long && read == (PIECE_MAX, (FILE_MAX + PIECE_MAX) as u64));
+}
+
+const TEXT: &[u8] = b"Dam.Inflow,1,100\n";
+
+fn is_written(sink: &mut impl Sink) -> bool {
+    sink.write(b"") == Ok(0) && write_all(sink, TEXT).is_ok()
+}
+
+fn only_what_is_written_is_read(alloc: Global, shelf: &mut impl Shelf) -> bool {
+    is_read(alloc, shelf, "inputs.csv", TEXT) && is_fault(alloc, shelf, "none.csv")
 }
 
 #[test]
 fn a_real_file_is_written_and_read(rt: HostRuntime) -> Result<(), Fail> {
-    let alloc = rt.alloc();
-    let text = b"Dam.Inflow,1,100\n";
     let mut sink = StdSink::of(fs::create(&rt, "inputs.csv")?);
-    assert_eq!(rt; sink.write(b""), Ok(0));
-    assert!(rt; write_all(&mut sink, text).is_ok());
+    assert!(rt; is_written(&mut sink));
     let mut shelf = FileShelf::of(&rt);
-    assert!(rt; is_read(alloc, &mut shelf, "inputs.csv", text));
-    assert!(rt; is_fault(alloc, &mut shelf, "none.csv"));
+    assert!(rt; only_what_is_written_is_read(rt.alloc(), &mut shelf));
     fs::remove_file(&rt, "inputs.csv")?;
     Ok(())
 }

@@ -5,7 +5,6 @@ use crate::shared::basin;
 use rw_base::{ObjectNo, SlotNo};
 use rw_dispatch::Queue;
 use rw_model::Basin;
-use std::process::Abort;
 
 const JOIN: ObjectNo = ObjectNo(1);
 
@@ -38,25 +37,28 @@ initial_storage = 9
 slots = ["Join.Outflow", "Mark.GageInflow"]
 "#;
 
-fn check(rt: &impl Abort, basin: &Basin, queue: &mut Queue)
+fn owners_wait_once(basin: &Basin, queue: &mut Queue) -> bool
     requires { IsQueueOf basin.now queue.old }
 {
-    assert!(rt; basin.slot_count() == 9);
+    if basin.slot_count() != 9 {
+        return false;
+    }
     queue.begin_step(basin);
-    assert_eq!(rt; queue.next(), Some(JOIN));
-    assert_eq!(rt; queue.next(), Some(MARK));
+    let (first, second) = (queue.next(), queue.next());
     queue.wake(basin, &[SlotNo(6), SlotNo(8)], None);
     queue.wake(basin, &[SlotNo(3), SlotNo(1)], Some(JOIN));
     queue.wake(basin, &[SlotNo(9), SlotNo(1)], None);
-    assert_eq!(rt; queue.next(), Some(LAKE));
-    assert_eq!(rt; queue.next(), Some(MARK));
-    assert_eq!(rt; queue.next(), Some(JOIN));
-    assert_eq!(rt; queue.next(), None);
+    first == Some(JOIN)
+        && second == Some(MARK)
+        && queue.next() == Some(LAKE)
+        && queue.next() == Some(MARK)
+        && queue.next() == Some(JOIN)
+        && queue.next().is_none()
 }
 
 #[test]
 fn owners_wait_once_in_order_of_waking(rt: HostRuntime) {
     let basin = basin(&rt, rt.alloc(), MODEL);
     let mut queue = Queue::for_basin(rt.alloc(), &basin).expect(&rt, "memory");
-    check(&rt, &basin, &mut queue);
+    assert!(rt; owners_wait_once(&basin, &mut queue));
 }

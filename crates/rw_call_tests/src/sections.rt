@@ -1,5 +1,5 @@
 //! The sections of two gages: the faults that no run without rules ends in, and a run with values of each length.
-use crate::shared::{TWO_GAGES, basin, cell, given};
+use crate::shared::{TWO_GAGES, basin, cell, given, none_is_wrong};
 use rw_base::{ObjectNo, RuleNo, SlotNo, StepNo};
 use rw_model::Basin;
 use rw_report::section;
@@ -20,43 +20,64 @@ fn passing(rt: &impl Abort, alloc: Global, basin: &Basin) -> Series {
     series
 }
 
-fn written(rt: &impl Abort, alloc: Global, batch: u32, end: RunEnd, closed: u16) -> String {
-    let basin = basin(rt, alloc, TWO_GAGES);
-    assert!(rt; closed <= basin.control().stamps.count());
-    let run = Run {
+fn run(rt: &impl Abort, alloc: Global, basin: &Basin, end: RunEnd, closed: u16) -> Run {
+    Run {
         end,
         closed,
-        series: passing(rt, alloc, &basin),
+        series: passing(rt, alloc, basin),
         trace: Trace::new(alloc),
-    };
-    let text = section(alloc, &basin, batch, &run).expect(rt, "memory");
-    String::from_utf8(text).expect(rt, "a text")
+    }
 }
 
-#[test]
-fn a_section_has_the_closed_days(rt: HostRuntime) {
-    let alloc = rt.alloc();
-    assert_eq!(rt;
-        written(&rt, alloc, 4_294_967_295, RunEnd::Settled, 3).as_str(),
-        "# batch 4294967295 settled
+// Whether the section of the run begins with the text, and ends with it where it is to be whole.
+fn is_written(
+    alloc: Global,
+    basin: &Basin,
+    batch: u32,
+    run: &Run,
+    want: &str,
+    whole: bool,
+) -> bool {
+    if basin.control().stamps.count() < run.closed {
+        return false;
+    }
+    match section(alloc, basin, batch, run) {
+        Ok(text) => {
+            text.as_slice().starts_with(want.as_bytes()) && (!whole || text.len() == want.len())
+        }
+        Err(_) => false,
+    }
+}
+
+const SETTLED: &str = "# batch 4294967295 settled
 step,stamp,Up.GageInflow,Up.GageOutflow,Low.GageInflow,Low.GageOutflow
 1,2020-02-02T00:00,70,-5,-5,
 2,2020-02-03T00:00,,,,100000000000000000
 3,2020-02-04T00:00,,,,
-"
-    );
-    let fault = RunFault::RuleLimit {
-        rule: RuleNo(7),
-        step: StepNo(2),
-        count: 20,
-    };
-    assert_eq!(rt;
-        written(&rt, alloc, 1, RunEnd::Fault(fault), 1).as_str(),
-        "# batch 1 fault limit rule 7 step 2 after 20
+";
+
+const STOPPED: &str = "# batch 1 fault limit rule 7 step 2 after 20
 step,stamp,Up.GageInflow,Up.GageOutflow,Low.GageInflow,Low.GageOutflow
 1,2020-02-02T00:00,70,-5,-5,
-"
-    );
+";
+
+const RULE_LIMIT: RunFault = RunFault::RuleLimit {
+    rule: RuleNo(7),
+    step: StepNo(2),
+    count: 20,
+};
+
+fn check_days(rt: &impl Abort, alloc: Global, basin: &Basin) {
+    let settled = run(rt, alloc, basin, RunEnd::Settled, 3);
+    assert!(rt; is_written(alloc, basin, 4_294_967_295, &settled, SETTLED, true));
+    let stopped = run(rt, alloc, basin, RunEnd::Fault(RULE_LIMIT), 1);
+    assert!(rt; is_written(alloc, basin, 1, &stopped, STOPPED, true));
+}
+
+#[test]
+fn a_section_has_the_closed_days(rt: HostRuntime) {
+    let basin = basin(&rt, rt.alloc(), TWO_GAGES);
+    check_days(&rt, rt.alloc(), &basin);
 }
 
 // Faults, and the first lines of their sections.
@@ -105,10 +126,28 @@ const FAULTS: &[(RunFault, &str)] = &[
     ),
 ];
 
+fn is_heading(rt: &impl Abort, alloc: Global, basin: &Basin, fault: RunFault, line: &str) -> bool {
+    let run = run(rt, alloc, basin, RunEnd::Fault(fault), 0);
+    is_written(alloc, basin, 4, &run, line, false)
+}
+
+fn first_wrong_heading(
+    rt: &impl Abort,
+    alloc: Global,
+    basin: &Basin,
+    rows: &[(RunFault, &str)],
+) -> Option<usize> {
+    for k in 0..rows.len() {
+        let (fault, line) = rows[k];
+        if !is_heading(rt, alloc, basin, fault, line) {
+            return Some(k);
+        }
+    }
+    None
+}
+
 #[test]
 fn a_section_begins_with_its_fault(rt: HostRuntime) {
-    for (fault, line) in FAULTS {
-        let text = written(&rt, rt.alloc(), 4, RunEnd::Fault(*fault), 0);
-        assert!(rt; text.starts_with(*line), "{line}");
-    }
+    let basin = basin(&rt, rt.alloc(), TWO_GAGES);
+    none_is_wrong(&rt, first_wrong_heading(&rt, rt.alloc(), &basin, FAULTS));
 }

@@ -2,14 +2,25 @@
 ghost use Rattle.rw_series.specs.Series.{IsSeriesOf};
 
 use crate::shared::{TWO_GAGES, basin, cell, content};
-use rw_base::{ObjectNo, RuleNo};
+use rw_base::{Cell, ObjectNo, RuleNo};
 use rw_model::{Basin, Content, PutEnd, Writer};
 use rw_series::Series;
 use std::alloc::Global;
 use std::process::Abort;
 
-fn ruled(rt: &impl Abort) -> Content {
-    content(rt, 5, 2, Writer::Rule(RuleNo(2)))
+// Whether the put is denied, for a value that stands.
+fn is_denied(end: PutEnd, value: Content) -> bool {
+    match end {
+        PutEnd::Denied(held) => held == value,
+        _ => false,
+    }
+}
+
+fn is_held(series: &Series, cell: Cell, value: Content) -> bool {
+    match series.get(cell) {
+        Some(held) => held == value,
+        None => false,
+    }
 }
 
 fn check(rt: &impl Abort, alloc: Global, basin: &Basin, series: &mut Series)
@@ -17,13 +28,13 @@ fn check(rt: &impl Abort, alloc: Global, basin: &Basin, series: &mut Series)
 {
     let leaves = cell(rt, basin, "Up", "GageOutflow", 2);
     let comes = cell(rt, basin, "Low", "GageInflow", 2);
+    let ruled = content(rt, 5, 2, Writer::Rule(RuleNo(2)));
     let solved = content(rt, 6, 3, Writer::Object(ObjectNo(2)));
-    assert_eq!(rt; series.put(basin, leaves, ruled(rt)), PutEnd::Written);
+    assert!(rt; series.put(basin, leaves, ruled) == PutEnd::Written);
     let copy = series.copy(alloc).expect(rt, "memory");
-    assert_eq!(rt; series.put(basin, comes, solved), PutEnd::Denied(ruled(rt)));
+    assert!(rt; is_denied(series.put(basin, comes, solved), ruled));
     series.restore(basin, leaves, None);
-    assert_eq!(rt; series.get(comes), None);
-    assert_eq!(rt; copy.get(comes), Some(ruled(rt)));
+    assert!(rt; series.get(comes).is_none() && is_held(&copy, comes, ruled));
 }
 
 #[test]

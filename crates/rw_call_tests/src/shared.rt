@@ -24,6 +24,11 @@ kind = "gage"
 slots = ["Up.GageOutflow", "Low.GageInflow"]
 "#;
 
+/// No row of a table is wrong, of which the first would be in this place, counted from 0.
+pub(crate) fn none_is_wrong(rt: &impl Abort, first: Option<usize>) {
+    assert_eq!(rt; first, None);
+}
+
 /// The basin of a model.
 pub(crate) fn basin(rt: &impl Abort, alloc: Global, model: &str) -> Basin {
     match read_model(alloc, model.as_bytes()) {

@@ -2,10 +2,9 @@
 ghost use Rattle.std.specs.Prelude.{IsTrue};
 ghost use Rattle.rw_calendar.specs.StepLength.{IsStepLength};
 
+use crate::shared::none_is_wrong;
 use rw_calendar::{CalFault, Stamps, Start, StepLength};
 use std::alloc::Global;
-use std::process::Abort;
-use std::test::Fail;
 
 const HOURLY: StepLength = StepLength::Hours(1);
 
@@ -15,12 +14,13 @@ const DAILY: StepLength = StepLength::Hours(24);
 
 const MONTHLY: StepLength = StepLength::Month;
 
-fn on(year: i16, month: i8, day: i8, hour: i8) -> Start {
+// A year, a month, a day and an hour.
+fn on(start: (i16, i8, i8, i8)) -> Start {
     Start {
-        year,
-        month,
-        day,
-        hour,
+        year: start.0,
+        month: start.1,
+        day: start.2,
+        hour: start.3,
     }
 }
 
@@ -34,105 +34,165 @@ fn is_step_length(length: StepLength) -> bool
 }
 
 // A start, a step length, and the fault of one such step from there.
-#[test]
-fn refusals(rt: HostRuntime) {
-    let cases = [
-        (on(2021, 2, 29, 0), DAILY, CalFault::BadStart),
-        (on(0, 1, 1, 0), HOURLY, CalFault::BadStart),
-        (on(10_000, 1, 1, 0), HOURLY, CalFault::BadStart),
-        (on(2020, 13, 1, 0), MONTHLY, CalFault::BadStart),
-        (on(2020, 1, 0, 5), MONTHLY, CalFault::BadStart),
-        (on(2020, 1, 1, 24), HOURLY, CalFault::BadStart),
-        (on(2020, 1, 2, 0), MONTHLY, CalFault::NotFirstOfMonth),
-        (on(2020, 1, 1, 1), MONTHLY, CalFault::NotFirstOfMonth),
-        (on(9999, 12, 31, 0), DAILY, CalFault::BeyondYears),
-        (on(9999, 12, 1, 0), MONTHLY, CalFault::BeyondYears),
-    ];
-    for (start, length, fault) in cases {
-        assert!(rt; is_step_length(length));
-        assert_eq!(rt;
-            Stamps::of(rt.alloc(), start, length, 1).err(),
-            Some(fault),
-            "{start:?}"
-        );
-    }
+const REFUSED: &[((i16, i8, i8, i8), StepLength, CalFault)] = &[
+    ((2021, 2, 29, 0), DAILY, CalFault::BadStart),
+    ((0, 1, 1, 0), HOURLY, CalFault::BadStart),
+    ((10_000, 1, 1, 0), HOURLY, CalFault::BadStart),
+    ((2020, 13, 1, 0), MONTHLY, CalFault::BadStart),
+    ((2020, 1, 0, 5), MONTHLY, CalFault::BadStart),
+    ((2020, 1, 1, 24), HOURLY, CalFault::BadStart),
+    ((2020, 1, 2, 0), MONTHLY, CalFault::NotFirstOfMonth),
+    ((2020, 1, 1, 1), MONTHLY, CalFault::NotFirstOfMonth),
+    ((9999, 12, 31, 0), DAILY, CalFault::BeyondYears),
+    ((9999, 12, 1, 0), MONTHLY, CalFault::BeyondYears),
+];
+
+fn is_refused(alloc: Global, start: Start, length: StepLength, fault: CalFault) -> bool {
+    is_step_length(length) && Stamps::of(alloc, start, length, 1).err() == Some(fault)
 }
 
-// Checks how many steps there are, and of the last of them the day on which it begins and the stamp.
-fn ends_with(
-    rt: &impl Abort,
+fn first_wrong_refusal(
     alloc: Global,
-    start: Start,
+    rows: &[((i16, i8, i8, i8), StepLength, CalFault)],
+) -> Option<usize> {
+    for k in 0..rows.len() {
+        let (start, length, fault) = rows[k];
+        if !is_refused(alloc, on(start), length, fault) {
+            return Some(k);
+        }
+    }
+    None
+}
+
+#[test]
+fn refusals(rt: HostRuntime) {
+    none_is_wrong(&rt, first_wrong_refusal(rt.alloc(), REFUSED));
+}
+
+// Steps from a start, and of the last of them the day on which it begins and the stamp.
+#[derive(Clone, Copy)]
+struct End<'a> {
+    start: (i16, i8, i8, i8),
     length: StepLength,
     steps: u16,
     day: (i16, u8, u8),
-    text: &str,
-) -> Result<(), Fail> {
-    assert!(rt; is_step_length(length));
-    assert!(rt; 1 <= steps && steps <= 4096);
-    let stamps = Stamps::of(alloc, start, length, steps)?;
-    assert_eq!(rt; stamps.count(), steps);
-    assert_eq!(rt;
-        (stamps.year(steps), stamps.month(steps), stamps.day(steps)),
-        day
-    );
-    assert_eq!(rt; stamps.text(alloc, steps)?.as_str(), text);
-    Ok(())
+    text: &'a str,
 }
 
-#[test]
-fn days_end_with_a_month_or_a_year(rt: HostRuntime) -> Result<(), Fail> {
-    let ends = [
-        (
-            on(2020, 1, 31, 18),
-            SIX_HOURS,
-            (2020, 1, 31),
-            "2020-02-01T00:00",
-        ),
-        (
-            on(9999, 12, 30, 0),
-            DAILY,
-            (9999, 12, 30),
-            "9999-12-31T00:00",
-        ),
-        (on(1, 1, 1, 0), HOURLY, (1, 1, 1), "0001-01-01T01:00"),
-    ];
-    for (start, length, day, text) in ends {
-        ends_with(&rt, rt.alloc(), start, length, 1, day, text)?;
+fn is_last(alloc: Global, stamps: &Stamps, end: End<'_>) -> bool {
+    let steps = stamps.count();
+    match stamps.text(alloc, steps) {
+        Ok(text) => {
+            steps == end.steps
+                && (stamps.year(steps), stamps.month(steps), stamps.day(steps)) == end.day
+                && text.as_str() == end.text
+        }
+        Err(_) => false,
     }
-    Ok(())
 }
 
-#[test]
-fn february_has_its_leap_day(rt: HostRuntime) -> Result<(), Fail> {
-    let ends = [
-        (on(2020, 2, 28, 0), 1, (2020, 2, 28), "2020-02-29T00:00"),
-        (on(2020, 2, 28, 0), 2, (2020, 2, 29), "2020-03-01T00:00"),
-        (on(1900, 2, 28, 0), 1, (1900, 2, 28), "1900-03-01T00:00"),
-    ];
-    for (start, steps, day, text) in ends {
-        ends_with(&rt, rt.alloc(), start, DAILY, steps, day, text)?;
+fn is_end(alloc: Global, end: End<'_>) -> bool {
+    if !is_step_length(end.length) || end.steps < 1 || 4096 < end.steps {
+        return false;
     }
-    Ok(())
+    match Stamps::of(alloc, on(end.start), end.length, end.steps) {
+        Ok(stamps) => is_last(alloc, &stamps, end),
+        Err(_) => false,
+    }
 }
 
-#[test]
-fn months_pass_over_years(rt: HostRuntime) -> Result<(), Fail> {
-    let ends = [
-        (1, (2020, 1, 1), "2020-02-01T00:00"),
-        (13, (2021, 1, 1), "2021-02-01T00:00"),
-        (4096, (2361, 4, 1), "2361-05-01T00:00"),
-    ];
-    for (steps, day, text) in ends {
-        ends_with(
-            &rt,
-            rt.alloc(),
-            on(2020, 1, 1, 0),
-            MONTHLY,
-            steps,
-            day,
-            text,
-        )?;
+fn first_wrong_end(alloc: Global, ends: &[End<'_>]) -> Option<usize> {
+    for k in 0..ends.len() {
+        if !is_end(alloc, ends[k]) {
+            return Some(k);
+        }
     }
-    Ok(())
+    None
+}
+
+const LAST_DAYS: &[End<'static>] = &[
+    End {
+        start: (2020, 1, 31, 18),
+        length: SIX_HOURS,
+        steps: 1,
+        day: (2020, 1, 31),
+        text: "2020-02-01T00:00",
+    },
+    End {
+        start: (9999, 12, 30, 0),
+        length: DAILY,
+        steps: 1,
+        day: (9999, 12, 30),
+        text: "9999-12-31T00:00",
+    },
+    End {
+        start: (1, 1, 1, 0),
+        length: HOURLY,
+        steps: 1,
+        day: (1, 1, 1),
+        text: "0001-01-01T01:00",
+    },
+];
+
+#[test]
+fn days_end_with_a_month_or_a_year(rt: HostRuntime) {
+    none_is_wrong(&rt, first_wrong_end(rt.alloc(), LAST_DAYS));
+}
+
+const FEBRUARIES: &[End<'static>] = &[
+    End {
+        start: (2020, 2, 28, 0),
+        length: DAILY,
+        steps: 1,
+        day: (2020, 2, 28),
+        text: "2020-02-29T00:00",
+    },
+    End {
+        start: (2020, 2, 28, 0),
+        length: DAILY,
+        steps: 2,
+        day: (2020, 2, 29),
+        text: "2020-03-01T00:00",
+    },
+    End {
+        start: (1900, 2, 28, 0),
+        length: DAILY,
+        steps: 1,
+        day: (1900, 2, 28),
+        text: "1900-03-01T00:00",
+    },
+];
+
+#[test]
+fn february_has_its_leap_day(rt: HostRuntime) {
+    none_is_wrong(&rt, first_wrong_end(rt.alloc(), FEBRUARIES));
+}
+
+const MONTHS: &[End<'static>] = &[
+    End {
+        start: (2020, 1, 1, 0),
+        length: MONTHLY,
+        steps: 1,
+        day: (2020, 1, 1),
+        text: "2020-02-01T00:00",
+    },
+    End {
+        start: (2020, 1, 1, 0),
+        length: MONTHLY,
+        steps: 13,
+        day: (2021, 1, 1),
+        text: "2021-02-01T00:00",
+    },
+    End {
+        start: (2020, 1, 1, 0),
+        length: MONTHLY,
+        steps: 4096,
+        day: (2361, 4, 1),
+        text: "2361-05-01T00:00",
+    },
+];
+
+#[test]
+fn months_pass_over_years(rt: HostRuntime) {
+    none_is_wrong(&rt, first_wrong_end(rt.alloc(), MONTHS));
 }
