@@ -136,8 +136,8 @@ fn is_right(catalogue: &Catalogue, kind: &Kind, table: Table<'_>, row: TableRow<
     is_wanted(&catalogue.solve(kind, &view), row.1)
 }
 
-/// Whether each row of the table is answered as it wants.
-pub(crate) fn are_right(catalogue: &Catalogue, kind: &Kind, table: Table<'_>) -> bool
+// Whether each row of the table is answered as it wants.
+fn is_met(catalogue: &Catalogue, kind: &Kind, table: Table<'_>) -> bool
     requires { AreInOrder (map (λ b. code (b.vtable, b.value)) catalogue.now.methods.items) }
 {
     for k in 0..table.rows.len() {
@@ -146,4 +146,16 @@ pub(crate) fn are_right(catalogue: &Catalogue, kind: &Kind, table: Table<'_>) ->
         }
     }
     true
+}
+
+/// The first of the tables, counted from 0, of which a row is not answered as it wants.
+pub(crate) fn first_unmet(catalogue: &Catalogue, kind: &Kind, tables: &[Table<'_>]) -> Option<usize>
+    requires { AreInOrder (map (λ b. code (b.vtable, b.value)) catalogue.now.methods.items) }
+{
+    for k in 0..tables.len() {
+        if !is_met(catalogue, kind, tables[k]) {
+            return Some(k);
+        }
+    }
+    None
 }

@@ -10,6 +10,8 @@ mod dispatch;
 #[cfg(test)]
 mod is_view;
 #[cfg(test)]
+mod kinds;
+#[cfg(test)]
 mod methods;
 #[cfg(test)]
 mod objects;

@@ -2,20 +2,18 @@
 ghost use Rattle.std.specs.Prelude.{◌≡◌, map};
 ghost use Rattle.rw_method.specs.Catalogue.{AreInOrder};
 
-use crate::dispatch::are_right;
+use crate::dispatch::{Table, first_unmet};
+use crate::kinds::{ALL, methods};
 use crate::reservoirs::{
     CONTENTS, EVAPORATION, GIVEN_LEVELS, LEVELS_OUTSIDE_THE_TABLE, PASTS_OUTSIDE_THE_TABLE,
     RELEASES, SIDE_FLOWS, STORAGES, UNKNOWN_PASTS,
 };
 use crate::streams::{BIFURCATIONS, CONFLUENCES, GAGES, GIVEN_REACHES, LAGGED_REACHES, REACHES};
 use crate::users::{CANALS, DIVERSIONS_BY_RULE, REQUESTS};
-use rw_method::{Catalogue, CatalogueFault, Method};
+use rw_method::{Catalogue, CatalogueFault};
 use rw_model::{History, Kind, Supply};
-use rw_reservoir::ReservoirMethod;
-use rw_stream::{BifurcationMethod, ConfluenceMethod, GageMethod, ReachMethod};
 use rw_table::Rating;
-use rw_users::{CanalMethod, WaterUserMethod};
-use std::alloc::Global;
+use std::alloc::{AllocError, Global};
 use std::process::Abort;
 use std::test::Fail;
 
@@ -61,88 +59,82 @@ fn user(supply: Supply) -> Kind {
     }
 }
 
+fn check(rt: &impl Abort, catalogue: &Catalogue, kind: Kind, tables: &[Table<'_>])
+    requires { AreInOrder (map (λ b. code (b.vtable, b.value)) catalogue.now.methods.items) }
+{
+    match first_unmet(catalogue, &kind, tables) {
+        Some(place) => panic!(rt; "table {place} of a kind"),
+        None => {}
+    }
+}
+
+const LAGGED: &[Table<'static>] = &[LAGGED_REACHES, UNKNOWN_PASTS];
+
+const UNLAGGED: &[Table<'static>] = &[REACHES, GIVEN_REACHES];
+
 fn check_reaches(rt: &impl Abort, alloc: Global, catalogue: &Catalogue)
     requires { AreInOrder (map (λ b. code (b.vtable, b.value)) catalogue.now.methods.items) }
 {
-    let lagged = reach(rt, alloc, &[1, 2], false);
-    assert!(rt; are_right(catalogue, &lagged, LAGGED_REACHES));
-    assert!(rt; are_right(catalogue, &lagged, UNKNOWN_PASTS));
-    let unlagged = reach(rt, alloc, &[], true);
-    assert!(rt; are_right(catalogue, &unlagged, REACHES));
-    assert!(rt; are_right(catalogue, &unlagged, GIVEN_REACHES));
+    check(rt, catalogue, reach(rt, alloc, &[1, 2], false), LAGGED);
+    check(rt, catalogue, reach(rt, alloc, &[], true), UNLAGGED);
 }
+
+const WITHOUT_TABLE: &[Table<'static>] = &[STORAGES, UNKNOWN_PASTS];
+
+const WITH_TABLE: &[Table<'static>] = &[CONTENTS, GIVEN_LEVELS, LEVELS_OUTSIDE_THE_TABLE];
+
+const EVAPORATING: &[Table<'static>] = &[EVAPORATION, PASTS_OUTSIDE_THE_TABLE];
 
 fn check_reservoirs(rt: &impl Abort, alloc: Global, catalogue: &Catalogue)
     requires { AreInOrder (map (λ b. code (b.vtable, b.value)) catalogue.now.methods.items) }
 {
-    assert!(rt; are_right(catalogue, &storage(false), STORAGES));
-    assert!(rt; are_right(catalogue, &storage(false), UNKNOWN_PASTS));
-    assert!(rt; are_right(catalogue, &storage(true), SIDE_FLOWS));
-    let tabled = reservoir(rt, alloc, false, None);
-    assert!(rt; are_right(catalogue, &tabled, CONTENTS));
-    assert!(rt; are_right(catalogue, &tabled, GIVEN_LEVELS));
-    assert!(rt; are_right(catalogue, &tabled, LEVELS_OUTSIDE_THE_TABLE));
-    let evaporating = reservoir(rt, alloc, true, None);
-    assert!(rt; are_right(catalogue, &evaporating, EVAPORATION));
-    assert!(rt; are_right(catalogue, &evaporating, PASTS_OUTSIDE_THE_TABLE));
-    let releasing = reservoir(rt, alloc, false, Some(60));
-    assert!(rt; are_right(catalogue, &releasing, RELEASES));
+    check(rt, catalogue, storage(false), WITHOUT_TABLE);
+    check(rt, catalogue, storage(true), &[SIDE_FLOWS]);
+    check(rt, catalogue, reservoir(rt, alloc, false, None), WITH_TABLE);
+    check(rt, catalogue, reservoir(rt, alloc, true, None), EVAPORATING);
+    check(
+        rt,
+        catalogue,
+        reservoir(rt, alloc, false, Some(60)),
+        &[RELEASES],
+    );
 }
 
 fn check_others(rt: &impl Abort, catalogue: &Catalogue)
     requires { AreInOrder (map (λ b. code (b.vtable, b.value)) catalogue.now.methods.items) }
 {
-    assert!(rt; are_right(catalogue, &Kind::Gage, GAGES));
-    assert!(rt; are_right(catalogue, &Kind::Confluence, CONFLUENCES));
-    assert!(rt; are_right(catalogue, &Kind::Bifurcation, BIFURCATIONS));
-    assert!(rt; are_right(catalogue, &user(Supply::Request), REQUESTS));
-    assert!(rt; are_right(catalogue, &user(Supply::Rule), DIVERSIONS_BY_RULE));
-    assert!(rt; are_right(catalogue, &Kind::Canal { seepage: 100 }, CANALS));
+    check(rt, catalogue, Kind::Gage, &[GAGES]);
+    check(rt, catalogue, Kind::Confluence, &[CONFLUENCES]);
+    check(rt, catalogue, Kind::Bifurcation, &[BIFURCATIONS]);
+    check(rt, catalogue, user(Supply::Request), &[REQUESTS]);
+    check(rt, catalogue, user(Supply::Rule), &[DIVERSIONS_BY_RULE]);
+    check(rt, catalogue, Kind::Canal { seepage: 100 }, &[CANALS]);
 }
 
 #[test]
 fn each_kind_is_solved_by_its_rules(rt: HostRuntime) -> Result<(), Fail> {
-    let alloc = rt.alloc();
-    let mut methods: Vec<Box<dyn Method>> = Vec::new(alloc);
-    methods.push(Box::new(alloc, GageMethod)?)?;
-    methods.push(Box::new(alloc, ConfluenceMethod)?)?;
-    methods.push(Box::new(alloc, BifurcationMethod)?)?;
-    methods.push(Box::new(alloc, ReachMethod)?)?;
-    methods.push(Box::new(alloc, ReservoirMethod)?)?;
-    methods.push(Box::new(alloc, WaterUserMethod)?)?;
-    methods.push(Box::new(alloc, CanalMethod)?)?;
-    let catalogue = Catalogue::of(methods).expect(&rt, "a catalogue");
+    let catalogue = Catalogue::of(methods(rt.alloc(), ALL)?).expect(&rt, "a catalogue");
     check_others(&rt, &catalogue);
-    check_reaches(&rt, alloc, &catalogue);
-    check_reservoirs(&rt, alloc, &catalogue);
+    check_reaches(&rt, rt.alloc(), &catalogue);
+    check_reservoirs(&rt, rt.alloc(), &catalogue);
     Ok(())
+}
+
+// Why the methods of the kinds with these numbers are no catalogue.
+fn fault_of(alloc: Global, numbers: &[u8]) -> Result<Option<CatalogueFault>, AllocError> {
+    Ok(Catalogue::of(methods(alloc, numbers)?).err())
 }
 
 #[test]
 fn gage_and_confluence_are_exchanged(rt: HostRuntime) -> Result<(), Fail> {
-    let alloc = rt.alloc();
-    let mut methods: Vec<Box<dyn Method>> = Vec::new(alloc);
-    methods.push(Box::new(alloc, ConfluenceMethod)?)?;
-    methods.push(Box::new(alloc, GageMethod)?)?;
-    methods.push(Box::new(alloc, BifurcationMethod)?)?;
-    methods.push(Box::new(alloc, ReachMethod)?)?;
-    methods.push(Box::new(alloc, ReservoirMethod)?)?;
-    methods.push(Box::new(alloc, WaterUserMethod)?)?;
-    methods.push(Box::new(alloc, CanalMethod)?)?;
-    assert!(rt; matches!(Catalogue::of(methods), Err(CatalogueFault::WrongPlace(1))));
+    let fault = fault_of(rt.alloc(), &[2, 1, 3, 4, 5, 6, 7])?;
+    assert!(rt; matches!(fault, Some(CatalogueFault::WrongPlace(1))));
     Ok(())
 }
 
 #[test]
 fn six_methods_are_too_few(rt: HostRuntime) -> Result<(), Fail> {
-    let alloc = rt.alloc();
-    let mut methods: Vec<Box<dyn Method>> = Vec::new(alloc);
-    methods.push(Box::new(alloc, GageMethod)?)?;
-    methods.push(Box::new(alloc, ConfluenceMethod)?)?;
-    methods.push(Box::new(alloc, BifurcationMethod)?)?;
-    methods.push(Box::new(alloc, ReachMethod)?)?;
-    methods.push(Box::new(alloc, ReservoirMethod)?)?;
-    methods.push(Box::new(alloc, WaterUserMethod)?)?;
-    assert!(rt; matches!(Catalogue::of(methods), Err(CatalogueFault::WrongCount(6))));
+    let fault = fault_of(rt.alloc(), &[1, 2, 3, 4, 5, 6])?;
+    assert!(rt; matches!(fault, Some(CatalogueFault::WrongCount(6))));
     Ok(())
 }

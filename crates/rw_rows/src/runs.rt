@@ -2,7 +2,8 @@
 use crate::basins::BASINS;
 use crate::objects::OBJECTS;
 use crate::pools::POOLS;
-use crate::statuses::{NONE_FAILS, simulate};
+use crate::statuses::Text::Whole;
+use crate::statuses::{NONE_FAILS, Simulation, simulates};
 use rw_base::NoMemory;
 use std::alloc::Global;
 use std::process::Abort;
@@ -20,33 +21,42 @@ pub(crate) struct Example<'a> {
     pub(crate) text: &'a str,
 }
 
-fn model(alloc: Global, days: &str, objects: &str) -> Result<String, NoMemory> {
-    let mut text = String::from_str(
-        alloc,
-        "format = 1\n[run]\nstart = \"2020-01-01T00:00\"\nstep = \"24h\"\nsteps = ",
-    )?;
-    text.push_str(days)?;
-    text.push_str("\n")?;
-    text.push_str(objects)?;
+/// No row of a table is wrong, of which the first would be in this place, counted from 0.
+pub(crate) fn none_is_wrong(rt: &impl Abort, first: Option<usize>) {
+    assert_eq!(rt; first, None);
+}
+
+fn joined(alloc: Global, parts: &[&str]) -> Result<String, NoMemory> {
+    let mut text = String::new(alloc);
+    for part in parts {
+        text.push_str(*part)?;
+    }
     Ok(text)
 }
 
-fn inputs(alloc: Global, rows: &str) -> Result<String, NoMemory> {
-    let mut text = String::from_str(alloc, "slot,step,value\n")?;
-    text.push_str(rows)?;
-    Ok(text)
+const BEGIN: &str = "format = 1\n[run]\nstart = \"2020-01-01T00:00\"\nstep = \"24h\"\nsteps = ";
+
+// Whether the run of the example, of these texts, ends as it says.
+fn is_run(
+    alloc: Global,
+    model: &str,
+    inputs: &str,
+    example: Example<'_>,
+) -> Result<bool, NoMemory> {
+    let want = Simulation {
+        model: model.as_bytes(),
+        inputs: inputs.as_bytes(),
+        status: example.status,
+        out: Whole(example.text.as_bytes()),
+        err: Whole(b""),
+    };
+    simulates(alloc, NONE_FAILS, want)
 }
 
-// Whether the run of the example ends as it says.
 fn is_right(alloc: Global, example: Example<'_>) -> Result<bool, NoMemory> {
-    let model = model(alloc, example.days, example.objects)?;
-    let inputs = inputs(alloc, example.inputs)?;
-    let done = simulate(alloc, model.as_str(), inputs.as_str(), NONE_FAILS)?;
-    Ok(
-        done.status == example.status
-            && done.out.as_slice() == example.text.as_bytes()
-            && done.err.is_empty(),
-    )
+    let model = joined(alloc, &[BEGIN, example.days, "\n", example.objects])?;
+    let inputs = joined(alloc, &["slot,step,value\n", example.inputs])?;
+    is_run(alloc, &model, &inputs, example)
 }
 
 fn check(rt: &impl Abort, alloc: Global, examples: &[Example<'_>]) -> Result<(), NoMemory> {

@@ -1,54 +1,67 @@
 //! Statuses, lines, and calls that fail.
-ghost use Rattle.std.specs.Prelude.{◌≡◌, ◌<◌};
+ghost use Rattle.std.specs.Prelude.{◌≡◌, ◌<◌, map};
+ghost use Rattle.rw_method.specs.Catalogue.{AreInOrder};
 
+use crate::kinds::{ALL, methods};
+use crate::runs::none_is_wrong;
+use crate::statuses::Text::{Any, Front, Whole};
 use rw_base::NoMemory;
 use rw_io::{MemShelf, MemSink};
-use rw_method::{Catalogue, Method};
-use rw_reservoir::ReservoirMethod;
-use rw_stream::{BifurcationMethod, ConfluenceMethod, GageMethod, ReachMethod};
+use rw_method::Catalogue;
 use rw_top::{Blank, Ledger, Steps, basin_main};
-use rw_users::{CanalMethod, WaterUserMethod};
 use std::alloc::Global;
 use std::marker::Brand;
 use std::test::Fail;
 
 const SIMULATE: [&str; 3] = ["simulate", "m.toml", "i.csv"];
 
-const MODEL_OF_THREE: &str =
-    "format = 1\n[run]\nstart = \"2020-01-01T00:00\"\nstep = \"24h\"\nsteps = 3\n[[object]]\nname = \"Dam\"\nkind = \"reservoir\"\ninitial_storage = 1000\n";
+const MODEL_OF_THREE: &[u8] =
+    b"format = 1\n[run]\nstart = \"2020-01-01T00:00\"\nstep = \"24h\"\nsteps = 3\n[[object]]\nname = \"Dam\"\nkind = \"reservoir\"\ninitial_storage = 1000\n";
 
-const MODEL_OF_ONE: &str =
-    "format = 1\n[run]\nstart = \"2020-01-01T00:00\"\nstep = \"24h\"\nsteps = 1\n[[object]]\nname = \"Dam\"\nkind = \"reservoir\"\ninitial_storage = 1000\n";
+const MODEL_OF_ONE: &[u8] =
+    b"format = 1\n[run]\nstart = \"2020-01-01T00:00\"\nstep = \"24h\"\nsteps = 1\n[[object]]\nname = \"Dam\"\nkind = \"reservoir\"\ninitial_storage = 1000\n";
 
-const MODEL_OF_NONE: &str =
-    "format = 1\n[run]\nstart = \"2020-01-01T00:00\"\nstep = \"24h\"\nsteps = 0\n[[object]]\nname = \"Dam\"\nkind = \"reservoir\"\ninitial_storage = 1000\n";
+const MODEL_OF_NONE: &[u8] =
+    b"format = 1\n[run]\nstart = \"2020-01-01T00:00\"\nstep = \"24h\"\nsteps = 0\n[[object]]\nname = \"Dam\"\nkind = \"reservoir\"\ninitial_storage = 1000\n";
 
-const INPUTS_OF_THREE: &str =
-    "slot,step,value\nDam.Inflow,1-3,100\nDam.Outflow,1,50\nDam.Outflow,2,150\nDam.Outflow,3,100\n";
+const INPUTS_OF_THREE: &[u8] =
+    b"slot,step,value\nDam.Inflow,1-3,100\nDam.Outflow,1,50\nDam.Outflow,2,150\nDam.Outflow,3,100\n";
 
-const TABLE_OF_THREE: &str =
-    "# batch 0 settled\nstep,stamp,Dam.Inflow,Dam.Outflow,Dam.Storage\n1,2020-01-02T00:00,100,50,1050\n2,2020-01-03T00:00,100,150,1000\n3,2020-01-04T00:00,100,100,1000\n";
+const TABLE_OF_THREE: &[u8] =
+    b"# batch 0 settled\nstep,stamp,Dam.Inflow,Dam.Outflow,Dam.Storage\n1,2020-01-02T00:00,100,50,1050\n2,2020-01-03T00:00,100,150,1000\n3,2020-01-04T00:00,100,100,1000\n";
 
-/// The numbers of the calls that are to fail, where no call has the number 0.
+const BAD_STEPS: &[u8] = b"basin: model: build run.steps: bad parameter\n";
+
+/// The numbers of the calls that are to fail, of the shelf, the output and the error stream, where no call has the number 0.
 #[derive(Clone, Copy)]
-pub(crate) struct Failing {
-    shelf: u64,
-    out: u64,
-    err: u64,
+pub(crate) struct Failing(u64, u64, u64);
+
+pub(crate) const NONE_FAILS: Failing = Failing(0, 0, 0);
+
+/// What is to be written: anything, this, or a front of it.
+#[derive(Clone, Copy)]
+pub(crate) enum Text<'a> {
+    Any,
+    Whole(&'a [u8]),
+    Front(&'a [u8]),
 }
 
-pub(crate) const NONE_FAILS: Failing = Failing {
-    shelf: 0,
-    out: 0,
-    err: 0,
-};
-
-/// What a call answered and wrote.
-#[derive(Drop)]
-pub(crate) struct Done {
+/// The texts of a model and of inputs, and what `simulate` comes to with them.
+#[derive(Clone, Copy)]
+pub(crate) struct Simulation<'a> {
+    pub(crate) model: &'a [u8],
+    pub(crate) inputs: &'a [u8],
     pub(crate) status: u8,
-    pub(crate) out: Vec<u8>,
-    pub(crate) err: Vec<u8>,
+    pub(crate) out: Text<'a>,
+    pub(crate) err: Text<'a>,
+}
+
+fn is_text(written: &[u8], want: Text<'_>) -> bool {
+    match want {
+        Any => true,
+        Whole(text) => written == text,
+        Front(text) => text.starts_with(written),
+    }
 }
 
 fn owned(alloc: Global, words: &[&str]) -> Result<Vec<String>, NoMemory> {
@@ -78,194 +91,273 @@ fn one_call(alloc: Global, number: u64) -> Result<Vec<u64>, NoMemory> {
     Ok(calls)
 }
 
+fn sink(alloc: Global, failing: u64) -> Result<MemSink, NoMemory> {
+    Ok(MemSink::of(alloc, one_call(alloc, failing)?))
+}
+
+// What a call reads and writes.
+#[derive(Drop)]
+struct Ends {
+    shelf: MemShelf,
+    out: MemSink,
+    err: MemSink,
+}
+
+fn ends(alloc: Global, files: Vec<(String, Vec<u8>)>, failing: Failing) -> Result<Ends, NoMemory> {
+    Ok(Ends {
+        shelf: MemShelf::of(alloc, files, one_call(alloc, failing.0)?)?,
+        out: sink(alloc, failing.1)?,
+        err: sink(alloc, failing.2)?,
+    })
+}
+
 fn call_counted<L: Ledger>(
     alloc: Global,
     blank: Blank,
     words: &[String],
-    files: Vec<(String, Vec<u8>)>,
-    failing: Failing,
-) -> Result<Done, NoMemory>
+    ends: &mut Ends,
+    methods: &Catalogue,
+) -> u8
     requires name { blank.name ≡ L.name }
     requires parts { blank.parts ≡ L.parts }
     requires some { 0 < blank.parts }
+    requires order { AreInOrder (map (λ b. code (b.vtable, b.value)) methods.now.methods.items) }
 {
     let mut steps = Steps::<L>::of(blank);
-    let mut shelf = MemShelf::of(alloc, files, one_call(alloc, failing.shelf)?)?;
-    let mut out = MemSink::of(alloc, one_call(alloc, failing.out)?);
-    let mut err = MemSink::of(alloc, one_call(alloc, failing.err)?);
-    let mut methods: Vec<Box<dyn Method>> = Vec::new(alloc);
-    methods.push(Box::new(alloc, GageMethod)?)?;
-    methods.push(Box::new(alloc, ConfluenceMethod)?)?;
-    methods.push(Box::new(alloc, BifurcationMethod)?)?;
-    methods.push(Box::new(alloc, ReachMethod)?)?;
-    methods.push(Box::new(alloc, ReservoirMethod)?)?;
-    methods.push(Box::new(alloc, WaterUserMethod)?)?;
-    methods.push(Box::new(alloc, CanalMethod)?)?;
-    let Ok(methods) = Catalogue::of(methods) else {
-        return Err(NoMemory);
-    };
-    let status = basin_main(
-        alloc, words, &mut shelf, &mut out, &mut err, &methods, &mut steps,
-    );
-    Ok(Done {
-        status,
-        out: Vec::from_slice(alloc, out.held())?,
-        err: Vec::from_slice(alloc, err.held())?,
-    })
+    basin_main(
+        alloc,
+        words,
+        &mut ends.shelf,
+        &mut ends.out,
+        &mut ends.err,
+        methods,
+        &mut steps,
+    )
 }
 
-fn call(
+fn call(alloc: Global, words: &[String], ends: &mut Ends) -> Result<u8, NoMemory> {
+    match Catalogue::of(methods(alloc, ALL)?) {
+        Ok(catalogue) => Ok(call_counted::<Brand>(alloc, Blank::new(1), words, ends, &catalogue)),
+        Err(_) => Err(NoMemory),
+    }
+}
+
+// Whether the call answers and writes what is wanted.
+fn comes_to(
     alloc: Global,
-    words: &[String],
-    files: Vec<(String, Vec<u8>)>,
-    failing: Failing,
-) -> Result<Done, NoMemory> {
-    call_counted::<Brand>(alloc, Blank::new(1), words, files, failing)
+    words: &[&str],
+    ends: &mut Ends,
+    want: Simulation<'_>,
+) -> Result<bool, NoMemory> {
+    let status = call(alloc, &owned(alloc, words)?, ends)?;
+    Ok(
+        status == want.status
+            && is_text(ends.out.held(), want.out)
+            && is_text(ends.err.held(), want.err),
+    )
 }
 
-/// What `simulate` does with the texts of a model and of inputs.
-pub(crate) fn simulate(
+// Whether a call with these words comes to what is wanted.
+fn is_met(
     alloc: Global,
-    model: &str,
-    inputs: &str,
+    words: &[&str],
     failing: Failing,
-) -> Result<Done, NoMemory> {
-    let files = files(alloc, model.as_bytes(), inputs.as_bytes())?;
-    call(alloc, &owned(alloc, &SIMULATE)?, files, failing)
+    want: Simulation<'_>,
+) -> Result<bool, NoMemory> {
+    let mut ends = ends(alloc, files(alloc, want.model, want.inputs)?, failing)?;
+    comes_to(alloc, words, &mut ends, want)
 }
 
-#[test]
-fn three_days_settle(rt: HostRuntime) -> Result<(), Fail> {
-    let done = simulate(rt.alloc(), MODEL_OF_THREE, INPUTS_OF_THREE, NONE_FAILS)?;
-    assert_eq!(rt; done.status, 0);
-    assert_eq!(rt; done.out.as_slice(), TABLE_OF_THREE.as_bytes());
-    assert!(rt; done.err.is_empty());
-    Ok(())
+/// Whether `simulate` comes to what is wanted.
+pub(crate) fn simulates(
+    alloc: Global,
+    failing: Failing,
+    want: Simulation<'_>,
+) -> Result<bool, NoMemory> {
+    is_met(alloc, &SIMULATE, failing, want)
 }
 
-#[test]
-fn overdrawn_storage_is_a_fault(rt: HostRuntime) -> Result<(), Fail> {
-    let inputs = "slot,step,value\nDam.Inflow,1,0\nDam.Outflow,1,1001\n";
-    let table =
-        "# batch 0 fault out of range object Dam slot Dam.Storage step 1 value -1\nstep,stamp,Dam.Inflow,Dam.Outflow,Dam.Storage\n";
-    let done = simulate(rt.alloc(), MODEL_OF_ONE, inputs, NONE_FAILS)?;
-    assert_eq!(rt; done.status, 1);
-    assert_eq!(rt; done.out.as_slice(), table.as_bytes());
-    assert!(rt; done.err.is_empty());
-    Ok(())
+// The first of the simulations, counted from 0, that doesn't come to what is wanted.
+fn first_unmet(
+    alloc: Global,
+    rows: &[(Failing, Simulation<'_>)],
+) -> Result<Option<usize>, NoMemory> {
+    for k in 0..rows.len() {
+        let (failing, want) = rows[k];
+        if !simulates(alloc, failing, want)? {
+            return Ok(Some(k));
+        }
+    }
+    Ok(None)
 }
 
-#[test]
-fn refusals_have_their_status_and_line(rt: HostRuntime) -> Result<(), Fail> {
-    let alloc = rt.alloc();
-    let words = owned(alloc, &["simulate", "m.toml"])?;
-    let given = files(alloc, MODEL_OF_THREE.as_bytes(), INPUTS_OF_THREE.as_bytes())?;
-    let done = call(alloc, &words, given, NONE_FAILS)?;
-    assert_eq!(rt; done.status, 2);
-    assert_eq!(rt; done.err.as_slice(), b"basin: words refused\n".as_slice());
-    assert!(rt; done.out.is_empty());
+const THREE_DAYS: Simulation<'static> = Simulation {
+    model: MODEL_OF_THREE,
+    inputs: INPUTS_OF_THREE,
+    status: 0,
+    out: Whole(TABLE_OF_THREE),
+    err: Whole(b""),
+};
 
-    let done = simulate(alloc, MODEL_OF_NONE, INPUTS_OF_THREE, NONE_FAILS)?;
-    assert_eq!(rt; done.status, 6);
-    assert_eq!(rt;
-        done.err.as_slice(),
-        b"basin: model: build run.steps: bad parameter\n".as_slice()
+const OVERDRAWN: Simulation<'static> = Simulation {
+    model: MODEL_OF_ONE,
+    inputs: b"slot,step,value\nDam.Inflow,1,0\nDam.Outflow,1,1001\n",
+    status: 1,
+    out: Whole(
+        b"# batch 0 fault out of range object Dam slot Dam.Storage step 1 value -1\nstep,stamp,Dam.Inflow,Dam.Outflow,Dam.Storage\n",
+    ),
+    err: Whole(b""),
+};
+
+const TOO_FEW_WORDS: Simulation<'static> = Simulation {
+    model: MODEL_OF_THREE,
+    inputs: INPUTS_OF_THREE,
+    status: 2,
+    out: Whole(b""),
+    err: Whole(b"basin: words refused\n"),
+};
+
+const NO_STEPS: Simulation<'static> = Simulation {
+    model: MODEL_OF_NONE,
+    inputs: INPUTS_OF_THREE,
+    status: 6,
+    out: Whole(b""),
+    err: Whole(BAD_STEPS),
+};
+
+const UNKNOWN_SLOT: Simulation<'static> = Simulation {
+    model: MODEL_OF_THREE,
+    inputs: b"slot,step,value\nDam.Inflow,1-3,100\nDam.Level,1,50\n",
+    status: 8,
+    out: Whole(b""),
+    err: Whole(b"basin: inputs: row 3 column 1: unknown slot\n"),
+};
+
+const CALLS: &[(Failing, Simulation<'static>)] = &[
+    (NONE_FAILS, THREE_DAYS),
+    (NONE_FAILS, OVERDRAWN),
+    (NONE_FAILS, NO_STEPS),
+    (NONE_FAILS, UNKNOWN_SLOT),
+];
+
+#[test]
+fn calls_have_their_status_and_line(rt: HostRuntime) -> Result<(), Fail> {
+    assert!(rt;
+        is_met(
+            rt.alloc(),
+            &["simulate", "m.toml"],
+            NONE_FAILS,
+            TOO_FEW_WORDS
+        )?
     );
-    assert!(rt; done.out.is_empty());
-
-    let unknown = "slot,step,value\nDam.Inflow,1-3,100\nDam.Level,1,50\n";
-    let done = simulate(alloc, MODEL_OF_THREE, unknown, NONE_FAILS)?;
-    assert_eq!(rt; done.status, 8);
-    assert_eq!(rt;
-        done.err.as_slice(),
-        b"basin: inputs: row 3 column 1: unknown slot\n".as_slice()
-    );
-    assert!(rt; done.out.is_empty());
+    none_is_wrong(&rt, first_unmet(rt.alloc(), CALLS)?);
     Ok(())
 }
 
 // Inputs of one day, and what is said of them.
-const REFUSED: &[(&str, &str)] = &[
-    ("", "basin: inputs: row 1 column 0: header\n"),
+const REFUSED: &[(&[u8], &[u8])] = &[
+    (b"", b"basin: inputs: row 1 column 0: header\n"),
     (
-        "slot,step,value\nDam.Inflow,1\n",
-        "basin: inputs: row 2 column 0: ragged\n",
+        b"slot,step,value\nDam.Inflow,1\n",
+        b"basin: inputs: row 2 column 0: ragged\n",
     ),
     (
-        "slot,step,value\nDam.Inflow,1,100000000000000001\n",
-        "basin: inputs: row 2 column 3: out of bounds\n",
+        b"slot,step,value\nDam.Inflow,1,100000000000000001\n",
+        b"basin: inputs: row 2 column 3: out of bounds\n",
     ),
     (
-        "slot,step,value\nDam.Inflow,2,5\n",
-        "basin: inputs: row 2 column 2: step outside\n",
+        b"slot,step,value\nDam.Inflow,2,5\n",
+        b"basin: inputs: row 2 column 2: step outside\n",
     ),
     (
-        "slot,step,value\nDam.Inflow,1,5\nDam.Inflow,1,5\n",
-        "basin: inputs: row 3 column 0: twice\n",
+        b"slot,step,value\nDam.Inflow,1,5\nDam.Inflow,1,5\n",
+        b"basin: inputs: row 3 column 0: twice\n",
     ),
 ];
 
+fn first_not_refused(alloc: Global, rows: &[(&[u8], &[u8])]) -> Result<Option<usize>, NoMemory> {
+    for k in 0..rows.len() {
+        let (inputs, line) = rows[k];
+        let want = Simulation {
+            model: MODEL_OF_ONE,
+            inputs,
+            status: 8,
+            out: Whole(b""),
+            err: Whole(line),
+        };
+        if !simulates(alloc, NONE_FAILS, want)? {
+            return Ok(Some(k));
+        }
+    }
+    Ok(None)
+}
+
 #[test]
 fn inputs_are_refused_at_their_place(rt: HostRuntime) -> Result<(), Fail> {
-    for (inputs, line) in REFUSED {
-        let done = simulate(rt.alloc(), MODEL_OF_ONE, *inputs, NONE_FAILS)?;
-        assert_eq!(rt; done.status, 8);
-        assert_eq!(rt; done.err.as_slice(), line.as_bytes());
-        assert!(rt; done.out.is_empty());
-    }
+    none_is_wrong(&rt, first_not_refused(rt.alloc(), REFUSED)?);
     Ok(())
 }
+
+const UNREAD_MODEL: Simulation<'static> = Simulation {
+    model: MODEL_OF_THREE,
+    inputs: INPUTS_OF_THREE,
+    status: 3,
+    out: Whole(b""),
+    err: Whole(b"basin: cannot read m.toml\n"),
+};
+
+const UNREAD_INPUTS: Simulation<'static> = Simulation {
+    model: MODEL_OF_THREE,
+    inputs: INPUTS_OF_THREE,
+    status: 3,
+    out: Whole(b""),
+    err: Whole(b"basin: cannot read i.csv\n"),
+};
+
+// A start, a read of the text and a read of the end for each of the two files.
+const SHELF_CALLS: &[(Failing, Simulation<'static>)] = &[
+    (Failing(1, 0, 0), UNREAD_MODEL),
+    (Failing(2, 0, 0), UNREAD_MODEL),
+    (Failing(3, 0, 0), UNREAD_MODEL),
+    (Failing(4, 0, 0), UNREAD_INPUTS),
+    (Failing(5, 0, 0), UNREAD_INPUTS),
+    (Failing(6, 0, 0), UNREAD_INPUTS),
+    (Failing(7, 0, 0), THREE_DAYS),
+];
 
 #[test]
 fn each_failing_shelf_call_is_a_read_fault(rt: HostRuntime) -> Result<(), Fail> {
-    // A start, a read of the text and a read of the end for each of the two files.
-    for call in 1u64..8 {
-        let failing = Failing {
-            shelf: call,
-            ..NONE_FAILS
-        };
-        let done = simulate(rt.alloc(), MODEL_OF_THREE, INPUTS_OF_THREE, failing)?;
-        if call > 6 {
-            assert_eq!(rt; done.status, 0);
-        } else {
-            let line = if call <= 3 {
-                b"basin: cannot read m.toml\n".as_slice()
-            } else {
-                b"basin: cannot read i.csv\n".as_slice()
-            };
-            assert_eq!(rt; done.status, 3);
-            assert_eq!(rt; done.err.as_slice(), line);
-            assert!(rt; done.out.is_empty());
-        }
-    }
+    none_is_wrong(&rt, first_unmet(rt.alloc(), SHELF_CALLS)?);
     Ok(())
 }
+
+const UNWRITTEN: Simulation<'static> = Simulation {
+    model: MODEL_OF_THREE,
+    inputs: INPUTS_OF_THREE,
+    status: 4,
+    out: Front(TABLE_OF_THREE),
+    err: Whole(b"basin: cannot write\n"),
+};
+
+const UNTOLD: Simulation<'static> = Simulation {
+    model: MODEL_OF_NONE,
+    inputs: INPUTS_OF_THREE,
+    status: 6,
+    out: Whole(b""),
+    err: Front(BAD_STEPS),
+};
+
+// A failing write leaves a front, and a failing error stream changes no status.
+const SINK_CALLS: &[(Failing, Simulation<'static>)] = &[
+    (Failing(0, 1, 0), UNWRITTEN),
+    (Failing(0, 0, 1), UNTOLD),
+    (Failing(0, 0, 2), UNTOLD),
+    (Failing(0, 0, 3), UNTOLD),
+];
 
 #[test]
 fn a_failing_write_leaves_a_front(rt: HostRuntime) -> Result<(), Fail> {
-    let failing = Failing {
-        out: 1,
-        ..NONE_FAILS
-    };
-    let done = simulate(rt.alloc(), MODEL_OF_THREE, INPUTS_OF_THREE, failing)?;
-    assert_eq!(rt; done.status, 4);
-    assert_eq!(rt; done.err.as_slice(), b"basin: cannot write\n".as_slice());
-    assert!(rt; TABLE_OF_THREE.as_bytes().starts_with(&done.out));
-    Ok(())
-}
-
-#[test]
-fn a_failing_error_stream_changes_no_status(rt: HostRuntime) -> Result<(), Fail> {
-    for call in 1u64..4 {
-        let failing = Failing {
-            err: call,
-            ..NONE_FAILS
-        };
-        let done = simulate(rt.alloc(), MODEL_OF_NONE, INPUTS_OF_THREE, failing)?;
-        assert_eq!(rt; done.status, 6);
-        assert!(rt; b"basin: model: build run.steps: bad parameter\n".starts_with(&done.err));
-        assert!(rt; done.out.is_empty());
-    }
+    none_is_wrong(&rt, first_unmet(rt.alloc(), SINK_CALLS)?);
     Ok(())
 }
 
@@ -274,29 +366,37 @@ fn equal_signs(alloc: Global, count: usize) -> Result<Vec<u8>, NoMemory> {
     Ok(vec![in alloc; b'='; count]?)
 }
 
+// Whether a model of so many equal signs comes to this.
+fn is_long_model(alloc: Global, count: usize, status: u8, err: Text<'_>) -> Result<bool, NoMemory> {
+    let model = equal_signs(alloc, count)?;
+    let want = Simulation {
+        model: &model,
+        inputs: b"",
+        status,
+        out: Any,
+        err,
+    };
+    simulates(alloc, NONE_FAILS, want)
+}
+
+// Whether inputs of so many equal signs are too long.
+fn are_too_long(alloc: Global, count: usize) -> Result<bool, NoMemory> {
+    let inputs = equal_signs(alloc, count)?;
+    let want = Simulation {
+        model: MODEL_OF_ONE,
+        inputs: &inputs,
+        status: 10,
+        out: Whole(b""),
+        err: Whole(b"basin: too long i.csv\n"),
+    };
+    simulates(alloc, NONE_FAILS, want)
+}
+
 #[test]
 fn a_file_is_too_long_past_its_greatest_length(rt: HostRuntime) -> Result<(), Fail> {
     let alloc = rt.alloc();
-    let words = owned(alloc, &SIMULATE)?;
-    let given = files(alloc, &equal_signs(alloc, 16_777_216)?, b"")?;
-    let done = call(alloc, &words, given, NONE_FAILS)?;
-    assert_eq!(rt; done.status, 6);
-
-    let words = owned(alloc, &SIMULATE)?;
-    let given = files(alloc, &equal_signs(alloc, 16_777_217)?, b"")?;
-    let done = call(alloc, &words, given, NONE_FAILS)?;
-    assert_eq!(rt; done.status, 10);
-    assert_eq!(rt; done.err.as_slice(), b"basin: too long m.toml\n".as_slice());
-
-    let words = owned(alloc, &SIMULATE)?;
-    let given = files(
-        alloc,
-        MODEL_OF_ONE.as_bytes(),
-        &equal_signs(alloc, 16_777_217)?,
-    )?;
-    let done = call(alloc, &words, given, NONE_FAILS)?;
-    assert_eq!(rt; done.status, 10);
-    assert_eq!(rt; done.err.as_slice(), b"basin: too long i.csv\n".as_slice());
-    assert!(rt; done.out.is_empty());
+    assert!(rt; is_long_model(alloc, 16_777_216, 6, Any)?);
+    assert!(rt; is_long_model(alloc, 16_777_217, 10, Whole(b"basin: too long m.toml\n"))?);
+    assert!(rt; are_too_long(alloc, 16_777_217)?);
     Ok(())
 }
