@@ -3,7 +3,7 @@ use crate::basins::BASINS;
 use crate::objects::OBJECTS;
 use crate::pools::POOLS;
 use crate::statuses::Text::Whole;
-use crate::statuses::{NONE_FAILS, Simulation, simulates};
+use crate::statuses::{Failing, Simulation, simulates};
 use rw_base::NoMemory;
 use std::alloc::Global;
 use std::process::Abort;
@@ -37,11 +37,11 @@ fn joined(alloc: Global, parts: &[&str]) -> Result<String, NoMemory> {
 const BEGIN: &str = "format = 1\n[run]\nstart = \"2020-01-01T00:00\"\nstep = \"24h\"\nsteps = ";
 
 // Whether the run of the example, of these texts, ends as it says.
-fn is_run(
+fn is_run<'a>(
     alloc: Global,
-    model: &str,
-    inputs: &str,
-    example: Example<'_>,
+    model: &'a str,
+    inputs: &'a str,
+    example: Example<'a>,
 ) -> Result<bool, NoMemory> {
     let want = Simulation {
         model: model.as_bytes(),
@@ -50,7 +50,7 @@ fn is_run(
         out: Whole(example.text.as_bytes()),
         err: Whole(b""),
     };
-    simulates(alloc, NONE_FAILS, want)
+    simulates(alloc, Failing::Nothing, want)
 }
 
 fn is_right(alloc: Global, example: Example<'_>) -> Result<bool, NoMemory> {

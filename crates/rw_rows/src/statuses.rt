@@ -32,11 +32,14 @@ const TABLE_OF_THREE: &[u8] =
 
 const BAD_STEPS: &[u8] = b"basin: model: build run.steps: bad parameter\n";
 
-/// The numbers of the calls that are to fail, of the shelf, the output and the error stream, where no call has the number 0.
+/// The call that is to fail, of the shelf, the output or the error stream, by its number from 1.
 #[derive(Clone, Copy)]
-pub(crate) struct Failing(u64, u64, u64);
-
-pub(crate) const NONE_FAILS: Failing = Failing(0, 0, 0);
+pub(crate) enum Failing {
+    Nothing,
+    Shelf(u64),
+    Out(u64),
+    Errors(u64),
+}
 
 /// What is to be written: anything, this, or a front of it.
 #[derive(Clone, Copy)]
@@ -103,11 +106,26 @@ struct Ends {
     err: MemSink,
 }
 
-fn ends(alloc: Global, files: Vec<(String, Vec<u8>)>, failing: Failing) -> Result<Ends, NoMemory> {
+// The numbers of the calls that are to fail, where no call has the number 0.
+fn numbers(failing: Failing) -> (u64, u64, u64) {
+    match failing {
+        Failing::Nothing => (0, 0, 0),
+        Failing::Shelf(number) => (number, 0, 0),
+        Failing::Out(number) => (0, number, 0),
+        Failing::Errors(number) => (0, 0, number),
+    }
+}
+
+fn ends_of(
+    alloc: Global,
+    files: Vec<(String, Vec<u8>)>,
+    failing: Failing,
+) -> Result<Ends, NoMemory> {
+    let (shelf, out, err) = numbers(failing);
     Ok(Ends {
-        shelf: MemShelf::of(alloc, files, one_call(alloc, failing.0)?)?,
-        out: sink(alloc, failing.1)?,
-        err: sink(alloc, failing.2)?,
+        shelf: MemShelf::of(alloc, files, one_call(alloc, shelf)?)?,
+        out: sink(alloc, out)?,
+        err: sink(alloc, err)?,
     })
 }
 
@@ -164,7 +182,7 @@ fn is_met(
     failing: Failing,
     want: Simulation<'_>,
 ) -> Result<bool, NoMemory> {
-    let mut ends = ends(alloc, files(alloc, want.model, want.inputs)?, failing)?;
+    let mut ends = ends_of(alloc, files(alloc, want.model, want.inputs)?, failing)?;
     comes_to(alloc, words, &mut ends, want)
 }
 
@@ -234,10 +252,10 @@ const UNKNOWN_SLOT: Simulation<'static> = Simulation {
 };
 
 const CALLS: &[(Failing, Simulation<'static>)] = &[
-    (NONE_FAILS, THREE_DAYS),
-    (NONE_FAILS, OVERDRAWN),
-    (NONE_FAILS, NO_STEPS),
-    (NONE_FAILS, UNKNOWN_SLOT),
+    (Failing::Nothing, THREE_DAYS),
+    (Failing::Nothing, OVERDRAWN),
+    (Failing::Nothing, NO_STEPS),
+    (Failing::Nothing, UNKNOWN_SLOT),
 ];
 
 #[test]
@@ -246,7 +264,7 @@ fn calls_have_their_status_and_line(rt: HostRuntime) -> Result<(), Fail> {
         is_met(
             rt.alloc(),
             &["simulate", "m.toml"],
-            NONE_FAILS,
+            Failing::Nothing,
             TOO_FEW_WORDS
         )?
     );
@@ -275,7 +293,10 @@ const REFUSED: &[(&[u8], &[u8])] = &[
     ),
 ];
 
-fn first_not_refused(alloc: Global, rows: &[(&[u8], &[u8])]) -> Result<Option<usize>, NoMemory> {
+fn first_not_refused<'a>(
+    alloc: Global,
+    rows: &[(&'a [u8], &'a [u8])],
+) -> Result<Option<usize>, NoMemory> {
     for k in 0..rows.len() {
         let (inputs, line) = rows[k];
         let want = Simulation {
@@ -285,7 +306,7 @@ fn first_not_refused(alloc: Global, rows: &[(&[u8], &[u8])]) -> Result<Option<us
             out: Whole(b""),
             err: Whole(line),
         };
-        if !simulates(alloc, NONE_FAILS, want)? {
+        if !simulates(alloc, Failing::Nothing, want)? {
             return Ok(Some(k));
         }
     }
@@ -316,13 +337,13 @@ const UNREAD_INPUTS: Simulation<'static> = Simulation {
 
 // A start, a read of the text and a read of the end for each of the two files.
 const SHELF_CALLS: &[(Failing, Simulation<'static>)] = &[
-    (Failing(1, 0, 0), UNREAD_MODEL),
-    (Failing(2, 0, 0), UNREAD_MODEL),
-    (Failing(3, 0, 0), UNREAD_MODEL),
-    (Failing(4, 0, 0), UNREAD_INPUTS),
-    (Failing(5, 0, 0), UNREAD_INPUTS),
-    (Failing(6, 0, 0), UNREAD_INPUTS),
-    (Failing(7, 0, 0), THREE_DAYS),
+    (Failing::Shelf(1), UNREAD_MODEL),
+    (Failing::Shelf(2), UNREAD_MODEL),
+    (Failing::Shelf(3), UNREAD_MODEL),
+    (Failing::Shelf(4), UNREAD_INPUTS),
+    (Failing::Shelf(5), UNREAD_INPUTS),
+    (Failing::Shelf(6), UNREAD_INPUTS),
+    (Failing::Shelf(7), THREE_DAYS),
 ];
 
 #[test]
@@ -349,10 +370,10 @@ const UNTOLD: Simulation<'static> = Simulation {
 
 // A failing write leaves a front, and a failing error stream changes no status.
 const SINK_CALLS: &[(Failing, Simulation<'static>)] = &[
-    (Failing(0, 1, 0), UNWRITTEN),
-    (Failing(0, 0, 1), UNTOLD),
-    (Failing(0, 0, 2), UNTOLD),
-    (Failing(0, 0, 3), UNTOLD),
+    (Failing::Out(1), UNWRITTEN),
+    (Failing::Errors(1), UNTOLD),
+    (Failing::Errors(2), UNTOLD),
+    (Failing::Errors(3), UNTOLD),
 ];
 
 #[test]
@@ -366,17 +387,22 @@ fn equal_signs(alloc: Global, count: usize) -> Result<Vec<u8>, NoMemory> {
     Ok(vec![in alloc; b'='; count]?)
 }
 
-// Whether a model of so many equal signs comes to this.
-fn is_long_model(alloc: Global, count: usize, status: u8, err: Text<'_>) -> Result<bool, NoMemory> {
+// Whether a model of so many equal signs is refused with this status, and with the line that tells of its length where
+// that is 10.
+fn is_long_model(alloc: Global, count: usize, status: u8) -> Result<bool, NoMemory> {
     let model = equal_signs(alloc, count)?;
     let want = Simulation {
         model: &model,
         inputs: b"",
         status,
         out: Any,
-        err,
+        err: if status == 10 {
+            Whole(b"basin: too long m.toml\n")
+        } else {
+            Any
+        },
     };
-    simulates(alloc, NONE_FAILS, want)
+    simulates(alloc, Failing::Nothing, want)
 }
 
 // Whether inputs of so many equal signs are too long.
@@ -389,14 +415,14 @@ fn are_too_long(alloc: Global, count: usize) -> Result<bool, NoMemory> {
         out: Whole(b""),
         err: Whole(b"basin: too long i.csv\n"),
     };
-    simulates(alloc, NONE_FAILS, want)
+    simulates(alloc, Failing::Nothing, want)
 }
 
 #[test]
 fn a_file_is_too_long_past_its_greatest_length(rt: HostRuntime) -> Result<(), Fail> {
     let alloc = rt.alloc();
-    assert!(rt; is_long_model(alloc, 16_777_216, 6, Any)?);
-    assert!(rt; is_long_model(alloc, 16_777_217, 10, Whole(b"basin: too long m.toml\n"))?);
+    assert!(rt; is_long_model(alloc, 16_777_216, 6)?);
+    assert!(rt; is_long_model(alloc, 16_777_217, 10)?);
     assert!(rt; are_too_long(alloc, 16_777_217)?);
     Ok(())
 }
