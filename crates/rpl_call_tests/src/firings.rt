@@ -190,7 +190,7 @@ const START: Start = Start {
 };
 
 // A reservoir, for one day.
-fn dam(rt: &impl Abort, alloc: Global) -> Basin {
+pub(crate) fn dam(rt: &impl Abort, alloc: Global) -> Basin {
     let control = RunControl {
         stamps: Stamps::of(alloc, START, StepLength::Hours(24), 1).expect(rt, "a day"),
         agenda: AgendaOrder::HighFirst,
@@ -213,7 +213,7 @@ fn dam(rt: &impl Abort, alloc: Global) -> Basin {
 }
 
 // The code that a text is read as, which is accepted.
-fn accepted(rt: &impl Abort, alloc: Global, basin: &Basin, text: &str) -> Verified
+pub(crate) fn accepted(rt: &impl Abort, alloc: Global, basin: &Basin, text: &str) -> Verified
     requires { length text.now ≤ 16_777_216 }
     ensures { verified basin.now result.blocks ≡ Ok result }
 {

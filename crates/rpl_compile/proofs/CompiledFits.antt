@@ -46,7 +46,7 @@ room_for all earlier rest block few e =
     let lt : count_alike block.head earlier < 200 = omega (arith, few, n, one, same) in
     grind (arith, nat_tests, lt)
 
-rules_counted : (callees : List Callee) (number : ℕ) (ds : List Declared) → count_alike Rule (blocks_from callees number ds) ≡ rule_count ds
+pub rules_counted : (callees : List Callee) (number : ℕ) (ds : List Declared) → count_alike Rule (blocks_from callees number ds) ≡ rule_count ds
 rules_counted callees number [] = refl
 rules_counted callees number (rule f body ∷ ds) = let e = rules_counted callees (number + 1) ds in omega (arith, e)
 rules_counted callees number (function f params result body ∷ ds) = rules_counted _ (number + 1) ds

@@ -332,11 +332,11 @@ likes_itself : (values other : Cell → Option ℤ) (fs : List Function) → Are
 likes_itself values other [] = tt
 likes_itself values other (f ∷ fs) = (λ args. same_itself values other (f.does args), likes_itself values other fs)
 
-abbrev looked_in : Option Fire → List Cell
+abbrev pub looked_in : Option Fire → List Cell
 looked_in None = []
 looked_in (Some fire) = fire.looked
 
-looked_of : (a : Answer (Unit {0})) (t : Trail) (fire : Fire) → fire_of a t ≡ Some fire → t.looked ≡ fire.looked
+pub looked_of : (a : Answer (Unit {0})) (t : Trail) (fire : Fire) → fire_of a t ≡ Some fire → t.looked ≡ fire.looked
 looked_of (value u) t fire e = ap looked_in e
 looked_of (ended u) t fire e = ap looked_in e
 looked_of stuck t fire e = absurd (none-some fire e)
@@ -353,15 +353,15 @@ framed rules basin number step values other fire e alike =
 
 -- ---- a firing that isn't done
 
-abbrev puts_in : Option Fire → List RulePut
+abbrev pub puts_in : Option Fire → List RulePut
 puts_in None = []
 puts_in (Some fire) = fire.puts
 
-abbrev end_in : Option Fire → FireEnd
+abbrev pub end_in : Option Fire → FireEnd
 end_in None = Done
 end_in (Some fire) = fire.end
 
-asks_nothing : (a : Answer (Unit {0})) (t : Trail) (fire : Fire) → fire_of a t ≡ Some fire → fire.end ≢ Done → fire.puts ≡ []
+pub asks_nothing : (a : Answer (Unit {0})) (t : Trail) (fire : Fire) → fire_of a t ≡ Some fire → fire.end ≢ Done → fire.puts ≡ []
 asks_nothing (value u) t fire e isnt = absurd (isnt (sym (ap end_in e)))
 asks_nothing (ended u) t fire e isnt = sym (ap puts_in e)
 asks_nothing stuck t fire e isnt = absurd (none-some fire e)

@@ -1,4 +1,4 @@
-mod Framed
+pub mod Framed
 pub mod FramedTrees
 pub mod Standing
 pub mod Viewed

@@ -1,0 +1,2 @@
+mod Order
+pub mod Indexed

@@ -1,0 +1,100 @@
+-- What is kept of the rules of a policy within a timestep, and which of them is the first that is due.
+use Rattle.std.specs.Prelude.{ℕ, ◌-◌, ◌≡◌, ◌≢◌, ◌<◌, ◌≤◌, ◌||◌, Bool, true, false, List, [], ◌∷◌, length, set, Option, Some, None, slice_index_or}
+use Rattle.std.specs.List.{find, list_any}
+use Rattle.rw_base.specs.declared.number.Cell.{Cell}
+use Rattle.rw_model.specs.declared.content.Content.{Content}
+use Rattle.rw_model.specs.declared.control.AgendaOrder.{AgendaOrder}
+use Rattle.rw_model.specs.Draft.{Draft}
+use Rattle.rw_series.specs.Series.{is_shared}
+use Rattle.rw_series.specs.declared.look.Look.{Look}
+use Rattle.rw_run.specs.Index.{IsIndex, MarksTouched}
+use Rattle.rw_run.specs.Log.{Cells}
+use Rattle.rw_run.specs.Next.{agenda_of, is_changed}
+
+-- of a rule: for how many looks there is room, and at what it looked when it last fired, if it fired
+pub record Entry : Type 0 where
+  pub room : ℕ
+  pub looked : Option (List Look)
+
+-- in which order rules are taken, and for each an entry and whether it is marked, those of rule 1 first. Of a rule that isn't
+-- marked it is known that its cells hold what it saw
+pub record Agenda : Type 0 where
+  pub order : AgendaOrder
+  pub rules : List Entry
+  pub marks : List Bool
+
+-- there are at most 200 rules, and a mark for each
+pub record KeepsRules (rules : List Entry) (marks : List Bool) : Type 0 where
+  pub few : length rules ≤ 200
+  pub marked : length marks ≡ length rules
+
+-- a rule that hasn't fired
+abbrev pub unfired : ℕ → Entry
+unfired room = record { room = room; looked = None }
+
+-- a rule in a timestep that begins
+abbrev pub forgotten : Entry → Entry
+forgotten entry = unfired entry.room
+
+-- the number of a rule of the agenda
+pub record IsListed (agenda : Agenda) (rule : ℕ) : Type 0 where
+  pub first : 1 ≤ rule
+  pub last : rule ≤ length agenda.rules
+
+abbrev pub entry_of : Agenda → ℕ → Entry
+entry_of agenda rule = slice_index_or agenda.rules (rule - 1) (unfired 0)
+
+-- the rule is marked, so that its looks have to be compared
+abbrev pub is_marked : Agenda → ℕ → Bool
+is_marked agenda rule = slice_index_or agenda.marks (rule - 1) true
+
+-- for how many looks of a rule there is room
+abbrev pub room_of : Agenda → ℕ → ℕ
+room_of agenda rule = (entry_of agenda rule).room
+
+-- at what a rule looked when it last fired, if it fired
+abbrev pub looked_by : Agenda → ℕ → Option (List Look)
+looked_by agenda rule = (entry_of agenda rule).looked
+
+-- the entries once a rule has fired and looked at this
+abbrev pub after_firing : Agenda → ℕ → List Look → List Entry
+after_firing agenda rule looks =
+    set agenda.rules (rule - 1) (record { room = room_of agenda rule; looked = Some looks })
+
+-- ---- marks
+
+-- the cells of each rule that isn't marked hold what it saw
+abbrev pub IsIndexed : Agenda → Cells → Type 0
+IsIndexed agenda cells = IsIndex cells (looked_by agenda) (is_marked agenda)
+
+-- each rule that was marked still is, and so is each that looked at a cell which shares its value with this one
+abbrev pub MarksThose : Draft → Cell → Agenda → Agenda → Type 0
+MarksThose basin cell old new =
+    (content : Content) → MarksTouched basin (record { cell = cell; content = content } ∷ []) (looked_by new) (is_marked old) (is_marked new)
+
+-- each other rule that was marked still is
+abbrev pub KeepsOtherMarks : ℕ → Agenda → Agenda → Type 0
+KeepsOtherMarks rule old new =
+    (other : ℕ) → IsListed old other → other ≢ rule → is_marked new other ≡ false → is_marked old other ≡ false
+
+-- one of the cells at which the rule looked when it last fired shares its value with this one
+abbrev pub has_seen : Draft → Cell → Option (List Look) → Bool
+has_seen basin cell None = false
+has_seen basin cell (Some looks) = list_any (λ (look : Look). is_shared basin cell look.cell) looks
+
+-- the mark in each place, once a cell is written
+abbrev pub AreMarkedAt : Draft → Cell → List Entry → List Bool → List Bool → Type 0
+AreMarkedAt basin cell rules old new =
+    (place : ℕ) → place < length rules
+    → slice_index_or new place true
+    ≡ (slice_index_or old place true || has_seen basin cell (slice_index_or rules place (unfired 0)).looked)
+
+-- ---- what is due
+
+-- the rule hasn't fired, or it saw what is no longer held
+abbrev pub is_due : Agenda → Cells → ℕ → Bool
+is_due agenda cells rule = is_changed cells (looked_by agenda rule)
+
+-- the first rule that is due, in the agenda's order
+abbrev pub first_due : Agenda → Cells → Option ℕ
+first_due agenda cells = find (is_due agenda cells) (agenda_of agenda.order (length agenda.rules))

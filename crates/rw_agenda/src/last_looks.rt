@@ -1,0 +1,134 @@
+ghost use Rattle.std.specs.Prelude.{◌≡◌, ◌≤◌, List, None, Some, IfOk, false, length, not};
+ghost use Rattle.std.specs.List.{list_any};
+ghost use Rattle.rw_run.specs.Log.{value_in};
+ghost use Rattle.rw_run.specs.Next.{is_changed, is_same_value};
+ghost use Rattle.rw_model.specs.Draft.{IsSlot};
+ghost use Rattle.rw_series.specs.Series.{held, is_shared};
+ghost use Rattle.rw_agenda.specs.Agenda.{Entry, has_seen, unfired};
+
+use crate::shared::is_shared;
+use rw_base::{Cell, NoMemory};
+use rw_model::Basin;
+use rw_series::{Look, Series};
+use std::alloc::Global;
+use std::marker::Model;
+
+/// At what a rule looked when it last fired, with room for so many looks.
+#[derive(Drop)]
+pub(crate) struct LastLooks {
+    room: usize,
+    fired: bool,
+    looks: Vec<Look>,
+}
+
+impl Model for LastLooks {
+    ghost use Rattle.std.specs.Prelude.{◌≤◌, Some, None, if◌then◌else◌};
+    ghost use Rattle.rw_agenda.specs.Agenda as specs;
+
+    ghost Value = { specs.Entry };
+
+    ghost view = { λ last. record { room = last.room; looked = if last.fired then Some last.looks.items else None } };
+
+    ghost invariant = { λ last. last.room ≤ last.looks.cap };
+}
+
+impl LastLooks {
+    /// Of a rule that hasn't fired. No other call takes memory.
+    pub(crate) fn with_room(alloc: Global, room: u32) -> Result<LastLooks, NoMemory>
+        ensures { IfOk result (λ last. last ≡ unfired room) }
+    {
+        let room = room as usize;
+        let looks = Vec::with_capacity(alloc, room)?;
+        Ok(LastLooks {
+            room,
+            fired: false,
+            looks,
+        })
+    }
+
+    /// The rule hasn't fired.
+    pub(crate) fn forget(&mut self)
+        ensures { self.new ≡ unfired self.old.room }
+    {
+        self.fired = false;
+    }
+
+    /// The rule fired, and looked at this.
+    pub(crate) fn keep(&mut self, looked: &[Look])
+        requires { length looked.now ≤ self.old.room }
+        ensures { self.new ≡ record { room = self.old.room; looked = Some looked.now } }
+    {
+        fill(&mut self.looks, looked);
+        self.fired = true;
+    }
+
+    /// Whether the rule hasn't fired, or one of the cells holds another value than it saw. They are compared where this is
+    /// asked for; where it isn't, they are known to hold what it saw.
+    pub(crate) fn is_changed(&self, series: &Series, compare: bool) -> bool
+        requires { compare ≡ false → (looks : List Look) → self.now.looked ≡ Some looks
+            → is_changed (held series.now) (Some looks) ≡ false }
+        ensures { result ≡ is_changed (held series.now) self.now.looked }
+    {
+        if self.fired {
+            compare && any_changed(self.looks.as_slice(), series)
+        } else {
+            true
+        }
+    }
+
+    /// Whether the rule fired and looked at a cell that shares its value with this one.
+    pub(crate) fn has_seen(&self, basin: &Basin, c: Cell) -> bool
+        requires { IsSlot basin.now.objects c.slot.0 }
+        ensures { result ≡ has_seen basin.now c self.now.looked }
+    {
+        self.fired && any_shared(basin, c, self.looks.as_slice())
+    }
+}
+
+// Puts looks in the place of those that there are. There is room for them.
+fn fill(looks: &mut Vec<Look>, looked: &[Look])
+    requires { length looked.now ≤ looks.old.cap }
+    ensures items { looks.new.items ≡ looked.now }
+    ensures room { looks.new.cap ≡ looks.old.cap }
+{
+    looks.clear();
+    for look in looked {
+        looks.push_reserved(*look);
+    }
+}
+
+// Whether one of the cells holds another value than was seen there.
+fn any_changed(looks: &[Look], series: &Series) -> bool
+    ensures { is_changed (held series.now) (Some looks.now) ≡ result }
+{
+    for look in looks {
+        if is_changed_at(*look, series) {
+            return true;
+        }
+    }
+    false
+}
+
+// Whether one of the looks was at a cell that shares its value with this one.
+fn any_shared(basin: &Basin, c: Cell, looks: &[Look]) -> bool
+    requires { IsSlot basin.now.objects c.slot.0 }
+    ensures { result ≡ list_any (λ (look : Look). is_shared basin.now c look.cell) looks.now }
+{
+    for look in looks {
+        if is_shared(basin, c, look.cell) {
+            return true;
+        }
+    }
+    false
+}
+
+// Whether the cell holds another value than was seen there.
+fn is_changed_at(look: Look, series: &Series) -> bool
+    ensures { result ≡ not (is_same_value look.seen (value_in (held series.now) look.cell)) }
+{
+    match (look.seen, series.get(look.cell)) {
+        (None, None) => false,
+        (Some(seen), Some(content)) => seen != content.value,
+        _ => true,
+    }
+}

@@ -1,0 +1,13 @@
+//! Which rule of a policy fires next. An `Agenda` keeps, within a timestep, what each rule looked at when it last fired, and
+//! `next` answers the first rule, in the order of the basin's agenda, that hasn't fired or that looked at a cell which holds
+//! another value now. Only making an agenda takes memory.
+#![tactic(auto)]
+
+mod agenda;
+mod last_looks;
+pub mod law;
+mod shared;
+mod turns;
+
+pub use agenda::Agenda;
+pub use shared::is_shared;

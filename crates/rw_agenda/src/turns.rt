@@ -1,0 +1,18 @@
+ghost use Rattle.std.specs.Prelude.{◌≡◌, ◌≤◌, ◌<◌, Some};
+ghost use Rattle.std.specs.List.{slice_get};
+ghost use Rattle.rw_run.specs.Next.{agenda_of};
+
+use rw_model::AgendaOrder;
+
+/// The number of the rule whose turn it is, of so many rules in the order of an agenda. Turns count from 0.
+pub(crate) fn rule_in_turn(order: AgendaOrder, rules: u16, turn: u16) -> u16
+    requires { turn < rules }
+    ensures turn { slice_get (agenda_of order rules) turn ≡ Some result }
+    ensures first { 1 ≤ result }
+    ensures last { result ≤ rules }
+{
+    match order {
+        AgendaOrder::HighFirst => turn + 1,
+        AgendaOrder::LowFirst => rules - turn,
+    }
+}

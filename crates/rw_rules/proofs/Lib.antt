@@ -1,0 +1,3 @@
+mod Due
+mod Made
+mod Kept

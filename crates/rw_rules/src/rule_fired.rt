@@ -1,0 +1,10 @@
+use rw_series::FireEnd;
+
+/// How a firing ended, and how much it counted.
+#[derive(Clone, Copy, Debug, PartialEq, Eq)]
+pub struct RuleFired {
+    /// How it ended.
+    pub end: FireEnd,
+    /// How many units of instructions it counted: at most 1,000,000.
+    pub count: u64,
+}

@@ -1,0 +1,141 @@
+ghost use Rattle.std.specs.Prelude.{◌≡◌, ◌∷◌, ℕ, IfOk, Ok, option_map};
+ghost use Rattle.rw_model.specs.Draft.{Draft};
+ghost use Rattle.rw_series.specs.Series.{held};
+ghost use Rattle.rw_dispatch.specs.Stage.{IsStageOf, Leaves, stage};
+ghost use Rattle.rw_run.specs.Log.{Firing, Log, fired, opened};
+ghost use Rattle.rw_run.specs.Next.{first_due};
+ghost use Rattle.rw_agenda.specs.Agenda.{IsIndexed};
+ghost use Rattle.rw_writes.specs.Writes.{AreWrites, all_asked};
+ghost use Rattle.rpl_verify.specs.Verified.{Accepted, verified};
+ghost use Rattle.rw_firing.specs.Firing.{IsRuleTurn};
+ghost use Rattle.rw_rules.specs.Rules.{FiredOn, IsRulesOf, WrittenOn, ShowsLooks, Told, policy_in};
+
+use crate::RuleFired;
+use rpl_machine::Machine;
+use rpl_predef::Predefs;
+use rpl_verify::Verified;
+use rw_agenda::Agenda;
+use rw_agenda::law::index_stays;
+use rw_base::{NoMemory, RuleNo, StepNo};
+use rw_dispatch::Queue;
+use rw_firing::{fire, reads};
+use rw_model::Basin;
+use rw_run::law::index;
+use rw_series::Series;
+use rw_writes::{Write, Writes};
+use std::alloc::Global;
+use std::marker::Model;
+
+/// The rules of verified code in a run, seen as the agenda and the puts of the last firing that are to be written.
+#[derive(Drop)]
+pub struct Rules {
+    machine: Machine,
+    agenda: Agenda,
+    writes: Writes,
+}
+
+impl Model for Rules {
+    ghost use Rattle.rw_rules.specs.Rules as specs;
+
+    ghost Value = { specs.Rules };
+
+    ghost view = { λ rules. record { agenda = rules.agenda; written = rules.writes } };
+}
+
+impl Rules {
+    /// The rules of verified code for a basin. No other call takes memory.
+    pub fn for_policy(alloc: Global, policy: &Verified, basin: &Basin) -> Result<Rules, NoMemory>
+        requires { verified basin.now policy.now.blocks ≡ Ok policy.now }
+        ensures { IfOk result (IsRulesOf basin.now policy.now) }
+    {
+        let reads = reads(alloc, policy, basin)?;
+        let agenda = Agenda::for_rules(alloc, basin, reads.as_slice())?;
+        let machine = Machine::for_policy(alloc, policy)?;
+        let writes = Writes::with_room(alloc)?;
+        Ok(Rules {
+            machine,
+            agenda,
+            writes,
+        })
+    }
+
+    /// Begins a timestep: no rule has fired in it.
+    pub fn begin_step(&mut self)
+        ensures made { (basin : Draft) (policy : Accepted)
+            → IsRulesOf basin policy self.old → IsRulesOf basin policy self.new }
+        ensures fresh { (policy : Accepted) (log : Log) (step : ℕ)
+            → ShowsLooks policy self.new (opened step ∷ log) }
+    {
+        self.agenda.begin_step();
+    }
+
+    /// The first rule that is due, in the order of the basin's agenda. `None` exactly where there is none.
+    pub fn due(&self, series: &Series) -> Option<RuleNo>
+        requires indexed { IsIndexed self.now.agenda (held series.now) }
+        ensures { (basin : Draft) (policy : Accepted) (log : Log)
+            → IsRulesOf basin policy self.now → ShowsLooks policy self.now log
+            → option_map (λ rule. rule.0) result
+            ≡ first_due basin (policy_in basin policy) (held series.now) log }
+    {
+        self.agenda.next(series)
+    }
+
+    /// Lets a rule fire at a timestep. Nothing of what it writes is made yet.
+    pub fn fire(
+        &mut self,
+        policy: &Verified,
+        predefs: &Predefs,
+        basin: &Basin,
+        series: &Series,
+        r: RuleNo,
+        t: StepNo,
+    ) -> RuleFired
+        requires turn { IsRuleTurn basin.now policy.now r.0 t.0 }
+        requires made { IsRulesOf basin.now policy.now self.old }
+        ensures made { IsRulesOf basin.now policy.now self.new }
+        ensures told { Told basin.now policy.now (held series.now) r.0 t.0 result self.new }
+        ensures can { AreWrites basin.now self.new.written }
+        ensures keeps { FiredOn policy.now (held series.now) r.0 self.old self.new }
+    {
+        index_stays();
+        let fired = fire(
+            &mut self.machine,
+            &mut self.writes,
+            policy,
+            predefs,
+            basin,
+            series,
+            r,
+            t,
+        );
+        self.agenda.fired(r, fired.looked);
+        RuleFired {
+            end: fired.end,
+            count: fired.count,
+        }
+    }
+
+    /// Writes the puts of the last firing, wakes the objects that they reach, and marks the rules: as the event of that firing leaves
+    /// them at its timestep.
+    pub fn write(&mut self, basin: &Basin, series: &mut Series, queue: &mut Queue, t: StepNo)
+        requires can { AreWrites basin.now self.old.written }
+        requires made { IsStageOf basin.now (stage series.old queue.old) }
+        ensures made { IsStageOf basin.now (stage series.new queue.new) }
+        ensures keeps { WrittenOn (held series.old) (held series.new) self.old self.new }
+        ensures leaves { (firing : Firing) → firing.written ≡ self.old.written → firing.step ≡ t.0
+            → Leaves basin.now (fired firing) (stage series.old queue.old)
+            (stage series.new queue.new) }
+    {
+        index();
+        self.writes.make(basin, series);
+        self.writes.wake(basin, queue, t);
+        self.writes.mark(basin, &mut self.agenda);
+    }
+
+    /// What the last firing writes.
+    pub fn written(&self) -> &[Write]
+        ensures { all_asked result.now ≡ self.now.written }
+    {
+        self.writes.as_slice()
+    }
+}

@@ -1,0 +1,4 @@
+mod Lists
+mod Granted
+mod Making
+mod Marking

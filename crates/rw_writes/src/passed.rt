@@ -1,0 +1,90 @@
+//! Which of the puts of a firing are written.
+ghost use Rattle.std.specs.Prelude.{◌≡◌, ◌≤◌, ◌<◌, ◌+◌, ◌++◌, ◌∷◌, drop, length, All};
+ghost use Rattle.std.specs.List.{list_any};
+ghost use Rattle.rw_model.specs.Draft.{IsSlot};
+ghost use Rattle.rw_series.specs.Series.{held, is_shared};
+ghost use Rattle.rw_run.specs.Dispatch.{end_in, is_written};
+ghost use Rattle.rw_run.specs.Log.{Asked};
+ghost use Rattle.rw_writes.specs.Writes.{all_asked, asked_in, written_of};
+
+use crate::Write;
+use rw_agenda::is_shared;
+use rw_base::Cell;
+use rw_model::{Basin, PutEnd, put_end};
+use rw_series::Series;
+
+// Whether a later one is to a cell that shares its value with this one.
+fn is_put_again(basin: &Basin, cell: Cell, later: &[Write]) -> bool
+    requires { IsSlot basin.now.objects cell.slot.0 }
+    ensures { result ≡ list_any (λ (put : Asked). is_shared basin.now cell put.cell) (all_asked later.now) }
+{
+    for write in later {
+        if is_shared(basin, cell, write.cell) {
+            return true;
+        }
+    }
+    false
+}
+
+// Whether it is written, by what the cells hold.
+fn is_written(series: &Series, write: &Write) -> bool
+    ensures { result ≡ is_written (end_in (held series.now) (asked_in write.now)) }
+{
+    match put_end(series.get(write.cell), write.content) {
+        PutEnd::Written => true,
+        _ => false,
+    }
+}
+
+// Adds a put that is written and isn't put again.
+fn keep_one(
+    written: &mut Vec<Write>,
+    basin: &Basin,
+    series: &Series,
+    write: &Write,
+    later: &[Write],
+)
+    requires slot { IsSlot basin.now.objects write.now.cell.slot.0 }
+    requires room { length written.old.items < written.old.cap }
+    ensures room { written.new.cap ≡ written.old.cap }
+    ensures more { length written.new.items ≤ length written.old.items + 1 }
+    ensures kept { all_asked written.new.items
+        ++ written_of basin.now (held series.now) (all_asked later.now)
+        ≡ all_asked written.old.items
+        ++ written_of basin.now (held series.now) (asked_in write.now ∷ all_asked later.now) }
+{
+    if is_put_again(basin, write.cell, later) {
+        return;
+    }
+    if is_written(series, write) {
+        written.push_reserved(*write);
+    }
+}
+
+// Those behind a place.
+fn behind(asked: &[Write], place: usize) -> &[Write]
+    requires { place < length asked.now }
+    ensures { result.now ≡ drop (place + 1) asked.now }
+{
+    &asked[place + 1..]
+}
+
+/// Those that are written, by what the cells hold before the first of them.
+pub(crate) fn keep_written(
+    written: &mut Vec<Write>,
+    basin: &Basin,
+    series: &Series,
+    asked: &[Write],
+)
+    requires slots { All (λ (put : Write). IsSlot basin.now.objects put.cell.slot.0) asked.now }
+    requires room { length asked.now ≤ written.old.cap }
+    ensures room { written.new.cap ≡ written.old.cap }
+    ensures few { length written.new.items ≤ length asked.now }
+    ensures kept { all_asked written.new.items
+        ≡ written_of basin.now (held series.now) (all_asked asked.now) }
+{
+    written.clear();
+    for place in 0..asked.len() {
+        keep_one(written, basin, series, &asked[place], behind(asked, place));
+    }
+}
