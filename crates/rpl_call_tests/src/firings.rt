@@ -2,6 +2,7 @@
 ghost use Rattle.std.specs.Prelude.{◌≡◌, ◌≤◌, length, Ok};
 ghost use Rattle.rpl_verify.specs.Verified.{verified};
 
+use crate::written::the_later_is_written;
 use rpl_code::read_code;
 use rpl_machine::{Fired, Machine};
 use rpl_predef::{Predef, Predefs, absolute, clamped, greatest, least, rounded_down, sign};
@@ -301,6 +302,7 @@ fn check_all(rt: &impl Abort, alloc: Global, predefs: &Predefs, series: &Series,
         panic!(rt; "no memory")
     };
     check(rt, alloc, predefs, series, basin, text.as_str(), &NOTHING);
+    the_later_is_written(rt, alloc, predefs, basin, series);
 }
 
 fn check_in(rt: &impl Abort, alloc: Global, predefs: &Predefs, basin: &Basin) {

@@ -1,10 +1,11 @@
 //! A firing with two puts to one slot, of which the later one is written.
 ghost use Rattle.std.specs.Prelude.{◌≡◌, Ok};
 ghost use Rattle.rpl_verify.specs.Verified.{verified};
+ghost use Rattle.rw_firing.specs.Firing.{IsRuleTurn};
 
-use crate::firings::{accepted, dam};
+use crate::firings::accepted;
 use rpl_machine::Machine;
-use rpl_predef::{Predef, Predefs, absolute, clamped, greatest, least, rounded_down, sign};
+use rpl_predef::Predefs;
 use rpl_verify::Verified;
 use rw_base::{RuleNo, StepNo};
 use rw_firing::{fire, reads};
@@ -14,7 +15,6 @@ use rw_series::{FireEnd, Series};
 use rw_writes::{Write, Writes};
 use std::alloc::Global;
 use std::process::Abort;
-use std::test::Fail;
 
 const CODE: &str =
     "CODE 1\nRULE\nLOCALS N\nnum 4\nnum 5\nlist 2\nforeach 0\nload 0\nput Dam.Outflow 0\nnext\nEND\n";
@@ -33,7 +33,15 @@ fn no_rule_looks(rt: &impl Abort, alloc: Global, basin: &Basin, policy: &Verifie
     assert!(rt; most.len() == 1 && most[0] == 0);
 }
 
-fn the_later_put_is_written(
+fn is_one_rule_of_one_day(rt: &impl Abort, basin: &Basin, policy: &Verified)
+    requires { verified basin.now policy.now.blocks ≡ Ok policy.now }
+    ensures { IsRuleTurn basin.now policy.now 1 1 }
+{
+    assert!(rt; policy.rule_count() == 1);
+    assert!(rt; basin.control().stamps.count() == 1);
+}
+
+fn is_fired(
     rt: &impl Abort,
     alloc: Global,
     predefs: &Predefs,
@@ -49,8 +57,7 @@ fn the_later_put_is_written(
     let Ok(mut writes) = Writes::with_room(alloc) else {
         panic!(rt; "no memory")
     };
-    assert!(rt; policy.rule_count() == 1);
-    assert!(rt; basin.control().stamps.count() == 1);
+    is_one_rule_of_one_day(rt, basin, policy);
     let fired = fire(
         &mut machine,
         &mut writes,
@@ -65,7 +72,7 @@ fn the_later_put_is_written(
     assert!(rt; is_only(writes.as_slice(), 5));
 }
 
-fn rules_fire_so_too(
+fn is_fired_of_rules(
     rt: &impl Abort,
     alloc: Global,
     predefs: &Predefs,
@@ -78,41 +85,22 @@ fn rules_fire_so_too(
     let Ok(mut rules) = Rules::for_policy(alloc, policy, basin) else {
         panic!(rt; "no memory")
     };
-    assert!(rt; policy.rule_count() == 1);
-    assert!(rt; basin.control().stamps.count() == 1);
-    let firing = rules.fire(policy, predefs, basin, series, RuleNo(1), StepNo(1));
-    assert!(rt; firing.end == FireEnd::Done && firing.count == 12);
+    is_one_rule_of_one_day(rt, basin, policy);
+    let fired = rules.fire(policy, predefs, basin, series, RuleNo(1), StepNo(1));
+    assert!(rt; fired.end == FireEnd::Done && fired.count == 12);
     assert!(rt; is_only(rules.written(), 5));
 }
 
-fn check(rt: &impl Abort, alloc: Global, predefs: &Predefs, basin: &Basin) {
+/// Of two puts to a slot the later one is written.
+pub(crate) fn the_later_is_written(
+    rt: &impl Abort,
+    alloc: Global,
+    predefs: &Predefs,
+    basin: &Basin,
+    series: &Series,
+) {
     let policy = accepted(rt, alloc, basin, CODE);
-    let Ok(series) = Series::sized(alloc, basin) else {
-        panic!(rt; "no memory")
-    };
     no_rule_looks(rt, alloc, basin, &policy);
-    the_later_put_is_written(rt, alloc, predefs, basin, &series, &policy);
-    rules_fire_so_too(rt, alloc, predefs, basin, &series, &policy);
-}
-
-fn check_in_dam(rt: &impl Abort, alloc: Global, predefs: &Predefs) {
-    let basin = dam(rt, alloc);
-    check(rt, alloc, predefs, &basin);
-}
-
-#[test]
-fn the_later_of_two_puts_is_written(rt: HostRuntime) -> Result<(), Fail> {
-    let alloc = rt.alloc();
-    let mut rows = Vec::new(alloc);
-    rows.push(Predef::of(1, least))?;
-    rows.push(Predef::of(2, greatest))?;
-    rows.push(Predef::of(3, absolute))?;
-    rows.push(Predef::of(4, clamped))?;
-    rows.push(Predef::of(5, rounded_down))?;
-    rows.push(Predef::of(6, sign))?;
-    let Ok(predefs) = Predefs::of(rows) else {
-        return Err(Fail::from("no predefined functions"));
-    };
-    check_in_dam(&rt, alloc, &predefs);
-    Ok(())
+    is_fired(rt, alloc, predefs, basin, series, &policy);
+    is_fired_of_rules(rt, alloc, predefs, basin, series, &policy);
 }

@@ -1,5 +1,5 @@
 -- What a firing of verified code comes to, by the budget of its rule.
-use Rattle.rw_base.proofs.Common.{◌≡◌, ◌∙◌, ◌≢◌, ℕ, ◌-◌, ◌≤◌, ℤ, List, [], ◌∷◌, All, Option, None, Some, ap, arith, get_or_from_slice_get, length, none-some, option_and_then, option_map, refl, same_Some, slice_get_within, subst, sym, unwrap_or}
+use Rattle.rw_base.proofs.Common.{◌≡◌, ◌∙◌, ◌≢◌, ℕ, ◌-◌, ◌<◌, ◌≤◌, ℤ, List, [], ◌∷◌, All, Option, None, Some, ap, arith, get_or_from_slice_get, length, none-some, option_and_then, option_map, refl, same_Some, slice_get_within, subst, sym, unwrap_or}
 use Rattle.rw_base.specs.declared.number.Cell.{Cell}
 use Rattle.rw_model.proofs.Common.{Draft, numbered}
 use Rattle.rw_model.proofs.Numbered.{numbered-found}
@@ -11,12 +11,23 @@ use Rattle.rw_run.specs.Next.{ended}
 use Rattle.rw_writes.specs.Writes.{writes_of}
 use Rattle.rpl_code.specs.declared.block.Block.{Block}
 use Rattle.rpl_tree.proofs.Common.{Answer, Budget, Trail, World, ended as answer_ended, fire_of, stuck, value}
-use Rattle.rpl_verify.specs.Budget.{IsWithinLimits}
+use Rattle.rpl_verify.specs.Budget.{AreAccepted, IsWithinLimits}
 use Rattle.rpl_verify.specs.Machine.{Frame, fire_of_code, fired, first_frame, most_steps, rule_from, run}
 use Rattle.rpl_verify.specs.Safety.{AreSafe, puts_from}
 use Rattle.rpl_verify.specs.Verified.{Accepted}
+use Rattle.rpl_verify.proofs.Accepted.{rule_there}
 use Rattle.rpl_policy.proofs.Verified.{has_block}
 use Rattle.rw_firing.specs.Firing.{most_looks}
+
+-- ---- blocks
+
+-- a rule's block is one of the code
+pub its_block : (basin : Draft) (policy : Accepted) → AreAccepted basin policy.blocks policy.budgets → (rule n : ℕ) → rule_from 1 policy.blocks rule ≡ Some n
+    → (1 ≤ n) × (n ≤ length policy.blocks)
+its_block basin policy accepted rule n stands =
+    let there = rule_there basin policy.blocks policy.budgets accepted (λ cell. None) 0 1 policy.blocks rule n stands in
+    let near : n - 1 < length policy.blocks = slice_get_within policy.blocks (n - 1) there.0 there.1 in
+    (there.3, omega (arith, near, there.3))
 
 -- ---- puts
 

@@ -2,7 +2,7 @@ ghost use Rattle.std.specs.Prelude.{◌≡◌, ◌∷◌, ℕ, IfOk, Ok, option_
 ghost use Rattle.rw_model.specs.Draft.{Draft};
 ghost use Rattle.rw_series.specs.Series.{held};
 ghost use Rattle.rw_dispatch.specs.Stage.{IsStageOf, Leaves, stage};
-ghost use Rattle.rw_run.specs.Log.{Firing, Log, fired, opened};
+ghost use Rattle.rw_run.specs.Log.{Cells, Firing, Log, fired, opened};
 ghost use Rattle.rw_run.specs.Next.{first_due};
 ghost use Rattle.rw_agenda.specs.Agenda.{IsIndexed};
 ghost use Rattle.rw_writes.specs.Writes.{AreWrites, all_asked};
@@ -65,6 +65,7 @@ impl Rules {
             → IsRulesOf basin policy self.old → IsRulesOf basin policy self.new }
         ensures fresh { (policy : Accepted) (log : Log) (step : ℕ)
             → ShowsLooks policy self.new (opened step ∷ log) }
+        ensures indexed { (cells : Cells) → IsIndexed self.new.agenda cells }
     {
         self.agenda.begin_step();
     }

@@ -1,25 +1,23 @@
 //! Which of the puts of a firing are written.
 ghost use Rattle.std.specs.Prelude.{◌≡◌, ◌≤◌, ◌<◌, ◌+◌, ◌++◌, ◌∷◌, drop, length, All};
-ghost use Rattle.std.specs.List.{list_any};
 ghost use Rattle.rw_model.specs.Draft.{IsSlot};
-ghost use Rattle.rw_series.specs.Series.{held, is_shared};
+ghost use Rattle.rw_series.specs.Series.{held};
 ghost use Rattle.rw_run.specs.Dispatch.{end_in, is_written};
-ghost use Rattle.rw_run.specs.Log.{Asked};
+ghost use Rattle.rw_run.specs.Next.{is_put_again};
 ghost use Rattle.rw_writes.specs.Writes.{all_asked, asked_in, written_of};
 
 use crate::Write;
 use rw_agenda::is_shared;
-use rw_base::Cell;
 use rw_model::{Basin, PutEnd, put_end};
 use rw_series::Series;
 
-// Whether a later one is to a cell that shares its value with this one.
-fn is_put_again(basin: &Basin, cell: Cell, later: &[Write]) -> bool
-    requires { IsSlot basin.now.objects cell.slot.0 }
-    ensures { result ≡ list_any (λ (put : Asked). is_shared basin.now cell put.cell) (all_asked later.now) }
+// Whether a later one is to a cell that shares its value with that of this one.
+fn is_put_again(basin: &Basin, write: &Write, later: &[Write]) -> bool
+    requires { IsSlot basin.now.objects write.now.cell.slot.0 }
+    ensures { result ≡ is_put_again basin.now (asked_in write.now) (all_asked later.now) }
 {
-    for write in later {
-        if is_shared(basin, cell, write.cell) {
+    for other in later {
+        if is_shared(basin, write.cell, other.cell) {
             return true;
         }
     }
@@ -53,7 +51,7 @@ fn keep_one(
         ≡ all_asked written.old.items
         ++ written_of basin.now (held series.now) (asked_in write.now ∷ all_asked later.now) }
 {
-    if is_put_again(basin, write.cell, later) {
+    if is_put_again(basin, write, later) {
         return;
     }
     if is_written(series, write) {
