@@ -11,6 +11,7 @@ from .reasons import plain
 
 TOP = Path(__file__).resolve().parents[2]
 CANNOT = 2  # the status of a tool that can't do what it was asked
+INTERRUPTED = 130
 
 
 class Unable(Exception):
@@ -33,6 +34,8 @@ def tool(main):
     except Unable as unable:
         print(f"{name}: {unable}", file=sys.stderr)
         status = CANNOT
+    except KeyboardInterrupt:
+        status = INTERRUPTED
     except BrokenPipeError:
         os.dup2(os.open(os.devnull, os.O_WRONLY), sys.stdout.fileno())
         status = CANNOT
@@ -63,14 +66,23 @@ def good_model(path):
     return model
 
 
+def built():
+    """The program: the one that BASIN names, or that of this repository, which ./basin builds first where that is due.
+
+    What it says of that goes to the error stream, since it takes long.
+    """
+    if named := os.environ.get("BASIN"):
+        return named
+    if subprocess.run([TOP / "basin", "--build"], stdin=subprocess.DEVNULL, check=False).returncode:
+        raise Unable("the program isn't built (BASIN=path names another one)")
+    return TOP / "crates/basin/out/basin"
+
+
 def basin(*words):
-    """Runs the program, BASIN or ./basin at the top: its status, its output and its error line."""
-    program = os.environ.get("BASIN") or TOP / "basin"
+    """Runs the program: its status, its output and its error line."""
+    program = built()
     try:
         done = subprocess.run([program, *words], stdin=subprocess.DEVNULL, capture_output=True, check=False)
     except OSError as error:
         raise Unable(f"cannot run {program}: {error.strerror}") from None
-    errors = done.stderr.decode("utf-8", "replace")
-    if errors.startswith("basin: proving and building"):  # what ./basin says before it runs the program
-        errors = errors.partition("\n")[2]
-    return done.returncode, done.stdout.decode(), errors.removesuffix("\n")
+    return done.returncode, done.stdout.decode(), done.stderr.decode("utf-8", "replace").removesuffix("\n")
