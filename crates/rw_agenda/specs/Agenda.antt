@@ -10,6 +10,7 @@ use Rattle.rw_series.specs.declared.look.Look.{Look}
 use Rattle.rw_run.specs.Index.{IsIndex, MarksTouched}
 use Rattle.rw_run.specs.Log.{Cells}
 use Rattle.rw_run.specs.Next.{agenda_of, is_changed}
+use Rattle.rw_agenda.specs.declared.limits.TheConstants.{RULES_MAX}
 
 -- of a rule: for how many looks there is room, and at what it looked when it last fired, if it fired
 pub record Entry : Type 0 where
@@ -23,9 +24,9 @@ pub record Agenda : Type 0 where
   pub rules : List Entry
   pub marks : List Bool
 
--- there are at most 200 rules, and a mark for each
+-- there are no more rules than there can be, and a mark for each
 pub record KeepsRules (rules : List Entry) (marks : List Bool) : Type 0 where
-  pub few : length rules ≤ 200
+  pub few : length rules ≤ RULES_MAX
   pub marked : length marks ≡ length rules
 
 -- a rule that hasn't fired

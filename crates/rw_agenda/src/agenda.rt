@@ -4,6 +4,7 @@ ghost use Rattle.rw_series.specs.Series.{held};
 ghost use Rattle.rw_agenda.specs.Agenda.{AreMarkedAt, IsIndexed, IsListed, KeepsOtherMarks, KeepsRules, MarksThose, after_firing, first_due, forgotten, has_seen, room_of, unfired};
 
 use crate::last_looks::LastLooks;
+use crate::limits::RULES_MAX;
 use crate::turns::rule_in_turn;
 use rw_base::{Cell, NoMemory, RuleNo};
 use rw_model::{AgendaOrder, Basin};
@@ -33,9 +34,9 @@ impl Model for Agenda {
 
 impl Agenda {
     /// The agenda of a policy for a basin, of which no rule has fired. `reads` tells at most how many looks a firing of each
-    /// rule has, that of rule 1 first. There are at most 200 rules. No other call takes memory.
+    /// rule has, that of rule 1 first. There are at most `RULES_MAX` rules. No other call takes memory.
     pub fn for_rules(alloc: Global, basin: &Basin, reads: &[u32]) -> Result<Agenda, NoMemory>
-        requires few { length reads.now ≤ 200 }
+        requires few { length reads.now ≤ RULES_MAX }
         ensures order { IfOk result (λ agenda. agenda.order ≡ basin.now.control.agenda) }
         ensures rules { IfOk result (λ agenda. agenda.rules ≡ map unfired reads.now) }
     {

@@ -6,10 +6,9 @@ ghost use Rattle.rw_model.specs.Draft.{IsSlot};
 ghost use Rattle.rw_series.specs.Series.{held, is_shared};
 ghost use Rattle.rw_agenda.specs.Agenda.{Entry, has_seen, unfired};
 
-use crate::shared::is_shared;
 use rw_base::{Cell, NoMemory};
 use rw_model::Basin;
-use rw_series::{Look, Series};
+use rw_series::{Look, Series, is_shared};
 use std::alloc::Global;
 use std::marker::Model;
 

@@ -6,8 +6,8 @@
 mod agenda;
 mod last_looks;
 pub mod law;
-mod shared;
+mod limits;
 mod turns;
 
 pub use agenda::Agenda;
-pub use shared::is_shared;
+pub use limits::RULES_MAX;

@@ -2,7 +2,8 @@
 use Rattle.rw_dispatch.proofs.Common.{Bool, KeepsQueue, List, Option, [], add-one, ap, append-nil, append_assoc, ap₂, arith, cond, false, filter, filter-append, get_or, is_marked, length, list_any, nat_eq, nat_lt, nat_tests, not, refl, set, subst, suc, sym, true, unmarked, zero, ℕ, ◌&&◌, ◌++◌, ◌+◌, ◌-◌, ◌<◌, ◌==◌, ◌∙◌, ◌∷◌, ◌≡◌, ◌≤◌}
 use Rattle.std.proofs.Math.ListN.{length-replicate, replicate, length-append, length-set}
 use Rattle.rw_model.specs.Draft.{Draft}
-use Rattle.rw_run.proofs.Common.{times, numbers, is_data, is_woken, is_but, is_owner, times-append, times-filter, times-numbers, any-times}
+use Rattle.rw_model.specs.Turn.{is_data}
+use Rattle.rw_run.proofs.Common.{times, numbers, is_woken, is_but, is_owner, times-append, times-filter, times-numbers, any-times}
 
 unmarked-set : (bits : List Bool) (k : ℕ) (v : Bool) → k < length bits → unmarked (set bits k v) + cond (get_or bits k false) 0 1 ≡ unmarked bits + cond v 0 1
 unmarked-set [] k v l = absurd (omega arith)

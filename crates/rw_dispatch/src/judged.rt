@@ -4,7 +4,7 @@ ghost use Rattle.rw_series.specs.Series.{held, IsCell};
 ghost use Rattle.rw_run.specs.Log.{Event};
 ghost use Rattle.rw_run.specs.Dispatch.{asked_by, asked_for, denied_by, end_in, judged, or_fault};
 ghost use Rattle.rw_dispatch.specs.Putting.{ArePassed, ArePuts, CanPut, IsPassed, conflict};
-ghost use Rattle.rw_dispatch.specs.Turn.{IsTurn};
+ghost use Rattle.rw_model.specs.Turn.{IsTurn};
 
 use crate::view::cell_in;
 use rw_base::{Cell, ObjectNo, SlotNo, StepNo};

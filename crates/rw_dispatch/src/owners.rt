@@ -2,7 +2,8 @@ ghost use Rattle.std.specs.Prelude.{◌≡◌, ◌≤◌, ◌<◌, ◌==◌, ◌
 ghost use Rattle.rw_model.specs.Draft.{IsObject, IsSlot};
 ghost use Rattle.rw_model.specs.Links.{owner_of};
 ghost use Rattle.rw_model.specs.Kept.{numbers_of};
-ghost use Rattle.rw_run.specs.Waiting.{is_data, is_at, is_owner};
+ghost use Rattle.rw_model.specs.Turn.{is_data};
+ghost use Rattle.rw_run.specs.Waiting.{is_at, is_owner};
 ghost use Rattle.rw_dispatch.specs.Owners.{IsLeastAbove};
 
 use rw_base::{ObjectNo, SlotNo};

@@ -8,7 +8,7 @@ ghost use Rattle.rw_run.specs.Dispatch.{answered, dispatched, looks_of, put_by, 
 ghost use Rattle.rw_dispatch.specs.Answer.{Tells};
 ghost use Rattle.rw_dispatch.specs.Putting.{ArePuts};
 ghost use Rattle.rw_dispatch.specs.Stage.{AreBounded, IsStageOf, Leaves, stage};
-ghost use Rattle.rw_dispatch.specs.Turn.{IsTurn};
+ghost use Rattle.rw_model.specs.Turn.{IsTurn};
 
 use crate::dispatched::Dispatched;
 use crate::judged::judge;

@@ -2,7 +2,7 @@ ghost use Rattle.std.specs.Prelude.{◌≡◌, IfSome, None, map, pos, replicate
 ghost use Rattle.rw_model.specs.Draft.{IsObject};
 ghost use Rattle.rw_series.specs.Series.{held, IsCell};
 ghost use Rattle.rw_run.specs.Dispatch.{slot_or_none, cell_in, content_in, bounds_in_place, places};
-ghost use Rattle.rw_dispatch.specs.Turn.{IsTurn};
+ghost use Rattle.rw_model.specs.Turn.{IsTurn};
 
 use rw_base::{Cell, ObjectNo, SlotNo, StepNo};
 use rw_model::{Basin, Content};

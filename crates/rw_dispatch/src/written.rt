@@ -12,7 +12,7 @@ ghost use Rattle.rw_run.specs.Dispatch.{asked_by, asked_for};
 ghost use Rattle.rw_dispatch.specs.Putting.{ArePuts, CanPut};
 ghost use Rattle.rw_dispatch.specs.Queue.{IsQueueOf};
 ghost use Rattle.rw_dispatch.specs.Stage.{IsHeldIn};
-ghost use Rattle.rw_dispatch.specs.Turn.{IsTurn};
+ghost use Rattle.rw_model.specs.Turn.{IsTurn};
 
 use crate::judged::{cell_of, content_of};
 use crate::queue::Queue;
@@ -31,7 +31,7 @@ fn make_one(basin: &Basin, series: &mut Series, object: ObjectNo, step: StepNo, 
         (last_put basin.now (asked_by basin.now object.0 step.0 put.now ∷ []) cell)
         (held series.old cell) }
 {
-    series.restore(
+    series.hold(
         basin,
         cell_of(basin, object, step, put),
         Some(content_of(object, put)),

@@ -4,7 +4,8 @@ use Rattle.rw_base.specs.declared.memory.NoMemory.{NoMemory}
 use Rattle.rw_model.specs.Draft.{Draft, IsObject}
 use Rattle.rw_series.specs.Series.{held}
 use Rattle.rw_run.specs.Log.{Cells, Event, Log}
-use Rattle.rw_run.specs.Waiting.{is_data, waiting}
+use Rattle.rw_model.specs.Turn.{is_data}
+use Rattle.rw_run.specs.Waiting.{waiting}
 use Rattle.rw_run.specs.Next.{next, dispatches, no_rules}
 use Rattle.rw_run.specs.Runs.{Leads, standing, inside}
 use Rattle.rw_engine.specs.Counts.{count_of, room}

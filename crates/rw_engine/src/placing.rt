@@ -29,7 +29,7 @@ fn place_cell(basin: &Basin, inputs: &Inputs, series: &mut Series, cell: Cell)
             number: 0,
             writer: Writer::Input,
         };
-        series.restore(basin, cell, Some(content));
+        series.hold(basin, cell, Some(content));
     }
 }
 

@@ -6,7 +6,7 @@ ghost use Rattle.rw_run.specs.Log.{Log, opened};
 ghost use Rattle.rw_run.specs.Next.{dispatches};
 ghost use Rattle.rw_run.specs.Runs.{placed};
 ghost use Rattle.rw_run.specs.RunOf.{IsRunOf};
-ghost use Rattle.rw_dispatch.specs.Turn.{IsStep, IsTurn};
+ghost use Rattle.rw_model.specs.Turn.{IsStep, IsTurn};
 ghost use Rattle.rw_engine.specs.Counts.{count_of};
 ghost use Rattle.rw_engine.specs.Givens.{givens};
 ghost use Rattle.rw_engine.specs.Shows.{IsEngineOf, Shows, IsBefore};

@@ -4,7 +4,7 @@ ghost use Rattle.std.specs.List.{cons_option, range_with_len};
 ghost use Rattle.rw_base.specs.declared.number.Cell.{Cell};
 ghost use Rattle.rw_series.specs.Series.{held, IsSeriesOf};
 ghost use Rattle.rw_run.specs.Dispatch.{places};
-ghost use Rattle.rw_dispatch.specs.Turn.{IsTurn};
+ghost use Rattle.rw_model.specs.Turn.{IsTurn};
 ghost use Rattle.rw_engine.specs.Undone.{AreCells, taken_back, undone_at, undone_in};
 
 use rw_base::{Cell, NoMemory, ObjectNo, StepNo};
@@ -81,6 +81,6 @@ pub(crate) fn take_back(basin: &Basin, series: &mut Series, undo: &mut Vec<Undon
     ensures cells { AreCells basin.now undo.new.items }
 {
     while let Some(undone) = undo.pop() {
-        series.restore(basin, undone.cell, undone.held);
+        series.hold(basin, undone.cell, undone.held);
     }
 }

@@ -4,7 +4,8 @@ use Rattle.rw_model.specs.Draft.{Draft}
 use Rattle.rw_model.specs.Objects.{numbered}
 use Rattle.rw_run.specs.Log.{Cells, Event}
 use Rattle.rw_run.specs.Next.{ended, firing_of}
-use Rattle.rw_dispatch.specs.Turn.{IsStep}
+use Rattle.rw_model.specs.Turn.{IsStep}
+use Rattle.rw_agenda.specs.declared.limits.TheConstants.{RULES_MAX}
 use Rattle.rpl_code.specs.declared.block.BlockHead.TheVariants.{Rule}
 use Rattle.rpl_machine.specs.declared.fired.Fired.{Fired}
 use Rattle.rpl_machine.specs.Fired.{fire_seen}
@@ -34,8 +35,8 @@ abbrev pub most_looks : Accepted → ℕ → ℕ
 most_looks policy rule =
     unwrap_or (option_map (λ (b : Budget). b.looks) (option_and_then (λ block. numbered policy.budgets block) (rule_from 1 policy.blocks rule))) 0
 
--- that of each rule, of rule 1 first; there are at most 200
+-- that of each rule, of rule 1 first; there are no more than an agenda has
 pub record AreReads (policy : Accepted) (reads : List ℕ) : Type 0 where
   pub many : length reads ≡ count_alike Rule policy.blocks
-  pub few : length reads ≤ 200
+  pub few : length reads ≤ RULES_MAX
   pub each : (rule : ℕ) → 1 ≤ rule → rule ≤ count_alike Rule policy.blocks → slice_index_or reads (rule - 1) 0 ≡ most_looks policy rule

@@ -8,6 +8,7 @@ pub mod Kind
 pub mod Objects
 pub mod Kept
 pub mod Draft
+pub mod Turn
 pub mod Links
 pub mod Before
 pub mod Basin

@@ -8,4 +8,4 @@ pub use Rattle.rw_run.specs.Next.{Policy, after_objects, agenda_of, count_if, di
 pub use Rattle.rw_run.specs.RunOf.{IsRunOf, end_of, last_closed, line_of, lines, trace_of}
 pub use Rattle.rw_run.specs.Runs.{IsOver, IsRun, Leads, follows, follows_in, inside, placed, rests, standing}
 pub use Rattle.rw_run.specs.Times.{times}
-pub use Rattle.rw_run.specs.Waiting.{all_waiting, first_of, first_waiting, is_but, is_data, is_owner, is_woken, numbers, queued_after, slots_at, waiting}
+pub use Rattle.rw_run.specs.Waiting.{all_waiting, first_of, first_waiting, is_but, is_owner, is_woken, numbers, queued_after, slots_at, waiting}

@@ -12,7 +12,8 @@ use Rattle.rw_series.specs.declared.fire.FireEnd.TheVariants.{Done, Unknown, Zer
 use Rattle.rw_series.specs.declared.look.Look.{Look}
 use Rattle.rw_run.specs.declared.fault.RunFault.TheVariants.{ObjectLimit, RuleLimit}
 use Rattle.rw_run.specs.Log.{Asked, Cells, Log, Event, Firing, opened, idle, solved, fired, fault, cells_of, firing_in, is_opened, last_put, written_by, value_in}
-use Rattle.rw_run.specs.Waiting.{waiting, since, wakes, ends_wait, numbers, is_data, first_of}
+use Rattle.rw_model.specs.Turn.{is_data}
+use Rattle.rw_run.specs.Waiting.{waiting, since, wakes, ends_wait, numbers, first_of}
 use Rattle.rw_run.specs.Dispatch.{Past, bounds_in_place, places, cell_in, past_of, cell_of_past, cell_at, past_cell_of, value_of_past, view_of, if_cell, looked_cells, looks_at, solved_by, asked_by, end_in, is_written, puts_written, denied_by, or_fault, judged, dispatch_of, answered, dispatched}
 use Rattle.rw_run.specs.Next.{Policy, next, next_of, after_objects, asked_next, firing_of, ended, agenda_of, count, dispatches, firings, is_dispatch_of, is_firing_of, last_looks, newest_firing, since_opening, is_changed, is_same_value, first_due, is_put_again, last_ones, asked_of_rule}
 use Rattle.rw_run.specs.Frame.{IsFault, cells_looked, cells_asked, looked_by, looked_in, AreAlike, FollowInStep, IsFramed}

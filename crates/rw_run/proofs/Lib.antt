@@ -5,6 +5,9 @@ mod OneRun
 mod Sinces
 mod Frames
 mod Reuses
+mod Agains
+mod StepEvents
+mod Reruns
 mod Lasts
 mod SameRuns
 mod SomeRun

@@ -2,7 +2,8 @@
 use Rattle.rw_base.proofs.Common.{◌≡◌, ℕ, Bool, true, false, not, ◌&&◌, List, length, All, Option, Some, None, refl, All-append, filter_passes}
 use Rattle.rw_model.specs.Draft.{Draft}
 use Rattle.rw_run.specs.Log.{Event, opened, solved, fired}
-use Rattle.rw_run.specs.Waiting.{numbers, is_data, all_waiting, is_woken, woken, slots_at, queued_after}
+use Rattle.rw_model.specs.Turn.{is_data}
+use Rattle.rw_run.specs.Waiting.{numbers, all_waiting, is_woken, woken, slots_at, queued_after}
 
 -- no object of the list is a data object
 abbrev pub AreReady : Draft → List ℕ → Type 0

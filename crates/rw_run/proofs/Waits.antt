@@ -7,7 +7,8 @@ use Rattle.rw_series.specs.declared.look.Look.{Look}
 use Rattle.rw_run.specs.declared.fault.RunFault.{RunFault}
 use Rattle.rw_run.specs.Log.{Asked, Log, Event, Dispatch, Firing, given, opened, closed, idle, solved, fired, fault, is_number}
 use Rattle.rw_run.specs.Times.{times}
-use Rattle.rw_run.specs.Waiting.{numbers, is_data, ends_wait, wakes, since, is_since, waiting_below, waiting, is_at, is_put_at, is_owner, woken, slots_at, all_waiting}
+use Rattle.rw_model.specs.Turn.{is_data}
+use Rattle.rw_run.specs.Waiting.{numbers, ends_wait, wakes, since, is_since, waiting_below, waiting, is_at, is_put_at, is_owner, woken, slots_at, all_waiting}
 use Rattle.rw_run.proofs.Lists.{filter-same, filter-filter, times-append, times-filter, times-numbers, without, none-kept, all-kept, filter-within, any-times}
 
 -- ---- the places since which an object waits

@@ -12,5 +12,6 @@ pub mod Frame
 pub mod Index
 pub mod Policy
 pub mod Step
+pub mod Timestep
 pub mod Reuse
 pub mod Worked

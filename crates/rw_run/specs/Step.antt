@@ -57,9 +57,9 @@ before_closing step = before (is_closing step)
 
 -- ---- at which cells it looked, and how many lines it has in a trace
 
--- the cells that share their value with this one
+-- the cell, and those that share their value with it
 abbrev pub cells_with : Draft → Cell → List Cell
-cells_with basin cell = map (λ slot. cell_at slot cell.step.0) (group_of basin.objects basin.links cell.slot.0)
+cells_with basin cell = cell ∷ map (λ slot. cell_at slot cell.step.0) (group_of basin.objects basin.links cell.slot.0)
 
 -- the cells of puts, and all that share their values with them
 abbrev pub cells_reached : Draft → List Asked → List Cell

@@ -1,21 +1,16 @@
 -- Which objects wait, and since which event, by looking back through the log.
-use Rattle.std.specs.Prelude.{ℕ, zero, suc, ◌==◌, Bool, false, ◌&&◌, ◌||◌, not, List, [], ◌∷◌, ◌++◌, length, Option, Some, None, option_map, unwrap_or, if◌then◌else◌}
+use Rattle.std.specs.Prelude.{ℕ, zero, suc, ◌==◌, Bool, false, ◌&&◌, ◌||◌, not, List, [], ◌∷◌, ◌++◌, length, Option, Some, None, if◌then◌else◌}
 use Rattle.std.specs.Option.{option_or}
 use Rattle.std.specs.List.{list_any, filter}
-use Rattle.rw_model.specs.Code.{code_of}
 use Rattle.rw_model.specs.Draft.{Draft}
-use Rattle.rw_model.specs.Objects.{object_at}
 use Rattle.rw_model.specs.Links.{group_of, owner_of}
+use Rattle.rw_model.specs.Turn.{is_data}
 use Rattle.rw_run.specs.Log.{Asked, Event, opened, solved, fired, Log, dispatched_in, is_number, is_opened}
 
 -- the numbers from 1 on, rising
 abbrev pub numbers : ℕ → List ℕ
 numbers zero = []
 numbers (suc count) = numbers count ++ suc count ∷ []
-
--- the object only keeps data, or isn't there
-abbrev pub is_data : Draft → ℕ → Bool
-is_data basin object = unwrap_or (option_map (λ found. code_of found.kind) (object_at basin.objects object)) 0 == 0
 
 -- the object owns a slot that carries one value with this one
 abbrev pub is_at : Draft → ℕ → ℕ → Bool

@@ -8,14 +8,15 @@ use Rattle.rw_calendar.specs.Moment.{on}
 use Rattle.rw_calendar.specs.declared.step_length.StepLength.TheVariants.{Hours}
 use Rattle.rw_model.specs.Draft.{Draft}
 use Rattle.rw_model.specs.declared.control.AgendaOrder.{AgendaOrder}
+use Rattle.rw_model.specs.declared.control.AgendaOrder.TheVariants.{HighFirst}
 use Rattle.rw_model.specs.declared.kind.Kind.TheVariants.{DataObject}
 use Rattle.rw_series.specs.Fire.{Fire}
-use Rattle.rw_series.specs.declared.fire.FireEnd.TheVariants.{Done, Unknown}
+use Rattle.rw_series.specs.declared.fire.FireEnd.TheVariants.{Done, Unknown, ZeroDivisor as DividesByZero}
 use Rattle.rw_series.specs.declared.fire.RulePut.{RulePut}
 use Rattle.rw_series.specs.declared.look.Look.{Look}
-use Rattle.rw_run.specs.declared.fault.RunFault.TheVariants.{RuleLimit}
+use Rattle.rw_run.specs.declared.fault.RunFault.TheVariants.{Conflict, ZeroDivisor, ObjectOutOfRange, RuleOutOfRange, ObjectLimit, RuleLimit}
 use Rattle.rw_run.specs.Dispatch.{cell_at}
-use Rattle.rw_run.specs.Log.{Event, opened, closed, fired, fault}
+use Rattle.rw_run.specs.Log.{Event, Log, opened, closed, idle, solved, fired, fault}
 use Rattle.rw_run.specs.Next.{Policy, asked_by_rule}
 
 -- the data object over so many days, a rule firing at most 20 times in each
@@ -117,14 +118,17 @@ x_to value = put_of 1 0 value ∷ []
 
 -- a rule that met an unknown value fires again once another rule has set it, and once more after its own put, which then finds the
 -- value there
+abbrev pub raised_on : ℕ → List Event
+raised_on step =
+    opened step ∷
+    stopped 1 step (saw 1 step None) ∷
+    did 2 step [] (x_to (pos 0)) (x_to (pos 0)) 2 ∷
+    did 1 step (saw 1 step (Some (pos 0))) (x_to (pos 10)) (x_to (pos 10)) 6 ∷
+    did 1 step (saw 1 step (Some (pos 10))) (x_to (pos 10)) [] 6 ∷
+    closed step ∷ []
+
 abbrev pub raised_run : List Event
-raised_run =
-    opened 1 ∷
-    stopped 1 1 (saw 1 1 None) ∷
-    did 2 1 [] (x_to (pos 0)) (x_to (pos 0)) 2 ∷
-    did 1 1 (saw 1 1 (Some (pos 0))) (x_to (pos 10)) (x_to (pos 10)) 6 ∷
-    did 1 1 (saw 1 1 (Some (pos 10))) (x_to (pos 10)) [] 6 ∷
-    closed 1 ∷ []
+raised_run = raised_on 1
 
 -- so many firings, each of which sees what the one before it set
 abbrev pub climbing : ℕ → ℕ → List Event
@@ -184,3 +188,108 @@ five = (cell_at 1 1, pos 5) ∷ []
 -- no rule changes a value that was given
 abbrev pub given_run : List Event
 given_run = opened 1 ∷ did 1 1 [] (x_to (pos 1) ++ x_to (pos 2)) [] 4 ∷ closed 1 ∷ []
+
+-- ---- a link
+
+-- two data objects, each with one slot, X and Y, which a link joins
+abbrev pub linked_basin : Draft
+linked_basin = record {
+  control = (basin_of HighFirst 1).control;
+  objects = record { name = codes "D"; kind = DataObject (record { name = codes "X"; dim = plain_number } ∷ []) } ∷
+      record { name = codes "E"; kind = DataObject (record { name = codes "Y"; dim = plain_number } ∷ []) } ∷ [];
+  links = (1 ∷ 2 ∷ []) ∷ [];
+  bounds = [];
+}
+
+-- rule 1 raises Y to 10 and rule 2 sets X to 0
+abbrev pub across : Policy
+across = two_rules (λ step values. made_of 2 (values (cell_at 2 step)) 2 (λ y. int_max y (pos 10)) step)
+    (λ step values. done_by [] (put_of 1 0 (pos 0) ∷ []) 2)
+
+-- a put to one of two linked slots makes a rule due that looked at the other
+abbrev pub across_run : List Event
+across_run =
+    opened 1 ∷
+    stopped 1 1 (saw 2 1 None) ∷
+    did 2 1 [] (x_to (pos 0)) (x_to (pos 0)) 2 ∷
+    did 1 1 (saw 2 1 (Some (pos 0))) (put_of 2 0 (pos 10) ∷ []) (put_of 2 0 (pos 10) ∷ []) 6 ∷
+    did 1 1 (saw 2 1 (Some (pos 10))) (put_of 2 0 (pos 10) ∷ []) [] 6 ∷
+    closed 1 ∷ []
+
+-- the one rule sets X to 1 and Y to 2
+abbrev pub both_ends : Policy
+both_ends = one_rule (λ step values. done_by [] (put_of 1 0 (pos 1) ∷ put_of 2 0 (pos 2) ∷ []) 4)
+
+-- of two puts to linked slots the later one counts
+abbrev pub both_ends_run : List Event
+both_ends_run =
+    opened 1 ∷ did 1 1 [] (put_of 1 0 (pos 1) ∷ put_of 2 0 (pos 2) ∷ []) (put_of 2 0 (pos 2) ∷ []) 4 ∷ closed 1 ∷ []
+
+-- a put to one of them reaches both
+abbrev pub one_end_run : List Event
+one_end_run = opened 1 ∷ did 1 1 [] (x_to (pos 1)) (x_to (pos 1)) 2 ∷ closed 1 ∷ []
+
+-- ---- runs of one policy for two inputs
+
+-- nothing is given over two days
+abbrev pub raised_twice : List Event
+raised_twice = raised_on 1 ++ raised_on 2
+
+-- X is given as 5 on the first day, which no rule changes. The second goes as before
+abbrev pub given_once : List Event
+given_once =
+    opened 1 ∷ did 1 1 (saw 1 1 (Some (pos 5))) (x_to (pos 10)) [] 6 ∷ did 2 1 [] (x_to (pos 0)) [] 2 ∷ closed 1 ∷ raised_on 2
+
+-- the one rule sets X to 7, of this day and of the next
+abbrev pub both_days : Policy
+both_days = one_rule (λ step values. done_by [] (put_of 1 0 (pos 7) ∷ put_of 1 1 (pos 7) ∷ []) 4)
+
+-- what it puts to the next day is there on that day, and stays, so that the put of that day has nothing to do
+abbrev pub both_days_run : List Event
+both_days_run =
+    opened 1 ∷ did 1 1 [] (x_to (pos 7) ++ put_of 1 1 (pos 7) ∷ []) (x_to (pos 7) ++ put_of 1 1 (pos 7) ∷ []) 4 ∷ closed 1 ∷
+    opened 2 ∷ did 1 2 [] (x_to (pos 7)) [] 4 ∷ closed 2 ∷ []
+
+-- X of the second day is given as 7: the value that the rule puts, but not its number nor its writer
+abbrev pub seven : List (Cell × ℤ)
+seven = (cell_at 1 2, pos 7) ∷ []
+
+abbrev pub given_seven_run : List Event
+given_seven_run =
+    opened 1 ∷ did 1 1 [] (x_to (pos 7) ++ put_of 1 1 (pos 7) ∷ []) (x_to (pos 7)) 4 ∷ closed 1 ∷
+    opened 2 ∷ did 1 2 [] (x_to (pos 7)) [] 4 ∷ closed 2 ∷ []
+
+-- the one rule looks at X, and divides by 0 where that is unknown
+abbrev pub seen_or_fault : ℕ → Option ℤ → Option Fire
+seen_or_fault step None = Some (record { end = DividesByZero; looked = cell_at 1 step ∷ []; puts = []; count = 3 })
+seen_or_fault step (Some value) = done_by (cell_at 1 step ∷ []) [] 3
+
+abbrev pub needy : Policy
+needy = one_rule (λ step values. seen_or_fault step (values (cell_at 1 step)))
+
+-- nothing is given, so that the first day is never closed
+abbrev pub faulty_run : List Event
+faulty_run = opened 1 ∷ fault (ZeroDivisor (record { 0 = 1 }) (record { 0 = 1 })) ∷ []
+
+-- X is given as 5 on the first day, so that the second is opened
+abbrev pub needy_run : List Event
+needy_run =
+    opened 1 ∷ did 1 1 (saw 1 1 (Some (pos 5))) [] [] 3 ∷ closed 1 ∷
+    opened 2 ∷ fault (ZeroDivisor (record { 0 = 1 }) (record { 0 = 2 })) ∷ []
+
+-- ---- a timestep within a log
+
+-- one event of each kind, of this timestep; objects, rules and slots have other numbers
+abbrev pub one_of_each : ℕ → Log
+one_of_each step =
+    fault (Conflict (record { 0 = 7 }) (record { 0 = 8 }) (record { 0 = step }) (pos 0) (pos 1)) ∷
+    fault (ZeroDivisor (record { 0 = 7 }) (record { 0 = step })) ∷
+    fault (ObjectOutOfRange (record { 0 = 7 }) (record { 0 = 8 }) (record { 0 = step }) (pos 0)) ∷
+    fault (RuleOutOfRange (record { 0 = 7 }) (record { 0 = step }) (pos 0)) ∷
+    fault (ObjectLimit (record { 0 = 7 }) (record { 0 = step }) 9) ∷
+    fault (RuleLimit (record { 0 = 7 }) (record { 0 = step }) 9) ∷
+    closed step ∷
+    fired (record { rule = 7; step = step; is_done = true; looked = []; asked = []; written = []; count = 9 }) ∷
+    solved (record { object = 7; step = step; looked = []; asked = []; written = [] }) ∷
+    idle 7 step [] ∷
+    opened step ∷ []

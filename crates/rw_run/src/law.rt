@@ -1,21 +1,24 @@
 //! What the definitions of this crate come to in plain words. Each law is the `ensures` of a function that does
 //! nothing.
 ghost use Rattle.std.specs.Option.{option_or};
-ghost use Rattle.std.specs.Prelude.{◌≡◌, ◌↔◌, ◌<◌, ◌≤◌, ◌+◌, ℕ, ℤ, Bool, IsTrue, IsFalse, List, [], ◌∷◌, ◌++◌, Option, None, Some};
+ghost use Rattle.std.specs.Prelude.{◌≡◌, ◌↔◌, ◌<◌, ◌≤◌, ◌+◌, ℕ, ℤ, Bool, IsTrue, IsFalse, List, [], ◌∷◌, ◌++◌, Option, None, Some, Contains, length};
 ghost use Rattle.rw_base.specs.declared.number.Cell.{Cell};
 ghost use Rattle.rw_model.specs.Draft.{Draft};
 ghost use Rattle.rw_series.specs.Series.{is_shared};
 ghost use Rattle.rw_series.specs.declared.look.Look.{Look};
 ghost use Rattle.rw_run.specs.declared.fault.RunFault.{RunFault};
 ghost use Rattle.rw_run.specs.Log.{Asked, Cells, Dispatch, Event, Firing, Log, given, opened, closed, idle, solved, fired, fault, cells_of, input_content, last_put, written_by};
+ghost use Rattle.rw_run.specs.Dispatch.{cell_at};
 ghost use Rattle.rw_run.specs.Waiting.{all_waiting, since, slots_at, waiting, woken};
 ghost use Rattle.rw_run.specs.Since.{WaitsSince};
 ghost use Rattle.rw_run.specs.Next.{Policy, no_rules};
 ghost use Rattle.rw_run.specs.Policy.{FireAlike, IsPolicyOf};
-ghost use Rattle.rw_run.specs.Runs.{IsRun, Leads, follows, placed};
+ghost use Rattle.rw_run.specs.Runs.{IsRun, Leads, follows, placed, rests, standing};
 ghost use Rattle.rw_run.specs.Choice.{MayFollow, MayLead};
 ghost use Rattle.rw_run.specs.Step.{before_closing, before_opening, cell_count, events_of, line_count, looked_at};
-ghost use Rattle.rw_run.specs.Worked.{ahead, ahead_run, basin_of, counted, counted_run, divided, divided_run, five, first_of_ahead, followed, followed_run, given_run, outranked, outranked_run, put_twice, put_twice_run, raised, raised_run, three};
+ghost use Rattle.rw_run.specs.Reuse.{AreRerun, AreRising, IsReused};
+ghost use Rattle.rw_run.specs.Timestep.{AreLooked, IsTimestep, WasHeld};
+ghost use Rattle.rw_run.specs.Worked.{across, across_run, ahead, ahead_run, basin_of, both_days, both_days_run, both_ends, both_ends_run, counted, counted_run, divided, divided_run, faulty_run, five, first_of_ahead, followed, followed_run, given_once, given_run, given_seven_run, linked_basin, needy, needy_run, one_end_run, one_of_each, outranked, outranked_run, put_twice, put_twice_run, raised, raised_run, raised_twice, seven, three};
 ghost use Rattle.rw_model.specs.declared.control.AgendaOrder.TheVariants.{HighFirst, LowFirst};
 ghost use Rattle.rw_run.specs.Frame.{AreAlike, FollowInStep, IsFramed, IsStepFrom, looked_in, log_after};
 ghost use Rattle.rw_run.specs.Index.{IsIndex, MarksTouched};
@@ -76,12 +79,16 @@ pub fn same_runs()
 {}
 
 /// Where any object that waits may be dispatched next, the one that has waited longest is such a one.
-#[tactic(auto, using(crate::proofs::Choices::may_follow, crate::proofs::Choices::may_lead))]
+/// Where one object waits at most, there is no choice.
+#[tactic(auto, using(crate::proofs::Choices::may_follow, crate::proofs::Choices::may_lead, crate::proofs::Choices::no_choice))]
 pub fn choices()
     ensures event { (basin : Draft) (policy : Policy) (log : Log) (event : Event)
         → follows basin policy log ≡ Some event → MayFollow basin policy log event }
     ensures events { (basin : Draft) (policy : Policy) (old : Log) (events : List Event) (new : Log)
         → Leads basin policy old events new → MayLead basin policy old events new }
+    ensures alone { (basin : Draft) (policy : Policy) (log : Log) (event : Event)
+        → length (waiting basin log) ≤ 1 → MayFollow basin policy log event
+        → follows basin policy log ≡ Some event }
 {}
 
 /// Small runs of rules, each worked out by hand, come out of the definitions: on the agenda, on rules that fire again, on their
@@ -99,9 +106,18 @@ pub fn worked_runs()
         (log_after given_run (placed [] five)) }
 {}
 
-/// What is said of a timestep within a log comes to this in two of them: what stood before it, how many cells it looked at
-/// or reached, and how many lines it has.
+/// Where a link joins two slots, a put to the one makes a rule due that looked at the other, of two puts the later one counts
+/// to whichever of them it is, and each put reaches both.
+pub fn linked_runs()
+    ensures across { IsRun linked_basin across [] (log_after across_run []) }
+    ensures both { IsRun linked_basin both_ends [] (log_after both_ends_run []) }
+    ensures reached { cell_count (looked_at linked_basin 1 (log_after one_end_run [])) ≡ 2 }
+{}
+
+/// What is said of a timestep within a log comes to this in some of them: which events are its own, what stood before it, how
+/// many cells it looked at or reached, and how many lines it has.
 pub fn worked_timesteps()
+    ensures each { events_of 2 (one_of_each 2 ++ one_of_each 1) ≡ one_of_each 2 }
     ensures opening { before_opening 1 (log_after raised_run []) ≡ Some [] }
     ensures whole { events_of 1 (log_after raised_run []) ≡ log_after raised_run [] }
     ensures closing { before_closing 1 (log_after ahead_run [])
@@ -109,7 +125,30 @@ pub fn worked_timesteps()
     ensures open { before_closing 1 (log_after counted_run []) ≡ None }
     ensures cells { cell_count (looked_at (basin_of HighFirst 1) 1 (log_after raised_run [])) ≡ 1 }
     ensures both { cell_count (looked_at (basin_of HighFirst 1) 1 (log_after followed_run [])) ≡ 2 }
+    ensures apart { cell_count (cell_at 1 1 ∷ cell_at 1 2 ∷ cell_at 2 1 ∷ cell_at 1 1 ∷ []) ≡ 3 }
     ensures lines { line_count 1 (log_after raised_run []) ≡ 8 }
+{}
+
+/// Which timesteps of a later run are run again comes to this in runs of two days. The second day is reused where nothing
+/// differs but the first. It isn't where a cell holds the same value with another number and writer, nor where the earlier run
+/// didn't open it. A day that the earlier run didn't close isn't either.
+pub fn worked_reruns()
+    ensures earlier { IsRun (basin_of HighFirst 2) raised [] (log_after raised_twice []) }
+    ensures later { IsRun (basin_of HighFirst 2) raised five
+        (log_after given_once (placed [] five)) }
+    ensures first { AreRerun (basin_of HighFirst 2) (log_after raised_twice [])
+        (log_after given_once (placed [] five)) (1 ∷ []) }
+    ensures put { IsRun (basin_of HighFirst 2) both_days [] (log_after both_days_run []) }
+    ensures given { IsRun (basin_of HighFirst 2) both_days seven
+        (log_after given_seven_run (placed [] seven)) }
+    ensures both { AreRerun (basin_of HighFirst 2) (log_after both_days_run [])
+        (log_after given_seven_run (placed [] seven)) (1 ∷ 2 ∷ []) }
+    ensures faulty { IsRun (basin_of HighFirst 2) needy [] (log_after faulty_run []) }
+    ensures longer { IsRun (basin_of HighFirst 2) needy five
+        (log_after needy_run (placed [] five)) }
+    ensures opened { AreRerun (basin_of HighFirst 2) (log_after faulty_run [])
+        (log_after needy_run (placed [] five)) (1 ∷ 2 ∷ []) }
+    ensures rising { (first later : ℕ) → AreRising (first ∷ later ∷ []) → first < later }
 {}
 
 /// Which objects wait after an event, by those that waited before it. A timestep begins with all but the data objects. A
@@ -163,6 +202,30 @@ pub fn reuse()
         → AreAlike (cells_of basin old) (cells_of basin other) (looked_in (first ∷ events))
         → Leads basin policy (opened step ∷ other) (first ∷ events)
         (log_after (first ∷ events) (opened step ∷ other)) }
+{}
+
+/// A closed timestep goes alike in another run that holds alike what it looked at.
+pub fn again()
+    ensures { (basin : Draft) (policy : Policy) (step last : ℕ) (old other : Log)
+        (first : Event) (events : List Event) (looked : List WasHeld)
+        → IsFramed policy → IsTimestep basin policy step old first events
+        → AreLooked basin (cells_of basin old) (first ∷ events) looked
+        → ((held : WasHeld) → Contains looked held → cells_of basin other held.cell ≡ held.content)
+        → standing other ≡ rests last → step ≡ last + 1
+        → IsTimestep basin policy step other first events }
+{}
+
+/// A timestep that is reused goes in the later run, event by event, as it went in the earlier one. It looked at or reached at
+/// most 6,000 cells, and has at most 6,000 lines.
+pub fn reused()
+    ensures alike { (basin : Draft) (policy : Policy) (inputs others : List (Cell × ℤ))
+        (earlier later : Log) (step : ℕ) → IsFramed policy
+        → IsRun basin policy inputs earlier → IsRun basin policy others later
+        → IsReused basin earlier later step
+        → events_of step later ≡ events_of step earlier }
+    ensures small { (basin : Draft) (earlier later : Log) (step : ℕ)
+        → IsReused basin earlier later step
+        → (cell_count (looked_at basin step earlier) ≤ 6000) × (line_count step earlier ≤ 6000) }
 {}
 
 /// Where each rule is marked whose last looks the puts touch, a rule without a mark still isn't due.

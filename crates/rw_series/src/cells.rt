@@ -34,7 +34,7 @@ pub fn kept_at(cells: &[Kept], slots: u16, steps: u16, slot: u16, step: u16) -> 
 }
 
 /// Makes one cell hold the content.
-pub fn hold(
+pub fn keep_at(
     cells: &mut Vec<Kept>,
     slots: u16,
     steps: u16,

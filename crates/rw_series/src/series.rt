@@ -5,7 +5,7 @@ ghost use Rattle.std.specs.Prelude.{None, Some};
 ghost use Rattle.rw_model.specs.Put.{end_of_put};
 ghost use Rattle.rw_series.specs.Series.{held, IsCell, IsSeriesOf, Sets};
 
-use crate::cells::{hold, kept_at};
+use crate::cells::{keep_at, kept_at};
 use crate::columns::{column_of, columns_of};
 use crate::kept::{Kept, unknown};
 use rw_base::{Cell, NoMemory};
@@ -101,14 +101,14 @@ impl Series {
     {
         let end = end_of(self.get(c), &new);
         if is_written(&end) {
-            self.restore(basin, c, Some(new));
+            self.hold(basin, c, Some(new));
         }
         end
     }
 
     /// Makes a cell hold a content, or be unknown, whatever it holds, and so each cell of a slot that a link joins to its
     /// slot, at the same timestep.
-    pub fn restore(&mut self, basin: &Basin, c: Cell, held: Option<Content>)
+    pub fn hold(&mut self, basin: &Basin, c: Cell, held: Option<Content>)
         requires made { IsSeriesOf basin.now self.old }
         requires cell { IsCell basin.now c }
         ensures cells { Sets basin.now c held self.old self.new }
@@ -116,7 +116,7 @@ impl Series {
     {
         let _slots = basin.slot_count();
         let column = column_of(self.columns.as_slice(), c.slot.0);
-        hold(
+        keep_at(
             &mut self.cells,
             self.width,
             self.steps,

@@ -24,7 +24,7 @@ fn make_one(basin: &Basin, series: &mut Series, write: Write)
     ensures cells { (cell : At) → held series.new cell
         ≡ option_or (last_put basin.now (asked_in write ∷ []) cell) (held series.old cell) }
 {
-    series.restore(basin, write.cell, Some(write.content));
+    series.hold(basin, write.cell, Some(write.content));
 }
 
 /// Makes them, one after another.

@@ -7,9 +7,8 @@ ghost use Rattle.rw_run.specs.Next.{is_put_again};
 ghost use Rattle.rw_writes.specs.Writes.{all_asked, asked_in, written_of};
 
 use crate::Write;
-use rw_agenda::is_shared;
 use rw_model::{Basin, PutEnd, put_end};
-use rw_series::Series;
+use rw_series::{Series, is_shared};
 
 // Whether a later one is to a cell that shares its value with that of this one.
 fn is_put_again(basin: &Basin, write: &Write, later: &[Write]) -> bool

@@ -3,7 +3,7 @@ ghost use Rattle.std.specs.Option.{option_or};
 ghost use Rattle.rw_base.specs.declared.number.Cell.{Cell};
 ghost use Rattle.rw_dispatch.specs.Queue.{IsQueueOf};
 ghost use Rattle.rw_dispatch.specs.Stage.{IsHeldIn};
-ghost use Rattle.rw_dispatch.specs.Turn.{IsStep};
+ghost use Rattle.rw_model.specs.Turn.{IsStep};
 ghost use Rattle.rw_run.specs.Log.{last_put};
 ghost use Rattle.rw_run.specs.Policy.{CanAsk};
 ghost use Rattle.rw_run.specs.Waiting.{slots_at, woken};

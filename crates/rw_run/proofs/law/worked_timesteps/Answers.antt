@@ -21,3 +21,9 @@ returns-clause-both c = refl
 
 pub returns-clause-lines : goal.returns-clause-lines
 returns-clause-lines c = refl
+
+pub returns-clause-each : goal.returns-clause-each
+returns-clause-each c = refl
+
+pub returns-clause-apart : goal.returns-clause-apart
+returns-clause-apart c = refl

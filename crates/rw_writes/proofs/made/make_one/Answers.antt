@@ -3,11 +3,11 @@ use Rattle.rw_writes.specs.Writes.{asked_in}
 use Rattle.rw_writes.proofs.made.make_one.Goals as goal
 
 pub returns-clause-cells : goal.returns-clause-cells
-returns-clause-cells c = put-set c.args.basin.now (asked_in c.args.write) c.args.series.now c.restore.new.self c.restore.ensures.cells
+returns-clause-cells c = put-set c.args.basin.now (asked_in c.args.write) c.args.series.now c.hold.new.self c.hold.ensures.cells
 
 pub returns-clause-made : goal.returns-clause-made
 returns-clause-made c = record {
-  made = c.restore.ensures.made;
-  bounded = AreBounded-put c.args.basin.now (asked_in c.args.write) c.args.series.now c.restore.new.self c.requires.can.within c.requires.made.bounded
-      c.restore.ensures.cells;
+  made = c.hold.ensures.made;
+  bounded = AreBounded-put c.args.basin.now (asked_in c.args.write) c.args.series.now c.hold.new.self c.requires.can.within c.requires.made.bounded
+      c.hold.ensures.cells;
 }

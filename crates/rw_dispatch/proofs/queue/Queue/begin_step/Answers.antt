@@ -1,5 +1,5 @@
 use Rattle.std.proofs.Common.{rules, ap, not, ℕ, []}
-use Rattle.rw_run.specs.Waiting.{is_data}
+use Rattle.rw_model.specs.Turn.{is_data}
 use Rattle.rw_dispatch.proofs.Queues.{more_passed, later-free}
 use Rattle.rw_dispatch.proofs.queue.Queue.begin_step.Goals as goal
 

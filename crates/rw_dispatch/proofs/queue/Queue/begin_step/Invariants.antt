@@ -1,5 +1,6 @@
 use Rattle.rw_base.proofs.Common.{◌≡◌, ℕ, not, length, filter}
-use Rattle.rw_run.specs.Waiting.{is_data, numbers}
+use Rattle.rw_model.specs.Turn.{is_data}
+use Rattle.rw_run.specs.Waiting.{numbers}
 use Rattle.rw_dispatch.proofs.queue.Queue.begin_step.Given as goal
 
 abbrev pub invariant-loop : goal.invariant-loop

@@ -1,5 +1,5 @@
 use Rattle.rw_base.proofs.Common.{◌≡◌, ◌∙◌, false, All-rest}
-use Rattle.rw_run.specs.Waiting.{is_data}
+use Rattle.rw_model.specs.Turn.{is_data}
 use Rattle.rw_engine.proofs.state.State.event.Goals as goal
 
 pub ask-requires-clause-within : goal.ask-requires-clause-within

@@ -1,7 +1,12 @@
--- The turn of an object.
-use Rattle.std.specs.Prelude.{◌≡◌, ◌≤◌, ℕ, false}
+-- When an object can be dispatched.
+use Rattle.std.specs.Prelude.{◌≡◌, ◌==◌, ◌≤◌, ℕ, Bool, false, option_map, unwrap_or}
+use Rattle.rw_model.specs.Code.{code_of}
 use Rattle.rw_model.specs.Draft.{Draft, IsObject}
-use Rattle.rw_run.specs.Waiting.{is_data}
+use Rattle.rw_model.specs.Objects.{object_at}
+
+-- the object only keeps data, or isn't there
+abbrev pub is_data : Draft → ℕ → Bool
+is_data basin object = unwrap_or (option_map (λ found. code_of found.kind) (object_at basin.objects object)) 0 == 0
 
 -- one of the timesteps
 pub record IsStep (basin : Draft) (step : ℕ) : Type 0 where

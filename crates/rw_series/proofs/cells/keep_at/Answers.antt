@@ -2,7 +2,7 @@ use Rattle.rw_base.proofs.Common.{◌≡◌, ◌*◌, length, ap, ◌∙◌, ari
 use Rattle.rw_series.specs.Kept.{content_of}
 use Rattle.rw_series.specs.Cells.{position_of, kept_at}
 use Rattle.rw_series.proofs.Places.{Kept-of, within, kept_at-set}
-use Rattle.rw_series.proofs.cells.hold.Goals as goal
+use Rattle.rw_series.proofs.cells.keep_at.Goals as goal
 
 pub index_mut-requires : goal.index_mut-requires
 index_mut-requires c =

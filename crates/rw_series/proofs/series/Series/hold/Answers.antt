@@ -4,10 +4,10 @@ use Rattle.rw_series.specs.Columns.{column_of}
 use Rattle.rw_series.specs.Series.{Series, held, is_shared}
 use Rattle.rw_series.proofs.Setting.{column_kept, shared_test}
 use Rattle.rw_series.proofs.Sharing.{Sets-made}
-use Rattle.rw_series.proofs.series.Series.restore.Goals as goal
+use Rattle.rw_series.proofs.series.Series.hold.Goals as goal
 
-pub hold-requires-clause-kept : goal.hold-requires-clause-kept
-hold-requires-clause-kept c =
+pub keep_at-requires-clause-kept : goal.keep_at-requires-clause-kept
+keep_at-requires-clause-kept c =
     ap (λ column. is_kept c.self.inside.width c.self.inside.steps column c.args.c.step.0)
     (c.column_of-column.ensures ∙ ap (λ columns. column_of columns c.args.c.slot.0) c.as_slice.ensures.value)
     ∙ subst (λ (series : Series). is_kept series.width series.steps (column_of series.columns c.args.c.slot.0) c.args.c.step.0 ≡ true) (sym c.self.view_is)
@@ -17,7 +17,7 @@ pub returns-clause-cells : goal.returns-clause-cells
 returns-clause-cells c other =
     let column = c.column_of-column.ensures ∙ ap (λ columns. column_of columns c.args.c.slot.0) c.as_slice.ensures.value in
     let before = c.self.inside.columns.items in
-    c.hold.ensures.cells (column_of before other.slot.0) other.step.0
+    c.keep_at.ensures.cells (column_of before other.slot.0) other.step.0
     ∙ ap₂ (λ test old. if test then c.args.held else old)
     (ap (λ k. column_of before other.slot.0 == k && other.step.0 == c.args.c.step.0) column
     ∙ subst (λ (series : Series). (column_of series.columns other.slot.0 == column_of series.columns c.args.c.slot.0 && other.step.0 == c.args.c.step.0) ≡ is_shared c.args.basin.now c.args.c other)
