@@ -22,7 +22,7 @@ limits = budget 1000000 20000 2000 1000000
 abbrev pub capped : ℕ → ℕ → ℕ
 capped limit n = min n (limit + 1)
 
--- of the declaration of this number, counted from 1
+-- of the declaration of this number, counted from 1: `costs` and `words`, where they are within the limits
 abbrev pub budget_of : List Declared → ℕ → Budget
 budget_of rules number =
     budget

@@ -16,7 +16,7 @@ ghost use Rattle.rpl_tree.specs.World.{World, cell_of, put_to};
 ghost use Rattle.rpl_tree.specs.Mean.{Env, Function, kind_in, mean, value_of};
 ghost use Rattle.rpl_tree.specs.Count.{locals_of, nodes_of};
 ghost use Rattle.rpl_tree.specs.Budget.{budget, budget_of};
-ghost use Rattle.rpl_tree.specs.Worked.{acts_do, ahead, all_cells, basin_of, both_call, call_of, called_by, canal, cap_and_base, count_call, dam, done_by, ended_by, fire, first_of_l, flow_object, hundredth, n_name, n_to_x, negative_outflow, numbers_object, of_unit, one_more, one_or_two, one_to_x, only_slot, over, pair, part_of_n, pool_by, raise_and_reset, rules_do, seepage_set, storage_after, storage_before, sum, sum_ahead, sum_of_slots, sum_too_early, three, turns_of_one_name, twice_each, unknown_cells, whole, with_functions, x_by, x_ends, x_is, x_put, x_rule, x_wants_y, y_now, y_put};
+ghost use Rattle.rpl_tree.specs.Worked.{acts_do, ahead, all_cells, basin_of, both_call, call_of, called_by, canal, cap_and_base, count_call, dam, done_by, ended_by, fire, first_of_l, flow_object, hundredth, n_name, n_to_x, negative_outflow, numbers_object, of_unit, one_more, one_or_two, one_to_x, only_slot, over, pair, part_of_n, pool_by, raise_and_reset, rules_do, seepage_set, storage_after, storage_before, sum, sum_ahead, sum_of_slots, sum_too_early, three, trees_of, turns_of_one_name, twice_each, unknown_cells, whole, with_functions, x_by, x_ends, x_is, x_put, x_rule, x_wants_y, y_now, y_put};
 
 /// A firing depends on nothing but the cells at which it looks: where others hold something else, the rule does the same.
 /// One that isn't done asks for nothing.
@@ -145,6 +145,8 @@ pub fn numbers()
         ≡ x_is (neg_ℤ (pos 12)) 5 }
     ensures beyond { x_by (two Plus (whole quantity_max) (whole (pos 1)))
         ≡ x_ends (OutOfRange (quantity_max +ℤ pos 1)) 3 }
+    ensures product_beyond { x_by (two Times (whole quantity_max) (whole (pos 2)))
+        ≡ x_ends (OutOfRange (quantity_max +ℤ quantity_max)) 3 }
     ensures clamp { x_by (call_of (codes "Clamp") (pos 9 ∷ pos 2 ∷ pos 7 ∷ [])) ≡ x_is (pos 7) 5 }
     ensures sign { x_by (call_of (codes "Sign") (pos 9 ∷ [])) ≡ x_is (pos 1) 3 }
     ensures too_few { x_by (call_of (codes "Min") (pos 9 ∷ [])) ≡ None }
@@ -172,6 +174,10 @@ pub fn dates()
     ensures between { x_by (two Less_by now now) ≡ x_is (pos 0) 4 }
     ensures later { x_by (one_or_two (two Less now (two Plus now (whole (pos 1)))))
         ≡ x_is (pos 1) 10 }
+    ensures between_later { x_by (two Less_by (two Plus now (whole (pos 1))) now)
+        ≡ x_is (pos 1) 6 }
+    ensures far { x_by (one_or_two (two Equal now (two Plus now (whole quantity_max))))
+        ≡ x_ends (OutOfRange (quantity_max +ℤ pos 1)) 4 }
     ensures before { pool_by 1 storage_before ≡ x_is (pos 250) 6 }
     ensures within { pool_by 2 storage_before ≡ ended_by Unknown (cell_of 5 1 ∷ []) 5 }
     ensures behind { pool_by 40 storage_after ≡ x_ends Unknown 5 }
@@ -203,6 +209,8 @@ pub fn lists()
         ≡ x_ends (OutOfRange (pos 0)) 7 }
     ensures behind { x_by (two Item (pair (pos 7) (pos 8)) (whole (pos 3)))
         ≡ x_ends (OutOfRange (pos 3)) 7 }
+    ensures negative { x_by (two Item (pair (pos 7) (pos 8)) (one Minus (whole (pos 1))))
+        ≡ x_ends (OutOfRange (neg_ℤ (pos 1))) 8 }
     ensures append { x_by (one Length three) ≡ x_is (pos 3) 12 }
     ensures map { x_by (two Item (twice_each (pair (pos 3) (pos 4))) (whole (pos 2)))
         ≡ x_is (pos 8) 17 }
@@ -210,6 +218,10 @@ pub fn lists()
         ≡ done_by (cell_of 1 1 ∷ cell_of 2 1 ∷ []) 1 (pos 8) 24 }
     ensures wider { x_by (one Length (choice (truth true) (pair (pos 7) (pos 8)) three))
         ≡ x_is (pos 2) 15 }
+    ensures few_slots { x_by (one Length (choice (truth true)
+        (list (trees_of (slot (codes "D") (codes "X") ∷ [])))
+        (list (trees_of (slot (codes "D") (codes "X") ∷ slot (codes "D") (codes "Y") ∷ [])))))
+        ≡ x_is (pos 1) 12 }
 {}
 
 /// Names: the innermost of a name is meant, and of the two of one FOR the accumulator.
@@ -247,5 +259,8 @@ pub fn statements()
         ≡ x_is (pos 7) 4 }
     ensures bounds { mean negative_outflow (basin_of 1 (dam ∷ [])) 1 1 unknown_cells
         ≡ ended_by (OutOfRange (neg_ℤ (pos 1))) [] 3 }
+    ensures greatest { acts_do (x_put (whole quantity_max) ∷ []) ≡ x_is quantity_max 2 }
+    ensures least { acts_do (x_put (one Minus (whole quantity_max)) ∷ [])
+        ≡ x_is (neg_ℤ quantity_max) 3 }
     ensures derived { mean seepage_set (basin_of 1 (canal ∷ [])) 1 1 unknown_cells ≡ None }
 {}

@@ -2,8 +2,8 @@
 //! statement and expression as it was written; names, units and strings are their bytes. What a rule means is a
 //! definition over plain trees (`specs/Mean.antt`): at which cells a firing looks, how it ends, what it asks for and how
 //! much it counts. What it may count at most is one, too (`specs/Budget.antt`). The laws say that a firing depends on nothing
-//! but its looks, and have a worked rule for each form; `worked` makes two rulesets with the types. No call uses the
-//! definitions yet.
+//! but its looks, and have a worked rule for each form; `worked` makes two rulesets with the types. The crates above judge
+//! rules by what these definitions say of kinds and costs, and the code of rules by what they mean; no call evaluates a tree.
 #![tactic(auto)]
 
 mod expression;
