@@ -1,4 +1,5 @@
--- GRAMMAR, first part: which tokens spell which expression, one case for each production.
+-- GRAMMAR, first part: which tokens spell which expression, one case for each form, and a number for how loosely it holds
+-- together.
 use Rattle.std.specs.Prelude.{◌≡◌, ◌≤◌, ◌-◌, ℕ, Bool, true, false, Some, None, List, ◌∷◌}
 use Rattle.rpl_tree.specs.declared.words.OneWord.{OneWord}
 use Rattle.rpl_tree.specs.declared.words.OneWord.TheVariants as O

@@ -12,7 +12,7 @@ ghost use Rattle.rpl_parse.specs.Depth.{depth};
 ghost use Rattle.rpl_parse.specs.Grammar.{Spells};
 ghost use Rattle.rpl_parse.specs.Statements.{IsDeclaration};
 ghost use Rattle.rpl_parse.specs.Declarations.{pieces, piece, IsReading, spelt, bad_token, one_reading, IsRuleset};
-ghost use Rattle.rpl_parse.specs.Worked.{number, whole, differences, from_the_left, logical, or_last, setting, set_to, comparisons};
+ghost use Rattle.rpl_parse.specs.Worked.{number, whole, marked, every_word, word_marks, every_sign, sign_marks, differences, from_the_left, logical, or_last, levels, tighter_right, turned, tighter_left, setting, set_to, comparisons};
 
 /// A text is read as one ruleset, or refused for one reason.
 pub fn one_reading()
@@ -38,6 +38,13 @@ pub fn worked_tokens()
     ensures most { tokens (codes "100000000000000000") ≡ all (lined (number greatest) 1 ∷ []) }
 {}
 
+/// Each reserved word and each mark is the token that it spells.
+#[tactic(auto, unfolding(crate::specs::Scan::scan))]
+pub fn words_and_marks()
+    ensures words { tokens every_word ≡ marked word_marks }
+    ensures marks { tokens every_sign ≡ marked sign_marks }
+{}
+
 /// A byte that no token begins with, a string that isn't closed in its line, 19 digits and a number above Q are bad
 /// tokens, at the line in which they begin.
 #[tactic(auto, unfolding(crate::specs::Scan::scan))]
@@ -49,10 +56,13 @@ pub fn worked_bad_tokens()
     ensures limit { pos greatest ≡ quantity_max }
 {}
 
-/// Chains associate to the left; NOT binds tighter than AND, and AND tighter than OR; brackets are a node.
+/// Chains associate to the left. From the tightest to the loosest there are `[ ]`, `-` before one part, products, sums,
+/// comparisons, NOT, AND, OR: each stands in the next one without brackets, on either side. Brackets are a node.
 pub fn worked_expressions()
     ensures chain { Spells from_the_left differences [] }
     ensures logic { Spells or_last logical [] }
+    ensures right { Spells tighter_right levels [] }
+    ensures left { Spells tighter_left turned [] }
     ensures node { depth (brackets (whole 1)) ≡ 2 }
 {}
 

@@ -145,6 +145,8 @@ pub fn numbers()
         ≡ x_is (neg_ℤ (pos 12)) 5 }
     ensures beyond { x_by (two Plus (whole quantity_max) (whole (pos 1)))
         ≡ x_ends (OutOfRange (quantity_max +ℤ pos 1)) 3 }
+    ensures product_beyond { x_by (two Times (whole quantity_max) (whole (pos 2)))
+        ≡ x_ends (OutOfRange (quantity_max +ℤ quantity_max)) 3 }
     ensures clamp { x_by (call_of (codes "Clamp") (pos 9 ∷ pos 2 ∷ pos 7 ∷ [])) ≡ x_is (pos 7) 5 }
     ensures sign { x_by (call_of (codes "Sign") (pos 9 ∷ [])) ≡ x_is (pos 1) 3 }
     ensures too_few { x_by (call_of (codes "Min") (pos 9 ∷ [])) ≡ None }
