@@ -11,8 +11,9 @@ use rw_base::{RuleNo, StepNo};
 use rw_firing::{fire, reads};
 use rw_model::Basin;
 use rw_rules::Rules;
+use rw_run::Write;
 use rw_series::{FireEnd, Series};
-use rw_writes::{Write, Writes};
+use rw_writes::Writes;
 use std::alloc::Global;
 use std::process::Abort;
 

@@ -5,4 +5,5 @@ pub mod Viewed
 pub mod Judgement
 pub mod CanPuts
 pub mod Makes
+pub mod Waking
 pub mod Owning

@@ -1,7 +1,10 @@
 -- Who owns a slot that puts reach.
 use Rattle.rw_dispatch.proofs.Common.{Any-from_list_any, Bool, IfSome, IsLeastAbove, List, None, Option, SlotNo, Some, [], ap, arith, eqb-true, false, length, list_any, list_any_more, option_map, refl, slice_index_or, subst, sym, take, take_all, true, unwrap_or, ℕ, ◌+◌, ◌-◌, ◌<◌, ◌==◌, ◌||◌, ◌∙◌, ◌∷◌, ◌≡◌, ◌≤◌}
 use Rattle.rw_model.proofs.Common.{place_of, numbers_of, Object, Placed, all_slots, slot_at, Draft, group_of, owner_of, numbered-found, StandsAt-stored}
-use Rattle.rw_run.specs.Waiting.{is_at, is_owner}
+use Rattle.rw_run.specs.Log.{Asked}
+use Rattle.rw_run.specs.Waiting.{is_at, is_owner, slots_at}
+use Rattle.rw_base.proofs.Common.{nat_tests, append_assoc, list_any-append, ◌++◌, if◌then◌else◌}
+use Rattle.std.proofs.lemmas.List.{take_more}
 
 -- ---- one slot more
 
@@ -63,6 +66,41 @@ slot-more basin after slots k d found near = alike after _ _ found
     (λ object.
     or_turned (is_at basin object (slice_index_or slots k d).0) (is_owner basin (numbers_of (take k slots)) object)
     ∙ any_more (is_at basin object) slots k d near)
+
+slots_at-append : (step : ℕ) (first last : List Asked) → slots_at step (first ++ last) ≡ slots_at step first ++ slots_at step last
+slots_at-append step [] last = refl
+slots_at-append step (put ∷ first) last = by (put.cell.step.0 == step) (slots_at-append step first last)
+  where
+    by : (t : Bool) → slots_at step (first ++ last) ≡ slots_at step first ++ slots_at step last
+        → (if t then put.cell.slot.0 ∷ slots_at step (first ++ last) else slots_at step (first ++ last))
+        ≡ (if t then put.cell.slot.0 ∷ slots_at step first else slots_at step first) ++ slots_at step last
+    by true rest = ap (λ slots. put.cell.slot.0 ∷ slots) rest
+    by false rest = rest
+
+-- a write at the timestep reaches the owners of its slot's group
+pub written-at : (basin : Draft) (after step : ℕ) (slots : List ℕ) (write : Asked) (found : Option ℕ) → write.cell.step.0 ≡ step
+    → IsLeastAbove after (λ object. is_at basin object write.cell.slot.0 || is_owner basin slots object) found
+    → IsLeastAbove after (is_owner basin (slots_at step (write ∷ []) ++ slots)) found
+written-at basin after step slots write found at least =
+    let here : (write.cell.step.0 == step) ≡ true = grind (arith, nat_tests) in
+    subst (λ (t : Bool). IsLeastAbove after (is_owner basin ((if t then write.cell.slot.0 ∷ [] else []) ++ slots)) found) (sym here) least
+
+-- one write more
+pub written-more : (basin : Draft) (after step : ℕ) (slots : List ℕ) (writes : List Asked) (k : ℕ) (write : Asked) (found : Option ℕ) → k < length writes
+    → write ≡ slice_index_or writes k write
+    → IsLeastAbove after (is_owner basin (slots_at step (write ∷ []) ++ (slots ++ slots_at step (take k writes)))) found
+    → IsLeastAbove after (is_owner basin (slots ++ slots_at step (take (k + 1) writes))) found
+written-more basin after step slots writes k write found near is = alike after _ _ found
+    (λ object.
+    let test : (ℕ → Bool) = is_at basin object in
+    let new = slots_at step (write ∷ []) in
+    let old = slots_at step (take k writes) in
+    list_any-append test new (slots ++ old)
+    ∙ or_turned (list_any test new) (list_any test (slots ++ old))
+    ∙ sym (list_any-append test (slots ++ old) new)
+    ∙ ap (list_any test) (append_assoc slots old new
+    ∙ ap (λ more. slots ++ more) (sym (slots_at-append step (take k writes) (write ∷ []))
+    ∙ ap (slots_at step) (ap (λ w. take k writes ++ w ∷ []) is ∙ sym (take_more writes k write near)))))
 
 -- ---- owners are objects
 

@@ -1,15 +1,15 @@
-ghost use Rattle.std.specs.Prelude.{◌≡◌, ℕ, IfOk, IfErr};
-ghost use Rattle.rw_model.specs.Draft.{Draft};
-ghost use Rattle.rw_series.specs.Series.{held, IsCell};
+ghost use Rattle.std.specs.Prelude.{◌≡◌, IfOk, IfErr};
+ghost use Rattle.rw_series.specs.Series.{held};
 ghost use Rattle.rw_run.specs.Log.{Event};
 ghost use Rattle.rw_run.specs.Dispatch.{asked_by, asked_for, denied_by, end_in, judged, or_fault};
 ghost use Rattle.rw_dispatch.specs.Putting.{ArePassed, ArePuts, CanPut, IsPassed, conflict};
 ghost use Rattle.rw_model.specs.Turn.{IsTurn};
 
-use crate::view::cell_in;
-use rw_base::{Cell, ObjectNo, SlotNo, StepNo};
+use crate::view::slot_or_none;
+use crate::written::asked_by;
+use rw_base::{ObjectNo, SlotNo, StepNo};
 use rw_method::{Put, PutList};
-use rw_model::{Basin, Content, PutEnd, Writer, put_end};
+use rw_model::{Basin, PutEnd, put_end};
 use rw_series::Series;
 
 /// A put that is denied.
@@ -23,39 +23,14 @@ pub(crate) struct Clash {
     pub(crate) solved: i128,
 }
 
-/// The cell that a put is to.
-pub(crate) fn cell_of(basin: &Basin, object: ObjectNo, step: StepNo, put: &Put) -> Cell
-    requires turn { IsTurn basin.now object.0 step.0 }
-    requires can { CanPut basin.now object.0 put.now }
-    ensures cell { result ≡ (asked_by basin.now object.0 step.0 put.now).cell }
-    ensures known { IsCell basin.now result }
-{
-    match cell_in(basin, object, step, put.place) {
-        Some(cell) => cell,
-        None => unreachable!(),
-    }
-}
-
-/// The content that a put asks for.
-pub(crate) fn content_of(object: ObjectNo, put: &Put) -> Content
-    ensures { (basin : Draft) (step : ℕ)
-        → result ≡ (asked_by basin object.0 step put.now).content }
-{
-    Content {
-        value: put.value,
-        number: put.number,
-        writer: Writer::Object(object),
-    }
-}
-
 // What becomes of a put, by what the cells hold.
 fn end_in(basin: &Basin, series: &Series, object: ObjectNo, step: StepNo, put: &Put) -> PutEnd
     requires turn { IsTurn basin.now object.0 step.0 }
     requires can { CanPut basin.now object.0 put.now }
     ensures { result ≡ end_in (held series.now) (asked_by basin.now object.0 step.0 put.now) }
 {
-    let held = series.get(cell_of(basin, object, step, put));
-    put_end(held, content_of(object, put))
+    let asked = asked_by(basin, object, step, put);
+    put_end(series.get(asked.cell), asked.content)
 }
 
 // Whether a put is written, unless it is denied.
@@ -79,7 +54,7 @@ fn judge_one(
         PutEnd::Written => Ok(true),
         PutEnd::Kept => Ok(false),
         PutEnd::Denied(held) => Err(Clash {
-            slot: cell_of(basin, object, step, put).slot,
+            slot: slot_or_none(basin, object, put.place),
             held: i128::from(held.value.get()),
             solved: i128::from(put.value.get()),
         }),

@@ -10,10 +10,13 @@ mod past;
 mod queue;
 mod turn;
 mod view;
+mod write_list;
 mod written;
 
 pub use dispatched::Dispatched;
 pub use past::past_cell;
 pub use queue::Queue;
-pub use turn::dispatch;
+pub use turn::{dispatch, judge_dispatch};
 pub use view::slot_or_none;
+pub use write_list::WriteList;
+pub use written::make;

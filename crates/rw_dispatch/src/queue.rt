@@ -3,12 +3,14 @@ ghost use Rattle.std.specs.List.{list_any};
 ghost use Rattle.rw_model.specs.Draft.{IsObject, IsSlot};
 ghost use Rattle.rw_model.specs.Kept.{numbers_of};
 ghost use Rattle.rw_run.specs.Times.{times};
-ghost use Rattle.rw_run.specs.Waiting.{all_waiting, is_but, is_owner, is_woken, woken};
+ghost use Rattle.rw_run.specs.Waiting.{all_waiting, is_but, is_owner, is_woken, slots_at, woken};
 ghost use Rattle.rw_dispatch.specs.Queue.{IsQueueOf};
+ghost use Rattle.rw_dispatch.specs.Writes.{AreWrites};
 
 use crate::owners::{is_data, next_owner};
-use rw_base::{NoMemory, ObjectNo, SlotNo};
+use rw_base::{NoMemory, ObjectNo, SlotNo, StepNo};
 use rw_model::Basin;
+use rw_run::Write;
 use std::alloc::Global;
 use std::collections::VecDeque;
 use std::marker::Model;
@@ -81,8 +83,45 @@ impl Queue {
         ensures woken { self.new.waiting ≡ self.old.waiting ++ woken basin.now
             (option_map (λ object. object.0) but) self.old.waiting (numbers_of slots.now) }
     {
+        self.wake_all(basin, slots, StepNo(0), &[], but);
+    }
+
+    /// Wakes the objects that what an event writes at a timestep reaches, as `wake` does.
+    pub fn wake_written(
+        &mut self,
+        basin: &Basin,
+        step: StepNo,
+        writes: &[Write],
+        but: Option<ObjectNo>,
+    )
+        requires made { IsQueueOf basin.now self.old }
+        requires can { AreWrites basin.now writes.now }
+        ensures made { IsQueueOf basin.now self.new }
+        ensures woken { self.new.waiting ≡ self.old.waiting ++ woken basin.now
+            (option_map (λ object. object.0) but) self.old.waiting (slots_at step.0 writes.now) }
+    {
+        self.wake_all(basin, &[], step, writes, but);
+    }
+
+    // Wakes the objects that these slots and the writes at a timestep reach.
+    fn wake_all(
+        &mut self,
+        basin: &Basin,
+        slots: &[SlotNo],
+        step: StepNo,
+        writes: &[Write],
+        but: Option<ObjectNo>,
+    )
+        requires made { IsQueueOf basin.now self.old }
+        requires slots { All (λ (slot : SlotNo). IsSlot basin.now.objects slot.0) slots.now }
+        requires can { AreWrites basin.now writes.now }
+        ensures made { IsQueueOf basin.now self.new }
+        ensures woken { self.new.waiting ≡ self.old.waiting ++ woken basin.now
+            (option_map (λ object. object.0) but) self.old.waiting
+            (numbers_of slots.now ++ slots_at step.0 writes.now) }
+    {
         let mut last = 0;
-        while let Some(owner) = next_owner(basin, slots, last) {
+        while let Some(owner) = next_owner(basin, slots, step, writes, last) {
             let woken = self.is_woken(basin, but, owner);
             self.append_if(woken, owner);
             last = owner;

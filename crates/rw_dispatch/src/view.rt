@@ -1,7 +1,7 @@
-ghost use Rattle.std.specs.Prelude.{◌≡◌, IfSome, None, map, pos, replicate};
+ghost use Rattle.std.specs.Prelude.{◌≡◌, None, map, pos, replicate};
 ghost use Rattle.rw_model.specs.Draft.{IsObject};
-ghost use Rattle.rw_series.specs.Series.{held, IsCell};
-ghost use Rattle.rw_run.specs.Dispatch.{slot_or_none, cell_in, content_in, bounds_in_place, places};
+ghost use Rattle.rw_series.specs.Series.{held};
+ghost use Rattle.rw_run.specs.Dispatch.{slot_or_none, content_in, bounds_in_place, places};
 ghost use Rattle.rw_model.specs.Turn.{IsTurn};
 
 use rw_base::{Cell, ObjectNo, SlotNo, StepNo};
@@ -16,18 +16,6 @@ pub fn slot_or_none(basin: &Basin, object: ObjectNo, place: u8) -> SlotNo
     match basin.slot_at(object, place) {
         Some(slot) => slot,
         None => SlotNo(0),
-    }
-}
-
-/// The cell of the object's slot in a place, if it has one there.
-pub(crate) fn cell_in(basin: &Basin, object: ObjectNo, step: StepNo, place: u8) -> Option<Cell>
-    requires turn { IsTurn basin.now object.0 step.0 }
-    ensures cell { result ≡ cell_in basin.now object.0 step.0 place }
-    ensures known { IfSome result (IsCell basin.now) }
-{
-    match basin.slot_at(object, place) {
-        Some(slot) => Some(Cell { slot, step }),
-        None => None,
     }
 }
 

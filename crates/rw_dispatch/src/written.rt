@@ -1,99 +1,81 @@
-ghost use Rattle.std.specs.Prelude.{◌≡◌, ◌≤◌, ◌∷◌, ◌++◌, [], Some, length, take, All};
+ghost use Rattle.std.specs.Prelude.{◌≡◌, ◌∷◌, []};
 ghost use Rattle.std.specs.Option.{option_or};
 ghost use Rattle.rw_base.specs.declared.number.Cell.{Cell};
-ghost use Rattle.rw_base.specs.declared.number.SlotNo.{SlotNo};
-ghost use Rattle.rw_method.specs.declared.put.Put.{Put};
-ghost use Rattle.rw_model.specs.Draft.{IsSlot};
-ghost use Rattle.rw_model.specs.Kept.{numbers_of};
 ghost use Rattle.rw_series.specs.Series.{held};
 ghost use Rattle.rw_run.specs.Log.{last_put};
-ghost use Rattle.rw_run.specs.Waiting.{slots_at, woken};
 ghost use Rattle.rw_run.specs.Dispatch.{asked_by, asked_for};
 ghost use Rattle.rw_dispatch.specs.Putting.{ArePuts, CanPut};
-ghost use Rattle.rw_dispatch.specs.Queue.{IsQueueOf};
 ghost use Rattle.rw_dispatch.specs.Stage.{IsHeldIn};
 ghost use Rattle.rw_model.specs.Turn.{IsTurn};
+ghost use Rattle.rw_dispatch.specs.Writes.{AreWrites, CanWrite};
 
-use crate::judged::{cell_of, content_of};
-use crate::queue::Queue;
-use rw_base::{ObjectNo, SlotNo, StepNo};
-use rw_method::{Put, PutList};
-use rw_model::Basin;
+use crate::view::slot_or_none;
+use crate::write_list::WriteList;
+use rw_base::{Cell, ObjectNo, StepNo};
+use rw_method::Put;
+use rw_model::{Basin, Content, Writer};
+use rw_run::Write;
 use rw_series::Series;
 
-// Makes one put.
-fn make_one(basin: &Basin, series: &mut Series, object: ObjectNo, step: StepNo, put: &Put)
+/// What a put asks for.
+pub(crate) fn asked_by(basin: &Basin, object: ObjectNo, step: StepNo, put: &Put) -> Write
     requires turn { IsTurn basin.now object.0 step.0 }
     requires can { CanPut basin.now object.0 put.now }
-    requires made { IsHeldIn basin.now series.old }
-    ensures made { IsHeldIn basin.now series.new }
-    ensures cells { (cell : Cell) → held series.new cell ≡ option_or
-        (last_put basin.now (asked_by basin.now object.0 step.0 put.now ∷ []) cell)
-        (held series.old cell) }
+    ensures asked { result ≡ asked_by basin.now object.0 step.0 put.now }
+    ensures can { CanWrite basin.now result }
 {
-    series.hold(
-        basin,
-        cell_of(basin, object, step, put),
-        Some(content_of(object, put)),
-    );
+    Write {
+        cell: Cell {
+            slot: slot_or_none(basin, object, put.place),
+            step,
+        },
+        content: Content {
+            value: put.value,
+            number: put.number,
+            writer: Writer::Object(object),
+        },
+    }
 }
 
-/// Makes the puts, one after another.
-pub(crate) fn make(
+/// What the puts ask for.
+pub(crate) fn ask_all(
+    writes: &mut WriteList,
     basin: &Basin,
-    series: &mut Series,
     object: ObjectNo,
     step: StepNo,
-    puts: &PutList,
+    puts: &[Put],
 )
     requires turn { IsTurn basin.now object.0 step.0 }
     requires puts { ArePuts basin.now object.0 puts.now }
+    ensures asked { writes.new ≡ asked_for basin.now object.0 step.0 puts.now }
+    ensures can { AreWrites basin.now writes.new }
+{
+    writes.clear();
+    for put in puts {
+        writes.push(asked_by(basin, object, step, put));
+    }
+}
+
+// Makes one.
+fn make_one(basin: &Basin, series: &mut Series, write: &Write)
+    requires can { CanWrite basin.now write.now }
     requires made { IsHeldIn basin.now series.old }
     ensures made { IsHeldIn basin.now series.new }
-    ensures cells { (cell : Cell) → held series.new cell ≡ option_or
-        (last_put basin.now (asked_for basin.now object.0 step.0 puts.now) cell)
-        (held series.old cell) }
+    ensures cells { (cell : Cell) → held series.new cell
+        ≡ option_or (last_put basin.now (write.now ∷ []) cell) (held series.old cell) }
 {
-    for put in puts.as_slice() {
-        make_one(basin, series, object, step, put);
+    series.hold(basin, write.cell, Some(write.content));
+}
+
+/// Makes what an event writes, one after another.
+pub fn make(basin: &Basin, series: &mut Series, writes: &[Write])
+    requires can { AreWrites basin.now writes.now }
+    requires made { IsHeldIn basin.now series.old }
+    ensures made { IsHeldIn basin.now series.new }
+    ensures cells { (cell : Cell) → held series.new cell
+        ≡ option_or (last_put basin.now writes.now cell) (held series.old cell) }
+{
+    for write in writes {
+        make_one(basin, series, write);
     }
-}
-
-// The slots of the puts; the places after them don't count.
-fn slots_of(basin: &Basin, object: ObjectNo, step: StepNo, puts: &[Put]) -> [SlotNo; 8]
-    requires turn { IsTurn basin.now object.0 step.0 }
-    requires puts { ArePuts basin.now object.0 puts.now }
-    ensures slots { numbers_of (take (length puts.now) result)
-        ≡ slots_at step.0 (asked_for basin.now object.0 step.0 puts.now) }
-    ensures known { All (λ (slot : SlotNo). IsSlot basin.now.objects slot.0)
-        (take (length puts.now) result) }
-{
-    let mut slots = [SlotNo(0); 8];
-    for (place, put) in puts.iter().enumerate() {
-        slots[place] = cell_of(basin, object, step, put).slot;
-    }
-    slots
-}
-
-// The first slots, so many of them.
-fn first(slots: &[SlotNo], count: usize) -> &[SlotNo]
-    requires { count ≤ length slots.now }
-    ensures { result.now ≡ take count slots.now }
-{
-    &slots[..count]
-}
-
-/// Wakes those that the puts of an object reach, but itself.
-pub(crate) fn wake(basin: &Basin, queue: &mut Queue, object: ObjectNo, step: StepNo, puts: &PutList)
-    requires turn { IsTurn basin.now object.0 step.0 }
-    requires puts { ArePuts basin.now object.0 puts.now }
-    requires made { IsQueueOf basin.now queue.old }
-    ensures made { IsQueueOf basin.now queue.new }
-    ensures queue { queue.new.waiting ≡ queue.old.waiting
-        ++ woken basin.now (Some object.0) queue.old.waiting
-        (slots_at step.0 (asked_for basin.now object.0 step.0 puts.now)) }
-{
-    let puts = puts.as_slice();
-    let slots = slots_of(basin, object, step, puts);
-    queue.wake(basin, first(&slots, puts.len()), Some(object));
 }

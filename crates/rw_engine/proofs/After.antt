@@ -1,23 +1,23 @@
 -- The state after the dispatch of an object.
-use Rattle.rw_engine.proofs.Common.{AreCells, AreReady, Dispatched, Draft, Grows, IsCounted, IsObject, IsOnTheWay, IsStageOf, IsStep, IsWithinStep, Keeps, Leaves, List, None, Ok, Option, RunFault, Some, State, Tells, [], ap, append-nil, arith, count_of, dispatched, end_by, ended_by, held, length, length-set, looks_of, places, queued_after-ready, raised, room, stage, subst, sym, undone_in, ℕ, ◌++◌, ◌-◌, ◌<◌, ◌∙◌, ◌≡◌, ◌≤◌}
+use Rattle.rw_engine.proofs.Common.{AreCells, AreReady, Draft, Grows, IsCounted, IsObject, IsOnTheWay, IsSome, IsStageOf, IsWithinStep, Keeps, Leaves, List, None, Ok, Option, RunFault, Some, State, ap, arith, count_of, end_by, ended_by, held, length, length-set, queued_after-ready, raised, room, stage, subst, sym, ℕ, ◌++◌, ◌-◌, ◌<◌, ◌∙◌, ◌≡◌, ◌≤◌}
 use Rattle.rw_engine.proofs.Raises.{room_falls}
-use Rattle.rw_engine.proofs.Own.{owns_cells, own_written}
-use Rattle.rw_engine.proofs.TakenBack.{undo-kept, undo-more}
+use Rattle.rw_dispatch.specs.Writes.{AreWrites}
+use Rattle.rw_engine.proofs.Common.{Asked, Event, last_put, option_or, refl, undone_of, written_by}
+use Rattle.rw_engine.proofs.TakenBack.{noted, undo-kept, undo-made}
 
 -- each object has a count
 pub counted : (basin : Draft) (state : State) (object : ℕ) → IsWithinStep basin state → IsObject basin.objects object → IsCounted state.counts object
 counted basin state object within known =
     let many = within.made.counts in let last = known.last in record { first = known.first; last = omega (arith, many, last) }
 
-module _ (basin : Draft) (old new : State) (object step : ℕ) (within : IsWithinStep basin old) (at : IsStep basin step) where
+module _ (basin : Draft) (old new : State) (object : ℕ) (within : IsWithinStep basin old) where
   counts_kept : new.counts ≡ raised old.counts object → length new.counts ≡ length basin.objects
   counts_kept counts = ap length counts ∙ length-set old.counts (object - 1) _ ∙ within.made.counts
 
-  -- what its slots hold, or some of it, was noted, and nothing changed
-  pub keeps_noted : (some : List ℕ) → new.series ≡ old.series → new.queue ≡ old.queue → new.counts ≡ raised old.counts object → new.closed ≡ old.closed
-      → new.trace ≡ old.trace → AreCells basin new.undo.items → new.undo.items ≡ old.undo.items ++ undone_in basin (held old.series) object step some
-      → Keeps basin old new
-  keeps_noted some series queue counts closed trace cells noted = record {
+  -- what cells hold that are to be written, or some of them, was noted, and nothing changed
+  pub keeps_noted : (puts : List Asked) → AreWrites basin puts → new.series ≡ old.series → new.queue ≡ old.queue → new.counts ≡ raised old.counts object
+      → new.closed ≡ old.closed → Grows old.trace new.trace → new.undo.items ≡ old.undo.items ++ undone_of (held old.series) puts → Keeps basin old new
+  keeps_noted puts can series queue counts closed grows is = record {
     within = record {
       made = record {
         engine = record {
@@ -29,20 +29,19 @@ module _ (basin : Draft) (old new : State) (object step : ℕ) (within : IsWithi
         counts = counts_kept counts;
       };
       ready = rw queue within.ready;
-      undo = cells;
+      undo = noted basin (held old.series) old.undo.items new.undo.items puts is can within.undo;
     };
-    undo = λ before can. rw (series, noted)
-        (undo-kept basin old.undo.items (held old.series) before object step some within.made.engine.series.made.shared (owns_cells basin object step at) can);
-    grows = ([], trace ∙ sym (append-nil old.trace));
+    undo = λ kept before undoes. rw (series, is)
+        (undo-kept basin old.undo.items (held old.series) (held old.series) before puts within.made.engine.series.made.shared can undoes (λ cell. refl));
+    grows = grows;
   }
 
-  -- the dispatch was made
-  pub keeps_done : (answer : Dispatched) → IsStageOf basin (stage new.series new.queue)
-      → Tells basin (looks_of basin (held old.series) object step) object step (dispatched basin (held old.series) object step) answer
-      → Leaves basin (dispatched basin (held old.series) object step) (stage old.series old.queue) (stage new.series new.queue)
+  -- an event was made
+  pub keeps_done : (event : Event) (puts : List Asked) → puts ≡ written_by event → AreWrites basin puts → IsStageOf basin (stage new.series new.queue)
+      → Leaves basin event (stage old.series old.queue) (stage new.series new.queue)
       → new.counts ≡ raised old.counts object → new.closed ≡ old.closed → Grows old.trace new.trace → AreCells basin new.undo.items
-      → new.undo.items ≡ old.undo.items ++ undone_in basin (held old.series) object step places → Keeps basin old new
-  keeps_done answer made tells leaves counts closed grows cells noted = record {
+      → (IsSome old.trace → new.undo.items ≡ old.undo.items ++ undone_of (held old.series) puts) → Keeps basin old new
+  keeps_done event puts written can made leaves counts closed grows cells is = record {
     within = record {
       made = record {
         engine = record {
@@ -53,13 +52,12 @@ module _ (basin : Draft) (old new : State) (object step : ℕ) (within : IsWithi
         };
         counts = counts_kept counts;
       };
-      ready = subst (AreReady basin) (sym leaves.queue) (queued_after-ready basin (dispatched basin (held old.series) object step) old.queue.waiting within.ready);
+      ready = subst (AreReady basin) (sym leaves.queue) (queued_after-ready basin event old.queue.waiting within.ready);
       undo = cells;
     };
-    undo = λ before can. rw noted
-        (undo-more basin (dispatched basin (held old.series) object step) old.undo.items (held old.series) (held new.series) before object step
-        within.made.engine.series.made.shared (owns_cells basin object step at)
-        (own_written basin (looks_of basin (held old.series) object step) object step (dispatched basin (held old.series) object step) answer tells) leaves.cells can);
+    undo = λ kept before undoes. rw (is kept)
+        (undo-made basin old.undo.items (held old.series) (held new.series) before puts within.made.engine.series.made.shared can undoes
+        (λ cell. leaves.cells cell ∙ ap (λ ps. option_or (last_put basin ps cell) (held old.series cell)) (sym written)));
     grows = grows;
   }
 

@@ -9,11 +9,11 @@ pub use Rattle.rw_dispatch.specs.declared.dispatched.Dispatched.{Dispatched}
 pub use Rattle.rw_engine.specs.Counts.{IsCounted, count_of, raised, room}
 pub use Rattle.rw_engine.specs.Engine.{Engine}
 pub use Rattle.rw_engine.specs.Givens.{HoldsAll, givens, givens_of, givens_to, if_given}
-pub use Rattle.rw_engine.specs.Lines.{Grows, fault_by, line_by, lines_by}
+pub use Rattle.rw_engine.specs.Lines.{Grows, fault_by, lines_by}
 pub use Rattle.rw_engine.specs.Passing.{ComesTo, Passes, Stands}
 pub use Rattle.rw_engine.specs.Shows.{IsBefore, IsEngineOf, Shows}
 pub use Rattle.rw_engine.specs.State.{Goes, GoesTo, HoldsWithin, IsOnTheWay, IsRevocable, IsStill, IsWithinStep, Keeps, Reached, end_by, ended_by, seen}
-pub use Rattle.rw_engine.specs.Undone.{AreCells, taken_back, undone_at, undone_in}
+pub use Rattle.rw_engine.specs.Undone.{AreCells, taken_back, undone_of}
 pub use Rattle.rw_engine.specs.declared.state.State.{State}
 pub use Rattle.rw_engine.specs.declared.undo.Undone.{Undone}
 pub use Rattle.rw_inputs.specs.Inputs.{Inputs, IsInputsOf, value_at}

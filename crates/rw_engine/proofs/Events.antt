@@ -1,9 +1,10 @@
 -- One event of the engine, over the log that its state holds.
-use Rattle.rw_engine.proofs.Common.{Bool, Cell, Cells, Dispatched, Draft, Engine, Event, Fault, GoesTo, HoldsWithin, IsCounted, List, Log, Look, None, Option, Put, RunFault, Settled, Shows, Some, State, [], ap, ap₂, arith, asked_for, cells_of, closed, count_if, count_of, dispatched, dispatches, end_by, end_of, ended_by, event_of, false, fault, fault_by, first_of, held, held_after, idles, if◌then◌else◌, inside, last_closed, last_put, line_by, line_of, lines, lines_by, map, nat_le, nat_tests, next, next_of, no_rules, none-some, option_or, queued_after, raised, refl, same_Some, seen, solves, standing, subst, sym, true, waiting, written_by, ℕ, ◌++◌, ◌<◌, ◌==◌, ◌∙◌, ◌∷◌, ◌≡◌}
+use Rattle.rw_engine.proofs.Common.{Bool, Cell, Cells, Dispatched, Draft, Engine, Event, Fault, GoesTo, HoldsWithin, IsCounted, List, Log, Look, None, Option, RunFault, Settled, Shows, Some, State, [], ap, ap₂, arith, asked_for, cells_of, count_if, count_of, dispatched, dispatches, end_by, end_of, ended_by, event_of, false, fault, fault_by, first_of, held, held_after, idles, if◌then◌else◌, inside, last_closed, last_put, lines, lines_by, nat_le, nat_tests, next, next_of, no_rules, none-some, option_or, queued_after, raised, refl, same_Some, seen, solves, standing, subst, sym, trace_of, true, waiting, written_by, ℕ, ◌++◌, ◌<◌, ◌==◌, ◌∙◌, ◌∷◌, ◌≡◌}
 use Rattle.rw_run.specs.declared.fault.RunFault.TheVariants.{ObjectLimit}
-use Rattle.rw_run.specs.declared.trace.TraceEvent.TheVariants.{Solve}
 use Rattle.rw_dispatch.specs.declared.dispatched.Dispatched.TheVariants.{Idle as IsIdle, Solved as IsSolved, Conflict as IsConflict, OutOfRange as IsOutOfRange}
+use Rattle.rw_run.specs.Trace.{told as with_lines}
 use Rattle.rw_engine.proofs.Raises.{raised_at}
+use Rattle.rw_engine.proofs.Traces.{shown_more}
 
 -- ---- which event follows
 
@@ -32,17 +33,13 @@ settled_inside (event ∷ log) step is = refl
 pub record Told (basin : Draft) (old new : Engine) (looked : List Look) (step object : ℕ) (event : Event) (answer : Dispatched) : Type 0 where
   pub is : event ≡ event_of basin looked object step answer
   pub cells : (cell : Cell) → held new.series cell ≡ held_after basin event (held old.series) cell
-  pub trace : new.trace ≡ old.trace ++ lines_by basin object step answer
+  pub trace : new.trace ≡ with_lines old.trace (lines_by object step answer (written_by event))
   pub closed_steps : new.closed ≡ old.closed
 
 module _ (basin : Draft) (looked : List Look) (step object : ℕ) (rest : List ℕ) (log : Log) where
-  written_lines : (puts : List Put) → map (line_by basin object step) puts ≡ map line_of (asked_for basin object step puts)
-  written_lines [] = refl
-  written_lines (put ∷ puts) = ap (λ xs. line_by basin object step put ∷ xs) (written_lines puts)
-
   -- what an answer says of the event that it tells of
   record Says (event : Event) (answer : Dispatched) : Type 0 where
-    pub lines_are : lines_by basin object step answer ≡ lines event
+    pub lines_are : lines_by object step answer (written_by event) ≡ lines event
     pub last : last_closed (event ∷ log) ≡ last_closed log
     pub calm : fault_by object step answer ≡ None → (end_of (event ∷ log) ≡ Settled) × (standing (event ∷ log) ≡ inside step)
         × (waiting basin log ≡ object ∷ rest → waiting basin (event ∷ log) ≡ queued_after basin event rest)
@@ -57,7 +54,7 @@ module _ (basin : Draft) (looked : List Look) (step object : ℕ) (rest : List �
     faulted = λ why some. absurd (none-some _ some);
   }
   of_answer (IsSolved asked written) = record {
-    lines_are = ap (λ xs. Solve (record { 0 = object }) ∷ xs) (written_lines written);
+    lines_are = refl;
     last = refl;
     calm = λ none. (
       refl,
@@ -88,7 +85,7 @@ module _ (basin : Draft) (looked : List Look) (step object : ℕ) (rest : List �
   shown old new event answer shows told end =
       let tells = says event answer told.is in record {
         cells = λ cell. told.cells cell ∙ ap (λ z. option_or (last_put basin (written_by event) cell) z) (shows.cells cell);
-        trace = told.trace ∙ ap₂ (λ xs ys. xs ++ ys) shows.trace tells.lines_are;
+        trace = shown_more old.trace new.trace (trace_of log) (lines event) (told.trace ∙ ap (with_lines old.trace) tells.lines_are) shows.trace;
         closed_steps = told.closed_steps ∙ shows.closed_steps ∙ sym tells.last;
         end = end;
       }

@@ -2,8 +2,8 @@ mod Common
 pub mod Raises
 pub mod Places
 pub mod TakenBack
-pub mod Own
 pub mod Events
+pub mod Traces
 pub mod Steps
 pub mod Starts
 pub mod After

@@ -1,6 +1,9 @@
 -- A timestep of the engine, over the log that it shows.
-use Rattle.rw_engine.proofs.Common.{Bool, Draft, Event, Goes, Grows, HoldsWithin, IsBefore, IsStill, Leads, List, Log, None, Passes, Policy, Reached, Series, Settled, Shows, Some, State, [], all_waiting, ap, append_assoc, arith, count_of, false, follows, follows_in, held, if◌then◌else◌, lines, nat_lt, nat_tests, next, no_rules, opened, opens, refl, seen, subst, sym, true, ℕ, ◌++◌, ◌+◌, ◌∙◌, ◌∷◌, ◌≡◌, ◌≤◌}
+use Rattle.rw_engine.proofs.Common.{Bool, Draft, Event, Goes, Grows, HoldsWithin, IsBefore, IsStill, Leads, List, Log, None, Passes, Policy, Reached, Series, Settled, Shows, Some, State, [], all_waiting, ap, arith, count_of, false, follows, follows_in, held, if◌then◌else◌, lines, nat_lt, nat_tests, next, no_rules, Option, trace_of, opened, opens, refl, seen, subst, sym, true, ℕ, ◌++◌, ◌+◌, ◌∙◌, ◌∷◌, ◌≡◌, ◌≤◌}
+use Rattle.rw_run.specs.declared.trace.TraceEvent.{TraceEvent}
+use Rattle.rw_run.specs.Trace.{told}
 use Rattle.rw_engine.specs.declared.step_end.StepEnd.{StepEnd}
+use Rattle.rw_engine.proofs.Traces.{shown_more, told_more}
 
 pub leads_more : (basin : Draft) (policy : Policy) (old : Log) (events : List Event) (event : Event) (new : Log) → Leads basin policy old events new
     → follows basin policy new ≡ Some event → Leads basin policy old (events ++ event ∷ []) (event ∷ new)
@@ -18,13 +21,13 @@ follows_inside : (basin : Draft) (state : State) (step : ℕ) (log : Log) (waits
 follows_inside basin state step log waits holds = ap (follows_in basin no_rules log) holds.open_step
 
 pub opens_step : (basin : Draft) (old new : State) (step : ℕ) (log : Log) → Shows basin (seen old) log → new.series ≡ old.series
-    → new.queue.waiting ≡ all_waiting basin → ((object : ℕ) → count_of new.counts object ≡ 0) → new.trace ≡ old.trace ++ lines (opened step)
+    → new.queue.waiting ≡ all_waiting basin → ((object : ℕ) → count_of new.counts object ≡ 0) → new.trace ≡ told old.trace (lines (opened step))
     → new.closed ≡ old.closed → new.end ≡ Settled → HoldsWithin basin new step (opened step ∷ log) new.queue.waiting
 opens_step basin old new step log shows series queue counts trace last end = record {
   open_step = refl;
   shows = record {
     cells = λ cell. ap (λ (s : Series). held s cell) series ∙ shows.cells cell;
-    trace = trace ∙ ap (λ xs. xs ++ lines (opened step)) shows.trace;
+    trace = shown_more old.trace new.trace (trace_of log) (lines (opened step)) trace shows.trace;
     closed_steps = last ∙ shows.closed_steps;
     end = end;
   };
@@ -68,8 +71,8 @@ ends_step basin log old new step end reached goes before =
       shows = went.goes.1;
     }
 
-pub grows_more : {A : Type 0} (x y z : List A) → Grows x y → Grows y z → Grows x z
-grows_more x y z one other = (one.0 ++ other.0, other.1 ∙ ap (λ xs. xs ++ other.0) one.1 ∙ append_assoc x one.0 other.0)
+pub grows_more : (x y z : Option (List TraceEvent)) → Grows x y → Grows y z → Grows x z
+grows_more x y z one other = (one.0 ++ other.0, other.1 ∙ ap (λ t. told t other.0) one.1 ∙ told_more x one.0 other.0)
 
 pub still_more : (one other last : State) → IsStill one other → IsStill other last → IsStill one last
 still_more one other last before after =

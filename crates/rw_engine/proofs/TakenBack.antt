@@ -1,5 +1,6 @@
 -- Putting back what cells held.
-use Rattle.rw_engine.proofs.Common.{All, All-cons, All-head, All-nil, All-tail, Asked, Bool, Cell, Cells, Draft, Event, IsCell, IsTrue, List, None, Option, Some, Undone, [], add-one, ap, append_assoc, arith, cell_in, cons_option, false, filter_map, filter_map-append, held_after, if◌then◌else◌, is_shared, last_put, list_any, nat_tests, option_map, option_or, places, range_with_len, refl, subst, suc, sym, taken_back, true, undone_at, undone_in, written_by, zero, ℕ, ◌++◌, ◌+◌, ◌<◌, ◌==◌, ◌||◌, ◌∙◌, ◌∷◌, ◌≡◌, ◌≤◌}
+use Rattle.rw_engine.proofs.Common.{All, All-cons, All-head, All-nil, All-tail, AreCells, Asked, Bool, Cell, Cells, Draft, IsCell, IsTrue, List, None, Option, Undone, [], ap, false, if◌then◌else◌, is_shared, last_put, list_any, option_or, refl, subst, suc, sym, take, taken_back, true, undone_of, zero, ℕ, ◌++◌, ◌||◌, ◌∙◌, ◌∷◌, ◌≡◌}
+use Rattle.rw_dispatch.specs.Writes.{AreWrites, CanWrite}
 use Rattle.rw_model.specs.declared.content.Content.{Content}
 
 -- what stands last is put back first
@@ -42,113 +43,63 @@ back basin (undone ∷ undo) cells now cell alike all apart =
     (λ no. back basin undo cells now cell alike (All-tail (IsHeld basin cells) undone undo all)
     (λ none. apart (ap (λ here. here || is_reached basin undo cell) no ∙ none)))
 
--- ---- what an object's slots hold
+-- ---- what an event writes
 
-range_more : (first count last : ℕ) → first + count ≡ last → range_with_len first (suc count) ≡ range_with_len first count ++ last ∷ []
-range_more first zero last is = ap (λ place. place ∷ []) (omega arith)
-range_more first (suc count) last is = ap (λ rest. first ∷ rest) (range_more (first + 1) count last (omega arith))
+held-all : (basin : Draft) (cells : Cells) (puts : List Asked) → AreWrites basin puts → All (IsHeld basin cells) (undone_of cells puts)
+held-all basin cells [] can = All-nil (IsHeld basin cells)
+held-all basin cells (put ∷ puts) can =
+    All-cons (IsHeld basin cells) (record { cell = put.cell; held = cells put.cell }) (undone_of cells puts)
+    ((All-head (CanWrite basin) put puts can).cell, refl) (held-all basin cells puts (All-tail (CanWrite basin) put puts can))
 
-pub undone-more : (basin : Draft) (cells : Cells) (object step place : ℕ) (first old new : List Undone)
-    → old ≡ first ++ undone_in basin cells object step (range_with_len 0 place) → new ≡ old ++ cons_option (undone_at basin cells object step place) []
-    → new ≡ first ++ undone_in basin cells object step (range_with_len 0 (place + 1))
-undone-more basin cells object step place first old new before more =
-    let at : ℕ → Option Undone = undone_at basin cells object step in
-    let last : List Undone = cons_option (at place) [] in
-    more ∙ ap (λ us. us ++ last) before ∙ append_assoc first (filter_map at (range_with_len 0 place)) last
-    ∙ ap (λ us. first ++ us) (sym (filter_map-append at (range_with_len 0 place) (place ∷ [])))
-    ∙ ap (λ ps. first ++ filter_map at ps) (sym (range_more 0 place place (omega arith)) ∙ ap (range_with_len 0) (sym (add-one place)))
+noted_all : (basin : Draft) (cells : Cells) (undo : List Undone) (puts : List Asked) → AreCells basin undo → AreWrites basin puts → AreCells basin (undo ++ undone_of cells puts)
+noted_all basin cells [] [] all can = all
+noted_all basin cells [] (put ∷ puts) all can =
+    All-cons (λ (undone : Undone). IsCell basin undone.cell) (record { cell = put.cell; held = cells put.cell }) (undone_of cells puts)
+    (All-head (CanWrite basin) put puts can).cell (noted_all basin cells [] puts all (All-tail (CanWrite basin) put puts can))
+noted_all basin cells (undone ∷ undo) puts all can =
+    All-cons (λ (undone : Undone). IsCell basin undone.cell) undone (undo ++ undone_of cells puts)
+    (All-head (λ (undone : Undone). IsCell basin undone.cell) undone undo all)
+    (noted_all basin cells undo puts (All-tail (λ (undone : Undone). IsCell basin undone.cell) undone undo all) can)
 
--- a slot of the object is one of the basin
-abbrev pub OwnsCells : Draft → ℕ → ℕ → Type 0
-OwnsCells basin object step = (place : ℕ) (cell : Cell) → cell_in basin object step place ≡ Some cell → IsCell basin cell
-
-held_first : (basin : Draft) (cells : Cells) (found : Option Cell) (rest : List Undone) → ((cell : Cell) → found ≡ Some cell → IsCell basin cell)
-    → All (IsHeld basin cells) rest → All (IsHeld basin cells) (cons_option (option_map (λ cell. record { cell = cell; held = cells cell }) found) rest)
-held_first basin cells None rest owns all = all
-held_first basin cells (Some cell) rest owns all =
-    All-cons (IsHeld basin cells) (record { cell = cell; held = cells cell }) rest (owns cell refl, refl) all
-
-pub held-all : (basin : Draft) (cells : Cells) (object step : ℕ) (some : List ℕ) → OwnsCells basin object step
-    → All (IsHeld basin cells) (undone_in basin cells object step some)
-held-all basin cells object step [] owns = All-nil (IsHeld basin cells)
-held-all basin cells object step (place ∷ some) owns =
-    held_first basin cells (cell_in basin object step place) (undone_in basin cells object step some) (owns place)
-    (held-all basin cells object step some owns)
-
--- ---- what a dispatch writes
-
--- the cell is of a slot of the object
-abbrev pub IsOwnCell : Draft → ℕ → ℕ → Asked → Type 0
-IsOwnCell basin object step put = (place : ℕ) × (place < 12) × (cell_in basin object step place ≡ Some put.cell)
+-- they are cells still
+pub noted : (basin : Draft) (cells : Cells) (undo new : List Undone) (puts : List Asked) → new ≡ undo ++ undone_of cells puts → AreWrites basin puts
+    → AreCells basin undo → AreCells basin new
+noted basin cells undo new puts is can all = subst (AreCells basin) (sym is) (noted_all basin cells undo puts all can)
 
 either : (a b : Bool) → (a || b) ≡ false → (a ≡ false) × (b ≡ false)
 either false b is = (refl, is)
 either true b is = absurd (cc)
 
-reached_first : (basin : Draft) (cells : Cells) (own cell : Cell) (found : Option Cell) (rest : List Undone) → found ≡ Some own
-    → is_reached basin (cons_option (option_map (λ c. record { cell = c; held = cells c }) found) rest) cell ≡ false → is_shared basin own cell ≡ false
-reached_first basin cells own cell None rest is none = absurd (cc)
-reached_first basin cells own cell (Some other) rest is none =
-    let same : other ≡ own = cc in
-    subst (λ c. is_shared basin c cell ≡ false) same (either (is_shared basin other cell) (is_reached basin rest cell) none).0
+-- to a cell that no noted one reaches nothing is written
+unwritten : (basin : Draft) (cells : Cells) (puts : List Asked) (cell : Cell) → is_reached basin (undone_of cells puts) cell ≡ false → last_put basin puts cell ≡ None
+unwritten basin cells [] cell none = refl
+unwritten basin cells (put ∷ puts) cell none =
+    let parts = either (is_shared basin put.cell cell) (is_reached basin (undone_of cells puts) cell) none in
+    rw (unwritten basin cells puts cell parts.1, parts.0) refl
 
-reached_rest : (basin : Draft) (cells : Cells) (cell : Cell) (found : Option Cell) (rest : List Undone)
-    → is_reached basin (cons_option (option_map (λ c. record { cell = c; held = cells c }) found) rest) cell ≡ false → is_reached basin rest cell ≡ false
-reached_rest basin cells cell None rest none = none
-reached_rest basin cells cell (Some other) rest none = (either (is_shared basin other cell) (is_reached basin rest cell) none).1
+module _ (basin : Draft) (undo : List Undone) (cells now before : Cells) (puts : List Asked) (alike : AreAlike basin cells) (can : AreWrites basin puts)
+    (undoes : (cell : Cell) → taken_back basin undo cells cell ≡ before cell) where
+  added : ((cell : Cell) → is_reached basin (undone_of cells puts) cell ≡ false → now cell ≡ cells cell) → (cell : Cell)
+      → taken_back basin (undo ++ undone_of cells puts) now cell ≡ before cell
+  added apart cell =
+      taken_back-append basin undo (undone_of cells puts) now cell
+      ∙ taken_back-same basin undo (taken_back basin (undone_of cells puts) now) cells
+      (λ c. back basin (undone_of cells puts) cells now c alike (held-all basin cells puts can) (apart c)) cell
+      ∙ undoes cell
 
-apart_here : (basin : Draft) (cells : Cells) (object step first place : ℕ) (own cell : Cell) (rest : List Undone) → cell_in basin object step place ≡ Some own
-    → (same : Bool) → (place == first) ≡ same → (same ≡ false → is_reached basin rest cell ≡ false → is_shared basin own cell ≡ false)
-    → is_reached basin (cons_option (undone_at basin cells object step first) rest) cell ≡ false → is_shared basin own cell ≡ false
-apart_here basin cells object step first place own cell rest is true same later none =
-    let at : place ≡ first = grind (arith, nat_tests) in
-    reached_first basin cells own cell (cell_in basin object step first) rest (ap (cell_in basin object step) (sym at) ∙ is) none
-apart_here basin cells object step first place own cell rest is false other later none =
-    later refl (reached_rest basin cells cell (cell_in basin object step first) rest none)
+  -- nothing changed, and what the cells hold was added
+  pub undo-kept : ((cell : Cell) → now cell ≡ cells cell) → (cell : Cell) → taken_back basin (undo ++ undone_of cells puts) now cell ≡ before cell
+  undo-kept same = added (λ cell none. same cell)
 
--- a cell that no remembered one reaches is reached by no slot of the object
-apart_from : (basin : Draft) (cells : Cells) (object step first count place : ℕ) (own cell : Cell) → first ≤ place → place < first + count
-    → cell_in basin object step place ≡ Some own → is_reached basin (undone_in basin cells object step (range_with_len first count)) cell ≡ false
-    → is_shared basin own cell ≡ false
-apart_from basin cells object step first zero place own cell low near is none = absurd (omega arith)
-apart_from basin cells object step first (suc count) place own cell low near is none =
-    apart_here basin cells object step first place own cell (undone_in basin cells object step (range_with_len (first + 1) count)) is (place == first) refl
-    (λ other later. apart_from basin cells object step (first + 1) count place own cell (grind (arith, nat_tests)) (omega arith) is later) none
+  -- they were written, and what the cells held was added
+  pub undo-made : ((cell : Cell) → now cell ≡ option_or (last_put basin puts cell) (cells cell)) → (cell : Cell)
+      → taken_back basin (undo ++ undone_of cells puts) now cell ≡ before cell
+  undo-made made = added (λ cell none. made cell ∙ ap (λ put. option_or put (cells cell)) (unwritten basin cells puts cell none))
 
-unwritten : (basin : Draft) (puts : List Asked) (cell : Cell) → All (λ (put : Asked). is_shared basin put.cell cell ≡ false) puts → last_put basin puts cell ≡ None
-unwritten basin [] cell all = refl
-unwritten basin (put ∷ puts) cell all =
-    rw (unwritten basin puts cell (All-tail (λ (p : Asked). is_shared basin p.cell cell ≡ false) put puts all), All-head (λ (p : Asked). is_shared basin p.cell cell ≡ false) put puts all) refl
-
--- what a dispatch did is taken back by what the object's slots held
-pub undoes : (basin : Draft) (event : Event) (cells now : Cells) (object step : ℕ) → AreAlike basin cells → OwnsCells basin object step
-    → All (IsOwnCell basin object step) (written_by event) → ((cell : Cell) → now cell ≡ held_after basin event cells cell)
-    → (cell : Cell) → taken_back basin (undone_in basin cells object step places) now cell ≡ cells cell
-undoes basin event cells now object step alike owns all after cell =
-    back basin (undone_in basin cells object step places) cells now cell alike (held-all basin cells object step places owns)
-    (λ none. after cell ∙ ap (λ put. option_or put (cells cell)) (unwritten basin (written_by event) cell
-    (λ k d lt. let own = all k d lt in apart_from basin cells object step 0 12 own.0 _ cell (omega arith) (omega arith) own.2 none)))
-
--- nothing changed, and what the object's slots hold was added
-pub undo-kept : (basin : Draft) (undo : List Undone) (cells before : Cells) (object step : ℕ) (some : List ℕ) → AreAlike basin cells → OwnsCells basin object step
-    → ((cell : Cell) → taken_back basin undo cells cell ≡ before cell) → (cell : Cell)
-    → taken_back basin (undo ++ undone_in basin cells object step some) cells cell ≡ before cell
-undo-kept basin undo cells before object step some alike owns can cell =
-    taken_back-append basin undo (undone_in basin cells object step some) cells cell
-    ∙ taken_back-same basin undo (taken_back basin (undone_in basin cells object step some) cells) cells
-    (λ c. back basin (undone_in basin cells object step some) cells cells c alike (held-all basin cells object step some owns) (λ none. refl)) cell
-    ∙ can cell
-
--- a dispatch was made, and what its object's slots held was added
-pub undo-more : (basin : Draft) (event : Event) (undo : List Undone) (cells now before : Cells) (object step : ℕ) → AreAlike basin cells → OwnsCells basin object step
-    → All (IsOwnCell basin object step) (written_by event) → ((cell : Cell) → now cell ≡ held_after basin event cells cell)
-    → ((cell : Cell) → taken_back basin undo cells cell ≡ before cell) → (cell : Cell)
-    → taken_back basin (undo ++ undone_in basin cells object step places) now cell ≡ before cell
-undo-more basin event undo cells now before object step alike owns all after can cell =
-    taken_back-append basin undo (undone_in basin cells object step places) now cell
-    ∙ taken_back-same basin undo (taken_back basin (undone_in basin cells object step places) now) cells
-    (undoes basin event cells now object step alike owns all after) cell
-    ∙ can cell
+pub all_take : {A : Type 0} (P : A → Type 0) (count : ℕ) (xs : List A) → All P xs → All P (take count xs)
+all_take P zero xs all = All-nil P
+all_take P (suc count) [] all = All-nil P
+all_take P (suc count) (x ∷ xs) all = All-cons P x (take count xs) (All-head P x xs all) (all_take P count xs (All-tail P x xs all))
 
 pub taken_back-last : (basin : Draft) (all undo : List Undone) (last : Undone) (old new : Cells) → all ≡ undo ++ last ∷ []
     → ((cell : Cell) → new cell ≡ (if is_shared basin last.cell cell then last.held else old cell)) → (cell : Cell)

@@ -1,5 +1,5 @@
 -- The log that an engine stands for.
-use Rattle.std.specs.Prelude.{◌≡◌, ℕ, ◌+◌, ◌≤◌, length}
+use Rattle.std.specs.Prelude.{◌≡◌, ℕ, ◌+◌, ◌≤◌, length, IfSome}
 use Rattle.rw_base.specs.declared.number.Cell.{Cell}
 use Rattle.rw_model.specs.Draft.{Draft}
 use Rattle.rw_model.specs.Basin.{IsBasin}
@@ -19,10 +19,10 @@ pub record IsEngineOf (basin : Draft) (engine : Engine) : Type 0 where
   pub series : IsHeldIn basin engine.series
   pub closed_steps : engine.closed ≤ basin.control.stamps.count
 
--- what an engine shows of a log: what the cells hold, the trace, the last closed timestep, and the fault if there is one
+-- what an engine shows of a log: what the cells hold, its trace, if that is kept, the last closed timestep, and the fault if there is one
 pub record Shows (basin : Draft) (engine : Engine) (log : Log) : Type 0 where
   pub cells : (cell : Cell) → held engine.series cell ≡ cells_of basin log cell
-  pub trace : engine.trace ≡ trace_of log
+  pub trace : IfSome engine.trace (λ lines. lines ≡ trace_of log)
   pub closed_steps : engine.closed ≡ last_closed log
   pub end : engine.end ≡ end_of log
 

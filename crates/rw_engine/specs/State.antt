@@ -1,5 +1,5 @@
 -- The state of an engine, and what it has within a timestep.
-use Rattle.std.specs.Prelude.{◌≡◌, ℕ, ◌<◌, false, List, ◌∷◌, length, All, Option, Some, None, Result, Ok, Err}
+use Rattle.std.specs.Prelude.{◌≡◌, ℕ, ◌<◌, false, List, ◌∷◌, length, All, Option, Some, None, IsSome, Result, Ok, Err}
 use Rattle.rw_base.specs.declared.memory.NoMemory.{NoMemory}
 use Rattle.rw_model.specs.Draft.{Draft, IsObject}
 use Rattle.rw_series.specs.Series.{held}
@@ -89,16 +89,16 @@ abbrev pub end_by : Option RunFault → Option StepEnd
 end_by None = None
 end_by (Some why) = Some (StepFault why)
 
--- all can still be taken back
+-- all can still be taken back, where a trace is kept
 pub record Keeps (basin : Draft) (old new : State) : Type 0 where
   pub within : IsWithinStep basin new
-  pub undo : (before : Cells) → CanUndo basin old.undo.items old.series before → CanUndo basin new.undo.items new.series before
+  pub undo : IsSome old.trace → (before : Cells) → CanUndo basin old.undo.items old.series before → CanUndo basin new.undo.items new.series before
   pub grows : Grows old.trace new.trace
 
--- what was done since then can be taken back
+-- what was done since then can be taken back, where a trace is kept
 pub record IsRevocable (basin : Draft) (old new : State) : Type 0 where
   pub cells : AreCells basin new.undo.items
-  pub undo : CanUndo basin new.undo.items new.series (held old.series)
+  pub undo : IsSome old.trace → CanUndo basin new.undo.items new.series (held old.series)
   pub grows : Grows old.trace new.trace
 
 -- unless the timestep ended, the run is still, and where it goes on, less is left to do in the timestep

@@ -1,4 +1,4 @@
-ghost use Rattle.std.specs.Prelude.{◌≤◌, [], map, IfOk, IfErr};
+ghost use Rattle.std.specs.Prelude.{◌≤◌, [], map, IfOk, IfErr, ◌≡◌, IsSome};
 ghost use Rattle.rw_model.specs.Draft.{Draft};
 ghost use Rattle.rw_method.specs.Catalogue.{AreInOrder};
 ghost use Rattle.rw_inputs.specs.Inputs.{IsInputsOf};
@@ -16,7 +16,7 @@ use rw_base::{NoMemory, StepNo};
 use rw_inputs::Inputs;
 use rw_method::Catalogue;
 use rw_model::Basin;
-use rw_run::Run;
+use rw_run::{Run, Trace};
 use std::alloc::Global;
 use std::marker::Model;
 
@@ -46,9 +46,22 @@ impl Engine {
         ensures made { IfOk result (IsEngineOf basin.now) }
         ensures shows { IfOk result
             (λ engine. Shows basin.now engine (placed [] (givens basin.now inputs.now))) }
+        ensures kept { IfOk result (λ engine. IsSome engine.trace) }
     {
         Ok(Engine {
-            state: State::for_run(alloc, basin, inputs)?,
+            state: State::for_run(alloc, basin, inputs, Trace::new(alloc))?,
+        })
+    }
+
+    /// The same without a trace: no line is kept, and within a timestep no memory is taken.
+    pub fn without_trace(alloc: Global, basin: &Basin, inputs: &Inputs) -> Result<Engine, NoMemory>
+        requires inputs { IsInputsOf basin.now inputs.now }
+        ensures made { IfOk result (IsEngineOf basin.now) }
+        ensures shows { IfOk result
+            (λ engine. Shows basin.now engine (placed [] (givens basin.now inputs.now))) }
+    {
+        Ok(Engine {
+            state: State::for_run(alloc, basin, inputs, Trace::unkept(alloc))?,
         })
     }
 
@@ -68,6 +81,7 @@ impl Engine {
             → IfOk result (λ end. Passes basin.now log end self.new step.0) }
         ensures before { (log : Log) → Shows basin.now self.old log
             → IfErr result (λ _. Shows basin.now self.new log) }
+        ensures kept { IsSome self.old.trace → IsSome self.new.trace }
     {
         self.state.run_step(basin, methods, step)
     }
@@ -78,6 +92,7 @@ impl Engine {
             → IsRunOf basin log result }
         ensures closed { (basin : Draft) → IsEngineOf basin self
             → result.closed ≤ basin.control.stamps.count }
+        ensures trace { result.trace ≡ self.trace }
     {
         self.state.finish()
     }

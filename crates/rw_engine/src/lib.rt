@@ -14,6 +14,6 @@ mod trace_lines;
 mod undo;
 
 pub use engine::Engine;
-pub use running::run_all;
+pub use running::{run_all, run_without_trace};
 pub use rw_run::{Run, RunEnd, RunFault, Trace, TraceEvent};
 pub use step_end::StepEnd;

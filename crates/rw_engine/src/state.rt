@@ -1,4 +1,4 @@
-ghost use Rattle.std.specs.Prelude.{◌≡◌, ◌<◌, ◌≤◌, ◌∷◌, [], ℕ, List, map, Some, IfOk, IfErr};
+ghost use Rattle.std.specs.Prelude.{◌≡◌, ◌<◌, ◌≤◌, ◌∷◌, [], ℕ, List, map, Some, IfOk, IfErr, IfSome, IsSome};
 ghost use Rattle.rw_model.specs.Draft.{Draft};
 ghost use Rattle.rw_method.specs.Catalogue.{AreInOrder};
 ghost use Rattle.rw_inputs.specs.Inputs.{IsInputsOf};
@@ -17,9 +17,9 @@ use crate::counts::Counts;
 use crate::placing::place;
 use crate::step_end::StepEnd;
 use crate::trace_lines::tell;
-use crate::undo::{Undone, remember, take_back};
+use crate::undo::{Undone, note, take_back};
 use rw_base::{NoMemory, ObjectNo, StepNo};
-use rw_dispatch::{Queue, dispatch};
+use rw_dispatch::{Queue, WriteList, judge_dispatch, make};
 use rw_inputs::Inputs;
 use rw_method::Catalogue;
 use rw_model::Basin;
@@ -27,11 +27,12 @@ use rw_run::{Run, RunEnd, RunFault, Trace, TraceEvent};
 use rw_series::Series;
 use std::alloc::Global;
 
-/// What an engine works on. Queue and counts are those of the open timestep, and what can be undone was put in it.
+/// What an engine works on. `writes` is what the last dispatch writes. Queue and counts are those of the open timestep, and what can be undone was put in it.
 #[derive(Drop)]
 pub(crate) struct State {
     series: Series,
     queue: Queue,
+    writes: WriteList,
     counts: Counts,
     trace: Trace,
     closed: u16,
@@ -41,11 +42,18 @@ pub(crate) struct State {
 
 impl State {
     /// The state of a run whose inputs are placed, and no timestep opened.
-    pub(crate) fn for_run(alloc: Global, basin: &Basin, inputs: &Inputs) -> Result<State, NoMemory>
+    pub(crate) fn for_run(
+        alloc: Global,
+        basin: &Basin,
+        inputs: &Inputs,
+        trace: Trace,
+    ) -> Result<State, NoMemory>
         requires inputs { IsInputsOf basin.now inputs.now }
+        requires fresh { IfSome trace (λ lines. lines ≡ []) }
         ensures made { IfOk result (IsStateOf basin.now) }
         ensures shows { IfOk result
             (λ state. Shows basin.now (seen state) (placed [] (givens basin.now inputs.now))) }
+        ensures trace { IfOk result (λ state. state.trace ≡ trace) }
     {
         let mut series = Series::sized(alloc, basin)?;
         let queue = Queue::for_basin(alloc, basin)?;
@@ -54,8 +62,9 @@ impl State {
         Ok(State {
             series,
             queue,
+            writes: WriteList::none(),
             counts,
-            trace: Trace::new(alloc),
+            trace,
             closed: 0,
             end: RunEnd::Settled,
             undo: Vec::new(alloc),
@@ -72,6 +81,7 @@ impl State {
         ensures opened { IfOk result (λ _. (log : Log)
             → Shows basin.now (seen self.old) log → IsBefore basin.now step.0 log
             → HoldsWithin basin.now self.new step.0 (opened step.0 ∷ log) self.new.queue.waiting) }
+        ensures wants { IfErr result (λ _. IsSome self.old.trace) }
     {
         self.trace.push(TraceEvent::Opened(step))?;
         self.queue.begin_step(basin);
@@ -87,6 +97,7 @@ impl State {
         ensures still { IfErr result (λ _. IsStill self.old self.new) }
         ensures goes { (log : Log) → HoldsWithin basin.now self.old step.0 log []
             → IfOk result (λ end. Goes basin.now (Some end) self.new step.0 log) }
+        ensures wants { IfErr result (λ _. IsSome self.old.trace) }
     {
         self.trace.push(TraceEvent::Closed(step))?;
         self.closed = step.0;
@@ -108,6 +119,7 @@ impl State {
         ensures goes { (log : Log) (rest : List ℕ)
             → HoldsWithin basin.now self.old step.0 log (object.0 ∷ rest) → count ≡ dispatches log object.0
             → IfOk result (λ end. Goes basin.now (Some end) self.new step.0 log) }
+        ensures wants { IfErr result (λ _. IsSome self.old.trace) }
     {
         let fault = RunFault::ObjectLimit {
             object,
@@ -150,18 +162,15 @@ impl State {
         ensures goes { (log : Log)
             → HoldsWithin basin.now self.old step.0 log (object.0 ∷ self.old.queue.waiting)
             → IfOk result (λ end. Goes basin.now end self.new step.0 log) }
+        ensures wants { IfErr result (λ _. IsSome self.old.trace) }
     {
         self.counts.raise(object.0);
-        remember(&mut self.undo, basin, &self.series, object, step)?;
-        let answer = dispatch(
-            basin,
-            methods,
-            &mut self.series,
-            &mut self.queue,
-            object,
-            step,
-        );
-        let fault = tell(&mut self.trace, basin, object, step, &answer)?;
+        let answer = judge_dispatch(basin, methods, &self.series, object, step, &mut self.writes);
+        let writes = self.writes.as_slice();
+        note(&mut self.undo, &self.trace, &self.series, writes)?;
+        let fault = tell(&mut self.trace, object, step, &answer, writes)?;
+        make(basin, &mut self.series, writes);
+        self.queue.wake_written(basin, step, writes, Some(object));
         Ok(self.end_by(fault))
     }
 
@@ -181,6 +190,7 @@ impl State {
         ensures goes { (log : Log)
             → HoldsWithin basin.now self.old step.0 log (object.0 ∷ self.old.queue.waiting)
             → IfOk result (λ end. Goes basin.now end self.new step.0 log) }
+        ensures wants { IfErr result (λ _. IsSome self.old.trace) }
     {
         let count = self.counts.get(object.0);
         if basin.control().object_limit <= count {
@@ -203,6 +213,7 @@ impl State {
         ensures on_the_way { IsOnTheWay basin.now result self.old self.new }
         ensures goes { (log : Log) → HoldsWithin basin.now self.old step.0 log self.old.queue.waiting
             → IfOk result (λ end. Goes basin.now end self.new step.0 log) }
+        ensures wants { IfErr result (λ _. IsSome self.old.trace) }
     {
         match self.queue.next() {
             Some(object) => self.ask(basin, methods, object, step),
@@ -227,6 +238,7 @@ impl State {
         ensures passes { (log : Log)
             → Shows basin.now (seen self.old) log → IsBefore basin.now step.0 log
             → IfOk result (λ end. Passes basin.now log end (seen self.new) step.0) }
+        ensures wants { IfErr result (λ _. IsSome self.old.trace) }
     {
         self.open(basin, step)?;
         loop {
@@ -252,6 +264,7 @@ impl State {
             → IfOk result (λ end. Passes basin.now log end (seen self.new) step.0) }
         ensures before { (log : Log) → Shows basin.now (seen self.old) log
             → IfErr result (λ _. Shows basin.now (seen self.new) log) }
+        ensures kept { IsSome self.old.trace → IsSome self.new.trace }
     {
         self.undo.clear();
         let mark = self.trace.len();
@@ -270,6 +283,7 @@ impl State {
         ensures run { (basin : Draft) (log : Log) → IsEngineOf basin (seen self)
             → Shows basin (seen self) log → IsRunOf basin log result }
         ensures closed { result.closed ≡ self.closed }
+        ensures trace { result.trace ≡ self.trace }
     {
         Run {
             end: self.end,

@@ -1,46 +1,33 @@
 //! Writing the trace of a dispatch.
-ghost use Rattle.std.specs.Prelude.{◌≡◌, [], ◌∷◌, ◌++◌, ℕ, List, map, IfOk};
-ghost use Rattle.rw_model.specs.Draft.{IsObject};
+ghost use Rattle.std.specs.Prelude.{◌≡◌, [], ◌∷◌, map, IfOk, IfErr, IsSome, Some};
 ghost use Rattle.rw_run.specs.declared.trace.TraceEvent.TheVariants as Line;
-ghost use Rattle.rw_engine.specs.Lines.{line_by, lines_by, fault_by, Grows};
+ghost use Rattle.rw_run.specs.RunOf.{line_of};
+ghost use Rattle.rw_run.specs.Trace.{told};
+ghost use Rattle.rw_engine.specs.Lines.{lines_by, fault_by, Grows};
 
 use rw_base::{NoMemory, ObjectNo, StepNo};
-use rw_dispatch::{Dispatched, slot_or_none};
-use rw_method::Put;
-use rw_model::{Basin, Content, Writer};
-use rw_run::{RunFault, Trace, TraceEvent};
+use rw_dispatch::Dispatched;
+use rw_run::{RunFault, Trace, TraceEvent, Write};
 
-// The line of a written put.
-fn line_by(basin: &Basin, object: ObjectNo, step: StepNo, put: &Put) -> TraceEvent
-    requires { IsObject basin.now.objects object.0 }
-    ensures { result ≡ line_by basin.now object.0 step.0 put.now }
+// The line of what is written.
+fn line_of(write: &Write) -> TraceEvent
+    ensures { result ≡ line_of write.now }
 {
     TraceEvent::Written {
-        slot: slot_or_none(basin, object, put.place),
-        step,
-        content: Content {
-            value: put.value,
-            number: put.number,
-            writer: Writer::Object(object),
-        },
+        slot: write.cell.slot,
+        step: write.cell.step,
+        content: write.content,
     }
 }
 
-// Writes a line for each of the puts.
-fn tell_puts(
-    trace: &mut Trace,
-    basin: &Basin,
-    object: ObjectNo,
-    step: StepNo,
-    written: &[Put],
-) -> Result<(), NoMemory>
-    requires { IsObject basin.now.objects object.0 }
-    ensures told { IfOk result (λ _. trace.new
-        ≡ trace.old ++ map (line_by basin.now object.0 step.0) written.now) }
+// Writes a line for each.
+fn tell_writes(trace: &mut Trace, writes: &[Write]) -> Result<(), NoMemory>
+    ensures told { IfOk result (λ _. trace.new ≡ told trace.old (map line_of writes.now)) }
     ensures grows { Grows trace.old trace.new }
+    ensures wants { IfErr result (λ _. IsSome trace.old) }
 {
-    for put in written {
-        trace.push(line_by(basin, object, step, put))?;
+    for write in writes {
+        trace.push(line_of(write))?;
     }
     Ok(())
 }
@@ -48,35 +35,36 @@ fn tell_puts(
 // Writes the line of a fault, and hands it back.
 fn tell_fault(trace: &mut Trace, fault: RunFault) -> Result<Option<RunFault>, NoMemory>
     ensures told { IfOk result
-        (λ told. (trace.new ≡ trace.old ++ Line.Fault fault ∷ []) × (told ≡ Some fault)) }
+        (λ ended. (trace.new ≡ told trace.old (Line.Fault fault ∷ [])) × (ended ≡ Some fault)) }
     ensures grows { Grows trace.old trace.new }
+    ensures wants { IfErr result (λ _. IsSome trace.old) }
 {
     trace.push(TraceEvent::Fault(fault))?;
     Ok(Some(fault))
 }
 
-/// Writes the lines of what a dispatch answered, and answers the fault that it is, if it is one.
+/// Writes the lines of what a dispatch answered and writes, and answers the fault that it is, if it is one.
 pub(crate) fn tell(
     trace: &mut Trace,
-    basin: &Basin,
     object: ObjectNo,
     step: StepNo,
     answer: &Dispatched,
+    writes: &[Write],
 ) -> Result<Option<RunFault>, NoMemory>
-    requires { IsObject basin.now.objects object.0 }
     ensures told { IfOk result
-        (λ _. trace.new ≡ trace.old ++ lines_by basin.now object.0 step.0 answer.now) }
+        (λ _. trace.new ≡ told trace.old (lines_by object.0 step.0 answer.now writes.now)) }
     ensures fault { IfOk result (λ fault. fault ≡ fault_by object.0 step.0 answer.now) }
     ensures grows { Grows trace.old trace.new }
+    ensures wants { IfErr result (λ _. IsSome trace.old) }
 {
     match answer {
         Dispatched::Idle => {
             trace.push(TraceEvent::Idle(object))?;
             Ok(None)
         }
-        Dispatched::Solved { written, .. } => {
+        Dispatched::Solved { .. } => {
             trace.push(TraceEvent::Solve(object))?;
-            tell_puts(trace, basin, object, step, written.as_slice())?;
+            tell_writes(trace, writes)?;
             Ok(None)
         }
         Dispatched::Conflict { slot, held, solved } => tell_fault(

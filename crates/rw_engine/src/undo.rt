@@ -1,17 +1,15 @@
 //! Remembering what cells held, and putting it back.
-ghost use Rattle.std.specs.Prelude.{◌≡◌, [], ◌∷◌, ◌++◌, ℕ, IfOk, IfErr};
-ghost use Rattle.std.specs.List.{cons_option, range_with_len};
+ghost use Rattle.std.specs.Prelude.{◌≡◌, [], ◌∷◌, ◌++◌, ℕ, IfOk, IfErr, IsSome, take};
 ghost use Rattle.rw_base.specs.declared.number.Cell.{Cell};
 ghost use Rattle.rw_series.specs.Series.{held, IsSeriesOf};
-ghost use Rattle.rw_run.specs.Dispatch.{places};
-ghost use Rattle.rw_model.specs.Turn.{IsTurn};
-ghost use Rattle.rw_engine.specs.Undone.{AreCells, taken_back, undone_at, undone_in};
+ghost use Rattle.rw_engine.specs.Undone.{AreCells, taken_back, undone_of};
 
-use rw_base::{Cell, NoMemory, ObjectNo, StepNo};
+use rw_base::{Cell, NoMemory};
 use rw_model::{Basin, Content};
+use rw_run::{Trace, Write};
 use rw_series::Series;
 
-/// What a cell held before a dispatch.
+/// What a cell held before it was written.
 #[derive(Clone, Copy)]
 pub(crate) struct Undone {
     pub(crate) cell: Cell,
@@ -29,44 +27,35 @@ fn remember_cell(undo: &mut Vec<Undone>, series: &Series, cell: Cell) -> Result<
     Ok(())
 }
 
-// Adds what the object's slot in a place holds, if it has one there. After want of memory the list is as it was.
-fn remember_at(
+/// Adds what the cells hold to which these are written, where a trace is kept: without one nothing that follows can want memory.
+pub(crate) fn note(
     undo: &mut Vec<Undone>,
-    basin: &Basin,
+    trace: &Trace,
     series: &Series,
-    object: ObjectNo,
-    step: StepNo,
-    place: u8,
+    writes: &[Write],
 ) -> Result<(), NoMemory>
-    requires turn { IsTurn basin.now object.0 step.0 }
-    ensures cells { AreCells basin.now undo.old.items → AreCells basin.now undo.new.items }
-    ensures added { IfOk result (λ _. undo.new.items ≡ undo.old.items
-        ++ cons_option (undone_at basin.now (held series.now) object.0 step.0 place) []) }
-    ensures unchanged { IfErr result (λ _. undo.new.items ≡ undo.old.items) }
+    ensures all { IfOk result (λ _. IsSome trace.now
+        → undo.new.items ≡ undo.old.items ++ undone_of (held series.now) writes.now) }
+    ensures some { (count : ℕ) × (undo.new.items
+        ≡ undo.old.items ++ undone_of (held series.now) (take count writes.now)) }
+    ensures wants { IfErr result (λ _. IsSome trace.now) }
 {
-    match basin.slot_at(object, place) {
-        Some(slot) => remember_cell(undo, series, Cell { slot, step }),
-        None => Ok(()),
+    if trace.is_kept() {
+        remember(undo, series, writes)
+    } else {
+        Ok(())
     }
 }
 
-/// Adds what the object's slots hold, those in the first places where memory wants for more.
-pub(crate) fn remember(
-    undo: &mut Vec<Undone>,
-    basin: &Basin,
-    series: &Series,
-    object: ObjectNo,
-    step: StepNo,
-) -> Result<(), NoMemory>
-    requires turn { IsTurn basin.now object.0 step.0 }
-    ensures all { IfOk result (λ _. undo.new.items
-        ≡ undo.old.items ++ undone_in basin.now (held series.now) object.0 step.0 places) }
-    ensures some { (count : ℕ) × (undo.new.items ≡ undo.old.items
-        ++ undone_in basin.now (held series.now) object.0 step.0 (range_with_len 0 count)) }
-    ensures cells { AreCells basin.now undo.old.items → AreCells basin.now undo.new.items }
+// Adds what the cells hold to which these are written, of the first of them where memory wants for more.
+fn remember(undo: &mut Vec<Undone>, series: &Series, writes: &[Write]) -> Result<(), NoMemory>
+    ensures all { IfOk result
+        (λ _. undo.new.items ≡ undo.old.items ++ undone_of (held series.now) writes.now) }
+    ensures some { (count : ℕ) × (undo.new.items
+        ≡ undo.old.items ++ undone_of (held series.now) (take count writes.now)) }
 {
-    for place in 0..12u8 {
-        remember_at(undo, basin, series, object, step, place)?;
+    for write in writes {
+        remember_cell(undo, series, write.cell)?;
     }
     Ok(())
 }

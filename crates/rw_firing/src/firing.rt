@@ -2,7 +2,7 @@ ghost use Rattle.std.specs.Prelude.{◌≡◌, ◌≤◌, Some, length};
 ghost use Rattle.rw_run.specs.Dispatch.{looks_at};
 ghost use Rattle.rw_run.specs.Log.{written_by};
 ghost use Rattle.rw_series.specs.Series.{held};
-ghost use Rattle.rw_writes.specs.Writes.{AreWrites};
+ghost use Rattle.rw_dispatch.specs.Writes.{AreWrites};
 ghost use Rattle.rpl_machine.specs.Fired.{cells_of};
 ghost use Rattle.rw_firing.specs.Firing.{IsRuleTurn, event_of, firing_in, most_looks};
 

@@ -54,7 +54,7 @@ fn push_value(text: &mut String, content: Option<Content>) -> Result<(), NoMemor
     ensures { OnOk result (string_bytes text.new ≡ string_bytes text.old
         ++ (codes "," ++ value_words (option_map (λ (content : Content). content.value) content))) }
 {
-    text.push_str(",")?;
+    text.push(',')?;
     match content {
         Some(content) => push_number(text, content.value.get()),
         None => Ok(()),

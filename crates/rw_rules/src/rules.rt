@@ -1,11 +1,13 @@
-ghost use Rattle.std.specs.Prelude.{◌≡◌, ◌∷◌, ℕ, IfOk, Ok, option_map};
+ghost use Rattle.std.specs.Prelude.{◌≡◌, ◌∷◌, ℕ, IfOk, IfSome, Ok, option_map};
 ghost use Rattle.rw_model.specs.Draft.{Draft};
 ghost use Rattle.rw_series.specs.Series.{held};
 ghost use Rattle.rw_dispatch.specs.Stage.{IsStageOf, Leaves, stage};
-ghost use Rattle.rw_run.specs.Log.{Cells, Firing, Log, fired, opened};
+ghost use Rattle.std.specs.Option.{option_or};
+ghost use Rattle.rw_base.specs.declared.number.Cell.{Cell};
+ghost use Rattle.rw_run.specs.Log.{Cells, Firing, Log, fired, last_put, opened};
 ghost use Rattle.rw_run.specs.Next.{first_due};
-ghost use Rattle.rw_agenda.specs.Agenda.{IsIndexed};
-ghost use Rattle.rw_writes.specs.Writes.{AreWrites, all_asked};
+ghost use Rattle.rw_agenda.specs.Agenda.{IsIndexed, IsListed};
+ghost use Rattle.rw_dispatch.specs.Writes.{AreWrites};
 ghost use Rattle.rpl_verify.specs.Verified.{Accepted, verified};
 ghost use Rattle.rw_firing.specs.Firing.{IsRuleTurn};
 ghost use Rattle.rw_rules.specs.Rules.{FiredOn, IsRulesOf, WrittenOn, ShowsLooks, Told, policy_in};
@@ -17,12 +19,13 @@ use rpl_verify::Verified;
 use rw_agenda::Agenda;
 use rw_agenda::law::index_stays;
 use rw_base::{NoMemory, RuleNo, StepNo};
-use rw_dispatch::Queue;
+use rw_dispatch::{Queue, make};
 use rw_firing::{fire, reads};
 use rw_model::Basin;
+use rw_run::Write;
 use rw_run::law::index;
 use rw_series::Series;
-use rw_writes::{Write, Writes};
+use rw_writes::{Writes, mark};
 use std::alloc::Global;
 use std::marker::Model;
 
@@ -73,7 +76,8 @@ impl Rules {
     /// The first rule that is due, in the order of the basin's agenda. `None` exactly where there is none.
     pub fn due(&self, series: &Series) -> Option<RuleNo>
         requires indexed { IsIndexed self.now.agenda (held series.now) }
-        ensures { (basin : Draft) (policy : Accepted) (log : Log)
+        ensures known { IfSome result (λ rule. IsListed self.now.agenda rule.0) }
+        ensures due { (basin : Draft) (policy : Accepted) (log : Log)
             → IsRulesOf basin policy self.now → ShowsLooks policy self.now log
             → option_map (λ rule. rule.0) result
             ≡ first_due basin (policy_in basin policy) (held series.now) log }
@@ -128,14 +132,26 @@ impl Rules {
             (stage series.new queue.new) }
     {
         index();
-        self.writes.make(basin, series);
-        self.writes.wake(basin, queue, t);
-        self.writes.mark(basin, &mut self.agenda);
+        let writes = self.writes.as_slice();
+        make(basin, series, writes);
+        queue.wake_written(basin, t, writes, None);
+        mark(basin, &mut self.agenda, writes);
+    }
+
+    /// Marks each rule that looked at a cell which what a dispatch wrote reaches.
+    pub fn touched(&mut self, basin: &Basin, writes: &[Write])
+        requires { AreWrites basin.now writes.now }
+        ensures { (before after : Cells) → ((cell : Cell) → after cell
+            ≡ option_or (last_put basin.now writes.now cell) (before cell))
+            → WrittenOn before after self.old self.new }
+    {
+        index();
+        mark(basin, &mut self.agenda, writes);
     }
 
     /// What the last firing writes.
     pub fn written(&self) -> &[Write]
-        ensures { all_asked result.now ≡ self.now.written }
+        ensures { result.now ≡ self.now.written }
     {
         self.writes.as_slice()
     }

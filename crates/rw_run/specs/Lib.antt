@@ -6,6 +6,7 @@ pub mod Next
 pub mod Runs
 pub mod Choice
 pub mod Line
+pub mod Trace
 pub mod RunOf
 pub mod Since
 pub mod Frame

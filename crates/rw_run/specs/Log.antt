@@ -8,11 +8,11 @@ use Rattle.rw_model.specs.Draft.{Draft}
 use Rattle.rw_series.specs.Series.{is_shared}
 use Rattle.rw_series.specs.declared.look.Look.{Look}
 use Rattle.rw_run.specs.declared.fault.RunFault.{RunFault}
+use Rattle.rw_run.specs.declared.write.Write.{Write}
 
 -- a content that is asked for in a cell
-pub record Asked : Type 0 where
-  pub cell : Cell
-  pub content : Content
+abbrev pub Asked : Type 0
+Asked = Write
 
 -- an object was dispatched, and its method answered puts
 pub record Dispatch : Type 0 where

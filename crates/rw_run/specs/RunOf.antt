@@ -1,5 +1,5 @@
 -- What a log comes to: how it ended, how many timesteps were closed, and the lines of its trace.
-use Rattle.std.specs.Prelude.{◌≡◌, ℕ, List, [], ◌∷◌, ◌++◌, map}
+use Rattle.std.specs.Prelude.{◌≡◌, ℕ, List, [], ◌∷◌, ◌++◌, map, IfSome}
 use Rattle.rw_base.specs.declared.number.Cell.{Cell}
 use Rattle.rw_model.specs.Draft.{Draft}
 use Rattle.rw_series.specs.Series.{held, IsSeriesOf}
@@ -49,4 +49,4 @@ pub record IsRunOf (basin : Draft) (log : Log) (run : Run) : Type 0 where
   pub closed_steps : run.closed ≡ last_closed log
   pub made : IsSeriesOf basin run.series
   pub cells : (cell : Cell) → held run.series cell ≡ cells_of basin log cell
-  pub trace : run.trace ≡ trace_of log
+  pub trace : IfSome run.trace (λ told. told ≡ trace_of log)

@@ -10,7 +10,9 @@ pub mod law;
 mod line;
 mod run;
 mod trace;
+mod write;
 
 pub use fault::RunFault;
 pub use run::{Run, RunEnd};
 pub use trace::{Trace, TraceEvent};
+pub use write::Write;

@@ -13,7 +13,7 @@ use crate::Refusal;
 use crate::command::Command;
 use crate::files::{read_basin, read_given};
 use rw_base::NoMemory;
-use rw_engine::{Run, RunEnd, Trace, run_all};
+use rw_engine::{RunEnd, run_without_trace};
 use rw_inputs::Inputs;
 use rw_io::Shelf;
 use rw_method::Catalogue;
@@ -52,20 +52,6 @@ fn read_files<S: Shelf>(
     }
 }
 
-// The run without the lines of its trace, of which a section prints none: they take as much memory as its cells.
-fn without_trace(alloc: Global, run: Run) -> Run
-    ensures end { result.end ≡ run.end }
-    ensures closed_steps { result.closed ≡ run.closed }
-    ensures series { result.series ≡ run.series }
-{
-    Run {
-        end: run.end,
-        closed: run.closed,
-        series: run.series,
-        trace: Trace::new(alloc),
-    }
-}
-
 // The text of the run, and how it ended.
 fn run_text(
     alloc: Global,
@@ -76,7 +62,7 @@ fn run_text(
     requires inputs { IsInputsOf files.now.basin files.now.inputs }
     ensures { IfOk result (λ pair. IsRunText files.now.basin files.now.inputs pair.1 pair.0.items) }
 {
-    let run = without_trace(alloc, run_all(alloc, &files.basin, methods, &files.inputs)?);
+    let run = run_without_trace(alloc, &files.basin, methods, &files.inputs)?;
     let text = section(alloc, &files.basin, 0, &run)?;
     Ok((text, run.end))
 }

@@ -1,19 +1,12 @@
 -- What holds of all puts that are asked for holds of those that are written.
-use Rattle.rw_base.proofs.Common.{◌≡◌, ◌∙◌, ℕ, ◌+◌, ◌<◌, ◌≤◌, ◌==◌, Bool, true, false, nat_le, List, [], ◌∷◌, All, All-cons, All-filter, All-head, All-nil, All-tail, ap, arith, cond, get_or, get_or-map, if◌then◌else◌, length, length-map, map, nat_tests, refl, subst, sym}
-use Rattle.rw_base.specs.declared.number.SlotNo.{SlotNo}
-use Rattle.rw_model.proofs.Common.{Draft, IsSlot, numbers_of}
+use Rattle.rw_base.proofs.Common.{◌≡◌, ℕ, ◌+◌, ◌≤◌, Bool, true, false, nat_le, List, [], ◌∷◌, All, All-cons, All-filter, All-head, All-nil, All-tail, arith, cond, if◌then◌else◌, nat_tests, refl}
+use Rattle.rw_model.proofs.Common.{Draft}
 use Rattle.rw_series.specs.declared.fire.RulePut.{RulePut}
-use Rattle.rw_run.proofs.Common.{Asked, Cells, end_in, is_written, slots_at}
+use Rattle.rw_run.proofs.Common.{Asked, Cells, end_in, is_written}
 use Rattle.rw_run.specs.Next.{asked_by_rule, asked_of_rule, is_put_again, last_ones}
 use Rattle.rw_run.specs.Policy.{CanAsk}
-use Rattle.rw_writes.specs.Writes.{AreWrites, CanWrite, all_asked, asked_in, written_of}
-use Rattle.rw_writes.specs.declared.write.Write.{Write}
-
-pub at_item : {A B : Type 0} (P : B → Type 0) (does : A → B) (things : List A) (place : ℕ) (thing : A) → All P (map does things) → place < length things
-    → thing ≡ get_or things place thing → P (does thing)
-at_item P does things place thing all near is =
-    let here = all place (does thing) (omega (arith, near, length-map things does)) in
-    subst P (get_or-map does things place thing (does thing) near ∙ ap does (sym is)) here
+use Rattle.rw_dispatch.specs.Writes.{AreWrites, CanWrite}
+use Rattle.rw_writes.specs.Writes.{written_of}
 
 -- ---- what a rule asks for
 
@@ -43,32 +36,3 @@ last_write basin P (put ∷ puts) all = by (is_put_again basin put puts) (last_w
 
 pub all_written : (basin : Draft) (cells : Cells) (P : Asked → Type 0) (puts : List Asked) → All P puts → All P (written_of basin cells puts)
 all_written basin cells P puts all = All-filter (λ (put : Asked). is_written (end_in cells put)) P (last_ones basin puts) (last_write basin P puts all)
-
--- ---- slots
-
-pub slots_asked : (basin : Draft) (writes : List Write) → AreWrites basin (all_asked writes) → All (λ (write : Write). IsSlot basin.objects write.cell.slot.0) writes
-slots_asked basin [] all = All-nil (λ (write : Write). IsSlot basin.objects write.cell.slot.0)
-slots_asked basin (write ∷ writes) all =
-    All-cons (λ (write : Write). IsSlot basin.objects write.cell.slot.0) write writes (All-head (CanWrite basin) (asked_in write) (all_asked writes) all).cell.slot
-    (slots_asked basin writes (All-tail (CanWrite basin) (asked_in write) (all_asked writes) all))
-
-slots_known : (basin : Draft) (step : ℕ) (puts : List Asked) → AreWrites basin puts → All (λ (slot : ℕ). IsSlot basin.objects slot) (slots_at step puts)
-slots_known basin step [] all = All-nil (λ (slot : ℕ). IsSlot basin.objects slot)
-slots_known basin step (put ∷ puts) all = by (put.cell.step.0 == step) (slots_known basin step puts (All-tail (CanWrite basin) put puts all))
-  where
-    by : (t : Bool) → All (λ (slot : ℕ). IsSlot basin.objects slot) (slots_at step puts)
-        → All (λ (slot : ℕ). IsSlot basin.objects slot) (if t then put.cell.slot.0 ∷ slots_at step puts else slots_at step puts)
-    by true rest =
-        All-cons (λ (slot : ℕ). IsSlot basin.objects slot) put.cell.slot.0 (slots_at step puts) (All-head (CanWrite basin) put puts all).cell.slot rest
-    by false rest = rest
-
-unnumbered : (basin : Draft) (slots : List SlotNo) → All (λ (slot : ℕ). IsSlot basin.objects slot) (numbers_of slots) → All (λ (slot : SlotNo). IsSlot basin.objects slot.0) slots
-unnumbered basin [] all = All-nil (λ (slot : SlotNo). IsSlot basin.objects slot.0)
-unnumbered basin (slot ∷ slots) all =
-    All-cons (λ (slot : SlotNo). IsSlot basin.objects slot.0) slot slots (All-head (λ (slot : ℕ). IsSlot basin.objects slot) slot.0 (numbers_of slots) all)
-    (unnumbered basin slots (All-tail (λ (slot : ℕ). IsSlot basin.objects slot) slot.0 (numbers_of slots) all))
-
-pub slots_are : (basin : Draft) (step : ℕ) (puts : List Asked) (slots : List SlotNo) → AreWrites basin puts → numbers_of slots ≡ slots_at step puts
-    → All (λ (slot : SlotNo). IsSlot basin.objects slot.0) slots
-slots_are basin step puts slots all is =
-    unnumbered basin slots (subst (λ ns. All (λ (slot : ℕ). IsSlot basin.objects slot) ns) (sym is) (slots_known basin step puts all))

@@ -1,4 +1,3 @@
 mod Lists
 mod Granted
-mod Making
 mod Marking

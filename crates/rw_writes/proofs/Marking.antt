@@ -1,14 +1,13 @@
 -- Rules are marked put by put.
 use Rattle.rw_base.proofs.Common.{◌≡◌, ◌∙◌, ℕ, ◌+◌, ◌<◌, ◌||◌, Bool, true, false, List, [], ◌∷◌, ◌++◌, Some, ap, get_or, length, list_any, list_any-append, refl, sym, take}
-use Rattle.std.proofs.lemmas.List.{map_more}
+use Rattle.std.proofs.lemmas.List.{take_more}
 use Rattle.rw_model.proofs.Common.{Draft}
 use Rattle.rw_series.specs.Series.{is_shared}
 use Rattle.rw_series.specs.declared.look.Look.{Look}
 use Rattle.rw_run.specs.Index.{is_touched}
 use Rattle.rw_run.specs.Log.{Asked}
 use Rattle.rw_agenda.specs.Agenda.{Agenda, Entry, MarksThose, looked_by}
-use Rattle.rw_writes.specs.Writes.{MarksAll, all_asked, asked_in}
-use Rattle.rw_writes.specs.declared.write.Write.{Write}
+use Rattle.rw_writes.specs.Writes.{MarksAll}
 
 neither : (a b : Bool) → (a || b) ≡ false → (a ≡ false) × (b ≡ false)
 neither true b is = absurd (cc is)
@@ -32,16 +31,15 @@ untouched basin puts put (look ∷ looks) h g =
 still : (old new : Agenda) (rule : ℕ) (looks : List Look) → new.rules ≡ old.rules → looked_by new rule ≡ Some looks → looked_by old rule ≡ Some looks
 still old new rule looks same is = sym (ap (λ (entries : List Entry). looked_by (record { order = old.order; rules = entries; marks = old.marks }) rule) same) ∙ is
 
-pub marks_more : (basin : Draft) (start old new : Agenda) (writes : List Write) (place : ℕ) (write : Write) → place < length writes → write ≡ get_or writes place write
-    → MarksAll basin (all_asked (take place writes)) start old → new.rules ≡ old.rules → MarksThose basin write.cell old new
-    → MarksAll basin (all_asked (take (place + 1) writes)) start new
+pub marks_more : (basin : Draft) (start old new : Agenda) (writes : List Asked) (place : ℕ) (write : Asked) → place < length writes → write ≡ get_or writes place write
+    → MarksAll basin (take place writes) start old → new.rules ≡ old.rules → MarksThose basin write.cell old new
+    → MarksAll basin (take (place + 1) writes) start new
 marks_more basin start old new writes place write near is before same marks rule looks unmarked saw =
     let one = marks write.content rule looks unmarked saw in
     let others = before rule looks one.0 (still old new rule looks same saw) in
-    let all : all_asked (take (place + 1) writes) ≡ all_asked (take place writes) ++ asked_in write ∷ [] =
-    map_more asked_in writes place write near ∙ ap (λ (w : Write). all_asked (take place writes) ++ asked_in w ∷ []) (sym is) in (
+    let all : take (place + 1) writes ≡ take place writes ++ write ∷ [] = take_more writes place write near ∙ ap (λ w. take place writes ++ w ∷ []) (sym is) in (
       others.0,
-      ap (λ puts. is_touched basin puts looks) all ∙ untouched basin (all_asked (take place writes)) (asked_in write) looks others.1 one.1,
+      ap (λ puts. is_touched basin puts looks) all ∙ untouched basin (take place writes) write looks others.1 one.1,
     )
 
 -- no put touches nothing

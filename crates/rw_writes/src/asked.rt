@@ -3,17 +3,16 @@ ghost use Rattle.std.specs.Prelude.{◌≡◌, ◌≤◌, ◌<◌, ◌+◌, ◌+
 ghost use Rattle.std.specs.List.{filter};
 ghost use Rattle.rw_run.specs.Log.{Asked};
 ghost use Rattle.rw_run.specs.Next.{asked_by_rule, asked_of_rule};
-ghost use Rattle.rw_writes.specs.Writes.{all_asked, asked_in};
 
-use crate::Write;
 use rw_base::{Cell, RuleNo, StepNo};
 use rw_model::{Basin, Content, Writer};
+use rw_run::Write;
 use rw_series::RulePut;
 
 // What a put asks for.
 fn asked_by(rule: RuleNo, step: StepNo, put: RulePut) -> Write
     requires { step.0 ≤ 4096 }
-    ensures { asked_in result ≡ asked_by_rule rule.0 step.0 put }
+    ensures { result ≡ asked_by_rule rule.0 step.0 put }
 {
     Write {
         cell: Cell {
@@ -33,8 +32,8 @@ fn add(asked: &mut Vec<Write>, last: u16, write: Write)
     requires room { length asked.old.items < asked.old.cap }
     ensures room { asked.new.cap ≡ asked.old.cap }
     ensures more { length asked.new.items ≤ length asked.old.items + 1 }
-    ensures asked { all_asked asked.new.items ≡ all_asked asked.old.items
-        ++ filter (λ (put : Asked). nat_le put.cell.step.0 last) (asked_in write ∷ []) }
+    ensures asked { asked.new.items ≡ asked.old.items
+        ++ filter (λ (put : Asked). nat_le put.cell.step.0 last) (write ∷ []) }
 {
     if write.cell.step.0 <= last {
         asked.push_reserved(write);
@@ -53,7 +52,7 @@ pub(crate) fn ask_all(
     requires room { length puts.now ≤ asked.old.cap }
     ensures room { asked.new.cap ≡ asked.old.cap }
     ensures few { length asked.new.items ≤ length puts.now }
-    ensures asked { all_asked asked.new.items ≡ asked_of_rule basin.now rule.0 step.0 puts.now }
+    ensures asked { asked.new.items ≡ asked_of_rule basin.now rule.0 step.0 puts.now }
 {
     let last = basin.control().stamps.count();
     asked.clear();

@@ -1,15 +1,13 @@
 //! What becomes of the puts of a rule's firing. `Writes::judge` has those of them that are written, by what the cells hold before
 //! the first of them: all that are to timesteps of the run, but those that the firing puts again later, and those that the put
-//! rules keep or deny. `make` writes them, `wake` wakes the objects that they reach, and `mark` marks
-//! the rules. Only making a `Writes` takes memory.
+//! rules keep or deny. `mark` marks the rules that what an event writes reaches. Only making a `Writes` takes memory.
 #![tactic(auto)]
 
 mod asked;
 pub mod law;
-mod made;
+mod marked;
 mod passed;
-mod write;
 mod writes;
 
-pub use write::Write;
+pub use marked::mark;
 pub use writes::Writes;

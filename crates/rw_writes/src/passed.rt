@@ -1,19 +1,19 @@
 //! Which of the puts of a firing are written.
-ghost use Rattle.std.specs.Prelude.{◌≡◌, ◌≤◌, ◌<◌, ◌+◌, ◌++◌, ◌∷◌, drop, length, All};
-ghost use Rattle.rw_model.specs.Draft.{IsSlot};
+ghost use Rattle.std.specs.Prelude.{◌≡◌, ◌≤◌, ◌<◌, ◌+◌, ◌++◌, ◌∷◌, drop, length};
+ghost use Rattle.rw_dispatch.specs.Writes.{AreWrites, CanWrite};
 ghost use Rattle.rw_series.specs.Series.{held};
 ghost use Rattle.rw_run.specs.Dispatch.{end_in, is_written};
 ghost use Rattle.rw_run.specs.Next.{is_put_again};
-ghost use Rattle.rw_writes.specs.Writes.{all_asked, asked_in, written_of};
+ghost use Rattle.rw_writes.specs.Writes.{written_of};
 
-use crate::Write;
 use rw_model::{Basin, PutEnd, put_end};
+use rw_run::Write;
 use rw_series::{Series, is_shared};
 
 // Whether a later one is to a cell that shares its value with that of this one.
 fn is_put_again(basin: &Basin, write: &Write, later: &[Write]) -> bool
-    requires { IsSlot basin.now.objects write.now.cell.slot.0 }
-    ensures { result ≡ is_put_again basin.now (asked_in write.now) (all_asked later.now) }
+    requires { CanWrite basin.now write.now }
+    ensures { result ≡ is_put_again basin.now write.now later.now }
 {
     for other in later {
         if is_shared(basin, write.cell, other.cell) {
@@ -25,7 +25,7 @@ fn is_put_again(basin: &Basin, write: &Write, later: &[Write]) -> bool
 
 // Whether it is written, by what the cells hold.
 fn is_written(series: &Series, write: &Write) -> bool
-    ensures { result ≡ is_written (end_in (held series.now) (asked_in write.now)) }
+    ensures { result ≡ is_written (end_in (held series.now) write.now) }
 {
     match put_end(series.get(write.cell), write.content) {
         PutEnd::Written => true,
@@ -41,14 +41,14 @@ fn keep_one(
     write: &Write,
     later: &[Write],
 )
-    requires slot { IsSlot basin.now.objects write.now.cell.slot.0 }
+    requires can { CanWrite basin.now write.now }
     requires room { length written.old.items < written.old.cap }
     ensures room { written.new.cap ≡ written.old.cap }
     ensures more { length written.new.items ≤ length written.old.items + 1 }
-    ensures kept { all_asked written.new.items
-        ++ written_of basin.now (held series.now) (all_asked later.now)
-        ≡ all_asked written.old.items
-        ++ written_of basin.now (held series.now) (asked_in write.now ∷ all_asked later.now) }
+    ensures kept { written.new.items
+        ++ written_of basin.now (held series.now) later.now
+        ≡ written.old.items
+        ++ written_of basin.now (held series.now) (write.now ∷ later.now) }
 {
     if is_put_again(basin, write, later) {
         return;
@@ -73,12 +73,12 @@ pub(crate) fn keep_written(
     series: &Series,
     asked: &[Write],
 )
-    requires slots { All (λ (put : Write). IsSlot basin.now.objects put.cell.slot.0) asked.now }
+    requires can { AreWrites basin.now asked.now }
     requires room { length asked.now ≤ written.old.cap }
     ensures room { written.new.cap ≡ written.old.cap }
     ensures few { length written.new.items ≤ length asked.now }
-    ensures kept { all_asked written.new.items
-        ≡ written_of basin.now (held series.now) (all_asked asked.now) }
+    ensures kept { written.new.items
+        ≡ written_of basin.now (held series.now) asked.now }
 {
     written.clear();
     for place in 0..asked.len() {

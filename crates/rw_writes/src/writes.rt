@@ -1,23 +1,15 @@
-ghost use Rattle.std.specs.Prelude.{◌≡◌, ◌≤◌, ◌++◌, [], None, IfOk, length, All};
-ghost use Rattle.std.specs.Option.{option_or};
-ghost use Rattle.rw_base.specs.declared.number.Cell.{Cell};
-ghost use Rattle.rw_dispatch.specs.Queue.{IsQueueOf};
-ghost use Rattle.rw_dispatch.specs.Stage.{IsHeldIn};
+ghost use Rattle.std.specs.Prelude.{◌≡◌, ◌≤◌, [], IfOk, length, All};
 ghost use Rattle.rw_model.specs.Turn.{IsStep};
-ghost use Rattle.rw_run.specs.Log.{last_put};
+ghost use Rattle.rw_dispatch.specs.Writes.{AreWrites};
 ghost use Rattle.rw_run.specs.Policy.{CanAsk};
-ghost use Rattle.rw_run.specs.Waiting.{slots_at, woken};
 ghost use Rattle.rw_series.specs.Series.{held};
-ghost use Rattle.rw_writes.specs.Writes.{AreWrites, MarksAll, all_asked, writes_of};
+ghost use Rattle.rw_writes.specs.Writes.{writes_of};
 
-use crate::Write;
 use crate::asked::ask_all;
-use crate::made::{make, mark, slots_of};
 use crate::passed::keep_written;
-use rw_agenda::Agenda;
-use rw_base::{NoMemory, RuleNo, SlotNo, StepNo};
-use rw_dispatch::Queue;
+use rw_base::{NoMemory, RuleNo, StepNo};
 use rw_model::Basin;
+use rw_run::Write;
 use rw_series::{RulePut, Series};
 use std::alloc::Global;
 use std::marker::Model;
@@ -30,7 +22,6 @@ const PUTS_MAX: usize = 2_000;
 pub struct Writes {
     asked: Vec<Write>,
     written: Vec<Write>,
-    slots: Vec<SlotNo>,
 }
 
 impl Model for Writes {
@@ -40,9 +31,9 @@ impl Model for Writes {
 
     ghost Value = { List Asked };
 
-    ghost view = { λ w. specs.all_asked w.written.items };
+    ghost view = { λ w. w.written.items };
 
-    ghost invariant = { λ w. specs.HasRoom (length w.written.items) w.asked.cap w.written.cap w.slots.cap };
+    ghost invariant = { λ w. specs.HasRoom (length w.written.items) w.asked.cap w.written.cap };
 }
 
 impl Writes {
@@ -52,12 +43,7 @@ impl Writes {
     {
         let asked = Vec::with_capacity(alloc, PUTS_MAX)?;
         let written = Vec::with_capacity(alloc, PUTS_MAX)?;
-        let slots = Vec::with_capacity(alloc, PUTS_MAX)?;
-        Ok(Writes {
-            asked,
-            written,
-            slots,
-        })
+        Ok(Writes { asked, written })
     }
 
     /// Has those puts of a rule's firing at a timestep that are written, by what the cells hold. A firing has at most 2,000.
@@ -74,42 +60,8 @@ impl Writes {
 
     /// The puts that are written.
     pub fn as_slice(&self) -> &[Write]
-        ensures { all_asked result.now ≡ self.now }
+        ensures { result.now ≡ self.now }
     {
         self.written.as_slice()
-    }
-
-    /// Writes them, one after another.
-    pub fn make(&self, basin: &Basin, series: &mut Series)
-        requires can { AreWrites basin.now self.now }
-        requires made { IsHeldIn basin.now series.old }
-        ensures made { IsHeldIn basin.now series.new }
-        ensures cells { (cell : Cell) → held series.new cell
-            ≡ option_or (last_put basin.now self.now cell) (held series.old cell) }
-    {
-        make(basin, series, self.written.as_slice());
-    }
-
-    /// Wakes the objects that they reach at a timestep.
-    pub fn wake(&mut self, basin: &Basin, queue: &mut Queue, t: StepNo)
-        requires can { AreWrites basin.now self.old }
-        requires made { IsQueueOf basin.now queue.old }
-        ensures unchanged { self.new ≡ self.old }
-        ensures made { IsQueueOf basin.now queue.new }
-        ensures queue { queue.new.waiting ≡ queue.old.waiting
-            ++ woken basin.now None queue.old.waiting (slots_at t.0 self.old) }
-    {
-        slots_of(&mut self.slots, t, self.written.as_slice());
-        queue.wake(basin, self.slots.as_slice(), None);
-    }
-
-    /// Marks the rules that looked at a cell which shares its value with one that they write.
-    pub fn mark(&self, basin: &Basin, agenda: &mut Agenda)
-        requires { AreWrites basin.now self.now }
-        ensures order { agenda.new.order ≡ agenda.old.order }
-        ensures rules { agenda.new.rules ≡ agenda.old.rules }
-        ensures marked { MarksAll basin.now self.now agenda.old agenda.new }
-    {
-        mark(basin, agenda, self.written.as_slice());
     }
 }

@@ -1,6 +1,5 @@
 use Rattle.rw_base.proofs.Common.{length, take, ◌≡◌, ◌≤◌}
 use Rattle.rw_run.specs.Next.{asked_of_rule}
-use Rattle.rw_writes.specs.Writes.{all_asked}
 use Rattle.rw_writes.proofs.asked.ask_all.Given as goal
 
 abbrev pub invariant-loop-put : goal.invariant-loop-put
@@ -9,5 +8,5 @@ invariant-loop-put l = record {
   most : l.last ≤ 4096;
   room : l.asked.cap ≡ l.fn.asked.cap;
   few : length l.asked.items ≤ l.put-index;
-  asked : all_asked l.asked.items ≡ asked_of_rule l.basin l.rule.0 l.step.0 (take l.put-index l.puts);
+  asked : l.asked.items ≡ asked_of_rule l.basin l.rule.0 l.step.0 (take l.put-index l.puts);
 }

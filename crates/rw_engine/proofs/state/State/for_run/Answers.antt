@@ -1,5 +1,6 @@
 use Rattle.rw_engine.proofs.Common.{[], givens, refl, sym, ◌∙◌}
 use Rattle.rw_engine.proofs.Starts.{trace-placed, closed-placed, end-placed}
+use Rattle.rw_engine.proofs.Traces.{shows_nothing}
 use Rattle.rw_engine.proofs.state.State.for_run.Goals as goal
 
 pub place-requires-clause-made : goal.place-requires-clause-made
@@ -12,7 +13,7 @@ pub returns-clause-shows : goal.returns-clause-shows
 returns-clause-shows c =
     let given = givens c.args.basin.now c.args.inputs.now in record {
       cells = c.place.ensures.placed [] c.in_ok-series.ensures.unknown;
-      trace = c.new.ensures ∙ sym (trace-placed [] given);
+      trace = shows_nothing c.args.trace _ (trace-placed [] given) c.requires.fresh;
       closed_steps = sym (closed-placed [] given);
       end = sym (end-placed [] given refl);
     }

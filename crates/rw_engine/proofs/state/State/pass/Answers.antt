@@ -1,4 +1,6 @@
+use Rattle.rw_engine.proofs.Common.{rules}
 use Rattle.rw_engine.proofs.Steps.{grows_more, still_more, reached_more, ends_step}
+use Rattle.rw_engine.proofs.Traces.{kept_before, kept_on}
 use Rattle.rw_engine.proofs.state.State.pass.Goals as goal
 
 pub returns-in-Some-clause-passes : goal.returns-in-Some-clause-passes
@@ -9,14 +11,14 @@ returns-in-Some-clause-passes g c = λ log shows before.
 pub returns-in-Some-clause-revocable : goal.returns-in-Some-clause-revocable
 returns-in-Some-clause-revocable g c = record {
   cells = c.event.ensures.keeps.within.undo;
-  undo = c.event.ensures.keeps.undo _ c.loop-end.invariant.revocable.undo;
+  undo = λ kept. c.event.ensures.keeps.undo (kept_on c.args.self.now.trace c.loop-end.self.trace c.loop-end.invariant.revocable.grows kept) _ (c.loop-end.invariant.revocable.undo kept);
   grows = grows_more _ c.loop-end.self.trace _ c.loop-end.invariant.revocable.grows c.event.ensures.keeps.grows;
 }
 
 pub returns-in_err-end-clause-revocable : goal.returns-in_err-end-clause-revocable
 returns-in_err-end-clause-revocable g c = record {
   cells = c.event.ensures.keeps.within.undo;
-  undo = c.event.ensures.keeps.undo _ c.loop-end.invariant.revocable.undo;
+  undo = λ kept. c.event.ensures.keeps.undo (kept_on c.args.self.now.trace c.loop-end.self.trace c.loop-end.invariant.revocable.grows kept) _ (c.loop-end.invariant.revocable.undo kept);
   grows = grows_more _ c.loop-end.self.trace _ c.loop-end.invariant.revocable.grows c.event.ensures.keeps.grows;
 }
 
@@ -27,8 +29,13 @@ loop-end-preserved g c = record {
       (λ l holds. rw c.in_default.is at c.in_ok-end.ensures.goes l holds);
   revocable = record {
     cells = c.event.ensures.keeps.within.undo;
-    undo = c.event.ensures.keeps.undo _ c.loop-end.invariant.revocable.undo;
+    undo = λ kept. c.event.ensures.keeps.undo (kept_on c.args.self.now.trace c.loop-end.self.trace c.loop-end.invariant.revocable.grows kept) _ (c.loop-end.invariant.revocable.undo kept);
     grows = grows_more _ c.loop-end.self.trace _ c.loop-end.invariant.revocable.grows c.event.ensures.keeps.grows;
   };
   still = still_more c.args.self.now c.loop-end.self c.event.new.self c.loop-end.invariant.still (rw c.in_default.is at c.in_ok-end.ensures.on_the_way).0;
 }
+
+pub returns-in_err-end-clause-wants : goal.returns-in_err-end-clause-wants
+returns-in_err-end-clause-wants g c =
+    let kept = kept_before c.args.self.now.trace c.loop-end.self.trace c.loop-end.invariant.revocable.grows c.in_err-end.ensures.wants in
+    search rules

@@ -1,4 +1,5 @@
-use Rattle.std.proofs.Common.{sym, ◌∙◌}
+use Rattle.std.proofs.Common.{Option, List, IsSome, subst, sym, ◌∙◌}
+use Rattle.rw_engine.proofs.Traces.{kept_on}
 use Rattle.rw_engine.proofs.state.State.run_step.Goals as goal
 
 pub returns-in-Err-clause-made : goal.returns-in-Err-clause-made
@@ -8,9 +9,12 @@ returns-in-Err-clause-made g c = record {
     objects = c.pass.ensures.made.engine.objects;
     series = record {
       made = c.take_back.ensures.made;
-      bounded = λ cell content known is. c.requires.made.engine.series.bounded cell content known (sym (c.take_back.ensures.back cell ∙ c.pass.ensures.revocable.undo cell) ∙ is);
+      bounded = λ cell content known is. c.requires.made.engine.series.bounded cell content known (sym (c.take_back.ensures.back cell ∙ c.pass.ensures.revocable.undo c.in-Err.ensures.wants cell) ∙ is);
     };
     closed_steps = c.pass.ensures.made.engine.closed_steps;
   };
   counts = c.pass.ensures.made.counts;
 }
+
+pub returns-in-Ok-clause-kept : goal.returns-in-Ok-clause-kept
+returns-in-Ok-clause-kept g c = kept_on c.args.self.now.trace c.pass.new.self.trace c.pass.ensures.revocable.grows

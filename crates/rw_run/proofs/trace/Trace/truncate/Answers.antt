@@ -1,9 +1,15 @@
-use Rattle.rw_base.proofs.Common.{ap, sym, ◌∙◌, take, map, take-map}
+use Rattle.rw_base.proofs.Common.{◌≡◌, ℕ, Bool, true, false, List, Some, None, if◌then◌else◌, refl, ap, sym, ◌∙◌, take, map, take-map, option_map}
+use Rattle.rw_run.specs.declared.line.Line.{Line}
 use Rattle.rw_run.specs.Line.{event_of}
 use Rattle.rw_run.proofs.trace.Trace.truncate.Goals as goal
 
+shorter : (kept : Bool) (count : ℕ) (lines : List Line)
+    → (if kept then Some (map event_of (take count lines)) else None) ≡ option_map (take count) (if kept then Some (map event_of lines) else None)
+shorter true count lines = ap Some (sym (take-map event_of count lines))
+shorter false count lines = refl
+
 pub returns : goal.returns
 returns c =
-    ap (map event_of) c.truncate.ensures.items
-    ∙ sym (take-map event_of c.args.count c.self.inside.lines.items)
-    ∙ ap (take c.args.count) c.self.view_is
+    ap (λ lines. if c.self.inside.kept then Some (map event_of lines) else None) c.truncate.ensures.items
+    ∙ shorter c.self.inside.kept c.args.count c.self.inside.lines.items
+    ∙ ap (option_map (take c.args.count)) c.self.view_is

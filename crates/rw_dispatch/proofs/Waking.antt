@@ -1,0 +1,51 @@
+-- Whom a dispatch wakes, by what it writes.
+use Rattle.rw_dispatch.proofs.Common.{Cell, List, Option, Some, [], ap, append-nil, arith, held, length, option_or, refl, subst, sym, ℕ, ◌++◌, ◌∙◌, ◌≡◌}
+use Rattle.rw_model.specs.Draft.{Draft}
+use Rattle.rw_series.specs.declared.look.Look.{Look}
+use Rattle.rw_run.specs.Dispatch.{asked_for}
+use Rattle.rw_run.specs.Log.{Asked, Event, last_put, written_by}
+use Rattle.rw_run.specs.Waiting.{is_woken, queued_after, slots_at, woken}
+use Rattle.rw_dispatch.specs.Answer.{Tells, event_of, written_in}
+use Rattle.rw_dispatch.specs.declared.dispatched.Dispatched.{Dispatched}
+use Rattle.rw_dispatch.specs.declared.dispatched.Dispatched.TheVariants.{Idle, Solved, Conflict, OutOfRange}
+use Rattle.rw_dispatch.specs.Stage.{Leaves, Stage}
+use Rattle.rw_dispatch.proofs.Queues.{none_left, woken-unowned}
+
+-- what the event of an answer writes
+of_answer : (basin : Draft) (looked : List Look) (object step : ℕ) (answer : Dispatched)
+    → asked_for basin object step (written_in answer) ≡ written_by (event_of basin looked object step answer)
+of_answer basin looked object step Idle = refl
+of_answer basin looked object step (Solved asked written) = refl
+of_answer basin looked object step (Conflict slot held solves) = refl
+of_answer basin looked object step (OutOfRange slot value) = refl
+
+pub written_of : (basin : Draft) (looked : List Look) (object step : ℕ) (event : Event) (answer : Dispatched) → Tells basin looked object step event answer
+    → asked_for basin object step (written_in answer) ≡ written_by event
+written_of basin looked object step event answer tells = of_answer basin looked object step answer ∙ ap written_by (sym tells.is)
+
+-- where nothing is written, nobody is woken
+none_woken : (basin : Draft) (but : Option ℕ) (queue : List ℕ) → queue ≡ queue ++ woken basin but queue []
+none_woken basin but queue =
+    none_left (is_woken basin but queue []) 0 (length basin.objects) queue queue (omega arith)
+    (λ object above. woken-unowned basin but queue [] object refl) (sym (append-nil queue))
+
+queue_after : (basin : Draft) (looked : List Look) (object step : ℕ) (answer : Dispatched) (queue : List ℕ)
+    → queued_after basin (event_of basin looked object step answer) queue
+    ≡ queue ++ woken basin (Some object) queue (slots_at step (written_by (event_of basin looked object step answer)))
+queue_after basin looked object step Idle queue = none_woken basin (Some object) queue
+queue_after basin looked object step (Solved asked written) queue = refl
+queue_after basin looked object step (Conflict slot held solves) queue = none_woken basin (Some object) queue
+queue_after basin looked object step (OutOfRange slot value) queue = none_woken basin (Some object) queue
+
+-- what an answer's event writes is made, and wakes those that it reaches
+pub leaves_written : (basin : Draft) (looked : List Look) (object step : ℕ) (event : Event) (answer : Dispatched) (writes : List Asked) (old new : Stage)
+    → event ≡ event_of basin looked object step answer → writes ≡ written_by event
+    → ((cell : Cell) → held new.series cell ≡ option_or (last_put basin writes cell) (held old.series cell))
+    → new.queue.waiting ≡ old.queue.waiting ++ woken basin (Some object) old.queue.waiting (slots_at step writes) → Leaves basin event old new
+leaves_written basin looked object step event answer writes old new is written cells queue =
+    let waits = old.queue.waiting in record {
+      cells = λ cell. cells cell ∙ ap (λ puts. option_or (last_put basin puts cell) (held old.series cell)) written;
+      queue = queue ∙ ap (λ puts. waits ++ woken basin (Some object) waits (slots_at step puts)) written
+          ∙ sym (subst (λ e. queued_after basin e waits ≡ waits ++ woken basin (Some object) waits (slots_at step (written_by e)))
+          (sym is) (queue_after basin looked object step answer waits));
+    }
