@@ -1,2 +1,5 @@
 mod Order
+mod Watches
+mod Words
+mod Marking
 pub mod Indexed

@@ -1,15 +1,16 @@
 -- What is kept of the rules of a policy within a timestep, and which of them is the first that is due.
-use Rattle.std.specs.Prelude.{ℕ, ◌-◌, ◌≡◌, ◌≢◌, ◌<◌, ◌≤◌, ◌||◌, Bool, true, false, List, [], ◌∷◌, length, set, Option, Some, None, slice_index_or}
-use Rattle.std.specs.List.{find, list_any}
+use Rattle.std.specs.Prelude.{ℕ, ◌-◌, ◌≡◌, ◌≢◌, ◌≤◌, Bool, true, false, List, [], ◌∷◌, length, set, Option, Some, None, slice_index_or, All}
+use Rattle.std.specs.List.{find}
 use Rattle.rw_base.specs.declared.number.Cell.{Cell}
 use Rattle.rw_model.specs.declared.content.Content.{Content}
 use Rattle.rw_model.specs.declared.control.AgendaOrder.{AgendaOrder}
 use Rattle.rw_model.specs.Draft.{Draft}
-use Rattle.rw_series.specs.Series.{is_shared}
 use Rattle.rw_series.specs.declared.look.Look.{Look}
 use Rattle.rw_run.specs.Index.{IsIndex, MarksTouched}
 use Rattle.rw_run.specs.Log.{Cells}
 use Rattle.rw_run.specs.Next.{agenda_of, is_changed}
+use Rattle.rw_agenda.specs.CellIndex.{CellIndex, is_watching}
+use Rattle.rw_agenda.specs.Marks.{Marks}
 use Rattle.rw_agenda.specs.declared.limits.TheConstants.{RULES_MAX}
 
 -- of a rule: for how many looks there is room, and at what it looked when it last fired, if it fired
@@ -24,14 +25,27 @@ pub record Agenda : Type 0 where
   pub rules : List Entry
   pub marks : List Bool
 
--- there are no more rules than there can be, and a mark for each
-pub record KeepsRules (rules : List Entry) (marks : List Bool) : Type 0 where
-  pub few : length rules ≤ RULES_MAX
-  pub marked : length marks ≡ length rules
-
 -- a rule that hasn't fired
 abbrev pub unfired : ℕ → Entry
 unfired room = record { room = room; looked = None }
+
+-- each rule that hasn't fired is marked
+abbrev pub AreMarkedFresh : List Entry → List Bool → Type 0
+AreMarkedFresh rules marks =
+    (place : ℕ) → (slice_index_or rules place (unfired 0)).looked ≡ None → slice_index_or marks place true ≡ true
+
+-- each rule watches the cells at which it looked
+abbrev pub AreWatching : List Entry → CellIndex → Type 0
+AreWatching rules index =
+    (place : ℕ) (looks : List Look) → (slice_index_or rules place (unfired 0)).looked ≡ Some looks
+    → All (λ (look : Look). is_watching index look.cell place ≡ true) looks
+
+-- there are no more rules than there can be, and a mark for each
+pub record KeepsRules (rules : List Entry) (marks : List Bool) (index : CellIndex) : Type 0 where
+  pub few : length rules ≤ RULES_MAX
+  pub marked : length marks ≡ length rules
+  pub fresh : AreMarkedFresh rules marks
+  pub watching : AreWatching rules index
 
 -- a rule in a timestep that begins
 abbrev pub forgotten : Entry → Entry
@@ -78,18 +92,6 @@ abbrev pub KeepsOtherMarks : ℕ → Agenda → Agenda → Type 0
 KeepsOtherMarks rule old new =
     (other : ℕ) → IsListed old other → other ≢ rule → is_marked new other ≡ false → is_marked old other ≡ false
 
--- one of the cells at which the rule looked when it last fired shares its value with this one
-abbrev pub has_seen : Draft → Cell → Option (List Look) → Bool
-has_seen basin cell None = false
-has_seen basin cell (Some looks) = list_any (λ (look : Look). is_shared basin cell look.cell) looks
-
--- the mark in each place, once a cell is written
-abbrev pub AreMarkedAt : Draft → Cell → List Entry → List Bool → List Bool → Type 0
-AreMarkedAt basin cell rules old new =
-    (place : ℕ) → place < length rules
-    → slice_index_or new place true
-    ≡ (slice_index_or old place true || has_seen basin cell (slice_index_or rules place (unfired 0)).looked)
-
 -- ---- what is due
 
 -- the rule hasn't fired, or it saw what is no longer held
@@ -99,3 +101,7 @@ is_due agenda cells rule = is_changed cells (looked_by agenda rule)
 -- the first rule that is due, in the agenda's order
 abbrev pub first_due : Agenda → Cells → Option ℕ
 first_due agenda cells = find (is_due agenda cells) (agenda_of agenda.order (length agenda.rules))
+
+-- the agenda of rules with these marks
+abbrev pub agenda_of_marks : Marks → List Entry → Agenda
+agenda_of_marks marks rules = record { order = marks.order; rules = rules; marks = marks.flags }

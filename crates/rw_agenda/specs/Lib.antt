@@ -1,2 +1,4 @@
+pub mod CellIndex
+pub mod Marks
 pub mod Agenda
 pub mod Worked

@@ -1,25 +1,28 @@
-ghost use Rattle.std.specs.Prelude.{◌≡◌, ◌≤◌, ◌||◌, IfOk, length, map, option_map};
+ghost use Rattle.std.specs.Prelude.{◌≡◌, ◌≤◌, ◌-◌, ◌^◌, IfOk, length, map, min, option_map};
+ghost use Rattle.std.specs.List.{sum};
 ghost use Rattle.rw_model.specs.Draft.{IsSlot};
 ghost use Rattle.rw_series.specs.Series.{held};
-ghost use Rattle.rw_agenda.specs.Agenda.{AreMarkedAt, IsIndexed, IsListed, KeepsOtherMarks, KeepsRules, MarksThose, after_firing, first_due, forgotten, has_seen, room_of, unfired};
+ghost use Rattle.rw_agenda.specs.Agenda.{AreMarkedFresh, IsIndexed, IsListed, KeepsOtherMarks, MarksThose, after_firing, agenda_of_marks, first_due, forgotten, room_of, unfired};
 
+use crate::cell_index::CellIndex;
 use crate::last_looks::LastLooks;
 use crate::limits::RULES_MAX;
+use crate::marks::Marks;
 use crate::turns::rule_in_turn;
 use rw_base::{Cell, NoMemory, RuleNo};
-use rw_model::{AgendaOrder, Basin};
+use rw_model::Basin;
 use rw_series::{Look, Series};
 use std::alloc::Global;
 use std::marker::Model;
 
 /// The rules of a policy within a timestep, seen as the order in which they are taken, an entry for each, which tells at what it
 /// looked when it last fired, if it fired, and for each whether it is marked. The cells of a rule that isn't marked are known
-/// to hold what it saw, so that they need not be compared.
+/// to hold what it saw, so that they need not be compared. Beside that it has for each cell the rules that looked there.
 #[derive(Drop)]
 pub struct Agenda {
-    order: AgendaOrder,
     rules: Vec<LastLooks>,
-    marks: Vec<bool>,
+    marks: Marks,
+    index: CellIndex,
 }
 
 impl Model for Agenda {
@@ -27,9 +30,9 @@ impl Model for Agenda {
 
     ghost Value = { specs.Agenda };
 
-    ghost view = { λ agenda. record { order = agenda.order; rules = agenda.rules.items; marks = agenda.marks.items } };
+    ghost view = { λ agenda. record { order = agenda.marks.order; rules = agenda.rules.items; marks = agenda.marks.flags } };
 
-    ghost invariant = { λ agenda. specs.KeepsRules agenda.rules.items agenda.marks.items };
+    ghost invariant = { λ agenda. specs.KeepsRules agenda.rules.items agenda.marks.flags agenda.index };
 }
 
 impl Agenda {
@@ -41,11 +44,12 @@ impl Agenda {
         ensures rules { IfOk result (λ agenda. agenda.rules ≡ map unfired reads.now) }
     {
         let rules = unfired_rules(alloc, reads)?;
-        let marks = Vec::from_elem(alloc, false, reads.len())?;
+        let marks = Marks::of_all(alloc, basin.control().agenda, reads.len())?;
+        let index = CellIndex::with_room(alloc, basin, sum_of(reads))?;
         Ok(Agenda {
-            order: basin.control().agenda,
             rules,
             marks,
+            index,
         })
     }
 
@@ -55,6 +59,8 @@ impl Agenda {
         ensures rules { self.new.rules ≡ map forgotten self.old.rules }
     {
         forget_all(&mut self.rules);
+        self.marks.set_all();
+        self.index.clear();
     }
 
     /// A put to a cell was written. Each rule is marked that looked at a cell which shares its value with this one, and each
@@ -65,7 +71,8 @@ impl Agenda {
         ensures rules { self.new.rules ≡ self.old.rules }
         ensures marked { MarksThose basin.now c self.old self.new }
     {
-        mark_those(&mut self.marks, self.rules.as_slice(), basin, c);
+        self.index
+            .mark(&mut self.marks, basin.group(c.slot), c.step);
     }
 
     /// The first rule in the agenda's order that hasn't fired, or that looked at a cell which holds another value now.
@@ -74,12 +81,7 @@ impl Agenda {
         requires index { IsIndexed self.now (held series.now) }
         ensures { option_map (λ rule. rule.0) result ≡ first_due self.now (held series.now) }
     {
-        first_changed(
-            self.order,
-            self.rules.as_slice(),
-            self.marks.as_slice(),
-            series,
-        )
+        first_changed(&self.marks, self.rules.as_slice(), series)
     }
 
     /// A rule fired, and looked at these cells, at no more than there is room for. What it looked at before is forgotten, and
@@ -91,9 +93,10 @@ impl Agenda {
         ensures rules { self.new.rules ≡ after_firing self.old r.0 looked.now }
         ensures marked { KeepsOtherMarks r.0 self.old self.new }
     {
-        let place = usize::from(r.0) - 1;
-        self.rules[place].keep(looked);
-        self.marks[place] = false;
+        let place = r.0 - 1;
+        self.rules[usize::from(place)].keep(looked);
+        self.index.watch_all(place, looked);
+        self.marks.clear(place);
     }
 }
 
@@ -108,6 +111,17 @@ fn unfired_rules(alloc: Global, reads: &[u32]) -> Result<Vec<LastLooks>, NoMemor
     Ok(rules)
 }
 
+// How many looks all rules have together, at most.
+fn sum_of(reads: &[u32]) -> u32
+    ensures { result ≡ min (sum reads.now) (2 ^ 32 - 1) }
+{
+    let mut sum = 0u32;
+    for room in reads {
+        sum = sum.saturating_add(*room);
+    }
+    sum
+}
+
 // No rule has fired.
 fn forget_all(rules: &mut Vec<LastLooks>)
     ensures { rules.new.items ≡ map forgotten rules.old.items }
@@ -117,47 +131,23 @@ fn forget_all(rules: &mut Vec<LastLooks>)
     }
 }
 
-// Marks each rule that looked at a cell which shares its value with this one.
-fn mark_those(marks: &mut Vec<bool>, rules: &[LastLooks], basin: &Basin, c: Cell)
-    requires slot { IsSlot basin.now.objects c.slot.0 }
-    requires many { length marks.old.items ≡ length rules.now }
-    ensures many { length marks.new.items ≡ length marks.old.items }
-    ensures marked { AreMarkedAt basin.now c rules.now marks.old.items marks.new.items }
-{
-    for place in 0..rules.len() {
-        marks[place] = is_marked_by(marks[place], &rules[place], basin, c);
-    }
-}
-
-// Whether a rule is marked once the cell was written, which it saw or didn't.
-fn is_marked_by(mark: bool, rule: &LastLooks, basin: &Basin, c: Cell) -> bool
-    requires { IsSlot basin.now.objects c.slot.0 }
-    ensures { result ≡ (mark || has_seen basin.now c rule.now.looked) }
-{
-    mark || rule.has_seen(basin, c)
-}
-
-// The first rule in this order that hasn't fired, or that saw what is no longer held. The looks of those that are marked are
-// compared.
-fn first_changed(
-    order: AgendaOrder,
-    rules: &[LastLooks],
-    marks: &[bool],
-    series: &Series,
-) -> Option<RuleNo>
-    requires kept { KeepsRules rules.now marks.now }
-    requires index { IsIndexed (record { order = order; rules = rules.now; marks = marks.now })
-        (held series.now) }
+// The first rule in the agenda's order that hasn't fired, or that saw what is no longer held, of those that are marked. All that
+// haven't fired are.
+fn first_changed(marks: &Marks, rules: &[LastLooks], series: &Series) -> Option<RuleNo>
+    requires many { length marks.now.flags ≡ length rules.now }
+    requires few { length rules.now ≤ RULES_MAX }
+    requires fresh { AreMarkedFresh rules.now marks.now.flags }
+    requires index { IsIndexed (agenda_of_marks marks.now rules.now) (held series.now) }
     ensures { option_map (λ rule. rule.0) result
-        ≡ first_due (record { order = order; rules = rules.now; marks = marks.now }) (held series.now) }
+        ≡ first_due (agenda_of_marks marks.now rules.now) (held series.now) }
 {
-    let count = rules.len() as u16;
-    for turn in 0..count {
-        let rule = rule_in_turn(order, count, turn);
-        let place = usize::from(rule) - 1;
-        if rules[place].is_changed(series, marks[place]) {
+    let mut turn = 0;
+    while let Some(first) = marks.first_from(turn) {
+        let rule = rule_in_turn(marks.order(), rules.len() as u16, first);
+        if rules[usize::from(rule) - 1].is_changed(series) {
             return Some(RuleNo(rule));
         }
+        turn = first + 1;
     }
     None
 }

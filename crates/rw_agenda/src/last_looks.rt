@@ -1,14 +1,11 @@
-ghost use Rattle.std.specs.Prelude.{◌≡◌, ◌≤◌, List, None, Some, IfOk, false, length, not};
-ghost use Rattle.std.specs.List.{list_any};
+ghost use Rattle.std.specs.Prelude.{◌≡◌, ◌≤◌, Some, IfOk, length, not};
 ghost use Rattle.rw_run.specs.Log.{value_in};
 ghost use Rattle.rw_run.specs.Next.{is_changed, is_same_value};
-ghost use Rattle.rw_model.specs.Draft.{IsSlot};
-ghost use Rattle.rw_series.specs.Series.{held, is_shared};
-ghost use Rattle.rw_agenda.specs.Agenda.{Entry, has_seen, unfired};
+ghost use Rattle.rw_series.specs.Series.{held};
+ghost use Rattle.rw_agenda.specs.Agenda.{unfired};
 
-use rw_base::{Cell, NoMemory};
-use rw_model::Basin;
-use rw_series::{Look, Series, is_shared};
+use rw_base::NoMemory;
+use rw_series::{Look, Series};
 use std::alloc::Global;
 use std::marker::Model;
 
@@ -61,26 +58,15 @@ impl LastLooks {
         self.fired = true;
     }
 
-    /// Whether the rule hasn't fired, or one of the cells holds another value than it saw. They are compared where this is
-    /// asked for; where it isn't, they are known to hold what it saw.
-    pub(crate) fn is_changed(&self, series: &Series, compare: bool) -> bool
-        requires { compare ≡ false → (looks : List Look) → self.now.looked ≡ Some looks
-            → is_changed (held series.now) (Some looks) ≡ false }
+    /// Whether the rule hasn't fired, or one of the cells holds another value than it saw.
+    pub(crate) fn is_changed(&self, series: &Series) -> bool
         ensures { result ≡ is_changed (held series.now) self.now.looked }
     {
         if self.fired {
-            compare && any_changed(self.looks.as_slice(), series)
+            any_changed(self.looks.as_slice(), series)
         } else {
             true
         }
-    }
-
-    /// Whether the rule fired and looked at a cell that shares its value with this one.
-    pub(crate) fn has_seen(&self, basin: &Basin, c: Cell) -> bool
-        requires { IsSlot basin.now.objects c.slot.0 }
-        ensures { result ≡ has_seen basin.now c self.now.looked }
-    {
-        self.fired && any_shared(basin, c, self.looks.as_slice())
     }
 }
 
@@ -102,19 +88,6 @@ fn any_changed(looks: &[Look], series: &Series) -> bool
 {
     for look in looks {
         if is_changed_at(*look, series) {
-            return true;
-        }
-    }
-    false
-}
-
-// Whether one of the looks was at a cell that shares its value with this one.
-fn any_shared(basin: &Basin, c: Cell, looks: &[Look]) -> bool
-    requires { IsSlot basin.now.objects c.slot.0 }
-    ensures { result ≡ list_any (λ (look : Look). is_shared basin.now c look.cell) looks.now }
-{
-    for look in looks {
-        if is_shared(basin, c, look.cell) {
             return true;
         }
     }

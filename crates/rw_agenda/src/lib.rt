@@ -4,10 +4,13 @@
 #![tactic(auto)]
 
 mod agenda;
+mod cell_index;
 mod last_looks;
 pub mod law;
 mod limits;
+mod marks;
 mod turns;
+mod watch;
 
 pub use agenda::Agenda;
 pub use limits::RULES_MAX;

@@ -1,6 +1,7 @@
 ghost use Rattle.std.specs.Prelude.{◌≡◌, ◌≤◌, ◌<◌, Some};
 ghost use Rattle.std.specs.List.{slice_get};
 ghost use Rattle.rw_run.specs.Next.{agenda_of};
+ghost use Rattle.rw_agenda.specs.Marks.{turn_of};
 
 use rw_model::AgendaOrder;
 
@@ -14,5 +15,17 @@ pub(crate) fn rule_in_turn(order: AgendaOrder, rules: u16, turn: u16) -> u16
     match order {
         AgendaOrder::HighFirst => turn + 1,
         AgendaOrder::LowFirst => rules - turn,
+    }
+}
+
+/// The turn of the rule in a place, of so many rules in the order of an agenda. Both count from 0.
+pub(crate) fn turn_of(order: AgendaOrder, rules: u16, place: u16) -> u16
+    requires { place < rules }
+    ensures turn { result ≡ turn_of order rules place }
+    ensures last { result < rules }
+{
+    match order {
+        AgendaOrder::HighFirst => place,
+        AgendaOrder::LowFirst => rules - 1 - place,
     }
 }

@@ -1,10 +1,10 @@
-use Rattle.rw_base.proofs.Common.{drop, find, length, ◌≡◌}
-use Rattle.rw_run.proofs.Common.{agenda_of}
+use Rattle.rw_base.proofs.Common.{length, ◌-◌, ◌≤◌}
 use Rattle.rw_series.specs.Series.{held}
-use Rattle.rw_agenda.specs.Agenda.{Agenda, first_due, is_due}
+use Rattle.rw_agenda.proofs.Marking.{IsFrom}
 use Rattle.rw_agenda.proofs.agenda.first_changed.Given as goal
 
-abbrev pub invariant-loop-turn : goal.invariant-loop-turn
-invariant-loop-turn l =
-    let agenda : Agenda = record { order = l.order; rules = l.rules; marks = l.marks } in
-    (l.count ≡ length l.rules) × (find (is_due agenda (held l.series)) (drop l.turn (agenda_of l.order l.count)) ≡ first_due agenda (held l.series))
+abbrev pub invariant-loop-first : goal.invariant-loop-first
+invariant-loop-first l = (l.turn ≤ length l.rules) × IsFrom l.marks l.rules (held l.series) l.turn
+
+abbrev pub decreases-loop-first : goal.decreases-loop-first
+decreases-loop-first l = length l.rules - l.turn

@@ -1,0 +1,355 @@
+-- Which rules are marked, by their turns and by what they looked at.
+use Rattle.rw_base.proofs.Common.{◌≡◌, ◌∙◌, ◌≢◌, ◌+◌, ◌-◌, ◌<◌, ◌≤◌, ◌/◌, ◌%◌, ◌^◌, ◌==◌, ◌||◌, ◌&&◌, ◌⊎◌, ℕ, zero, suc, inl, inr, All, Bool, true, false, false≢true, not, List, [], ◌∷◌, Option, None, Some, ap, ap₂, arith, drop, find, get_or, get_or-replicate, get_or-set_other, get_or-set_same, get_or_past, if◌then◌else◌, length, length-replicate, length-set, list_any, map, nat_eq, nat_lt, nat_tests, none-some, refl, replicate, set, slice_index_or, subst, sym}
+use Rattle.std.proofs.Math.ListN.{get_or-map}
+use Rattle.std.proofs.lemmas.Bool.{cases_lt}
+use Rattle.std.proofs.lemmas.Bool.{and_parts}
+use Rattle.std.proofs.lemmas.List.Elements.{All-head, All-tail}
+use Rattle.std.proofs.lemmas.Nat.Bits.{bit_at_ones}
+use Rattle.std.specs.Int.{bit_at}
+use Rattle.std.specs.List.{slice_get}
+use Rattle.rw_base.specs.declared.number.Cell.{Cell}
+use Rattle.rw_model.specs.Draft.{Draft}
+use Rattle.rw_model.specs.Links.{group_of, is_among}
+use Rattle.rw_model.specs.declared.content.Content.{Content}
+use Rattle.rw_model.specs.declared.control.AgendaOrder.{AgendaOrder}
+use Rattle.rw_model.specs.declared.control.AgendaOrder.TheVariants.{HighFirst, LowFirst}
+use Rattle.rw_series.specs.Series.{is_shared}
+use Rattle.rw_series.specs.declared.look.Look.{Look}
+use Rattle.rw_run.specs.Dispatch.{cell_at}
+use Rattle.rw_run.specs.Index.{is_touched}
+use Rattle.rw_run.specs.Log.{Cells}
+use Rattle.rw_run.specs.Next.{agenda_of, is_changed}
+use Rattle.rw_agenda.specs.Agenda.{AreMarkedFresh, AreWatching, Entry, IsIndexed, KeepsRules, agenda_of_marks, first_due, forgotten, is_due, unfired}
+use Rattle.rw_model.specs.Objects.{numbered}
+use Rattle.rw_agenda.specs.CellIndex.{CellIndex, is_met, is_watching}
+use Rattle.rw_agenda.specs.declared.watch.Watch.{Watch}
+use Rattle.rw_agenda.specs.declared.limits.TheConstants.{RULES_MAX}
+use Rattle.rw_agenda.proofs.Watches.{met_last, met_next, or_right}
+use Rattle.rw_agenda.proofs.Order.{high_turn, in_no_turn, low_turn, not_in_turn}
+use Rattle.rw_agenda.specs.Marks.{AreTurns, IsFirst, IsFirstMarked, IsFirstOf, Marks, has_turn, is_marked_in, turn_of}
+
+-- ---- turns
+
+turn_below : (order : AgendaOrder) (rules place : ℕ) → place < rules → turn_of order rules place < rules
+turn_below HighFirst rules place near = near
+turn_below LowFirst rules place near = omega (arith, near)
+
+turn_back : (order : AgendaOrder) (rules place : ℕ) → place < rules → turn_of order rules (turn_of order rules place) ≡ place
+turn_back HighFirst rules place near = refl
+turn_back LowFirst rules place near = omega (arith, near)
+
+turn_apart : (order : AgendaOrder) (rules place other : ℕ) → place < rules → other < rules → other ≢ place
+    → (turn_of order rules other == turn_of order rules place) ≡ false
+turn_apart order rules place other near there apart = by (turn_of order rules other == turn_of order rules place) refl
+  where
+    by : (same : Bool) → (turn_of order rules other == turn_of order rules place) ≡ same → same ≡ false
+    by true same =
+        let is : turn_of order rules other ≡ turn_of order rules place = grind (arith, nat_tests, same) in
+        absurd (apart (sym (turn_back order rules other there) ∙ ap (turn_of order rules) is ∙ turn_back order rules place near))
+    by false same = refl
+
+own_turn : (turn : ℕ) → (turn == turn) ≡ true
+own_turn turn = grind (arith, nat_tests)
+
+-- the words have a turn more, and the flags a mark more
+pub turns_added : (order : AgendaOrder) (flags : List Bool) (old new : List ℕ) (place : ℕ) → AreTurns order flags old → place < length flags
+    → length new ≡ length old → ((other : ℕ) → has_turn new other ≡ (other == turn_of order (length flags) place || has_turn old other))
+    → AreTurns order (set flags place true) new
+turns_added order flags old new place kept near same is = record {
+  many = same ∙ kept.many;
+  few = let many = length-set flags place true in let few = kept.few in omega (arith, many, few);
+  each = λ other there. by other (subst (λ n. other < n) (length-set flags place true) there) (nat_eq other place) refl;
+}
+  where
+    by : (other : ℕ) → other < length flags → (here : Bool) → nat_eq other place ≡ here
+        → has_turn new (turn_of order (length (set flags place true)) other) ≡ slice_index_or (set flags place true) other true
+    by other there true here =
+        let is_place : other ≡ place = grind (arith, nat_tests, here) in
+        ap (λ n. has_turn new (turn_of order n other)) (length-set flags place true)
+        ∙ is (turn_of order (length flags) other)
+        ∙ ap (λ t. t || has_turn old (turn_of order (length flags) other))
+        (ap (λ k. turn_of order (length flags) k == turn_of order (length flags) place) is_place ∙ own_turn (turn_of order (length flags) place))
+        ∙ sym (ap (λ k. get_or (set flags place true) k true) is_place ∙ get_or-set_same flags place true true near)
+    by other there false here =
+        let apart : other ≢ place = grind (arith, nat_tests, here) in
+        ap (λ n. has_turn new (turn_of order n other)) (length-set flags place true)
+        ∙ is (turn_of order (length flags) other)
+        ∙ ap (λ t. t || has_turn old (turn_of order (length flags) other)) (turn_apart order (length flags) place other near there apart)
+        ∙ kept.each other there
+        ∙ sym (get_or-set_other flags place other true true apart)
+
+pub turns_taken : (order : AgendaOrder) (flags : List Bool) (old new : List ℕ) (place : ℕ) → AreTurns order flags old → place < length flags
+    → length new ≡ length old → ((other : ℕ) → has_turn new other ≡ (not (other == turn_of order (length flags) place) && has_turn old other))
+    → AreTurns order (set flags place false) new
+turns_taken order flags old new place kept near same is = record {
+  many = same ∙ kept.many;
+  few = let many = length-set flags place false in let few = kept.few in omega (arith, many, few);
+  each = λ other there. by other (subst (λ n. other < n) (length-set flags place false) there) (nat_eq other place) refl;
+}
+  where
+    by : (other : ℕ) → other < length flags → (here : Bool) → nat_eq other place ≡ here
+        → has_turn new (turn_of order (length (set flags place false)) other) ≡ slice_index_or (set flags place false) other true
+    by other there true here =
+        let is_place : other ≡ place = grind (arith, nat_tests, here) in
+        ap (λ n. has_turn new (turn_of order n other)) (length-set flags place false)
+        ∙ is (turn_of order (length flags) other)
+        ∙ ap (λ t. not t && has_turn old (turn_of order (length flags) other))
+        (ap (λ k. turn_of order (length flags) k == turn_of order (length flags) place) is_place ∙ own_turn (turn_of order (length flags) place))
+        ∙ sym (ap (λ k. get_or (set flags place false) k true) is_place ∙ get_or-set_same flags place false true near)
+    by other there false here =
+        let apart : other ≢ place = grind (arith, nat_tests, here) in
+        ap (λ n. has_turn new (turn_of order n other)) (length-set flags place false)
+        ∙ is (turn_of order (length flags) other)
+        ∙ ap (λ t. not t && has_turn old (turn_of order (length flags) other)) (turn_apart order (length flags) place other near there apart)
+        ∙ kept.each other there
+        ∙ sym (get_or-set_other flags place other false true apart)
+
+-- ---- the first marked rule
+
+-- what the words have at a turn is whether its rule is marked
+turn_tells : (order : AgendaOrder) (flags : List Bool) (words : List ℕ) (turn : ℕ) → AreTurns order flags words → turn < length flags
+    → is_marked_in (record { order = order; flags = flags }) turn ≡ has_turn words turn
+turn_tells order flags words turn kept near =
+    sym (ap (has_turn words) (sym (turn_back order (length flags) turn near))
+    ∙ kept.each (turn_of order (length flags) turn) (turn_below order (length flags) turn near))
+
+pub none_marked : (order : AgendaOrder) (flags : List Bool) (words : List ℕ) (from : ℕ) → AreTurns order flags words → IsFirstOf words from None
+    → IsFirstMarked (record { order = order; flags = flags }) from None
+none_marked order flags words from kept none turn after near = turn_tells order flags words turn kept near ∙ none turn after
+
+pub first_marked : (order : AgendaOrder) (flags : List Bool) (words : List ℕ) (from turn : ℕ) → AreTurns order flags words
+    → IsFirstOf words from (Some turn)
+    → IsFirstMarked (record { order = order; flags = flags }) from (if nat_lt turn (length flags) then Some turn else None)
+first_marked order flags words from turn kept first = by (nat_lt turn (length flags)) refl
+  where
+    by : (near : Bool) → nat_lt turn (length flags) ≡ near
+        → IsFirstMarked (record { order = order; flags = flags }) from (if near then Some turn else None)
+    by true near =
+        let there : turn < length flags = grind (arith, nat_tests, near) in record {
+          from_there = first.from_there;
+          last = there;
+          marked = turn_tells order flags words turn kept there ∙ first.there;
+          none_before = λ other after below.
+              turn_tells order flags words other kept (omega (arith, below, there)) ∙ first.none_before other after below;
+        }
+    by false far = λ other after there.
+        let past : length flags ≤ turn = grind (arith, nat_tests, far) in
+        turn_tells order flags words other kept there ∙ first.none_before other after (omega (arith, past, there))
+
+-- ---- who looked at a cell is marked
+
+either : (x y : Bool) → x || y ≡ false → (x ≡ false) × (y ≡ false)
+either false y is = (refl, is)
+either true y is = absurd (false≢true (sym is))
+
+among_any : (test : ℕ → Bool) (slot : ℕ) (group : List ℕ) → is_among slot group ≡ true → test slot ≡ true → list_any test group ≡ true
+among_any test slot [] is passes = absurd (false≢true is)
+among_any test slot (other ∷ group) is passes = by (slot == other) refl is (λ later. among_any test slot group later passes)
+  where
+    by : (same : Bool) → (slot == other) ≡ same → same || is_among slot group ≡ true → (is_among slot group ≡ true → list_any test group ≡ true)
+        → test other || list_any test group ≡ true
+    by true same is later =
+        let here : slot ≡ other = grind (arith, nat_tests, same) in
+        ap (λ t. t || list_any test group) (ap test (sym here) ∙ passes)
+    by false same is later = or_right (test other) (list_any test group) (later is)
+
+module _ (basin : Draft) (c : Cell) (index : CellIndex) (place : ℕ) where
+  abbrev group : List ℕ
+  group = group_of basin.objects basin.links c.slot.0
+
+  abbrev seen : ℕ → Bool
+  seen slot = is_watching index (cell_at slot c.step.0) place
+
+  -- the rule looked at no cell of the group, if it watches none
+  not_shared : (look : Look) → is_watching index look.cell place ≡ true → list_any seen group ≡ false → is_shared basin c look.cell ≡ false
+  not_shared look watching none = by (is_shared basin c look.cell) refl
+    where
+      by : (shared : Bool) → is_shared basin c look.cell ≡ shared → shared ≡ false
+      by false is = refl
+      by true is =
+          let parts = and_parts _ _ is in
+          let step : look.cell.step.0 ≡ c.step.0 = grind (arith, nat_tests, parts.1) in
+          let here : seen look.cell.slot.0 ≡ true = ap (λ s. is_watching index (cell_at look.cell.slot.0 s) place) (sym step) ∙ watching in
+          absurd (false≢true (sym none ∙ among_any seen look.cell.slot.0 group parts.0 here))
+
+  pub not_touched : (content : Content) (looks : List Look) → All (λ (look : Look). is_watching index look.cell place ≡ true) looks
+      → list_any seen group ≡ false → is_touched basin (record { cell = c; content = content } ∷ []) looks ≡ false
+  not_touched content [] all none = refl
+  not_touched content (look ∷ looks) all none =
+      let P : Look → Type 0 = λ (l : Look). is_watching index l.cell place ≡ true in
+      ap₂ (λ here later. (here || false) || later) (not_shared look (All-head P look looks all) none)
+      (not_touched content looks (All-tail P look looks all) none)
+
+-- what is marked by an index is each rule that looked at a cell of the group, and each that was marked
+pub marks_those : (basin : Draft) (c : Cell) (index : CellIndex) (rules : List Entry) (old new : List Bool) → AreWatching rules index
+    → length new ≡ length old
+    → ((place : ℕ) → place < length old → slice_index_or new place true
+    ≡ (slice_index_or old place true
+    || list_any (λ slot. is_watching index (cell_at slot c.step.0) place) (group_of basin.objects basin.links c.slot.0)))
+    → (content : Content) (place : ℕ) (looks : List Look) → slice_index_or new place true ≡ false
+    → (slice_index_or rules place (unfired 0)).looked ≡ Some looks
+    → (slice_index_or old place true ≡ false) × (is_touched basin (record { cell = c; content = content } ∷ []) looks ≡ false)
+marks_those basin c index rules old new watching many marked content place looks unmarked is = by (cases_lt place (length old))
+  where
+    by : (place < length old) ⊎ (length old ≤ place)
+        → (slice_index_or old place true ≡ false) × (is_touched basin (record { cell = c; content = content } ∷ []) looks ≡ false)
+    by (inl near) =
+        let both = either _ _ (sym (marked place near) ∙ unmarked) in
+        (both.0, not_touched basin c index place content looks (watching place looks is) both.1)
+    by (inr past) = absurd (false≢true (sym unmarked ∙ get_or_past new place true (omega (arith, many, past))))
+
+-- ---- which rules are due
+
+rule_at : (order : AgendaOrder) (rules turn : ℕ) → turn < rules → slice_get (agenda_of order rules) turn ≡ Some (turn_of order rules turn + 1)
+rule_at HighFirst rules turn near = high_turn HighFirst rules turn refl near
+rule_at LowFirst rules turn near =
+    let is : rules - turn ≡ rules - 1 - turn + 1 = omega (arith, near) in low_turn LowFirst rules turn refl near ∙ ap Some is
+
+pub passed_over : (test : ℕ → Bool) (order : AgendaOrder) (rules from count to : ℕ) → to ≡ from + count → to ≤ rules
+    → ((turn : ℕ) → from ≤ turn → turn < to → test (turn_of order rules turn + 1) ≡ false)
+    → find test (drop from (agenda_of order rules)) ≡ find test (agenda_of order rules)
+    → find test (drop to (agenda_of order rules)) ≡ find test (agenda_of order rules)
+passed_over test order rules from zero to is last none before =
+    let same : to ≡ from = omega (arith, is) in ap (λ k. find test (drop k (agenda_of order rules))) same ∙ before
+passed_over test order rules from (suc count) to is last none before =
+    let near : from < rules = omega (arith, is, last) in
+    passed_over test order rules (from + 1) count to (omega (arith, is)) last
+    (λ turn after below. none turn (omega (arith, after)) below)
+    (not_in_turn test order rules from (turn_of order rules from + 1) near (rule_at order rules from near)
+    (none from (omega arith) (omega (arith, is))) before)
+
+-- a rule that isn't marked isn't due
+pub not_due : (marks : Marks) (rules : List Entry) (cells : Cells) (turn : ℕ) → AreMarkedFresh rules marks.flags
+    → IsIndexed (agenda_of_marks marks rules) cells → length marks.flags ≡ length rules → is_marked_in marks turn ≡ false
+    → is_due (agenda_of_marks marks rules) cells (turn_of marks.order (length rules) turn + 1) ≡ false
+not_due marks rules cells turn fresh indexed many unmarked =
+    by (slice_index_or rules place (unfired 0)).looked refl
+  where
+    place : ℕ
+    place = turn_of marks.order (length rules) turn
+
+    at : place + 1 - 1 ≡ place
+    at = omega arith
+
+    here : slice_index_or marks.flags place true ≡ false
+    here = ap (λ n. slice_index_or marks.flags (turn_of marks.order n turn) true) (sym many) ∙ unmarked
+
+    by : (looked : Option (List Look)) → (slice_index_or rules place (unfired 0)).looked ≡ looked
+        → is_due (agenda_of_marks marks rules) cells (place + 1) ≡ false
+    by None is = absurd (false≢true (sym here ∙ fresh place is))
+    by (Some looks) is =
+        let saw : (slice_index_or rules (place + 1 - 1) (unfired 0)).looked ≡ Some looks =
+        ap (λ k. (slice_index_or rules k (unfired 0)).looked) at ∙ is in
+        ap (is_changed cells) saw
+        ∙ indexed (place + 1) looks (ap (λ k. slice_index_or marks.flags k true) at ∙ here) saw
+
+-- ---- where each rule is marked
+
+pub turns_all : (order : AgendaOrder) (rules : ℕ) → rules ≤ RULES_MAX → AreTurns order (replicate rules true) (replicate 4 (2 ^ 64 - 1))
+turns_all order rules few = record {
+  many = length-replicate 4 (2 ^ 64 - 1);
+  few = let many = length-replicate rules true in omega (arith, many, few);
+  each = λ place near.
+      let there : place < rules = let many = length-replicate rules true in omega (arith, many, near) in
+      ap (λ n. has_turn (replicate 4 (2 ^ 64 - 1)) (turn_of order n place)) (length-replicate rules true)
+      ∙ has_any (turn_of order rules place) (let below = turn_below order rules place there in omega (arith, below, few))
+      ∙ sym (get_or-replicate rules place true true there);
+}
+  where
+    has_any : (turn : ℕ) → turn < RULES_MAX → has_turn (replicate 4 (2 ^ 64 - 1)) turn ≡ true
+    has_any turn near =
+        ap (λ word. bit_at word (turn % 64) == 1) (get_or-replicate 4 (turn / 64) (2 ^ 64 - 1) 0 (omega (arith, near)))
+        ∙ ap (λ bit. bit == 1) (bit_at_ones 64 (turn % 64) (omega arith))
+
+pub fresh_all : (rules : List Entry) (flags : List Bool) → flags ≡ replicate (length flags) true → AreMarkedFresh rules flags
+fresh_all rules flags is place none = by (cases_lt place (length flags))
+  where
+    by : (place < length flags) ⊎ (length flags ≤ place) → slice_index_or flags place true ≡ true
+    by (inl near) = ap (λ fs. get_or fs place true) is ∙ get_or-replicate (length flags) place true true near
+    by (inr past) = get_or_past flags place true past
+
+pub kept_fresh : (rules : List Entry) (flags : List Bool) (index : CellIndex) → length rules ≤ RULES_MAX → flags ≡ replicate (length rules) true
+    → ((place : ℕ) → (slice_index_or rules place (unfired 0)).looked ≡ None) → KeepsRules rules flags index
+kept_fresh rules flags index few all none = record {
+  few = few;
+  marked = many;
+  fresh = fresh_all rules flags (all ∙ ap (λ n. replicate n true) (sym many));
+  watching = λ place looks is. absurd (none-some looks (sym (none place) ∙ is));
+}
+  where
+    many : length flags ≡ length rules
+    many = ap (λ fs. length fs) all ∙ length-replicate (length rules) true
+
+pub none_forgotten : (rules : List Entry) (place : ℕ) → (slice_index_or (map forgotten rules) place (unfired 0)).looked ≡ None
+none_forgotten rules place = ap (λ (e : Entry). e.looked) (get_or-map forgotten rules place (unfired 0))
+
+pub none_unfired : (rooms : List ℕ) (place : ℕ) → (slice_index_or (map unfired rooms) place (unfired 0)).looked ≡ None
+none_unfired rooms place = ap (λ (e : Entry). e.looked) (get_or-map unfired rooms place 0)
+
+-- the first rule that is due is the first from this turn on
+abbrev pub IsFrom : Marks → List Entry → Cells → ℕ → Type 0
+IsFrom marks rules cells turn =
+    find (is_due (agenda_of_marks marks rules) cells) (drop turn (agenda_of marks.order (length rules)))
+    ≡ first_due (agenda_of_marks marks rules) cells
+
+-- up to the next marked rule none is due
+pub passes_to : (marks : Marks) (rules : List Entry) (cells : Cells) (from first : ℕ) → AreMarkedFresh rules marks.flags
+    → IsIndexed (agenda_of_marks marks rules) cells → length marks.flags ≡ length rules → IsFirst marks from first
+    → IsFrom marks rules cells from → IsFrom marks rules cells first
+passes_to marks rules cells from first fresh indexed many is before =
+    let after = is.from_there in
+    let last = is.last in
+    passed_over (is_due (agenda_of_marks marks rules) cells) marks.order (length rules) from (first - from) first
+    (omega (arith, after)) (omega (arith, last, many))
+    (λ turn late below. not_due marks rules cells turn fresh indexed many (is.none_before turn late below)) before
+
+-- where no marked rule is left, none is due
+pub none_passes : (marks : Marks) (rules : List Entry) (cells : Cells) (from : ℕ) → AreMarkedFresh rules marks.flags
+    → IsIndexed (agenda_of_marks marks rules) cells → length marks.flags ≡ length rules → IsFirstMarked marks from None → from ≤ length rules
+    → IsFrom marks rules cells from → None ≡ first_due (agenda_of_marks marks rules) cells
+none_passes marks rules cells from fresh indexed many none near before =
+    in_no_turn (is_due (agenda_of_marks marks rules) cells) marks.order (length rules) (length rules) (omega arith)
+    (passed_over (is_due (agenda_of_marks marks rules) cells) marks.order (length rules) from (length rules - from) (length rules)
+    (omega (arith, near)) (omega arith)
+    (λ turn late below. not_due marks rules cells turn fresh indexed many (none turn late (omega (arith, below, many)))) before)
+
+-- ---- marks along the watches of a cell
+
+or_none : (x : Bool) → x ≡ (x || false)
+or_none true = refl
+or_none false = refl
+
+pub marks_last : (watches : List Watch) (times left number rule : ℕ) (mark : Bool) → times ≡ suc left → numbered watches number ≡ None
+    → mark ≡ (mark || is_met watches times number rule)
+marks_last watches times left number rule mark more none =
+    or_none mark ∙ ap (λ t. mark || t) (sym (met_last watches times left number rule more none))
+
+pub marks_next : (watches : List Watch) (times left number rule : ℕ) (watch : Watch) (old new : List Bool) → times ≡ suc left
+    → numbered watches number ≡ Some watch → rule < length old → new ≡ set old watch.rule true
+    → (slice_index_or new rule true || is_met watches left watch.before rule) ≡ (slice_index_or old rule true || is_met watches times number rule)
+marks_next watches times left number rule watch old new more found near is =
+    ap (λ marks. slice_index_or marks rule true || is_met watches left watch.before rule) is
+    ∙ by (nat_eq rule watch.rule) refl
+    ∙ ap (λ t. slice_index_or old rule true || t) (sym (met_next watches times left number rule watch more found))
+  where
+    or_true : (x : Bool) → true ≡ (x || true)
+    or_true true = refl
+    or_true false = refl
+
+    by : (same : Bool) → nat_eq rule watch.rule ≡ same
+        → (slice_index_or (set old watch.rule true) rule true || is_met watches left watch.before rule)
+        ≡ (slice_index_or old rule true || (watch.rule == rule || is_met watches left watch.before rule))
+    by true same =
+        let here : rule ≡ watch.rule = grind (arith, nat_tests, same) in
+        let own : (watch.rule == rule) ≡ true = grind (arith, nat_tests, here) in
+        let set_now : slice_index_or (set old watch.rule true) rule true ≡ true =
+        ap (λ k. get_or (set old watch.rule true) k true) here
+        ∙ get_or-set_same old watch.rule true true (omega (arith, near, here)) in
+        ap (λ t. t || is_met watches left watch.before rule) set_now
+        ∙ or_true (slice_index_or old rule true)
+        ∙ ap (λ t. slice_index_or old rule true || (t || is_met watches left watch.before rule)) (sym own)
+    by false apart =
+        let away : rule ≢ watch.rule = grind (arith, nat_tests, apart) in
+        let other : (watch.rule == rule) ≡ false = grind (arith, nat_tests, away) in
+        ap (λ t. t || is_met watches left watch.before rule) (get_or-set_other old watch.rule rule true true away)
+        ∙ ap (λ t. slice_index_or old rule true || (t || is_met watches left watch.before rule)) (sym other)

@@ -1,0 +1,182 @@
+-- Rules that are met, going from watch to watch.
+use Rattle.rw_base.proofs.Common.{◌≡◌, ◌∙◌, ◌+◌, ◌-◌, ◌<◌, ◌≤◌, ◌==◌, ◌||◌, ℕ, zero, suc, Bool, true, false, List, [], ◌∷◌, ◌++◌, Option, None, Some, All, All-push, take, take_more, ap, arith, if◌then◌else◌, false≢true, get_or, get_or-set_other, get_or-set_same, get_or_append_left, get_or_from_slice_get, length, length-append, nat_eq, nat_eq_equiv, nat_le, nat_tests, none-some, option_map, refl, set, slice_get-get_or, slice_get_within, slice_index_or, subst, sym, unwrap_or}
+use Rattle.std.proofs.lemmas.List.{get_or_push}
+use Rattle.std.proofs.lemmas.Option.{slice_get_past}
+use Rattle.rw_base.specs.declared.number.Cell.{Cell}
+use Rattle.rw_model.proofs.Numbered.{numbered-found, numbered-known}
+use Rattle.rw_model.specs.Objects.{numbered}
+use Rattle.rw_series.specs.declared.look.Look.{Look}
+use Rattle.rw_agenda.specs.CellIndex.{CellIndex, before_in, is_met, is_watching, newest_at, position_of}
+use Rattle.rw_agenda.specs.declared.watch.Watch.{Watch}
+
+-- what is found of a watch, and of what it leads to
+abbrev met_in : List Watch → ℕ → ℕ → Option Watch → Bool
+met_in watches times rule found = unwrap_or (option_map (λ (watch : Watch). watch.rule == rule || is_met watches times watch.before rule) found) false
+
+numbered_first : (watches : List Watch) (number : ℕ) (watch : Watch) → numbered watches number ≡ Some watch → 1 ≤ number
+numbered_first watches zero watch is = absurd (none-some watch is)
+numbered_first watches (suc number) watch is = omega arith
+
+numbered_more : (watches more : List Watch) (number : ℕ) (watch : Watch) → numbered watches number ≡ Some watch → numbered (watches ++ more) number ≡ Some watch
+numbered_more watches more number watch is =
+    let found = numbered-found watches number watch is in
+    let near = slice_get_within watches (number - 1) watch found in
+    let all : number - 1 < length (watches ++ more) = omega (arith, near, length-append watches more) in
+    numbered-known (watches ++ more) number (numbered_first watches number watch is) ∙ slice_get-get_or (watches ++ more) (number - 1) watch all
+    ∙ ap Some (get_or_append_left watches more watch (number - 1) near ∙ get_or_from_slice_get watches (number - 1) watch watch found)
+
+or_either : (x y z : Bool) → (y ≡ true → z ≡ true) → x || y ≡ true → x || z ≡ true
+or_either true y z gives is = refl
+or_either false y z gives is = gives is
+
+-- who was met still is, with more watches and more times
+pub met_more : (watches more : List Watch) (times most number rule : ℕ) → times ≤ most → is_met watches times number rule ≡ true
+    → is_met (watches ++ more) most number rule ≡ true
+met_more watches more zero most number rule few is = absurd (grind (arith, is))
+met_more watches more (suc times) zero number rule few is = absurd (omega (arith, few))
+met_more watches more (suc times) (suc most) number rule few is =
+    by (numbered watches number) refl (λ before. met_more watches more times most before rule (omega (arith, few))) is
+  where
+    by : (found : Option Watch) → numbered watches number ≡ found
+        → ((before : ℕ) → is_met watches times before rule ≡ true → is_met (watches ++ more) most before rule ≡ true)
+        → met_in watches times rule found ≡ true → met_in (watches ++ more) most rule (numbered (watches ++ more) number) ≡ true
+    by None there later is = absurd (false≢true is)
+    by (Some watch) there later is =
+        ap (met_in (watches ++ more) most rule) (numbered_more watches more number watch there)
+        ∙ or_either (watch.rule == rule) (is_met watches times watch.before rule) (is_met (watches ++ more) most watch.before rule) (later watch.before) is
+
+-- ---- going on from watch to watch
+
+pub met_last : (watches : List Watch) (times left number rule : ℕ) → times ≡ suc left → numbered watches number ≡ None
+    → is_met watches times number rule ≡ false
+met_last watches times left number rule is none =
+    ap (λ k. is_met watches k number rule) is ∙ ap (met_in watches left rule) none
+
+pub met_next : (watches : List Watch) (times left number rule : ℕ) (watch : Watch) → times ≡ suc left → numbered watches number ≡ Some watch
+    → is_met watches times number rule ≡ (watch.rule == rule || is_met watches left watch.before rule)
+met_next watches times left number rule watch is found =
+    ap (λ k. is_met watches k number rule) is ∙ ap (met_in watches left rule) found
+
+last_watch : (watches : List Watch) (watch : Watch) → numbered (watches ++ watch ∷ []) (suc (length watches)) ≡ Some watch
+last_watch watches watch =
+    numbered-known (watches ++ watch ∷ []) (suc (length watches)) (omega arith)
+    ∙ slice_get-get_or (watches ++ watch ∷ []) (suc (length watches) - 1) watch (omega (arith, length-append watches (watch ∷ [])))
+    ∙ ap Some (get_or_push watches watch watch (suc (length watches) - 1) (omega arith))
+
+pub or_right : (x y : Bool) → y ≡ true → x || y ≡ true
+or_right true y is = refl
+or_right false y is = is
+
+-- the newest watch is met
+pub met_newest : (watches : List Watch) (watch : Watch) (rule : ℕ)
+    → is_met (watches ++ watch ∷ []) (length (watches ++ watch ∷ [])) (length (watches ++ watch ∷ [])) rule
+    ≡ (watch.rule == rule || is_met (watches ++ watch ∷ []) (length watches) watch.before rule)
+met_newest watches watch rule =
+    let many : length (watches ++ watch ∷ []) ≡ suc (length watches) = omega (arith, length-append watches (watch ∷ [])) in
+    met_next (watches ++ watch ∷ []) (length (watches ++ watch ∷ [])) (length watches) (length (watches ++ watch ∷ [])) rule watch many
+    (ap (numbered (watches ++ watch ∷ [])) many ∙ last_watch watches watch)
+
+-- a watch that isn't there leads to none
+numbered_past : (watches : List Watch) (number : ℕ) → length watches < number → numbered watches number ≡ None
+numbered_past watches number past =
+    numbered-known watches number (omega (arith, past)) ∙ slice_get_past watches (number - 1) (omega (arith, past))
+
+pub met_past : (watches : List Watch) (times number rule : ℕ) → length watches < number → is_met watches times number rule ≡ false
+met_past watches zero number rule past = refl
+met_past watches (suc times) number rule past = ap (met_in watches times rule) (numbered_past watches number past)
+
+-- ---- an index with one watch more
+
+module _ (slots steps : ℕ) (newest : List ℕ) (watches : List Watch) (full : Bool) (place rule : ℕ) (here : Cell) where
+  abbrev before_it : ℕ
+  before_it = before_in watches (slice_index_or newest place 0)
+
+  abbrev whole : List Watch
+  whole = watches ++ record { rule = rule; cell = here; before = before_it } ∷ []
+
+  abbrev old : CellIndex
+  old = record { slots = slots; steps = steps; newest = newest; watches = watches; is_full = full }
+
+  abbrev new : CellIndex
+  new = record { slots = slots; steps = steps; newest = set newest place (length whole); watches = whole; is_full = full }
+
+  -- who was met from the cell's newest watch is met from the one before the new one
+  met_before : (earlier : ℕ) → is_met watches (length watches) (slice_index_or newest place 0) earlier ≡ true
+      → is_met whole (length watches) before_it earlier ≡ true
+  met_before earlier is = by (nat_le (slice_index_or newest place 0) (length watches)) refl
+    where
+      by : (near : Bool) → nat_le (slice_index_or newest place 0) (length watches) ≡ near
+          → is_met whole (length watches) (if near then slice_index_or newest place 0 else 0) earlier ≡ true
+      by true near = met_more watches _ (length watches) (length watches) (slice_index_or newest place 0) earlier (omega arith) is
+      by false far =
+          absurd (false≢true (sym (met_past watches (length watches) (slice_index_or newest place 0) earlier (grind (arith, nat_tests, far))) ∙ is))
+
+  met_here : (earlier : ℕ) → is_met watches (length watches) (slice_index_or newest place 0) earlier ≡ true
+      → is_met whole (length whole) (length whole) earlier ≡ true
+  met_here earlier is =
+      met_newest watches (record { rule = rule; cell = here; before = before_it }) earlier ∙ or_right (rule == earlier) _ (met_before earlier is)
+
+  pub kept_watch : place < length newest → (other : Cell) (earlier : ℕ) → is_watching old other earlier ≡ true → is_watching new other earlier ≡ true
+  kept_watch near other earlier is =
+      or_either full (is_met watches (length watches) (newest_at old other) earlier) (is_met whole (length whole) (newest_at new other) earlier)
+      (by (position_of slots steps other)) is
+    where
+      by : (at : Option ℕ) → is_met watches (length watches) (unwrap_or (option_map (λ p. slice_index_or newest p 0) at) 0) earlier ≡ true
+          → is_met whole (length whole) (unwrap_or (option_map (λ p. slice_index_or (set newest place (length whole)) p 0) at) 0) earlier ≡ true
+      by None met =
+          met_more watches _ (length watches) (length whole) 0 earlier
+          (omega (arith, length-append watches (record { rule = rule; cell = here; before = before_it } ∷ []))) met
+      by (Some p) met = at (nat_eq p place) refl
+        where
+          at : (same : Bool) → nat_eq p place ≡ same
+              → is_met whole (length whole) (slice_index_or (set newest place (length whole)) p 0) earlier ≡ true
+          at true same =
+              let is_place : p ≡ place = grind (arith, nat_tests, same) in
+              ap (λ n. is_met whole (length whole) n earlier)
+              (ap (λ k. get_or (set newest place (length whole)) k 0) is_place ∙ get_or-set_same newest place (length whole) 0 near)
+              ∙ met_here earlier (ap (λ k. is_met watches (length watches) (get_or newest k 0) earlier) (sym is_place) ∙ met)
+          at false apart =
+              ap (λ n. is_met whole (length whole) n earlier) (get_or-set_other newest place p (length whole) 0 (grind (arith, nat_tests, apart)))
+              ∙ met_more watches _ (length watches) (length whole) (get_or newest p 0) earlier
+              (omega (arith, length-append watches (record { rule = rule; cell = here; before = before_it } ∷ []))) met
+
+  pub new_watch : place < length newest → (cell : Cell) → position_of slots steps cell ≡ Some place → is_watching new cell rule ≡ true
+  new_watch near cell is =
+      or_right full _
+      (ap (λ at. is_met whole (length whole) (unwrap_or (option_map (λ p. slice_index_or (set newest place (length whole)) p 0) at) 0) rule) is
+      ∙ ap (λ n. is_met whole (length whole) n rule) (get_or-set_same newest place (length whole) 0 near)
+      ∙ met_newest watches (record { rule = rule; cell = here; before = before_it }) rule
+      ∙ ap (λ t. t || is_met whole (length watches) before_it rule) (nat_eq_equiv.refl rule))
+
+  -- the same of what the code has
+  module _ (seen count : ℕ) (pushed : List Watch) (saw : seen ≡ slice_index_or newest place 0)
+      (is : pushed ≡ watches ++ record { rule = rule; cell = here; before = before_in watches seen } ∷ []) (many : count ≡ length pushed) where
+    abbrev made : List Watch → ℕ → CellIndex
+    made all number = record { slots = slots; steps = steps; newest = set newest place number; watches = all; is_full = full }
+
+    whole_is : pushed ≡ whole
+    whole_is = is ∙ ap (λ n. watches ++ record { rule = rule; cell = here; before = before_in watches n } ∷ []) saw
+
+    pub watching_now : place < length newest → (cell : Cell) → position_of slots steps cell ≡ Some place
+        → is_watching (made pushed count) cell rule ≡ true
+    watching_now near cell at =
+        subst (λ k. is_watching (made pushed k) cell rule ≡ true) (sym many)
+        (subst (λ all. is_watching (made all (length all)) cell rule ≡ true) (sym whole_is) (new_watch near cell at))
+
+    pub watching_still : place < length newest → (other : Cell) (earlier : ℕ) → is_watching old other earlier ≡ true
+        → is_watching (made pushed count) other earlier ≡ true
+    watching_still near other earlier watching =
+        subst (λ k. is_watching (made pushed k) other earlier ≡ true) (sym many)
+        (subst (λ all. is_watching (made all (length all)) other earlier ≡ true) (sym whole_is) (kept_watch near other earlier watching))
+
+-- ---- cells that are watched one after another
+
+pub watching_more : (old new : CellIndex) (rule : ℕ) (looks : List Look) (k : ℕ) (look : Look) → k < length looks → look ≡ get_or looks k look
+    → ((other : Cell) (earlier : ℕ) → is_watching old other earlier ≡ true → is_watching new other earlier ≡ true)
+    → All (λ (l : Look). is_watching old l.cell rule ≡ true) (take k looks) → is_watching new look.cell rule ≡ true
+    → All (λ (l : Look). is_watching new l.cell rule ≡ true) (take (k + 1) looks)
+watching_more old new rule looks k look near is kept all watching =
+    subst (λ ls. All (λ (l : Look). is_watching new l.cell rule ≡ true) ls)
+    (sym (take_more looks k look near ∙ ap (λ l. take k looks ++ l ∷ []) (sym is)))
+    (All-push (λ (l : Look). is_watching new l.cell rule ≡ true) (take k looks) look
+    (λ place d there. kept (get_or (take k looks) place d).cell rule (all place d there)) watching)

@@ -1,0 +1,44 @@
+-- Which rules watch a cell, at which they looked: by watches each of which leads to the one before it.
+use Rattle.std.specs.Prelude.{ℕ, zero, suc, ◌*◌, ◌+◌, ◌-◌, ◌≡◌, ◌≤◌, ◌==◌, ◌&&◌, ◌||◌, nat_le, Bool, false, List, length, Option, Some, None, option_map, unwrap_or, slice_index_or, if◌then◌else◌}
+use Rattle.rw_base.specs.declared.number.Cell.{Cell}
+use Rattle.rw_model.specs.Objects.{numbered}
+use Rattle.rw_agenda.specs.declared.watch.Watch.{Watch}
+
+-- for each cell of so many slots and timesteps the number of its newest watch, 0 where it has none; the watches, numbered from 1; and
+-- whether there was no room for one of them
+pub record CellIndex : Type 0 where
+  pub slots : ℕ
+  pub steps : ℕ
+  pub newest : List ℕ
+  pub watches : List Watch
+  pub is_full : Bool
+
+-- the index has a place for each cell, and room for so many watches
+pub record HasRoom (slots steps : ℕ) (newest : List ℕ) (room kept : ℕ) : Type 0 where
+  pub cells : length newest ≡ slots * steps
+  pub watches : room ≤ kept
+
+-- the rule in a place is met, going from the watch of this number so many times to the one before
+abbrev pub is_met : List Watch → ℕ → ℕ → ℕ → Bool
+is_met watches zero number rule = false
+is_met watches (suc times) number rule =
+    unwrap_or (option_map (λ (watch : Watch). watch.rule == rule || is_met watches times watch.before rule) (numbered watches number)) false
+
+-- the place of a cell in the index
+abbrev pub position_of : ℕ → ℕ → Cell → Option ℕ
+position_of slots steps cell =
+    if (nat_le 1 cell.slot.0 && nat_le cell.slot.0 slots) && (nat_le 1 cell.step.0 && nat_le cell.step.0 steps)
+    then Some ((cell.step.0 - 1) * slots + (cell.slot.0 - 1)) else None
+
+-- the number of a cell's newest watch, 0 where there is none
+abbrev pub newest_at : CellIndex → Cell → ℕ
+newest_at index cell =
+    unwrap_or (option_map (λ place. slice_index_or index.newest place 0) (position_of index.slots index.steps cell)) 0
+
+-- the rule in a place watches the cell. Where there was no room for a watch, each rule watches each cell
+abbrev pub is_watching : CellIndex → Cell → ℕ → Bool
+is_watching index cell rule = index.is_full || is_met index.watches (length index.watches) (newest_at index cell) rule
+
+-- what a new watch leads to: the newest one of its cell, if that is there
+abbrev pub before_in : List Watch → ℕ → ℕ
+before_in watches newest = if nat_le newest (length watches) then newest else 0

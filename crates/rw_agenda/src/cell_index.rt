@@ -1,0 +1,233 @@
+ghost use Rattle.std.specs.Prelude.{◌≡◌, ◌≤◌, ◌<◌, ◌+◌, ◌*◌, ◌-◌, ◌||◌, ◌++◌, ◌∷◌, [], ℕ, All, IfOk, IfSome, Some, None, true, false, length, option_map, slice_index_or, vec_len};
+ghost use Rattle.std.specs.List.{list_any};
+ghost use Rattle.rw_base.specs.declared.number.Cell.{Cell};
+ghost use Rattle.rw_model.specs.Kept.{numbers_of};
+ghost use Rattle.rw_model.specs.Objects.{numbered};
+ghost use Rattle.rw_run.specs.Dispatch.{cell_at};
+ghost use Rattle.rw_series.specs.declared.look.Look.{Look};
+ghost use Rattle.rw_agenda.specs.CellIndex.{before_in, is_met, is_watching, newest_at, position_of};
+ghost use Rattle.rw_agenda.specs.Marks.{MarksMore};
+ghost use Rattle.rw_agenda.specs.declared.watch.Watch.{Watch};
+
+use crate::marks::Marks;
+use crate::watch::Watch;
+use rw_base::{Cell, NoMemory, SlotNo, StepNo};
+use rw_model::Basin;
+use rw_series::Look;
+use std::alloc::Global;
+use std::marker::Model;
+
+/// For each cell the rules that looked there, so that they are found without the looks of all rules. A rule watches each cell
+/// at which it looked, until all watches are taken out. Where there was no room for a watch, every rule counts as one that looked
+/// everywhere: one too many is marked, and its looks are compared for nothing.
+#[derive(Drop)]
+pub(crate) struct CellIndex {
+    slots: u16,
+    steps: u16,
+    newest: Vec<u32>,
+    watches: Vec<Watch>,
+    room: u32,
+    full: bool,
+}
+
+impl Model for CellIndex {
+    ghost use Rattle.rw_agenda.specs.CellIndex as specs;
+
+    ghost Value = { specs.CellIndex };
+
+    ghost view = { λ index. record {
+      slots = index.slots;
+      steps = index.steps;
+      newest = index.newest.items;
+      watches = index.watches.items;
+      is_full = index.full;
+    } };
+
+    ghost invariant = { λ index. specs.HasRoom index.slots index.steps index.newest.items index.room index.watches.cap };
+}
+
+impl CellIndex {
+    /// An index of the cells of a basin that no rule watches, with room for so many watches. No other call takes memory.
+    pub(crate) fn with_room(alloc: Global, basin: &Basin, room: u32) -> Result<CellIndex, NoMemory>
+        ensures { IfOk result (λ index. (cell : Cell) (rule : ℕ)
+            → is_watching index cell rule ≡ false) }
+    {
+        let slots = slots_for(basin, room);
+        let steps = basin.control().stamps.count();
+        let newest = Vec::from_elem(alloc, 0, usize::from(slots) * usize::from(steps))?;
+        let watches = Vec::with_capacity(alloc, room as usize)?;
+        Ok(CellIndex {
+            slots,
+            steps,
+            newest,
+            watches,
+            room,
+            full: false,
+        })
+    }
+
+    /// No rule watches a cell. This takes as long as there are watches.
+    pub(crate) fn clear(&mut self)
+        ensures { (cell : Cell) (rule : ℕ) → is_watching self.new cell rule ≡ false }
+    {
+        forget_newest(
+            &mut self.newest,
+            self.watches.as_slice(),
+            self.slots,
+            self.steps,
+        );
+        self.watches.clear();
+        self.full = false;
+    }
+
+    /// The rule in this place looked at a cell, and watches it. This takes as long as there are rules that watch it.
+    pub(crate) fn watch(&mut self, rule: u16, cell: Cell)
+        ensures watching { is_watching self.new cell rule ≡ true }
+        ensures kept { (other : Cell) (earlier : ℕ) → is_watching self.old other earlier ≡ true
+            → is_watching self.new other earlier ≡ true }
+    {
+        let Some(place) = position_of(self.slots, self.steps, cell) else {
+            self.full = true;
+            return;
+        };
+        let newest = self.newest[place];
+        if is_met(self.watches.as_slice(), newest, rule) {
+            return;
+        }
+        if self.watches.len() >= self.room as usize {
+            self.full = true;
+            return;
+        }
+        push_watch(&mut self.watches, rule, cell, newest);
+        self.newest[place] = self.watches.len() as u32;
+    }
+
+    /// The rule in this place looked at these cells.
+    pub(crate) fn watch_all(&mut self, rule: u16, looked: &[Look])
+        ensures watching { All (λ (look : Look). is_watching self.new look.cell rule ≡ true) looked.now }
+        ensures kept { (other : Cell) (earlier : ℕ) → is_watching self.old other earlier ≡ true
+            → is_watching self.new other earlier ≡ true }
+    {
+        for look in looked {
+            self.watch(rule, look.cell);
+        }
+    }
+
+    /// Marks each rule that watches a cell of one of these slots at the timestep, and no other.
+    pub(crate) fn mark(&self, marks: &mut Marks, group: &[SlotNo], step: StepNo)
+        ensures { MarksMore (λ rule. list_any (λ slot. is_watching self.now (cell_at slot step.0) rule)
+            (numbers_of group.now)) marks.old marks.new }
+    {
+        for slot in group {
+            self.mark_at(marks, Cell { slot: *slot, step });
+        }
+    }
+
+    // Marks each rule that watches a cell.
+    fn mark_at(&self, marks: &mut Marks, cell: Cell)
+        ensures { MarksMore (is_watching self.now cell) marks.old marks.new }
+    {
+        if self.full {
+            marks.set_all();
+        } else {
+            mark_met(marks, self.watches.as_slice(), self.newest_at(cell));
+        }
+    }
+
+    // The number of a cell's newest watch, 0 where there is none.
+    fn newest_at(&self, cell: Cell) -> u32
+        ensures { result ≡ newest_at self.now cell }
+    {
+        match position_of(self.slots, self.steps, cell) {
+            Some(place) => self.newest[place],
+            None => 0,
+        }
+    }
+}
+
+// How many slots an index has. It has none where no rule looks at anything.
+fn slots_for(basin: &Basin, room: u32) -> u16 {
+    if room == 0 { 0 } else { basin.slot_count() }
+}
+
+// The place of a cell.
+fn position_of(slots: u16, steps: u16, cell: Cell) -> Option<usize>
+    ensures is { result ≡ position_of slots steps cell }
+    ensures within { IfSome result (λ place. place < slots * steps) }
+{
+    let (slot, step) = (cell.slot.0, cell.step.0);
+    if (1 <= slot && slot <= slots) && (1 <= step && step <= steps) {
+        Some(usize::from(step - 1) * usize::from(slots) + usize::from(slot - 1))
+    } else {
+        None
+    }
+}
+
+// The watch of a number, counted from 1.
+fn watch_of(watches: &[Watch], number: u32) -> Option<Watch>
+    ensures { result ≡ numbered watches.now number }
+{
+    if number == 0 {
+        None
+    } else {
+        watches.get(number as usize - 1).copied()
+    }
+}
+
+// Whether the rule is met, going from the watch of this number to the one before, and so on.
+fn is_met(watches: &[Watch], newest: u32, rule: u16) -> bool
+    ensures { result ≡ is_met watches.now (length watches.now) newest rule }
+{
+    let mut number = newest;
+    for turn in 0..watches.len() {
+        let Some(watch) = watch_of(watches, number) else {
+            return false;
+        };
+        if watch.rule == rule {
+            return true;
+        }
+        number = watch.before;
+    }
+    false
+}
+
+// Adds a watch that leads to the cell's newest one, if there is one.
+fn push_watch(watches: &mut Vec<Watch>, rule: u16, cell: Cell, newest: u32)
+    requires room { length watches.old.items < watches.old.cap }
+    ensures added { watches.new.items ≡ watches.old.items
+        ++ record { rule = rule; cell = cell; before = before_in watches.old.items newest } ∷ [] }
+    ensures room { watches.new.cap ≡ watches.old.cap }
+{
+    let before = if newest as usize <= watches.len() {
+        newest
+    } else {
+        0
+    };
+    watches.push_reserved(Watch { rule, cell, before });
+}
+
+// No cell that is watched has a newest watch.
+fn forget_newest(newest: &mut Vec<u32>, watches: &[Watch], slots: u16, steps: u16)
+    requires cells { vec_len newest.old ≡ slots * steps }
+    ensures cells { vec_len newest.new ≡ vec_len newest.old }
+{
+    for watch in watches {
+        if let Some(place) = position_of(slots, steps, watch.cell) {
+            newest[place] = 0;
+        }
+    }
+}
+
+// Marks each rule that is met, going from the watch of this number to the one before, and so on.
+fn mark_met(marks: &mut Marks, watches: &[Watch], newest: u32)
+    ensures { MarksMore (is_met watches.now (length watches.now) newest) marks.old marks.new }
+{
+    let mut number = newest;
+    for turn in 0..watches.len() {
+        let Some(watch) = watch_of(watches, number) else {
+            return;
+        };
+        marks.set(watch.rule);
+        number = watch.before;
+    }
+}

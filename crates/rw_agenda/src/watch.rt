@@ -1,0 +1,10 @@
+use rw_base::Cell;
+
+/// A rule looked at a cell, so that a put there marks it: the rule, by its place among the rules, the cell, and the number of the
+/// watch before this one of the same cell. Watches are numbered from 1; 0 is none.
+#[derive(Clone, Copy)]
+pub(crate) struct Watch {
+    pub(crate) rule: u16,
+    pub(crate) cell: Cell,
+    pub(crate) before: u32,
+}
