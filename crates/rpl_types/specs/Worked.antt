@@ -5,7 +5,7 @@ use Rattle.rw_base.specs.Unit.{length, plain_number, volume, timestep}
 use Rattle.rw_model.specs.Draft.{Draft}
 use Rattle.rw_model.specs.Slot.{flow_unit}
 use Rattle.rpl_tree.specs.declared.words.TwoWord.TheVariants.{Plus, Times}
-use Rattle.rpl_tree.specs.Tree.{numeric, numeric_list, Tree, name, each, two, Act, Parameter, Declared, function}
+use Rattle.rpl_tree.specs.Tree.{numeric, numeric_list, Tree, name, slot, each, two, Act, Parameter, Declared, function}
 use Rattle.rpl_tree.specs.Worked.{at_now, basin_of, call_of, canal, dam, flow_object, l_name, n_name, numbers_object, of_unit, pool, puts_at, rule_of, s_name, whole, x_rule}
 use Rattle.rpl_tree.specs.declared.rpl_type.RplType.{RplType}
 use Rattle.rpl_tree.specs.declared.rpl_type.RplType.TheVariants.{Datetime, Numeric, NumericList, Slot}
@@ -53,6 +53,10 @@ number_function f params e = function f params (numeric []) e
 abbrev pub list_function : List ℕ → ℤ → List ℕ → Tree → Declared
 list_function f m unit e = number_function f (record { name = codes "l"; of_type = numeric_list m unit } ∷ []) e
 
+-- `FUNCTION F(LIST m OF NUMERIC "" l) : NUMERIC "" IS 1 ENDFUNCTION`
+abbrev pub function_of_list : ℕ → Declared
+function_of_list m = list_function (codes "F") (pos m) [] (whole (pos 1))
+
 -- `FUNCTION Twice(NUMERIC "" n) : NUMERIC "" IS n + n ENDFUNCTION`
 abbrev pub twice : Declared
 twice = number_function (codes "Twice") (number_param (codes "n") ∷ []) (two Plus n_name n_name)
@@ -92,6 +96,13 @@ added_to_storage e = judged_put (codes "Dam") (codes "Storage") (two Plus (at_no
 abbrev pub inflow_now : Tree
 inflow_now = at_now (codes "Dam") (codes "Inflow")
 
+-- `D.X`, which holds plain numbers, and `Dam.Inflow`, as slots
+abbrev pub x_slot : Tree
+x_slot = slot (codes "D") (codes "X")
+
+abbrev pub inflow_slot : Tree
+inflow_slot = slot (codes "Dam") (codes "Inflow")
+
 -- `Pool.Storage[t]`
 abbrev pub pool_storage : Tree
 pool_storage = at_now (codes "Pool") (codes "Storage")
@@ -102,6 +113,10 @@ look_types d = Some (Numeric d) ∷ Some (Slot d) ∷ Some Datetime ∷ []
 
 abbrev pub dam_and_flow : Draft
 dam_and_flow = basin_of 3 (dam ∷ flow_object ∷ [])
+
+-- `1 "step"`
+abbrev pub one_step : Tree
+one_step = of_unit (pos 1) (codes "step")
 
 -- `1 "m"`, its third power, and its type
 abbrev pub metre : Tree

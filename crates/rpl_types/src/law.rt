@@ -8,7 +8,7 @@ ghost use Rattle.rpl_tree.specs.declared.words.ConvertWord.TheVariants.{Elevatio
 ghost use Rattle.rpl_tree.specs.declared.words.OneWord.TheVariants.{Known, Length, Minus, Month, Not};
 ghost use Rattle.rpl_tree.specs.declared.words.TwoWord.TheVariants.{Append, Divide, Equal, Item, Less, Minus as Less_by, Or, Plus, Times};
 ghost use Rattle.rpl_tree.specs.Tree.{Declared, at, bind, brackets, branch, call, choice, convert, each, function, list, mapped, name, no_acts, no_trees, now, numeric, numeric_list, one, slot, truth, two, with_name, assign};
-ghost use Rattle.rpl_tree.specs.Worked.{acts_of, at_now, call_of, cap_and_base, l_name, n_name, n_to_x, of_unit, one_to_x, over, pair, puts_at, rule_of, s_name, sum_ahead, sum_too_early, three, trees_of, turns_of_one_name, whole, x_put, x_rule};
+ghost use Rattle.rpl_tree.specs.Worked.{acts_of, at_now, call_of, cap_and_base, l_name, n_name, n_to_x, of_unit, one_or_two, one_to_x, over, pair, puts_at, rule_of, s_name, sum_ahead, sum_too_early, three, trees_of, turns_of_one_name, whole, x_put, x_rule};
 ghost use Rattle.rpl_tree.specs.declared.rpl_type.RplType.TheVariants.{Boolean, Datetime, Numeric, NumericList, Slot};
 ghost use Rattle.rpl_types.specs.declared.type_kind.TypeKind.TheVariants.{DuplicateName, ListTooLong, LiteralRange, NoTable, NotEarlier, NotSettable, TargetStep, TooCostly, UnknownName, UnknownSlot, UnknownUnit, WrongCount, WrongType, WrongUnit};
 ghost use Rattle.rpl_types.specs.Forms.{plain};
@@ -16,7 +16,7 @@ ghost use Rattle.rpl_types.specs.HasType.{IsTyped};
 ghost use Rattle.rpl_types.specs.Nodes.{Types};
 ghost use Rattle.rpl_tree.specs.Budget.{budget, limits};
 ghost use Rattle.rpl_types.specs.Judged.{cost_refusal, judged, judged_types, type_at};
-ghost use Rattle.rpl_types.specs.Worked.{a_count, a_flow, a_length, a_step, a_volume, accepted, added_to_storage, cubed, dam_and_flow, inflow_now, judged_acts, judged_put, judged_with, judged_x, list_function, look_types, metre, nested_loops, number_function, number_param, numbers, pool_storage, refused, twice, twice_call, worked_basin};
+ghost use Rattle.rpl_types.specs.Worked.{a_count, a_flow, a_length, a_step, a_volume, accepted, added_to_storage, cubed, dam_and_flow, function_of_list, inflow_now, inflow_slot, judged_acts, judged_put, judged_with, judged_x, list_function, look_types, metre, nested_loops, number_function, number_param, numbers, one_step, pool_storage, refused, twice, twice_call, worked_basin, x_slot};
 
 /// What is accepted is typed: each expression has a type by those of its parts, each value fits the slot that it is set to,
 /// each condition is a truth, what a function answers fits what its head says, and each cost is within its limit.
@@ -135,6 +135,40 @@ pub fn lists()
     ensures turn { judged_x (over (pair (pos 1) (pos 2)) (two Equal n_name s_name)) ≡ refused WrongType 1 2 }
     ensures accumulator { judged_x (each (codes "n") (pair (pos 1) (pos 2)) (codes "n") metre n_name)
         ≡ refused WrongUnit 1 1 }
+{}
+
+/// What else the forms refuse, of kinds and of units, and how long a list in a head may be.
+pub fn further_forms()
+    ensures index { judged_x (two Item (pair (pos 1) (pos 2)) one_step) ≡ refused WrongUnit 1 2 }
+    ensures other_unit { judged_x (one Length (two Append (pair (pos 1) (pos 2)) metre))
+        ≡ refused WrongUnit 1 3 }
+    ensures table_unit { judged_x (two Divide (convert StorageToElevation (codes "Pool") metre) metre)
+        ≡ refused WrongUnit 1 3 }
+    ensures slots { judged_x (one Length (list (trees_of (x_slot ∷ inflow_slot ∷ []))))
+        ≡ refused WrongUnit 1 3 }
+    ensures either_slot { judged_x (at (choice (truth true) x_slot inflow_slot) now)
+        ≡ refused WrongUnit 1 3 }
+    ensures either_list { judged_x (one Length
+        (choice (truth true) (pair (pos 1) (pos 2)) (list (trees_of (metre ∷ [])))))
+        ≡ refused WrongUnit 1 3 }
+    ensures date_less { judged_x (one Month (two Less_by now metre)) ≡ refused WrongUnit 1 3 }
+    ensures low { judged_x (two Divide (two Divide (two Divide (whole (pos 1)) cubed) cubed) metre)
+        ≡ refused WrongUnit 1 2 }
+    ensures truths { judged_x (one_or_two (two Equal (truth true) (truth true)))
+        ≡ refused WrongType 1 3 }
+    ensures two_dates { judged_x (one Month (two Plus now now)) ≡ refused WrongType 1 3 }
+    ensures date_last { judged_x (one Month (two Plus one_step now)) ≡ refused WrongType 1 3 }
+    ensures no_date { judged_x (at x_slot (whole (pos 1))) ≡ refused WrongType 1 2 }
+    ensures no_slot { judged_x (at (whole (pos 1)) now) ≡ refused WrongType 1 2 }
+    ensures items { judged_x (one Length (mapped (codes "n") (pair (pos 1) (pos 2)) (truth true)))
+        ≡ refused WrongType 1 3 }
+    ensures table_first { judged_x (convert ElevationToStorage (codes "Dam") now)
+        ≡ refused NoTable 1 2 }
+    ensures arguments { judged_x (call (codes "Clamp") (trees_of (whole (pos 1) ∷ metre ∷ now ∷ [])))
+        ≡ refused WrongType 1 2 }
+    ensures none { judged worked_basin (function_of_list 0 ∷ []) ≡ refused ListTooLong 1 0 }
+    ensures most { judged worked_basin (function_of_list 4096 ∷ []) ≡ accepted (a_count ∷ []) }
+    ensures more { judged worked_basin (function_of_list 4097 ∷ []) ≡ refused ListTooLong 1 0 }
 {}
 
 /// Functions and their calls. A function can't call itself, and none that is declared after it.
