@@ -87,7 +87,7 @@ met_past watches (suc times) number rule past = ap (met_in watches times rule) (
 
 -- ---- an index with one watch more
 
-module _ (slots steps : ℕ) (newest : List ℕ) (watches : List Watch) (full : Bool) (place rule : ℕ) (here : Cell) where
+module _ (slots steps room : ℕ) (newest : List ℕ) (watches : List Watch) (full : Bool) (place rule : ℕ) (here : Cell) where
   abbrev before_it : ℕ
   before_it = before_in watches (slice_index_or newest place 0)
 
@@ -95,10 +95,10 @@ module _ (slots steps : ℕ) (newest : List ℕ) (watches : List Watch) (full : 
   whole = watches ++ record { rule = rule; cell = here; before = before_it } ∷ []
 
   abbrev old : CellIndex
-  old = record { slots = slots; steps = steps; newest = newest; watches = watches; is_full = full }
+  old = record { slots = slots; steps = steps; newest = newest; watches = watches; room = room; is_full = full }
 
   abbrev new : CellIndex
-  new = record { slots = slots; steps = steps; newest = set newest place (length whole); watches = whole; is_full = full }
+  new = record { slots = slots; steps = steps; newest = set newest place (length whole); watches = whole; room = room; is_full = full }
 
   -- who was met from the cell's newest watch is met from the one before the new one
   met_before : (earlier : ℕ) → is_met watches (length watches) (slice_index_or newest place 0) earlier ≡ true
@@ -152,7 +152,7 @@ module _ (slots steps : ℕ) (newest : List ℕ) (watches : List Watch) (full : 
   module _ (seen count : ℕ) (pushed : List Watch) (saw : seen ≡ slice_index_or newest place 0)
       (is : pushed ≡ watches ++ record { rule = rule; cell = here; before = before_in watches seen } ∷ []) (many : count ≡ length pushed) where
     abbrev made : List Watch → ℕ → CellIndex
-    made all number = record { slots = slots; steps = steps; newest = set newest place number; watches = all; is_full = full }
+    made all number = record { slots = slots; steps = steps; newest = set newest place number; watches = all; room = room; is_full = full }
 
     whole_is : pushed ≡ whole
     whole_is = is ∙ ap (λ n. watches ++ record { rule = rule; cell = here; before = before_in watches n } ∷ []) saw

@@ -1,16 +1,17 @@
 -- Which rules watch a cell, at which they looked: by watches each of which leads to the one before it.
-use Rattle.std.specs.Prelude.{ℕ, zero, suc, ◌*◌, ◌+◌, ◌-◌, ◌≡◌, ◌≤◌, ◌==◌, ◌&&◌, ◌||◌, nat_le, Bool, false, List, length, Option, Some, None, option_map, unwrap_or, slice_index_or, if◌then◌else◌}
+use Rattle.std.specs.Prelude.{ℕ, zero, suc, ◌*◌, ◌+◌, ◌-◌, ◌≡◌, ◌≤◌, ◌<◌, ◌==◌, ◌&&◌, ◌||◌, nat_le, Bool, false, List, length, Option, Some, None, IsSome, option_map, unwrap_or, slice_index_or, if◌then◌else◌}
 use Rattle.rw_base.specs.declared.number.Cell.{Cell}
 use Rattle.rw_model.specs.Objects.{numbered}
 use Rattle.rw_agenda.specs.declared.watch.Watch.{Watch}
 
--- for each cell of so many slots and timesteps the number of its newest watch, 0 where it has none; the watches, numbered from 1; and
--- whether there was no room for one of them
+-- for each cell of so many slots and timesteps the number of its newest watch, 0 where it has none; the watches, numbered from 1; for
+-- how many there is room; and whether there was none for one of them
 pub record CellIndex : Type 0 where
   pub slots : ℕ
   pub steps : ℕ
   pub newest : List ℕ
   pub watches : List Watch
+  pub room : ℕ
   pub is_full : Bool
 
 -- the index has a place for each cell, and room for so many watches
@@ -18,17 +19,22 @@ pub record HasRoom (slots steps : ℕ) (newest : List ℕ) (room kept : ℕ) : T
   pub cells : length newest ≡ slots * steps
   pub watches : room ≤ kept
 
--- the rule in a place is met, going from the watch of this number so many times to the one before
-abbrev pub is_met : List Watch → ℕ → ℕ → ℕ → Bool
-is_met watches zero number rule = false
-is_met watches (suc times) number rule =
-    unwrap_or (option_map (λ (watch : Watch). watch.rule == rule || is_met watches times watch.before rule) (numbered watches number)) false
-
 -- the place of a cell in the index
 abbrev pub position_of : ℕ → ℕ → Cell → Option ℕ
 position_of slots steps cell =
     if (nat_le 1 cell.slot.0 && nat_le cell.slot.0 slots) && (nat_le 1 cell.step.0 && nat_le cell.step.0 steps)
     then Some ((cell.step.0 - 1) * slots + (cell.slot.0 - 1)) else None
+
+-- there is room for a watch of the cell
+pub record CanWatch (index : CellIndex) (cell : Cell) : Type 0 where
+  pub known : IsSome (position_of index.slots index.steps cell)
+  pub room : length index.watches < index.room
+
+-- the rule in a place is met, going from the watch of this number so many times to the one before
+abbrev pub is_met : List Watch → ℕ → ℕ → ℕ → Bool
+is_met watches zero number rule = false
+is_met watches (suc times) number rule =
+    unwrap_or (option_map (λ (watch : Watch). watch.rule == rule || is_met watches times watch.before rule) (numbered watches number)) false
 
 -- the number of a cell's newest watch, 0 where there is none
 abbrev pub newest_at : CellIndex → Cell → ℕ

@@ -5,7 +5,7 @@ ghost use Rattle.rw_model.specs.Kept.{numbers_of};
 ghost use Rattle.rw_model.specs.Objects.{numbered};
 ghost use Rattle.rw_run.specs.Dispatch.{cell_at};
 ghost use Rattle.rw_series.specs.declared.look.Look.{Look};
-ghost use Rattle.rw_agenda.specs.CellIndex.{before_in, is_met, is_watching, newest_at, position_of};
+ghost use Rattle.rw_agenda.specs.CellIndex.{CanWatch, before_in, is_met, is_watching, newest_at, position_of};
 ghost use Rattle.rw_agenda.specs.Marks.{MarksMore};
 ghost use Rattle.rw_agenda.specs.declared.watch.Watch.{Watch};
 
@@ -40,6 +40,7 @@ impl Model for CellIndex {
       steps = index.steps;
       newest = index.newest.items;
       watches = index.watches.items;
+      room = index.room;
       is_full = index.full;
     } };
 
@@ -85,6 +86,7 @@ impl CellIndex {
         ensures watching { is_watching self.new cell rule ≡ true }
         ensures kept { (other : Cell) (earlier : ℕ) → is_watching self.old other earlier ≡ true
             → is_watching self.new other earlier ≡ true }
+        ensures room { CanWatch self.old cell → self.new.is_full ≡ self.old.is_full }
     {
         let Some(place) = position_of(self.slots, self.steps, cell) else {
             self.full = true;

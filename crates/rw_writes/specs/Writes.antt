@@ -7,6 +7,7 @@ use Rattle.rw_run.specs.Index.{MarksTouched}
 use Rattle.rw_run.specs.Log.{Asked, Cells}
 use Rattle.rw_run.specs.Next.{asked_of_rule, last_ones}
 use Rattle.rw_agenda.specs.Agenda.{Agenda, is_marked, looked_by}
+use Rattle.rw_writes.specs.declared.limits.TheConstants.{PUTS_MAX}
 
 -- without those that are put again later, those that the put rules write
 abbrev pub written_of : Draft → Cells → List Asked → List Asked
@@ -18,9 +19,9 @@ writes_of basin cells rule step puts = written_of basin cells (asked_of_rule bas
 
 -- so many are written, and there is room for the puts of any firing
 pub record HasRoom (written asked kept : ℕ) : Type 0 where
-  pub few : written ≤ 2000
-  pub for_asked : 2000 ≤ asked
-  pub for_written : 2000 ≤ kept
+  pub few : written ≤ PUTS_MAX
+  pub for_asked : PUTS_MAX ≤ asked
+  pub for_written : PUTS_MAX ≤ kept
 
 -- each rule that was marked still is, and so is each that looked at a cell which shares its value with one of these
 abbrev pub MarksAll : Draft → List Asked → Agenda → Agenda → Type 0

@@ -5,9 +5,11 @@
 
 mod asked;
 pub mod law;
+mod limits;
 mod marked;
 mod passed;
 mod writes;
 
+pub use limits::PUTS_MAX;
 pub use marked::mark;
 pub use writes::Writes;

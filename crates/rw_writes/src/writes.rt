@@ -6,6 +6,7 @@ ghost use Rattle.rw_series.specs.Series.{held};
 ghost use Rattle.rw_writes.specs.Writes.{writes_of};
 
 use crate::asked::ask_all;
+use crate::limits::PUTS_MAX;
 use crate::passed::keep_written;
 use rw_base::{NoMemory, RuleNo, StepNo};
 use rw_model::Basin;
@@ -13,9 +14,6 @@ use rw_run::Write;
 use rw_series::{RulePut, Series};
 use std::alloc::Global;
 use std::marker::Model;
-
-// How many puts a firing has at most.
-const PUTS_MAX: usize = 2_000;
 
 /// The puts of a firing that are written, in the order in which they were put, seen as the list of what they ask for.
 #[derive(Drop)]
@@ -46,11 +44,12 @@ impl Writes {
         Ok(Writes { asked, written })
     }
 
-    /// Has those puts of a rule's firing at a timestep that are written, by what the cells hold. A firing has at most 2,000.
+    /// Has those puts of a rule's firing at a timestep that are written, by what the cells hold. A firing has at most
+    /// `PUTS_MAX`.
     pub fn judge(&mut self, basin: &Basin, series: &Series, r: RuleNo, t: StepNo, puts: &[RulePut])
         requires step { IsStep basin.now t.0 }
         requires can { All (CanAsk basin.now) puts.now }
-        requires few { length puts.now ≤ 2000 }
+        requires few { length puts.now ≤ PUTS_MAX }
         ensures written { self.new ≡ writes_of basin.now (held series.now) r.0 t.0 puts.now }
         ensures can { AreWrites basin.now self.new }
     {

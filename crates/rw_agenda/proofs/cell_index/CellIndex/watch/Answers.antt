@@ -10,7 +10,7 @@ returns-clause-watching c =
     let saw : c.index-newest.result.now ≡ slice_index_or c.self.inside.newest.items c.in-Some.place 0 =
     get_or_read c.self.inside.newest.items c.in-Some.place c.index-newest.result.now near c.index-newest.ensures 0 in
     let many : c.len-2.result ≡ length c.push_watch.new.watches.items = search rules in
-    watching_now c.self.inside.slots c.self.inside.steps c.self.inside.newest.items c.self.inside.watches.items c.self.inside.full
+    watching_now c.self.inside.slots c.self.inside.steps c.self.inside.room c.self.inside.newest.items c.self.inside.watches.items c.self.inside.full
     c.in-Some.place c.args.rule c.args.cell c.index-newest.result.now c.len-2.result c.push_watch.new.watches.items saw c.push_watch.ensures.added many near c.args.cell at
 
 pub returns-clause-kept : goal.returns-clause-kept
@@ -19,6 +19,6 @@ returns-clause-kept c other earlier watching =
     let saw : c.index-newest.result.now ≡ slice_index_or c.self.inside.newest.items c.in-Some.place 0 =
     get_or_read c.self.inside.newest.items c.in-Some.place c.index-newest.result.now near c.index-newest.ensures 0 in
     let many : c.len-2.result ≡ length c.push_watch.new.watches.items = search rules in
-    watching_still c.self.inside.slots c.self.inside.steps c.self.inside.newest.items c.self.inside.watches.items c.self.inside.full
+    watching_still c.self.inside.slots c.self.inside.steps c.self.inside.room c.self.inside.newest.items c.self.inside.watches.items c.self.inside.full
     c.in-Some.place c.args.rule c.args.cell c.index-newest.result.now c.len-2.result c.push_watch.new.watches.items saw c.push_watch.ensures.added many near other earlier
     (subst (λ index. is_watching index other earlier ≡ true) (sym c.self.view_is) watching)
