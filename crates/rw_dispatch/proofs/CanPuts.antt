@@ -1,6 +1,9 @@
 -- What an object puts, it can put.
 use Rattle.rw_dispatch.proofs.Common.{ArePuts, CanPut, IsSome, Kind, List, None, Option, Put, Some, View, and_parts, ap, arith, bounds_at, int_le, ints, is_between, option_map, refl, slice_index_or, sym, true, unwrap_or, ℕ, ℤ, ◌&&◌, ◌<◌, ◌∙◌, ◌≡◌}
 use Rattle.rw_model.proofs.Common.{IsKind, Bounds, all_quantities, slot_in, Object, object_at, slot_in_place, Draft, IsObject, IsBetween}
+use Rattle.rw_base.proofs.Common.{All-nil}
+use Rattle.rw_dispatch.specs.Answer.{asked_in}
+use Rattle.rw_method.specs.declared.solved.Solved.{Solved}
 use Rattle.rw_method.specs.declared.solved.Solved.TheVariants.{Idle, Puts}
 use Rattle.rw_method.specs.Puts.{is_bounded}
 use Rattle.rw_method.specs.Solve.{solve_of}
@@ -50,6 +53,11 @@ are_puts basin cells object step kind seen puts own is sound same solved =
           let put = by.0 k d near in
           CanPut-fitting basin cells object step kind (slice_index_or puts k d) own is (record { near = put.own.few; slot = put.own.slot; bounded = put.bounded });
     }
+
+pub asked_puts : (basin : Draft) (object : ℕ) (solved : Solved) → ((puts : List Put) → solved ≡ Puts puts → ArePuts basin object puts)
+    → ArePuts basin object (asked_in solved)
+asked_puts basin object (Puts puts) each = each puts refl
+asked_puts basin object solved each = record { few = omega arith; can = All-nil (CanPut basin object) }
 
 of_object : (found : Option Object) (kind : Kind) (view : View) → option_map (λ (object : Object). object.kind) found ≡ Some kind
     → solve_of kind view ≡ unwrap_or (option_map (λ (object : Object). solve_of object.kind view) found) Idle

@@ -3,7 +3,7 @@ pub use Rattle.rw_base.proofs.Common.{All, All-push, Any-from_list_any, Bool, If
 pub use Rattle.rw_base.specs.declared.number.Cell.{Cell}
 pub use Rattle.rw_base.specs.declared.number.ObjectNo.{ObjectNo}
 pub use Rattle.rw_base.specs.declared.number.SlotNo.{SlotNo}
-pub use Rattle.rw_dispatch.specs.Owners.{IsLeastAbove}
+pub use Rattle.rw_dispatch.specs.Owners.{HasReached, has_mark}
 pub use Rattle.rw_dispatch.specs.Putting.{ArePuts, CanPut, IsPassed}
 pub use Rattle.rw_dispatch.specs.Queue.{KeepsQueue, Queue, is_marked, unmarked}
 pub use Rattle.rw_dispatch.specs.Stage.{AreBounded, IsHeldIn}

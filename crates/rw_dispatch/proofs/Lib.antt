@@ -7,3 +7,4 @@ pub mod CanPuts
 pub mod Makes
 pub mod Waking
 pub mod Owning
+pub mod Reaching

@@ -10,7 +10,7 @@ unmarked-set [] k v l = absurd (omega arith)
 unmarked-set (b ∷ bits) zero v l = omega arith
 unmarked-set (b ∷ bits) (suc k) v l = let h = unmarked-set bits k v (omega arith) in omega arith
 
-set_at : (bits : List Bool) (k j : ℕ) (v : Bool) → k < length bits → get_or (set bits k v) j false ≡ cond (nat_eq k j) v (get_or bits j false)
+pub set_at : (bits : List Bool) (k j : ℕ) (v : Bool) → k < length bits → get_or (set bits k v) j false ≡ cond (nat_eq k j) v (get_or bits j false)
 set_at [] k j v l = absurd (omega arith)
 set_at (b ∷ bits) zero zero v l = refl
 set_at (b ∷ bits) zero (suc j) v l = grind (arith, nat_tests)
@@ -131,22 +131,11 @@ skipped p from (suc count) none =
     ∙ skipped p from count (λ a low high. none a low (omega (arith, high)))
 
 -- none that is left passes
-pub none_left : (p : ℕ → Bool) (from to : ℕ) (old now : List ℕ) → from ≤ to → ((a : ℕ) → from < a → p a ≡ false) → now ≡ old ++ filter p (numbers from)
-    → now ≡ old ++ filter p (numbers to)
+pub none_left : (p : ℕ → Bool) (from to : ℕ) (old now : List ℕ) → from ≤ to → ((a : ℕ) → from < a → a ≤ to → p a ≡ false)
+    → now ≡ old ++ filter p (numbers from) → now ≡ old ++ filter p (numbers to)
 none_left p from to old now l none is =
     let same : from + (to - from) ≡ to = omega (arith, l) in
-    is ∙ ap (λ xs. old ++ xs) (sym (skipped p from (to - from) (λ a low high. none a low)) ∙ ap (λ n. filter p (numbers n)) same)
-
--- one turn of a loop over those that may pass
-pub next_passed : (p : ℕ → Bool) (from to : ℕ) (old now next : List ℕ) (t : Bool) → from < to → ((a : ℕ) → from < a → a < to → p a ≡ false)
-    → now ≡ old ++ filter p (numbers from) → t ≡ p to → next ≡ now ++ cond t (to ∷ []) [] → next ≡ old ++ filter p (numbers to)
-next_passed p from to old now next t l none is tested appended =
-    let before : from + (to - 1 - from) ≡ to - 1 = omega (arith, l) in
-    let same : (to - 1) + 1 ≡ to = omega (arith, l) in
-    let reached : now ≡ old ++ filter p (numbers (to - 1)) =
-    is ∙ ap (λ xs. old ++ xs) (sym (skipped p from (to - 1 - from) (λ a low high. none a low (omega (arith, high, l)))) ∙ ap (λ n. filter p (numbers n)) before) in
-    more_passed p (to - 1) old now next t reached (tested ∙ ap p (sym same)) (appended ∙ ap (λ n. now ++ cond t (n ∷ []) []) (sym same))
-    ∙ ap (λ n. old ++ filter p (numbers n)) same
+    is ∙ ap (λ xs. old ++ xs) (sym (skipped p from (to - from) (λ a low high. none a low (omega (arith, high, l)))) ∙ ap (λ n. filter p (numbers n)) same)
 
 pub later-free : (p : ℕ → Bool) (n : ℕ) (now : List ℕ) → now ≡ filter p (numbers n) → times (n + 1) now ≡ 0
 later-free p n now e = ap (times (n + 1)) e ∙ later p (n + 1) n (omega arith)
@@ -155,7 +144,7 @@ unmarked-none : (n : ℕ) → unmarked (replicate n false) ≡ n
 unmarked-none zero = refl
 unmarked-none (suc n) = let h = unmarked-none n in omega arith
 
-none_set : (n k : ℕ) → get_or (replicate n false) k false ≡ false
+pub none_set : (n k : ℕ) → get_or (replicate n false) k false ≡ false
 none_set zero k = refl
 none_set (suc n) zero = refl
 none_set (suc n) (suc k) = none_set n k

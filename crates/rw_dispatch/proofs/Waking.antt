@@ -27,7 +27,7 @@ written_of basin looked object step event answer tells = of_answer basin looked 
 none_woken : (basin : Draft) (but : Option ℕ) (queue : List ℕ) → queue ≡ queue ++ woken basin but queue []
 none_woken basin but queue =
     none_left (is_woken basin but queue []) 0 (length basin.objects) queue queue (omega arith)
-    (λ object above. woken-unowned basin but queue [] object refl) (sym (append-nil queue))
+    (λ object above known. woken-unowned basin but queue [] object refl) (sym (append-nil queue))
 
 queue_after : (basin : Draft) (looked : List Look) (object step : ℕ) (answer : Dispatched) (queue : List ℕ)
     → queued_after basin (event_of basin looked object step answer) queue

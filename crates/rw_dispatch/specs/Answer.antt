@@ -2,12 +2,16 @@
 use Rattle.std.specs.Prelude.{◌≡◌, ℕ, List, []}
 use Rattle.rw_model.specs.Draft.{Draft}
 use Rattle.rw_method.specs.declared.put.Put.{Put}
+use Rattle.rw_method.specs.declared.solved.Solved.{Solved as Solution}
+use Rattle.rw_method.specs.declared.solved.Solved.TheVariants.{Puts}
 use Rattle.rw_series.specs.declared.look.Look.{Look}
 use Rattle.rw_run.specs.declared.fault.RunFault.TheVariants.{Conflict as FaultConflict, ObjectOutOfRange}
 use Rattle.rw_run.specs.Log.{Event, idle, solved, fault}
 use Rattle.rw_run.specs.Dispatch.{asked_for}
 use Rattle.rw_dispatch.specs.declared.dispatched.Dispatched.{Dispatched}
 use Rattle.rw_dispatch.specs.declared.dispatched.Dispatched.TheVariants.{Idle, Solved, Conflict, OutOfRange}
+use Rattle.rw_dispatch.specs.declared.dispatch_end.DispatchEnd.{DispatchEnd}
+use Rattle.rw_dispatch.specs.declared.dispatch_end.DispatchEnd.TheVariants.{Idle as EndsIdle, Solved as EndsSolved, Conflict as EndsInConflict, OutOfRange as EndsOutOfRange}
 use Rattle.rw_dispatch.specs.Putting.{ArePuts}
 
 -- the event, where the object had these looks at the timestep
@@ -34,3 +38,23 @@ written_in answer = []
 pub record Tells (basin : Draft) (looked : List Look) (object step : ℕ) (event : Event) (answer : Dispatched) : Type 0 where
   pub is : event ≡ event_of basin looked object step answer
   pub puts : ArePuts basin object (written_in answer)
+
+-- ---- by how a dispatch ended
+
+-- the puts that a method asks for
+abbrev pub asked_in : Solution → List Put
+asked_in (Puts asked) = asked
+asked_in solution = []
+
+-- the answer of one that ended so
+abbrev pub answer_of : DispatchEnd → List Put → List Put → Dispatched
+answer_of EndsIdle asked written = Idle
+answer_of EndsSolved asked written = Solved asked written
+answer_of (EndsInConflict slot held solves) asked written = Conflict slot held solves
+answer_of (EndsOutOfRange slot value) asked written = OutOfRange slot value
+
+-- the event is that of a dispatch that ended so
+pub record Ends (basin : Draft) (looked : List Look) (object step : ℕ) (event : Event) (end : DispatchEnd) : Type 0 where
+  pub asked : List Put
+  pub written : List Put
+  pub is : event ≡ event_of basin looked object step (answer_of end asked written)

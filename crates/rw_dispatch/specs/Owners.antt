@@ -1,13 +1,13 @@
--- The least of the numbers that pass a test.
-use Rattle.std.specs.Prelude.{◌≡◌, ◌<◌, ℕ, Bool, true, false, Option, Some, None}
+-- The objects that slots reach.
+use Rattle.std.specs.Prelude.{◌≡◌, ◌≤◌, ◌<◌, ◌-◌, ℕ, Bool, false, List, length, slice_index_or}
+use Rattle.rw_dispatch.specs.declared.owners.Reached.{Reached}
 
--- this is the least of the numbers that are above another one and pass a test
-pub record IsLeast (after : ℕ) (test : ℕ → Bool) (least : ℕ) : Type 0 where
-  pub above : after < least
-  pub passes : test least ≡ true
-  pub first : (number : ℕ) → after < number → number < least → test number ≡ false
+abbrev pub has_mark : List Bool → ℕ → Bool
+has_mark marks object = slice_index_or marks (object - 1) false
 
--- the least of the numbers that are above another one and pass a test, and none exactly where there is no such number
-abbrev pub IsLeastAbove : ℕ → (ℕ → Bool) → Option ℕ → Type 0
-IsLeastAbove after test None = (number : ℕ) → after < number → test number ≡ false
-IsLeastAbove after test (Some least) = IsLeast after test least
+-- those are reached that pass a test
+pub record HasReached (test : ℕ → Bool) (reached : Reached) : Type 0 where
+  pub many : length reached.marks ≡ 500
+  pub marked : (object : ℕ) → 1 ≤ object → has_mark reached.marks object ≡ test object
+  pub before_all : (object : ℕ) → 1 ≤ object → object ≤ reached.before → test object ≡ false
+  pub behind : (object : ℕ) → reached.last < object → test object ≡ false

@@ -1,4 +1,4 @@
-ghost use Rattle.std.specs.Prelude.{◌≡◌, IfOk, IfErr};
+ghost use Rattle.std.specs.Prelude.{◌≡◌, [], IfOk, IfErr};
 ghost use Rattle.rw_series.specs.Series.{held};
 ghost use Rattle.rw_run.specs.Log.{Event};
 ghost use Rattle.rw_run.specs.Dispatch.{asked_by, asked_for, denied_by, end_in, judged, or_fault};
@@ -61,27 +61,28 @@ fn judge_one(
     }
 }
 
-/// Which of the puts are written, by what the cells hold before the first of them. The first that is denied is the answer.
+/// Adds those of the puts that are written, by what the cells hold before the first of them. The first that is denied is the answer.
 pub(crate) fn judge(
     basin: &Basin,
     series: &Series,
     object: ObjectNo,
     step: StepNo,
     asked: &PutList,
-) -> Result<PutList, Clash>
+    written: &mut PutList,
+) -> Result<(), Clash>
     requires turn { IsTurn basin.now object.0 step.0 }
     requires puts { ArePuts basin.now object.0 asked.now }
-    ensures passed { IfOk result
-        (ArePassed basin.now (held series.now) object.0 step.0 asked.now) }
+    requires none { written.old ≡ [] }
+    ensures passed { IfOk result (λ _.
+        ArePassed basin.now (held series.now) object.0 step.0 asked.now written.new) }
     ensures clash { IfErr result (λ clash. (rest : Event)
         → judged (held series.now) object.0 (asked_for basin.now object.0 step.0 asked.now) rest
         ≡ conflict object.0 step.0 clash.slot clash.held clash.solved) }
 {
-    let mut written = PutList::none();
     for put in asked.as_slice() {
         if judge_one(basin, series, object, step, put)? {
             written.push(*put);
         }
     }
-    Ok(written)
+    Ok(())
 }

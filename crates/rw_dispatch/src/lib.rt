@@ -3,6 +3,7 @@
 //! of that dispatch says. Only making a queue takes memory.
 #![tactic(auto)]
 
+mod dispatch_end;
 mod dispatched;
 mod judged;
 mod owners;
@@ -10,13 +11,16 @@ mod past;
 mod queue;
 mod turn;
 mod view;
+mod workspace;
 mod write_list;
 mod written;
 
+pub use dispatch_end::DispatchEnd;
 pub use dispatched::Dispatched;
 pub use past::past_cell;
 pub use queue::Queue;
 pub use turn::{dispatch, judge_dispatch};
 pub use view::slot_or_none;
+pub use workspace::Workspace;
 pub use write_list::WriteList;
 pub use written::make;

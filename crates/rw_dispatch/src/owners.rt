@@ -1,11 +1,11 @@
-ghost use Rattle.std.specs.Prelude.{◌≡◌, ◌≤◌, ◌<◌, ◌==◌, ◌||◌, ℕ, Bool, All, None, IfSome, true, false, length, List, [], ◌∷◌, ◌++◌};
+ghost use Rattle.std.specs.Prelude.{◌≡◌, ◌≤◌, ◌==◌, ◌||◌, ◌++◌, ◌∷◌, [], ℕ, Bool, All, false, List};
 ghost use Rattle.rw_model.specs.Draft.{IsObject, IsSlot};
 ghost use Rattle.rw_model.specs.Links.{owner_of};
 ghost use Rattle.rw_model.specs.Kept.{numbers_of};
 ghost use Rattle.rw_model.specs.Turn.{is_data};
 ghost use Rattle.rw_run.specs.Waiting.{is_at, is_owner, slots_at};
 ghost use Rattle.rw_dispatch.specs.Writes.{AreWrites, CanWrite};
-ghost use Rattle.rw_dispatch.specs.Owners.{IsLeastAbove};
+ghost use Rattle.rw_dispatch.specs.Owners.{HasReached, has_mark};
 
 use rw_base::{ObjectNo, SlotNo, StepNo};
 use rw_model::Basin;
@@ -19,109 +19,116 @@ pub(crate) fn is_data(basin: &Basin, object: ObjectNo) -> bool
     basin.kind_code(object) == 0
 }
 
-// The number of the object that owns a slot.
-fn owner_of(basin: &Basin, slot: SlotNo) -> u16
-    requires { IsSlot basin.now.objects slot.0 }
-    ensures owner { result ≡ owner_of basin.now.objects slot.0 }
-    ensures known { IsObject basin.now.objects result }
-{
-    basin.owner(slot).0
+/// Objects that are reached: a mark for each, that of object 1 first, how many objects stand before all of them, and the last one.
+#[derive(Drop)]
+pub(crate) struct Reached {
+    pub(crate) marks: [bool; 500],
+    pub(crate) before: u16,
+    pub(crate) last: u16,
 }
 
-// The lesser of the best number and an owner's, which counts only above a number.
-fn nearer(after: u16, best: Option<u16>, owner: u16) -> Option<u16>
-    ensures { (seen : ℕ → Bool) → IsLeastAbove after seen best → IsLeastAbove after (λ object. owner == object || seen object) result }
-{
-    match best {
-        None => { if owner <= after { None } else { Some(owner) } }
-        Some(least) => {
-            if owner <= after || least <= owner {
-                Some(least)
-            } else {
-                Some(owner)
-            }
+impl Reached {
+    /// None is reached.
+    pub(crate) fn none() -> Reached
+        ensures { HasReached (λ object. false) result }
+    {
+        Reached {
+            marks: [false; 500],
+            before: u16::MAX,
+            last: 0,
         }
     }
 }
 
-// The least of the best number and those owners of slots in a slot's group that are above a number.
-fn nearest_at(basin: &Basin, slot: SlotNo, after: u16, best: Option<u16>) -> Option<u16>
-    requires { IsSlot basin.now.objects slot.0 }
-    ensures { (seen : ℕ → Bool) → IsLeastAbove after seen best → IsLeastAbove after (λ object. is_at basin.now object slot.0 || seen object) result }
+/// Whether an object is reached.
+pub(crate) fn has_mark(reached: &Reached, object: u16) -> bool
+    requires first { 1 ≤ object }
+    requires last { object ≤ 500 }
+    ensures { result ≡ has_mark reached.now.marks object }
 {
-    let mut best = best;
+    reached.marks[usize::from(object) - 1]
+}
+
+/// The lesser of two numbers.
+pub(crate) fn lesser(one: u16, other: u16) -> u16
+    ensures one { result ≤ one }
+    ensures other { result ≤ other }
+    ensures least { (bound : ℕ) → bound ≤ one → bound ≤ other → bound ≤ result }
+{
+    if one < other { one } else { other }
+}
+
+fn greater(one: u16, other: u16) -> u16
+    ensures one { one ≤ result }
+    ensures other { other ≤ result }
+{
+    if one < other { other } else { one }
+}
+
+// One object more is reached.
+fn reach(reached: &mut Reached, object: u16)
+    requires first { 1 ≤ object }
+    requires last { object ≤ 500 }
+    ensures { (seen : ℕ → Bool) → HasReached seen reached.old
+        → HasReached (λ other. object == other || seen other) reached.new }
+{
+    reached.marks[usize::from(object) - 1] = true;
+    reached.before = lesser(reached.before, object - 1);
+    reached.last = greater(reached.last, object);
+}
+
+// The number of the object that owns a slot.
+fn owner_of(basin: &Basin, slot: SlotNo) -> u16
+    requires { IsSlot basin.now.objects slot.0 }
+    ensures owner { result ≡ owner_of basin.now.objects slot.0 }
+    ensures first { 1 ≤ result }
+    ensures last { result ≤ 500 }
+{
+    let _objects = basin.object_count();
+    basin.owner(slot).0
+}
+
+// The owners of the slots in a slot's group are reached.
+fn reach_group(reached: &mut Reached, basin: &Basin, slot: SlotNo)
+    requires { IsSlot basin.now.objects slot.0 }
+    ensures { (seen : ℕ → Bool) → HasReached seen reached.old
+        → HasReached (λ object. is_at basin.now object slot.0 || seen object) reached.new }
+{
     let group = basin.group(slot);
     for other in group {
-        best = nearer(after, best, owner_of(basin, *other));
+        reach(reached, owner_of(basin, *other));
     }
-    best
 }
 
-// The least of the owners above a number that these slots reach.
-fn nearest(basin: &Basin, slots: &[SlotNo], after: u16) -> Option<u16>
-    requires { All (λ (slot : SlotNo). IsSlot basin.now.objects slot.0) slots.now }
-    ensures { IsLeastAbove after (is_owner basin.now (numbers_of slots.now)) result }
+/// The owners are reached that these slots reach.
+pub(crate) fn reach_slots(reached: &mut Reached, basin: &Basin, slots: &[SlotNo])
+    requires slots { All (λ (slot : SlotNo). IsSlot basin.now.objects slot.0) slots.now }
+    requires none { HasReached (λ object. false) reached.old }
+    ensures { HasReached (is_owner basin.now (numbers_of slots.now)) reached.new }
 {
-    let mut best = None;
     for slot in slots {
-        best = nearest_at(basin, *slot, after, best);
+        reach_group(reached, basin, *slot);
     }
-    best
 }
 
-// The lesser of the best number and those of owners above a number that a write at the timestep reaches.
-fn nearest_to(
-    basin: &Basin,
-    step: StepNo,
-    write: &Write,
-    after: u16,
-    best: Option<u16>,
-) -> Option<u16>
+// The owners are reached that a write at the timestep reaches.
+fn reach_write(reached: &mut Reached, basin: &Basin, step: StepNo, write: &Write)
     requires { CanWrite basin.now write.now }
-    ensures { (slots : List ℕ) → IsLeastAbove after (is_owner basin.now slots) best → IsLeastAbove
-        after (is_owner basin.now (slots_at step.0 (write.now ∷ []) ++ slots)) result }
+    ensures { (slots : List ℕ) → HasReached (is_owner basin.now slots) reached.old
+        → HasReached (is_owner basin.now (slots_at step.0 (write.now ∷ []) ++ slots)) reached.new }
 {
     if write.cell.step.0 == step.0 {
-        nearest_at(basin, write.cell.slot, after, best)
-    } else {
-        best
+        reach_group(reached, basin, write.cell.slot);
     }
 }
 
-// The least owner above a number.
-fn nearest_of(
-    basin: &Basin,
-    slots: &[SlotNo],
-    step: StepNo,
-    writes: &[Write],
-    after: u16,
-) -> Option<u16>
-    requires slots { All (λ (slot : SlotNo). IsSlot basin.now.objects slot.0) slots.now }
+/// The owners are reached that what is written at a timestep reaches.
+pub(crate) fn reach_writes(reached: &mut Reached, basin: &Basin, step: StepNo, writes: &[Write])
     requires can { AreWrites basin.now writes.now }
-    ensures { IsLeastAbove after
-        (is_owner basin.now (numbers_of slots.now ++ slots_at step.0 writes.now)) result }
+    requires none { HasReached (λ object. false) reached.old }
+    ensures { HasReached (is_owner basin.now (slots_at step.0 writes.now)) reached.new }
 {
-    let mut best = nearest(basin, slots, after);
     for write in writes {
-        best = nearest_to(basin, step, write, after, best);
+        reach_write(reached, basin, step, write);
     }
-    best
-}
-
-/// The first object after this one that owns a slot which carries one value with one of these, or of the writes at a timestep.
-pub(crate) fn next_owner(
-    basin: &Basin,
-    slots: &[SlotNo],
-    step: StepNo,
-    writes: &[Write],
-    after: u16,
-) -> Option<u16>
-    requires slots { All (λ (slot : SlotNo). IsSlot basin.now.objects slot.0) slots.now }
-    requires can { AreWrites basin.now writes.now }
-    ensures none { result ≡ None → (object : ℕ) → after < object → is_owner basin.now (numbers_of slots.now ++ slots_at step.0 writes.now) object ≡ false }
-    ensures some { IfSome result (λ owner. (after < owner) × (is_owner basin.now (numbers_of slots.now ++ slots_at step.0 writes.now) owner ≡ true)) }
-    ensures least { IfSome result (λ owner. (object : ℕ) → after < object → object < owner → is_owner basin.now (numbers_of slots.now ++ slots_at step.0 writes.now) object ≡ false) }
-    ensures known { IfSome result (λ owner. owner ≤ length basin.now.objects) }
-{
-    nearest_of(basin, slots, step, writes, after)
 }

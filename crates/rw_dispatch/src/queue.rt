@@ -5,9 +5,10 @@ ghost use Rattle.rw_model.specs.Kept.{numbers_of};
 ghost use Rattle.rw_run.specs.Times.{times};
 ghost use Rattle.rw_run.specs.Waiting.{all_waiting, is_but, is_owner, is_woken, slots_at, woken};
 ghost use Rattle.rw_dispatch.specs.Queue.{IsQueueOf};
+ghost use Rattle.rw_dispatch.specs.Owners.{HasReached};
 ghost use Rattle.rw_dispatch.specs.Writes.{AreWrites};
 
-use crate::owners::{is_data, next_owner};
+use crate::owners::{Reached, has_mark, is_data, lesser, reach_slots, reach_writes};
 use rw_base::{NoMemory, ObjectNo, SlotNo, StepNo};
 use rw_model::Basin;
 use rw_run::Write;
@@ -83,7 +84,9 @@ impl Queue {
         ensures woken { self.new.waiting ≡ self.old.waiting ++ woken basin.now
             (option_map (λ object. object.0) but) self.old.waiting (numbers_of slots.now) }
     {
-        self.wake_all(basin, slots, StepNo(0), &[], but);
+        let mut reached = Reached::none();
+        reach_slots(&mut reached, basin, slots);
+        self.wake_reached(basin, &reached, but);
     }
 
     /// Wakes the objects that what an event writes at a timestep reaches, as `wake` does.
@@ -100,31 +103,23 @@ impl Queue {
         ensures woken { self.new.waiting ≡ self.old.waiting ++ woken basin.now
             (option_map (λ object. object.0) but) self.old.waiting (slots_at step.0 writes.now) }
     {
-        self.wake_all(basin, &[], step, writes, but);
+        let mut reached = Reached::none();
+        reach_writes(&mut reached, basin, step, writes);
+        self.wake_reached(basin, &reached, but);
     }
 
-    // Wakes the objects that these slots and the writes at a timestep reach.
-    fn wake_all(
-        &mut self,
-        basin: &Basin,
-        slots: &[SlotNo],
-        step: StepNo,
-        writes: &[Write],
-        but: Option<ObjectNo>,
-    )
+    // Wakes the objects that are reached.
+    fn wake_reached(&mut self, basin: &Basin, reached: &Reached, but: Option<ObjectNo>)
         requires made { IsQueueOf basin.now self.old }
-        requires slots { All (λ (slot : SlotNo). IsSlot basin.now.objects slot.0) slots.now }
-        requires can { AreWrites basin.now writes.now }
         ensures made { IsQueueOf basin.now self.new }
-        ensures woken { self.new.waiting ≡ self.old.waiting ++ woken basin.now
-            (option_map (λ object. object.0) but) self.old.waiting
-            (numbers_of slots.now ++ slots_at step.0 writes.now) }
+        ensures woken { (slots : List ℕ) → HasReached (is_owner basin.now slots) reached.now
+            → self.new.waiting ≡ self.old.waiting ++ woken basin.now
+            (option_map (λ object. object.0) but) self.old.waiting slots }
     {
-        let mut last = 0;
-        while let Some(owner) = next_owner(basin, slots, step, writes, last) {
-            let woken = self.is_woken(basin, but, owner);
-            self.append_if(woken, owner);
-            last = owner;
+        let last = lesser(reached.last, basin.object_count());
+        for place in lesser(reached.before, last)..last {
+            let woken = self.is_woken(basin, reached, but, place + 1);
+            self.append_if(woken, place + 1);
         }
     }
 
@@ -153,14 +148,37 @@ impl Queue {
         }
     }
 
-    // Whether puts wake an owner of a slot that they reach.
-    fn is_woken(&self, basin: &Basin, but: Option<ObjectNo>, owner: u16) -> bool
+    // Whether an object is woken that is reached: it doesn't wait yet, has a method, and isn't left out.
+    fn is_free(&self, basin: &Basin, but: Option<ObjectNo>, object: u16) -> bool
         requires made { IsQueueOf basin.now self.now }
-        requires known { IsObject basin.now.objects owner }
-        ensures { (slots : List ℕ) → is_owner basin.now slots owner ≡ true → result ≡ is_woken
-            basin.now (option_map (λ other. other.0) but) self.now.waiting slots owner }
+        requires known { IsObject basin.now.objects object }
+        ensures woken { (slots : List ℕ) → is_owner basin.now slots object ≡ true → result ≡ is_woken
+            basin.now (option_map (λ other. other.0) but) self.now.waiting slots object }
+        ensures free { result ≡ true → times object self.now.waiting ≡ 0 }
     {
-        !is_data(basin, ObjectNo(owner)) && !is_but(but, owner) && !self.waits(owner)
+        if self.waits(object) {
+            return false;
+        }
+        if is_but(but, object) {
+            return false;
+        }
+        !is_data(basin, ObjectNo(object))
+    }
+
+    // Whether an object is woken.
+    fn is_woken(&self, basin: &Basin, reached: &Reached, but: Option<ObjectNo>, object: u16) -> bool
+        requires made { IsQueueOf basin.now self.now }
+        requires known { IsObject basin.now.objects object }
+        requires few { object ≤ 500 }
+        ensures woken { (slots : List ℕ) → HasReached (is_owner basin.now slots) reached.now
+            → result ≡ is_woken basin.now (option_map (λ other. other.0) but) self.now.waiting slots object }
+        ensures free { result ≡ true → times object self.now.waiting ≡ 0 }
+    {
+        if has_mark(reached, object) {
+            self.is_free(basin, but, object)
+        } else {
+            false
+        }
     }
 
     // Whether an object waits.

@@ -1,31 +1,32 @@
-ghost use Rattle.std.specs.Prelude.{◌≡◌, List, map};
+ghost use Rattle.std.specs.Prelude.{◌≡◌, [], List, map};
 ghost use Rattle.rw_method.specs.Catalogue.{AreInOrder};
-ghost use Rattle.rw_method.specs.declared.put.Put.{Put};
 ghost use Rattle.rw_run.specs.Log.{written_by};
 ghost use Rattle.rw_dispatch.specs.Writes.{AreWrites};
-ghost use Rattle.rw_method.specs.declared.solved.Solved.TheVariants as Solved;
 ghost use Rattle.rw_series.specs.declared.look.Look.{Look};
 ghost use Rattle.rw_series.specs.Series.{held};
 ghost use Rattle.rw_run.specs.Dispatch.{answered, dispatched, looks_of, put_by, solved_by};
-ghost use Rattle.rw_dispatch.specs.Answer.{Tells, written_in};
+ghost use Rattle.rw_dispatch.specs.Answer.{Ends, Tells, answer_of, asked_in, written_in};
 ghost use Rattle.rw_dispatch.specs.Putting.{ArePuts};
 ghost use Rattle.rw_dispatch.specs.Stage.{AreBounded, IsStageOf, Leaves, stage};
 ghost use Rattle.rw_model.specs.Turn.{IsTurn};
 
+use crate::dispatch_end::DispatchEnd;
 use crate::dispatched::Dispatched;
 use crate::judged::judge;
 use crate::past::past_value;
 use crate::queue::Queue;
-use crate::view::{see_slots, slot_or_none};
+use crate::view::{blank_view, see_slots, slot_or_none};
+use crate::workspace::Workspace;
 use crate::write_list::WriteList;
 use crate::written::{ask_all, make};
 use rw_base::{ObjectNo, StepNo};
-use rw_method::{Catalogue, Put, PutList, Solved, View};
+use rw_method::{Catalogue, PutList, Solved, View};
 use rw_model::Basin;
 use rw_series::Series;
 
-// What the method of an object answers.
+// What the method of an object answers, by a view that is filled in anew.
 fn solve(
+    view: &mut View,
     basin: &Basin,
     methods: &Catalogue,
     series: &Series,
@@ -36,19 +37,14 @@ fn solve(
     requires turn { IsTurn basin.now object.0 step.0 }
     requires bounded { AreBounded basin.now (held series.now) }
     ensures solved { result ≡ solved_by basin.now (held series.now) object.0 step.0 }
-    ensures puts { (puts : List Put) → result ≡ Solved.Puts puts
-        → ArePuts basin.now object.0 puts }
+    ensures puts { ArePuts basin.now object.0 (asked_in result) }
 {
     let _objects = basin.object_count();
     let kind = basin.kind(object);
-    let mut view = View {
-        own: object,
-        now: [None; 12],
-        past: past_value(basin, series, object, step),
-        bounds: [(0, 0); 12],
-    };
+    view.own = object;
+    view.past = past_value(basin, series, object, step);
     see_slots(&mut view.now, &mut view.bounds, basin, series, object, step);
-    methods.solve(kind, &view)
+    methods.solve(kind, view)
 }
 
 // What becomes of the puts that an object asks for.
@@ -57,20 +53,27 @@ fn put_all(
     series: &Series,
     object: ObjectNo,
     step: StepNo,
-    asked: PutList,
-) -> Dispatched
+    asked: &PutList,
+    written: &mut PutList,
+) -> DispatchEnd
     requires turn { IsTurn basin.now object.0 step.0 }
-    requires puts { ArePuts basin.now object.0 asked }
-    ensures { (looked : List Look) → Tells basin.now looked object.0 step.0
-        (put_by basin.now (held series.now) looked object.0 step.0 asked) result }
+    requires puts { ArePuts basin.now object.0 asked.now }
+    requires none { written.old ≡ [] }
+    ensures answer { (looked : List Look) → Tells basin.now looked object.0 step.0
+        (put_by basin.now (held series.now) looked object.0 step.0 asked.now)
+        (answer_of result asked.now written.new) }
+    ensures left { written_in (answer_of result asked.now written.new) ≡ written.new }
 {
-    match judge(basin, series, object, step, &asked) {
-        Ok(written) => Dispatched::Solved { asked, written },
-        Err(clash) => Dispatched::Conflict {
-            slot: clash.slot,
-            held: clash.held,
-            solved: clash.solved,
-        },
+    match judge(basin, series, object, step, asked, written) {
+        Ok(()) => DispatchEnd::Solved,
+        Err(clash) => {
+            written.clear();
+            DispatchEnd::Conflict {
+                slot: clash.slot,
+                held: clash.held,
+                solved: clash.solved,
+            }
+        }
     }
 }
 
@@ -80,67 +83,115 @@ fn answer(
     series: &Series,
     object: ObjectNo,
     step: StepNo,
-    solved: Solved,
-) -> Dispatched
+    solved: &Solved,
+    written: &mut PutList,
+) -> DispatchEnd
     requires turn { IsTurn basin.now object.0 step.0 }
-    requires puts { (puts : List Put) → solved ≡ Solved.Puts puts
-        → ArePuts basin.now object.0 puts }
-    ensures { (looked : List Look) → Tells basin.now looked object.0 step.0
-        (answered basin.now (held series.now) looked object.0 step.0 solved) result }
+    requires puts { ArePuts basin.now object.0 (asked_in solved.now) }
+    ensures answer { (looked : List Look) → Tells basin.now looked object.0 step.0
+        (answered basin.now (held series.now) looked object.0 step.0 solved.now)
+        (answer_of result (asked_in solved.now) written.new) }
+    ensures left { written_in (answer_of result (asked_in solved.now) written.new) ≡ written.new }
 {
+    written.clear();
     match solved {
-        Solved::Idle => Dispatched::Idle,
-        Solved::Puts(asked) => put_all(basin, series, object, step, asked),
+        Solved::Idle => DispatchEnd::Idle,
+        Solved::Puts(asked) => put_all(basin, series, object, step, asked, written),
         Solved::Conflict {
             place,
             held,
             solved,
-        } => Dispatched::Conflict {
-            slot: slot_or_none(basin, object, place),
-            held,
-            solved,
+        } => DispatchEnd::Conflict {
+            slot: slot_or_none(basin, object, *place),
+            held: *held,
+            solved: *solved,
         },
-        Solved::OutOfRange { place, value } => Dispatched::OutOfRange {
-            slot: slot_or_none(basin, object, place),
-            value,
+        Solved::OutOfRange { place, value } => DispatchEnd::OutOfRange {
+            slot: slot_or_none(basin, object, *place),
+            value: *value,
         },
     }
 }
 
-// The puts that were written.
-fn written_in(answer: &Dispatched) -> &[Put]
-    ensures { result.now ≡ written_in answer.now }
+// What becomes of what a method answers, with what is to be written.
+fn settle(
+    written: &mut PutList,
+    writes: &mut WriteList,
+    basin: &Basin,
+    series: &Series,
+    object: ObjectNo,
+    step: StepNo,
+    solved: &Solved,
+) -> DispatchEnd
+    requires turn { IsTurn basin.now object.0 step.0 }
+    requires puts { ArePuts basin.now object.0 (asked_in solved.now) }
+    ensures answer { (looked : List Look) → Tells basin.now looked object.0 step.0
+        (answered basin.now (held series.now) looked object.0 step.0 solved.now)
+        (answer_of result (asked_in solved.now) written.new) }
+    ensures writes { (looked : List Look) → writes.new
+        ≡ written_by (answered basin.now (held series.now) looked object.0 step.0 solved.now) }
+    ensures can { AreWrites basin.now writes.new }
 {
-    match answer {
-        Dispatched::Solved { written, .. } => written.as_slice(),
-        _ => &[],
+    let end = answer(basin, series, object, step, solved, written);
+    ask_all(writes, basin, object, step, written.as_slice());
+    end
+}
+
+// The puts that a method asks for.
+fn asked_in(solved: Solved) -> PutList
+    ensures { result ≡ asked_in solved }
+{
+    match solved {
+        Solved::Puts(asked) => asked,
+        _ => PutList::none(),
+    }
+}
+
+// The answer of a dispatch that ended so.
+fn answer_of(end: DispatchEnd, solved: Solved, written: PutList) -> Dispatched
+    ensures { result ≡ answer_of end (asked_in solved) written }
+{
+    match end {
+        DispatchEnd::Idle => Dispatched::Idle,
+        DispatchEnd::Solved => Dispatched::Solved {
+            asked: asked_in(solved),
+            written,
+        },
+        DispatchEnd::Conflict { slot, held, solved } => Dispatched::Conflict { slot, held, solved },
+        DispatchEnd::OutOfRange { slot, value } => Dispatched::OutOfRange { slot, value },
     }
 }
 
 /// Dispatches an object at a timestep, and makes nothing yet: its method solves what it can from what its slots hold. What it
 /// asks for is judged by the put rules, all by what the cells hold before. If one put is denied, that is a conflict; otherwise
-/// those that aren't there already are to be written. `writes` has them afterwards, whatever it had before. It takes no memory.
+/// those that aren't there already are to be written. The workspace has them afterwards, whatever it had before. It takes no memory.
 pub fn judge_dispatch(
     basin: &Basin,
     methods: &Catalogue,
     series: &Series,
     object: ObjectNo,
     step: StepNo,
-    writes: &mut WriteList,
-) -> Dispatched
+    work: &mut Workspace,
+) -> DispatchEnd
     requires order { AreInOrder (map (λ b. code (b.vtable, b.value)) methods.now.methods.items) }
     requires turn { IsTurn basin.now object.0 step.0 }
     requires bounded { AreBounded basin.now (held series.now) }
-    ensures answer { Tells basin.now (looks_of basin.now (held series.now) object.0 step.0)
+    ensures ends { Ends basin.now (looks_of basin.now (held series.now) object.0 step.0)
         object.0 step.0 (dispatched basin.now (held series.now) object.0 step.0) result }
-    ensures writes { writes.new
+    ensures writes { work.new.writes
         ≡ written_by (dispatched basin.now (held series.now) object.0 step.0) }
-    ensures can { AreWrites basin.now writes.new }
+    ensures can { AreWrites basin.now work.new.writes }
 {
-    let solved = solve(basin, methods, series, object, step);
-    let answer = answer(basin, series, object, step, solved);
-    ask_all(writes, basin, object, step, written_in(&answer));
-    answer
+    let solved = solve(&mut work.view, basin, methods, series, object, step);
+    settle(
+        &mut work.written,
+        &mut work.writes,
+        basin,
+        series,
+        object,
+        step,
+        &solved,
+    )
 }
 
 /// Dispatches an object at a timestep: its method solves what it can from what its slots hold. What it asks for is judged by
@@ -165,10 +216,21 @@ pub fn dispatch(
     ensures leaves { Leaves basin.now (dispatched basin.now (held series.old) object.0 step.0)
         (stage series.old queue.old) (stage series.new queue.new) }
 {
+    let mut view = blank_view();
+    let mut written = PutList::none();
     let mut writes = WriteList::none();
-    let answer = judge_dispatch(basin, methods, series, object, step, &mut writes);
+    let solved = solve(&mut view, basin, methods, series, object, step);
+    let end = settle(
+        &mut written,
+        &mut writes,
+        basin,
+        series,
+        object,
+        step,
+        &solved,
+    );
     let writes = writes.as_slice();
     make(basin, series, writes);
     queue.wake_written(basin, step, writes, Some(object));
-    answer
+    answer_of(end, solved, written)
 }

@@ -1,10 +1,12 @@
-ghost use Rattle.std.specs.Prelude.{◌≡◌, None, map, pos, replicate};
-ghost use Rattle.rw_model.specs.Draft.{IsObject};
+ghost use Rattle.std.specs.Prelude.{◌≡◌, IfSome, map};
+ghost use Rattle.rw_model.specs.Draft.{IsObject, IsSlot};
 ghost use Rattle.rw_series.specs.Series.{held};
 ghost use Rattle.rw_run.specs.Dispatch.{slot_or_none, content_in, bounds_in_place, places};
 ghost use Rattle.rw_model.specs.Turn.{IsTurn};
+ghost use Rattle.rw_dispatch.specs.Seeing.{content_of, bounds_of_slot};
 
 use rw_base::{Cell, ObjectNo, SlotNo, StepNo};
+use rw_method::View;
 use rw_model::{Basin, Content};
 use rw_series::Series;
 
@@ -19,25 +21,38 @@ pub fn slot_or_none(basin: &Basin, object: ObjectNo, place: u8) -> SlotNo
     }
 }
 
-// What the object's slot in a place holds, and its bounds.
+/// The view of no object, in which nothing is filled in.
+pub(crate) fn blank_view() -> View {
+    View {
+        own: ObjectNo(0),
+        now: [None; 12],
+        past: None,
+        bounds: [(0, 0); 12],
+    }
+}
+
+// What the slot with this number holds, and its bounds.
 fn see_slot(
     basin: &Basin,
     series: &Series,
-    object: ObjectNo,
     step: StepNo,
-    place: u8,
+    number: Option<u16>,
 ) -> (Option<Content>, (i64, i64))
-    requires turn { IsTurn basin.now object.0 step.0 }
-    ensures content { result.0 ≡ content_in basin.now (held series.now) object.0 step.0 place }
-    ensures bounds { result.1 ≡ bounds_in_place basin.now object.0 place }
+    requires { IfSome number (IsSlot basin.now.objects) }
+    ensures content { result.0 ≡ content_of (held series.now) step.0 number }
+    ensures bounds { result.1 ≡ bounds_of_slot basin.now number }
 {
-    match basin.slot_at(object, place) {
-        Some(slot) => (series.get(Cell { slot, step }), basin.bounds(slot)),
+    match number {
+        Some(number) => {
+            let slot = SlotNo(number);
+            (series.get(Cell { slot, step }), basin.bounds(slot))
+        }
         None => (None, (0, 0)),
     }
 }
 
-/// Fills in what the object's slots hold and their bounds, by place. The view is filled where it stands: it is large.
+/// Fills in what the object's slots hold and their bounds, by place, whatever stood there. The view is filled where it stands:
+/// it is large.
 pub(crate) fn see_slots(
     now: &mut [Option<Content>; 12],
     bounds: &mut [(i64, i64); 12],
@@ -46,15 +61,14 @@ pub(crate) fn see_slots(
     object: ObjectNo,
     step: StepNo,
 )
-    requires unknown { now.old ≡ replicate 12 None }
-    requires unbounded { bounds.old ≡ replicate 12 (pos 0, pos 0) }
     requires turn { IsTurn basin.now object.0 step.0 }
     ensures contents { now.new ≡ map (content_in basin.now (held series.now) object.0 step.0) places }
     ensures bounds { bounds.new ≡ map (bounds_in_place basin.now object.0) places }
 {
-    for place in 0..12u8 {
-        let seen = see_slot(basin, series, object, step, place);
-        now[usize::from(place)] = seen.0;
-        bounds[usize::from(place)] = seen.1;
+    let numbers = basin.row(object);
+    for place in 0..12 {
+        let seen = see_slot(basin, series, step, numbers[place]);
+        now[place] = seen.0;
+        bounds[place] = seen.1;
     }
 }

@@ -5,7 +5,7 @@ pub use Rattle.rw_dispatch.proofs.Makes.{AreBounded-put, put-set}
 pub use Rattle.rw_dispatch.specs.Answer.{Tells, event_of, written_in}
 pub use Rattle.rw_dispatch.specs.Stage.{AreBounded, IsHeldIn, IsStageOf, Leaves, stage}
 pub use Rattle.rw_model.specs.Turn.{IsStep}
-pub use Rattle.rw_dispatch.specs.declared.dispatched.Dispatched.{Dispatched}
+pub use Rattle.rw_dispatch.specs.declared.dispatch_end.DispatchEnd.{DispatchEnd}
 pub use Rattle.rw_engine.specs.Counts.{IsCounted, count_of, raised, room}
 pub use Rattle.rw_engine.specs.Engine.{Engine}
 pub use Rattle.rw_engine.specs.Givens.{HoldsAll, givens, givens_of, givens_to, if_given}

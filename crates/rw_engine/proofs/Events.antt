@@ -1,7 +1,8 @@
 -- One event of the engine, over the log that its state holds.
-use Rattle.rw_engine.proofs.Common.{Bool, Cell, Cells, Dispatched, Draft, Engine, Event, Fault, GoesTo, HoldsWithin, IsCounted, List, Log, Look, None, Option, RunFault, Settled, Shows, Some, State, [], ap, ap₂, arith, asked_for, cells_of, count_if, count_of, dispatched, dispatches, end_by, end_of, ended_by, event_of, false, fault, fault_by, first_of, held, held_after, idles, if◌then◌else◌, inside, last_closed, last_put, lines, lines_by, nat_le, nat_tests, next, next_of, no_rules, none-some, option_or, queued_after, raised, refl, same_Some, seen, solves, standing, subst, sym, trace_of, true, waiting, written_by, ℕ, ◌++◌, ◌<◌, ◌==◌, ◌∙◌, ◌∷◌, ◌≡◌}
+use Rattle.rw_engine.proofs.Common.{Bool, Cell, Cells, DispatchEnd, Draft, Engine, Event, Fault, GoesTo, HoldsWithin, IsCounted, List, Log, Look, None, Option, Put, RunFault, Settled, Shows, Some, State, [], ap, ap₂, arith, asked_for, cells_of, count_if, count_of, dispatched, dispatches, end_by, end_of, ended_by, event_of, false, fault, fault_by, first_of, held, held_after, idles, if◌then◌else◌, inside, last_closed, last_put, lines, lines_by, nat_le, nat_tests, next, next_of, no_rules, none-some, option_or, queued_after, raised, refl, same_Some, seen, solves, standing, subst, sym, trace_of, true, waiting, written_by, ℕ, ◌++◌, ◌<◌, ◌==◌, ◌∙◌, ◌∷◌, ◌≡◌}
 use Rattle.rw_run.specs.declared.fault.RunFault.TheVariants.{ObjectLimit}
-use Rattle.rw_dispatch.specs.declared.dispatched.Dispatched.TheVariants.{Idle as IsIdle, Solved as IsSolved, Conflict as IsConflict, OutOfRange as IsOutOfRange}
+use Rattle.rw_dispatch.specs.Answer.{Ends, answer_of}
+use Rattle.rw_dispatch.specs.declared.dispatch_end.DispatchEnd.TheVariants.{Idle as IsIdle, Solved as IsSolved, Conflict as IsConflict, OutOfRange as IsOutOfRange}
 use Rattle.rw_run.specs.Trace.{told as with_lines}
 use Rattle.rw_engine.proofs.Raises.{raised_at}
 use Rattle.rw_engine.proofs.Traces.{shown_more}
@@ -30,30 +31,30 @@ settled_inside (fault why ∷ log) step is = absurd (cc)
 settled_inside (event ∷ log) step is = refl
 
 -- what an engine tells of the dispatch of an object
-pub record Told (basin : Draft) (old new : Engine) (looked : List Look) (step object : ℕ) (event : Event) (answer : Dispatched) : Type 0 where
-  pub is : event ≡ event_of basin looked object step answer
+pub record Told (basin : Draft) (old new : Engine) (looked : List Look) (step object : ℕ) (event : Event) (ended : DispatchEnd) : Type 0 where
+  pub is : Ends basin looked object step event ended
   pub cells : (cell : Cell) → held new.series cell ≡ held_after basin event (held old.series) cell
-  pub trace : new.trace ≡ with_lines old.trace (lines_by object step answer (written_by event))
+  pub trace : new.trace ≡ with_lines old.trace (lines_by object step ended (written_by event))
   pub closed_steps : new.closed ≡ old.closed
 
 module _ (basin : Draft) (looked : List Look) (step object : ℕ) (rest : List ℕ) (log : Log) where
-  -- what an answer says of the event that it tells of
-  record Says (event : Event) (answer : Dispatched) : Type 0 where
-    pub lines_are : lines_by object step answer (written_by event) ≡ lines event
+  -- what the end of a dispatch says of its event
+  record Says (event : Event) (ended : DispatchEnd) : Type 0 where
+    pub lines_are : lines_by object step ended (written_by event) ≡ lines event
     pub last : last_closed (event ∷ log) ≡ last_closed log
-    pub calm : fault_by object step answer ≡ None → (end_of (event ∷ log) ≡ Settled) × (standing (event ∷ log) ≡ inside step)
+    pub calm : fault_by object step ended ≡ None → (end_of (event ∷ log) ≡ Settled) × (standing (event ∷ log) ≡ inside step)
         × (waiting basin log ≡ object ∷ rest → waiting basin (event ∷ log) ≡ queued_after basin event rest)
         × ((other : ℕ) → dispatches (event ∷ log) other ≡ count_if (object == other) (dispatches log other))
-    pub faulted : (why : RunFault) → fault_by object step answer ≡ Some why → event ≡ fault why
+    pub faulted : (why : RunFault) → fault_by object step ended ≡ Some why → event ≡ fault why
 
-  of_answer : (answer : Dispatched) → Says (event_of basin looked object step answer) answer
-  of_answer IsIdle = record {
+  of_end : (ended : DispatchEnd) (asked written : List Put) → Says (event_of basin looked object step (answer_of ended asked written)) ended
+  of_end IsIdle asked written = record {
     lines_are = refl;
     last = refl;
     calm = λ none. (refl, refl, λ waits. idles basin log object step looked [] rest waits, λ other. refl);
     faulted = λ why some. absurd (none-some _ some);
   }
-  of_answer (IsSolved asked written) = record {
+  of_end IsSolved asked written = record {
     lines_are = refl;
     last = refl;
     calm = λ none. (
@@ -64,26 +65,26 @@ module _ (basin : Draft) (looked : List Look) (step object : ℕ) (rest : List �
     );
     faulted = λ why some. absurd (none-some _ some);
   }
-  of_answer (IsConflict slot held_there solves_here) = record {
+  of_end (IsConflict slot held_there solves_here) asked written = record {
     lines_are = refl;
     last = refl;
     calm = λ none. absurd (none-some _ (sym none));
     faulted = λ why some. ap fault (same_Some _ _ some);
   }
-  of_answer (IsOutOfRange slot value) = record {
+  of_end (IsOutOfRange slot value) asked written = record {
     lines_are = refl;
     last = refl;
     calm = λ none. absurd (none-some _ (sym none));
     faulted = λ why some. ap fault (same_Some _ _ some);
   }
 
-  says : (event : Event) (answer : Dispatched) → event ≡ event_of basin looked object step answer → Says event answer
-  says event answer is = subst (λ e. Says e answer) (sym is) (of_answer answer)
+  says : (event : Event) (ended : DispatchEnd) → Ends basin looked object step event ended → Says event ended
+  says event ended ends = subst (λ e. Says e ended) (sym ends.is) (of_end ended ends.asked ends.written)
 
-  shown : (old new : Engine) (event : Event) (answer : Dispatched) → Shows basin old log → Told basin old new looked step object event answer
+  shown : (old new : Engine) (event : Event) (ended : DispatchEnd) → Shows basin old log → Told basin old new looked step object event ended
       → new.end ≡ end_of (event ∷ log) → Shows basin new (event ∷ log)
-  shown old new event answer shows told end =
-      let tells = says event answer told.is in record {
+  shown old new event ended shows told end =
+      let tells = says event ended told.is in record {
         cells = λ cell. told.cells cell ∙ ap (λ z. option_or (last_put basin (written_by event) cell) z) (shows.cells cell);
         trace = shown_more old.trace new.trace (trace_of log) (lines event) (told.trace ∙ ap (with_lines old.trace) tells.lines_are) shows.trace;
         closed_steps = told.closed_steps ∙ shows.closed_steps ∙ sym tells.last;
@@ -91,21 +92,21 @@ module _ (basin : Draft) (looked : List Look) (step object : ℕ) (rest : List �
       }
 
 -- what the state has after that
-pub record Went (basin : Draft) (old new : State) (looked : List Look) (step object : ℕ) (rest : List ℕ) (event : Event) (answer : Dispatched) : Type 0 where
-  pub told : Told basin (seen old) (seen new) looked step object event answer
+pub record Went (basin : Draft) (old new : State) (looked : List Look) (step object : ℕ) (rest : List ℕ) (event : Event) (ended : DispatchEnd) : Type 0 where
+  pub told : Told basin (seen old) (seen new) looked step object event ended
   pub counted : IsCounted old.counts object
   pub counts : new.counts ≡ raised old.counts object
   pub queue : new.queue.waiting ≡ queued_after basin event rest
 
 -- the timestep goes on, or the run ends by the fault
-pub goes_to : (basin : Draft) (old new : State) (looked : List Look) (step object : ℕ) (rest : List ℕ) (log : Log) (event : Event) (answer : Dispatched)
-    → HoldsWithin basin old step log (object ∷ rest) → Went basin old new looked step object rest event answer → new.end ≡ old.end
-    → (why : Option RunFault) → fault_by object step answer ≡ why → GoesTo basin (end_by why) (ended_by why new) step log event
-goes_to basin old new looked step object rest log event answer holds went end None is =
-    let tells = says basin looked step object rest log event answer went.told.is in
+pub goes_to : (basin : Draft) (old new : State) (looked : List Look) (step object : ℕ) (rest : List ℕ) (log : Log) (event : Event) (ended : DispatchEnd)
+    → HoldsWithin basin old step log (object ∷ rest) → Went basin old new looked step object rest event ended → new.end ≡ old.end
+    → (why : Option RunFault) → fault_by object step ended ≡ why → GoesTo basin (end_by why) (ended_by why new) step log event
+goes_to basin old new looked step object rest log event ended holds went end None is =
+    let tells = says basin looked step object rest log event ended went.told.is in
     let calm = tells.calm is in record {
       open_step = calm.1;
-      shows = shown basin looked step object rest log (seen old) (seen new) event answer holds.shows went.told
+      shows = shown basin looked step object rest log (seen old) (seen new) event ended holds.shows went.told
           (end ∙ holds.shows.end ∙ settled_inside log step holds.open_step ∙ sym calm.0);
       queue = went.queue ∙ sym (calm.2 (sym holds.queue));
       counts = λ other known.
@@ -113,10 +114,10 @@ goes_to basin old new looked step object rest log event answer holds went end No
           ∙ raised_at old.counts object other went.counted known.first
           ∙ ap (count_if (object == other)) (holds.counts other known) ∙ sym (calm.3 other);
     }
-goes_to basin old new looked step object rest log event answer holds went end (Some why) is =
-    let faulted = (says basin looked step object rest log event answer went.told.is).faulted why is in (
+goes_to basin old new looked step object rest log event ended holds went end (Some why) is =
+    let faulted = (says basin looked step object rest log event ended went.told.is).faulted why is in (
       faulted,
-      shown basin looked step object rest log (seen old) (seen (record new { end = Fault why })) event answer holds.shows
+      shown basin looked step object rest log (seen old) (seen (record new { end = Fault why })) event ended holds.shows
           (record { is = went.told.is; cells = went.told.cells; trace = went.told.trace; closed_steps = went.told.closed_steps })
           (ap (λ e. end_of (e ∷ log)) (sym faulted)),
     )

@@ -1,4 +1,4 @@
--- The lines of a trace for the answer of a dispatch, and the fault that it is.
+-- The lines of a trace for a dispatch that ended so, and the fault that it is.
 use Rattle.std.specs.Prelude.{ℕ, List, [], ◌∷◌, ◌≡◌, map, Option, Some, None}
 use Rattle.rw_run.specs.declared.fault.RunFault.{RunFault}
 use Rattle.rw_run.specs.declared.fault.RunFault.TheVariants.{Conflict, ObjectOutOfRange}
@@ -7,13 +7,13 @@ use Rattle.rw_run.specs.declared.trace.TraceEvent.TheVariants.{Idle, Solve, Faul
 use Rattle.rw_run.specs.Log.{Asked}
 use Rattle.rw_run.specs.RunOf.{line_of}
 use Rattle.rw_run.specs.Trace.{told}
-use Rattle.rw_dispatch.specs.declared.dispatched.Dispatched.{Dispatched}
-use Rattle.rw_dispatch.specs.declared.dispatched.Dispatched.TheVariants.{Idle as IsIdle, Solved as IsSolved, Conflict as IsConflict, OutOfRange as IsOutOfRange}
+use Rattle.rw_dispatch.specs.declared.dispatch_end.DispatchEnd.{DispatchEnd}
+use Rattle.rw_dispatch.specs.declared.dispatch_end.DispatchEnd.TheVariants.{Idle as IsIdle, Solved as IsSolved, Conflict as IsConflict, OutOfRange as IsOutOfRange}
 
--- the fault that an answer is, if it is one
-abbrev pub fault_by : ℕ → ℕ → Dispatched → Option RunFault
+-- the fault that it is, if it is one
+abbrev pub fault_by : ℕ → ℕ → DispatchEnd → Option RunFault
 fault_by object step IsIdle = None
-fault_by object step (IsSolved asked written) = None
+fault_by object step IsSolved = None
 fault_by object step (IsConflict slot held solved) = Some (Conflict (record { 0 = object }) slot (record { 0 = step }) held solved)
 fault_by object step (IsOutOfRange slot value) = Some (ObjectOutOfRange (record { 0 = object }) slot (record { 0 = step }) value)
 
@@ -21,10 +21,10 @@ abbrev pub fault_line : Option RunFault → List TraceEvent
 fault_line None = []
 fault_line (Some fault) = Fault fault ∷ []
 
--- the lines of an answer, of which these are written
-abbrev pub lines_by : ℕ → ℕ → Dispatched → List Asked → List TraceEvent
+-- its lines, where these are written
+abbrev pub lines_by : ℕ → ℕ → DispatchEnd → List Asked → List TraceEvent
 lines_by object step IsIdle writes = Idle (record { 0 = object }) ∷ []
-lines_by object step (IsSolved asked written) writes = Solve (record { 0 = object }) ∷ map line_of writes
+lines_by object step IsSolved writes = Solve (record { 0 = object }) ∷ map line_of writes
 lines_by object step (IsConflict slot held solved) writes = fault_line (fault_by object step (IsConflict slot held solved))
 lines_by object step (IsOutOfRange slot value) writes = fault_line (fault_by object step (IsOutOfRange slot value))
 

@@ -19,7 +19,7 @@ use crate::step_end::StepEnd;
 use crate::trace_lines::tell;
 use crate::undo::{Undone, note, take_back};
 use rw_base::{NoMemory, ObjectNo, StepNo};
-use rw_dispatch::{Queue, WriteList, judge_dispatch, make};
+use rw_dispatch::{Queue, Workspace, judge_dispatch, make};
 use rw_inputs::Inputs;
 use rw_method::Catalogue;
 use rw_model::Basin;
@@ -27,12 +27,12 @@ use rw_run::{Run, RunEnd, RunFault, Trace, TraceEvent};
 use rw_series::Series;
 use std::alloc::Global;
 
-/// What an engine works on. `writes` is what the last dispatch writes. Queue and counts are those of the open timestep, and what can be undone was put in it.
+/// What an engine works on. Queue and counts are those of the open timestep, and what can be undone was put in it.
 #[derive(Drop)]
 pub(crate) struct State {
     series: Series,
     queue: Queue,
-    writes: WriteList,
+    work: Workspace,
     counts: Counts,
     trace: Trace,
     closed: u16,
@@ -62,7 +62,7 @@ impl State {
         Ok(State {
             series,
             queue,
-            writes: WriteList::none(),
+            work: Workspace::new(),
             counts,
             trace,
             closed: 0,
@@ -165,10 +165,10 @@ impl State {
         ensures wants { IfErr result (λ _. IsSome self.old.trace) }
     {
         self.counts.raise(object.0);
-        let answer = judge_dispatch(basin, methods, &self.series, object, step, &mut self.writes);
-        let writes = self.writes.as_slice();
+        let end = judge_dispatch(basin, methods, &self.series, object, step, &mut self.work);
+        let writes = self.work.writes.as_slice();
         note(&mut self.undo, &self.trace, &self.series, writes)?;
-        let fault = tell(&mut self.trace, object, step, &answer, writes)?;
+        let fault = tell(&mut self.trace, object, step, &end, writes)?;
         make(basin, &mut self.series, writes);
         self.queue.wake_written(basin, step, writes, Some(object));
         Ok(self.end_by(fault))

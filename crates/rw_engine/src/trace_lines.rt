@@ -6,7 +6,7 @@ ghost use Rattle.rw_run.specs.Trace.{told};
 ghost use Rattle.rw_engine.specs.Lines.{lines_by, fault_by, Grows};
 
 use rw_base::{NoMemory, ObjectNo, StepNo};
-use rw_dispatch::Dispatched;
+use rw_dispatch::DispatchEnd;
 use rw_run::{RunFault, Trace, TraceEvent, Write};
 
 // The line of what is written.
@@ -43,31 +43,31 @@ fn tell_fault(trace: &mut Trace, fault: RunFault) -> Result<Option<RunFault>, No
     Ok(Some(fault))
 }
 
-/// Writes the lines of what a dispatch answered and writes, and answers the fault that it is, if it is one.
+/// Writes the lines of a dispatch that ended so and writes these, and answers the fault that it is, if it is one.
 pub(crate) fn tell(
     trace: &mut Trace,
     object: ObjectNo,
     step: StepNo,
-    answer: &Dispatched,
+    end: &DispatchEnd,
     writes: &[Write],
 ) -> Result<Option<RunFault>, NoMemory>
     ensures told { IfOk result
-        (λ _. trace.new ≡ told trace.old (lines_by object.0 step.0 answer.now writes.now)) }
-    ensures fault { IfOk result (λ fault. fault ≡ fault_by object.0 step.0 answer.now) }
+        (λ _. trace.new ≡ told trace.old (lines_by object.0 step.0 end.now writes.now)) }
+    ensures fault { IfOk result (λ fault. fault ≡ fault_by object.0 step.0 end.now) }
     ensures grows { Grows trace.old trace.new }
     ensures wants { IfErr result (λ _. IsSome trace.old) }
 {
-    match answer {
-        Dispatched::Idle => {
+    match end {
+        DispatchEnd::Idle => {
             trace.push(TraceEvent::Idle(object))?;
             Ok(None)
         }
-        Dispatched::Solved { .. } => {
+        DispatchEnd::Solved => {
             trace.push(TraceEvent::Solve(object))?;
             tell_writes(trace, writes)?;
             Ok(None)
         }
-        Dispatched::Conflict { slot, held, solved } => tell_fault(
+        DispatchEnd::Conflict { slot, held, solved } => tell_fault(
             trace,
             RunFault::Conflict {
                 object,
@@ -77,7 +77,7 @@ pub(crate) fn tell(
                 solved: *solved,
             },
         ),
-        Dispatched::OutOfRange { slot, value } => tell_fault(
+        DispatchEnd::OutOfRange { slot, value } => tell_fault(
             trace,
             RunFault::ObjectOutOfRange {
                 object,

@@ -37,6 +37,13 @@ impl PutList {
         self.puts.push(put);
     }
 
+    /// Takes all puts out.
+    pub fn clear(&mut self)
+        ensures { self.new ≡ [] }
+    {
+        self.puts.clear();
+    }
+
     /// Its puts.
     pub fn as_slice(&self) -> &[Put]
         ensures { result.now ≡ self.now }

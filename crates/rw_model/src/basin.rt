@@ -1,4 +1,5 @@
-ghost use Rattle.std.specs.Prelude.{◌≡◌, ◌≤◌, length, None, Some, All, Contains, not, option_map};
+ghost use Rattle.std.specs.Prelude.{◌≡◌, ◌≤◌, length, map, None, Some, All, Contains, not, option_map};
+ghost use Rattle.std.specs.List.{range_with_len};
 ghost use Rattle.std.specs.Option.{ForSome};
 ghost use Rattle.rw_model.specs.Code.{code_of};
 ghost use Rattle.rw_model.specs.Kind.{IsKind};
@@ -102,6 +103,15 @@ impl Basin {
             Some(number) => Some(SlotNo(number)),
             None => None,
         }
+    }
+
+    /// The numbers of an object's slots by place, for the first 12 places. `None` exactly where it has none there.
+    pub fn row(&self, o: ObjectNo) -> &[Option<u16>]
+        requires { IsObject self.now.objects o.0 }
+        ensures { result.now ≡ map (slot_in_place self.now.objects o.0) (range_with_len 0 12) }
+    {
+        let first = usize::from(o.0 - 1) * 12;
+        &self.tables.numbers[first..first + 12]
     }
 
     // The number of an object's slot in a place.

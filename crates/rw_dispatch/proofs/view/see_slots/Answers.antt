@@ -1,14 +1,27 @@
-use Rattle.std.specs.Prelude.{pos, None}
-use Rattle.rw_series.specs.Series.{held}
+use Rattle.rw_dispatch.proofs.Common.{None, ap, held, rules, slice_index_or, ◌∙◌}
+use Rattle.std.proofs.Math.ListN.{length-set}
 use Rattle.rw_run.specs.Dispatch.{bounds_in_place, content_in}
-use Rattle.rw_dispatch.proofs.Filling.{filled-more}
+use Rattle.rw_dispatch.specs.Seeing.{bounds_of_slot, content_of}
+use Rattle.rw_dispatch.proofs.Filling.{filled-more, number_known, number_there}
 use Rattle.rw_dispatch.proofs.view.see_slots.Goals as goal
+
+pub see_slot-seen-requires : goal.see_slot-seen-requires
+see_slot-seen-requires c =
+    let objects = c.args.basin.now.objects in
+    number_known objects c.args.object.0 c.loop-place.place (slice_index_or c.row-numbers.result.now c.loop-place.place None)
+    (number_there objects c.args.object.0 c.loop-place.place c.row-numbers.result.now c.row-numbers.ensures c.loop-place-test.true)
 
 pub loop-place-preserved : goal.loop-place-preserved
 loop-place-preserved c =
     let basin = c.args.basin.now in
-    let near = c.loop-place-test.true in
-    let was = c.loop-place.invariant in record {
-      contents = filled-more (content_in basin (held c.args.series.now) c.args.object.0 c.args.step.0) None c.loop-place.place 12 _ _ _ near was.contents c.from.ensures c.see_slot-seen.ensures.content;
-      bounds = filled-more (bounds_in_place basin c.args.object.0) (pos 0, pos 0) c.loop-place.place 12 _ _ _ near was.bounds c.from-in-loop-place.ensures c.see_slot-seen.ensures.bounds;
+    let place = c.loop-place.place in
+    let was = c.loop-place.invariant in
+    let number = number_there basin.objects c.args.object.0 place c.row-numbers.result.now c.row-numbers.ensures c.loop-place-test.true in
+    record {
+      contents = filled-more (content_in basin (held c.args.series.now) c.args.object.0 c.args.step.0) c.args.now.now place c.loop-place.now _
+          (search rules) was.contents (c.see_slot-seen.ensures.content ∙ ap (content_of (held c.args.series.now) c.args.step.0) number);
+      bounds = filled-more (bounds_in_place basin c.args.object.0) c.args.bounds.now place c.loop-place.bounds _
+          (search rules) was.bounds (c.see_slot-seen.ensures.bounds ∙ ap (bounds_of_slot basin) number);
+      contents_all = length-set c.loop-place.now place _ ∙ was.contents_all;
+      bounds_all = length-set c.loop-place.bounds place _ ∙ was.bounds_all;
     }

@@ -1,7 +1,0 @@
-use Rattle.rw_dispatch.proofs.Common.{Bool, IsLeastAbove, list_any, take, ℕ, ◌==◌, ◌||◌}
-use Rattle.rw_model.proofs.Common.{owner_of, numbers_of}
-use Rattle.rw_dispatch.proofs.owners.nearest_at.Given as goal
-
-abbrev pub invariant-loop-other : goal.invariant-loop-other
-invariant-loop-other l = (seen : ℕ → Bool) → IsLeastAbove l.after seen l.fn.best
-    → IsLeastAbove l.after (λ object. list_any (λ other. owner_of l.basin.objects other == object) (numbers_of (take l.other-index l.group)) || seen object) l.best
