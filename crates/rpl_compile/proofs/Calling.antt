@@ -17,7 +17,7 @@ use Rattle.rpl_compile.specs.Operations.{code_kind, code_kinds}
 use Rattle.rpl_compile.specs.Kinded.{HasHead}
 use Rattle.rpl_compile.specs.Translate.{Callee, call_by, call_line, callee_heads, predefined_callees}
 use Rattle.rpl_compile.proofs.Going.{takes_kinds}
-use Rattle.rpl_verify.specs.Budget.{onward, way_of}
+use Rattle.rpl_verify.specs.Budget.{onward, going_of}
 
 -- in a block of this scope, a call of each function fits that there is
 abbrev pub LinesFit : Scope → List Callee → Type 0
@@ -26,11 +26,11 @@ LinesFit scope callees =
     → judged scope p (before (reverse (code_kinds (takes_named (callee_heads callees) f)) ++ ls) os) (call_line callees f)
     ≡ Ok (before (code_kind (result_named (callee_heads callees) f) ∷ ls) os)
 
-pub call_onward : (callees : List Callee) (f : List ℕ) → way_of (call_line callees f) ≡ onward
+pub call_onward : (callees : List Callee) (f : List ℕ) → going_of (call_line callees f) ≡ onward
 call_onward [] f = refl
 call_onward (c ∷ callees) f = by (bytes_eq c.head.name f) c.block (call_onward callees f)
   where
-    by : (t : Bool) (block : Option ℕ) → way_of (call_line callees f) ≡ onward → way_of (if t then call_by f block else call_line callees f) ≡ onward
+    by : (t : Bool) (block : Option ℕ) → going_of (call_line callees f) ≡ onward → going_of (if t then call_by f block else call_line callees f) ≡ onward
     by true None h = refl
     by true (Some n) h = refl
     by false block h = h

@@ -8,7 +8,7 @@ use Rattle.rpl_tree.specs.Tree.{Tree}
 use Rattle.rpl_tree.specs.Kinds.{Head, Names, result_named, takes_named, tree_kind}
 use Rattle.rpl_tree.specs.Locals.{local_kinds}
 use Rattle.rpl_verify.specs.Places.{spots}
-use Rattle.rpl_verify.specs.Budget.{onward, way_of}
+use Rattle.rpl_verify.specs.Budget.{onward, going_of}
 use Rattle.rpl_verify.specs.Notes.{words_kept}
 use Rattle.rpl_tree.specs.Cost.{Costed, Price, costed_heads, most, most_named, to_widen}
 use Rattle.rpl_tree.specs.Words.{height}
@@ -31,7 +31,7 @@ pub record CallFits (scope : Scope) (lines : List Instruction) (pays : Price) (a
     (functions deep : List Costed)
     (f : List ℕ) (p : ℕ) (b c : Before) : Type 0 where
   pub fits : judged scope p b (call_line callees f) ≡ Ok c
-  pub goes_on : way_of (call_line callees f) ≡ onward
+  pub goes_on : going_of (call_line callees f) ≡ onward
   pub sum : account.sum_at b (call_line callees f) ≡ most_named functions f
   pub high : account.high_at b (call_line callees f) ≡ words_kept scope.locals b + most_named deep f
 
@@ -93,7 +93,7 @@ module _ (costing : Costing) where
       goes_to costing.scope costing.lines costing.spots_are costing.pays costing.account {xs = xs} {p = p} {s = s} {h = h} {b = b} {c = c} {d = d} e
       way
 
-  pub line : {i : Instruction} {p s : ℕ} {b c : Before} → judged costing.scope p b i ≡ Ok c → way_of i ≡ onward → (IsInvoke i → ⊥)
+  pub line : {i : Instruction} {p s : ℕ} {b c : Before} → judged costing.scope p b i ≡ Ok c → going_of i ≡ onward → (IsInvoke i → ⊥)
       → costing.account.sum_at b i ≡ s
       → Leads (i ∷ []) p b c s (max (words_kept costing.scope.locals b) (words_kept costing.scope.locals c))
   line {i} {p} {s} {b} {c} j w none e =

@@ -8,7 +8,7 @@ use Rattle.rpl_tree.specs.Cost.{Price}
 use Rattle.rpl_verify.specs.Places.{rest_of}
 use Rattle.rpl_verify.specs.Names.{Scope}
 use Rattle.rpl_verify.specs.Fits.{Before, Open, judged, room_on_top}
-use Rattle.rpl_verify.specs.Budget.{entering, onward, turning, way_of}
+use Rattle.rpl_verify.specs.Budget.{entering, onward, turning, going_of}
 use Rattle.rpl_verify.specs.Notes.{words_kept}
 
 -- an instruction that counts 1, and neither looks nor puts nor calls a block
@@ -48,7 +48,7 @@ pub record Account (scope : Scope) (lines : List Instruction) (pays : Price) : T
   pub high_at : Before → Instruction → ℕ
   pub prices : Prices scope pays sum_at
   pub high_is : (b : Before) (i : Instruction) → (IsInvoke i → ⊥) → high_at b i ≡ words_kept scope.locals b
-  pub one : (p : ℕ) (b c : Before) (i : Instruction) → slice_get lines p ≡ Some i → judged scope p b i ≡ Ok c → way_of i ≡ onward
+  pub one : (p : ℕ) (b c : Before) (i : Instruction) → slice_get lines p ≡ Some i → judged scope p b i ≡ Ok c → going_of i ≡ onward
       → F p b (sum_at b i) (max (high_at b i) (words_kept scope.locals c)) (suc p) c
   pub next : (p q r s h t g : ℕ) (b c d : Before) → F p b s h q c → F q c t g r d → F p b (s + t) (max h g) r d
   pub none : (p : ℕ) (b : Before) → F p b 0 (words_kept scope.locals b) p b
@@ -63,7 +63,7 @@ pub record Account (scope : Scope) (lines : List Instruction) (pays : Price) : T
       → F p b (max s t + pays.step 3) (max (words_kept scope.locals b) (max h g)) (suc last) d
   -- a loop over a list with so much room
   pub loop : (p q last room s h : ℕ) (i j : Instruction) (o : Open) (b c d e : Before) → suc p ≡ q → p < last
-      → slice_get lines p ≡ Some i → judged scope p b i ≡ Ok c → way_of i ≡ entering → IsUnit i → room_on_top b.kinds ≡ room
+      → slice_get lines p ≡ Some i → judged scope p b i ≡ Ok c → going_of i ≡ entering → IsUnit i → room_on_top b.kinds ≡ room
       → F q c s h last d → o.start ≡ p → d.loops ≡ o ∷ e.loops
-      → slice_get lines last ≡ Some j → judged scope last d j ≡ Ok e → way_of j ≡ turning → IsUnit j → words_kept scope.locals d ≤ h
+      → slice_get lines last ≡ Some j → judged scope last d j ≡ Ok e → going_of j ≡ turning → IsUnit j → words_kept scope.locals d ≤ h
       → F p b (pays.step 1 + room * (s + pays.step 1)) (max (words_kept scope.locals b) (max h (words_kept scope.locals e))) (suc last) e

@@ -16,7 +16,7 @@ use Rattle.rpl_tree.specs.Tree.{Tree, choice, one, two, convert, at}
 use Rattle.rpl_tree.specs.Kinds.{Names, join, tree_kind}
 use Rattle.rpl_tree.specs.Locals.{local_kinds}
 use Rattle.rpl_tree.specs.World.{table_named}
-use Rattle.rpl_verify.specs.Budget.{onward, way_of}
+use Rattle.rpl_verify.specs.Budget.{onward, going_of}
 use Rattle.rpl_code.specs.Weight.{words_of}
 use Rattle.rpl_tree.specs.Cost.{costed_heads, to_widen}
 use Rattle.rpl_verify.specs.Names.{unless_there}
@@ -40,7 +40,7 @@ module _ (costing : Costing) where
 
   pub leaf : (i : Instruction) (k : ValueKind) (site : Site) (os : List Open) → words_of k ≡ 1
       → judged costing.scope site.place (here site os) i ≡ Ok (before (k ∷ code_kinds site.below) os)
-      → way_of i ≡ onward → (IsInvoke i → ⊥) → IsUnit i
+      → going_of i ≡ onward → (IsInvoke i → ⊥) → IsUnit i
       → Leads costing (i ∷ []) site.place (here site os) (before (k ∷ code_kinds site.below) os) (costing.pays.step 1)
       (kept costing (here site os) + 1)
   leaf i k site os w j on none u = told costing (line costing j on none (costing.account.prices.unit (here site os) i u)) refl (omega (arith, w))
@@ -75,7 +75,7 @@ module _ (costing : Costing) where
           ∙ there (I.ToStorage o) (table_named costing.scope.basin o) h.0 (before (K.N ∷ code_kinds site.below) os)
           ∙ takes_kinds costing.scope (I.ToStorage o) (K.N ∷ []) (K.N ∷ []) (code_kinds site.below) os refl
 
-      onwards : (word : ConvertWord) → way_of (convert_line word o) ≡ onward
+      onwards : (word : ConvertWord) → going_of (convert_line word o) ≡ onward
       onwards StorageToElevation = refl
       onwards ElevationToStorage = refl
 
@@ -135,7 +135,7 @@ module _ (costing : Costing) where
   -- `s[d]`, and KNOWN of it
   looks_at : (s d : Tree) (i : Instruction) (left : ValueKind) → Claim costing s → Claim costing d → words_of left ≡ 1
       → ((p : ℕ) (ls : List ValueKind) (os : List Open) → judged costing.scope p (before (K.D ∷ K.S ∷ ls) os) i ≡ Ok (before (left ∷ ls) os))
-      → way_of i ≡ onward → (IsInvoke i → ⊥) → ((b : Before) → costing.account.sum_at b i ≡ costing.pays.look)
+      → going_of i ≡ onward → (IsInvoke i → ⊥) → ((b : Before) → costing.account.sum_at b i ≡ costing.pays.look)
       → (site : Site) (os : List Open) → IsKinded costing.scope.basin (heads costing) (names_in site.scope) (at s d)
       → Placed costing.scope.locals site.scope → Own costing site (at s d)
       → Leads costing (code_of costing.callees site s ++

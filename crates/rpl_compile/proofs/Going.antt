@@ -9,7 +9,7 @@ use Rattle.rpl_verify.specs.declared.verify_kind.VerifyKind.TheVariants.{Missing
 use Rattle.rpl_verify.specs.Places.{Spot, spots}
 use Rattle.rpl_verify.specs.Table.{Row, goes_by, left_of, on_top_of, operand_count, operands_behind, or_wrong, row, takes}
 use Rattle.rpl_verify.specs.Names.{Scope}
-use Rattle.rpl_verify.specs.Budget.{entering, onward, turning, way_of}
+use Rattle.rpl_verify.specs.Budget.{entering, onward, turning, going_of}
 use Rattle.rpl_verify.specs.Notes.{words_kept}
 use Rattle.rpl_tree.specs.Cost.{Price}
 use Rattle.rpl_verify.specs.Fits.{Before, Open, before, carried, declared_at, if_fits, judged, restarted, room_on_top, taken, then_do}
@@ -82,7 +82,7 @@ module _ (scope : Scope) (lines : List Instruction) (spots_are : scope.spots ≡
     tall = omega arith;
   }
 
-  pub goes_one : (p : ℕ) (b c : Before) (i : Instruction) → judged scope p b i ≡ Ok c → way_of i ≡ onward
+  pub goes_one : (p : ℕ) (b c : Before) (i : Instruction) → judged scope p b i ≡ Ok c → going_of i ≡ onward
       → Goes (i ∷ []) p b c (account.sum_at b i) (max (account.high_at b i) (words_kept scope.locals c))
   goes_one p b c i j w = record {
     go = λ h o.
@@ -107,7 +107,7 @@ module _ (scope : Scope) (lines : List Instruction) (spots_are : scope.spots ≡
   }
 
   -- an instruction that comes to so much and calls no block
-  pub goes_line : {i : Instruction} {p s : ℕ} {b c : Before} → judged scope p b i ≡ Ok c → way_of i ≡ onward → (IsInvoke i → ⊥)
+  pub goes_line : {i : Instruction} {p s : ℕ} {b c : Before} → judged scope p b i ≡ Ok c → going_of i ≡ onward → (IsInvoke i → ⊥)
       → account.sum_at b i ≡ s
       → Goes (i ∷ []) p b c s (max (words_kept scope.locals b) (words_kept scope.locals c))
   goes_line {i} {p} {s} {b} {c} j w none e =
@@ -115,7 +115,7 @@ module _ (scope : Scope) (lines : List Instruction) (spots_are : scope.spots ≡
       (subst (λ n. Goes (i ∷ []) p b c (account.sum_at b i) (max n (kept c))) (account.high_is b i none) (goes_one p b c i j w))
 
   pub goes_cons : {i : Instruction} {xs : List Instruction} {p q s t g : ℕ} {b c d : Before} → q ≡ p + 1 → judged scope p b i ≡ Ok c
-      → way_of i ≡ onward
+      → going_of i ≡ onward
       → (IsInvoke i → ⊥) → account.sum_at b i ≡ s → Goes xs q c d t g
       → Goes (i ∷ xs) p b d (s + t) (max (max (words_kept scope.locals b) (words_kept scope.locals c)) g)
   goes_cons {i} {xs} {p} {q} {s} {t} {g} {b} {c} {d} e j w none f way =
@@ -203,9 +203,9 @@ module _ (scope : Scope) (lines : List Instruction) (spots_are : scope.spots ≡
 
   -- a loop, which its first and last line open and close
   pub goes_loop : (xs : List Instruction) (p q last room s h : ℕ) (i j : Instruction) (o : Open) (b c d e : Before) → q ≡ p + 1 → last ≡ q + length xs
-      → judged scope p b i ≡ Ok c → way_of i ≡ entering → IsUnit i → room_on_top b.kinds ≡ room → Goes xs q c d s h → o.start ≡ p
+      → judged scope p b i ≡ Ok c → going_of i ≡ entering → IsUnit i → room_on_top b.kinds ≡ room → Goes xs q c d s h → o.start ≡ p
       → d.loops ≡ o ∷ e.loops
-      → judged scope last d j ≡ Ok e → way_of j ≡ turning → IsUnit j
+      → judged scope last d j ≡ Ok e → going_of j ≡ turning → IsUnit j
       → Goes (i ∷ (xs ++ j ∷ [])) p b e (pays.step 1 + room * (s + pays.step 1)) (max (words_kept scope.locals b) (max h (words_kept scope.locals e)))
   goes_loop xs p q last room s h i j o b c d e eq el enters is_entering i_unit room_is body start opened_here leaves is_turning j_unit = record {
     go = λ at openers.

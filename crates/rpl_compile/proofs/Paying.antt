@@ -8,10 +8,9 @@ use Rattle.rpl_tree.specs.Budget.{Budget}
 use Rattle.rpl_tree.specs.Cost.{Price}
 use Rattle.rpl_verify.specs.Places.{bracket, ends_before, spots}
 use Rattle.rpl_verify.specs.Names.{Scope}
-use Rattle.rpl_verify.specs.Fits.{Before, Open, before, befores, judged, room_on_top}
-use Rattle.rpl_verify.specs.Budget.{at_a_time, entering, onward, summed, turning, way_of, words_at}
+use Rattle.rpl_verify.specs.Fits.{Before, Open, before, before_at, befores, judged, room_on_top}
+use Rattle.rpl_verify.specs.Budget.{at_a_time, entering, onward, summed, turning, going_of, words_at}
 use Rattle.rpl_verify.specs.Notes.{words_kept}
-use Rattle.rpl_verify.proofs.Judged.{before_at}
 use Rattle.rpl_verify.proofs.Loops.{Linked, P, ends_at, first_is, linked, past, spot}
 use Rattle.rpl_verify.proofs.Costs.{C, W, by_far_branch, by_far_entry, by_jump, by_next, by_turn, end_is, words_fit, words_fit_at_end}
 use Rattle.rpl_verify.proofs.Stepping.{end_of_list}
@@ -24,7 +23,7 @@ same_before : (x y : Before) → fine x ≡ Ok y → x ≡ y
 same_before x y h = cc h
 
 -- the place behind the line that closes the innermost loop
-closes_at : (j : Instruction) (p : ℕ) (ends : List ℕ) → way_of j ≡ turning → slice_index (ends_before (bracket j) p ends) 0 ≡ suc p
+closes_at : (j : Instruction) (p : ℕ) (ends : List ℕ) → going_of j ≡ turning → slice_index (ends_before (bracket j) p ends) 0 ≡ suc p
 closes_at I.Next p ends h = refl
 closes_at I.Yield p ends h = refl
 closes_at _ p ends h = absurd (cc h)
@@ -92,7 +91,7 @@ module _ (scope : Scope) (lines : List Instruction) (bs : List Before) (spotted 
   kept_at : (p : ℕ) (b : Before) (i : Instruction) → IsUnit i → T p ≡ b → words_at scope budgets (T p) i ≡ kept b
   kept_at p b i u here = unit_words (T p) i u ∙ ap (words_kept scope.locals) here
 
-  pub pays_one : (p : ℕ) (b c : Before) (i : Instruction) → slice_get lines p ≡ Some i → judged scope p b i ≡ Ok c → way_of i ≡ onward
+  pub pays_one : (p : ℕ) (b c : Before) (i : Instruction) → slice_get lines p ≡ Some i → judged scope p b i ≡ Ok c → going_of i ≡ onward
       → F p b (price b i) (max (words_at scope budgets b i) (words_kept scope.locals c)) (suc p) c
   pays_one p b c i at j w here le =
       let there : T (suc p) ≡ c = on p b c i at j here in
@@ -170,9 +169,9 @@ module _ (scope : Scope) (lines : List Instruction) (bs : List Before) (spotted 
       }
 
   pub pays_loop : (p q last room s h : ℕ) (i j : Instruction) (o : Open) (b c d e : Before) → suc p ≡ q → p < last
-      → slice_get lines p ≡ Some i → judged scope p b i ≡ Ok c → way_of i ≡ entering → IsUnit i → room_on_top b.kinds ≡ room
+      → slice_get lines p ≡ Some i → judged scope p b i ≡ Ok c → going_of i ≡ entering → IsUnit i → room_on_top b.kinds ≡ room
       → F q c s h last d → o.start ≡ p → d.loops ≡ o ∷ e.loops
-      → slice_get lines last ≡ Some j → judged scope last d j ≡ Ok e → way_of j ≡ turning → IsUnit j → words_kept scope.locals d ≤ h
+      → slice_get lines last ≡ Some j → judged scope last d j ≡ Ok e → going_of j ≡ turning → IsUnit j → words_kept scope.locals d ≤ h
       → F p b (pays.step 1 + room * (s + pays.step 1)) (max (words_kept scope.locals b) (max h (words_kept scope.locals e))) (suc last) e
   pays_loop p q last room s h i j o b c d e e1 lt at enters w u room_is turn start open_there at_last leaves v y k here le =
       let m = summed scope budgets price in

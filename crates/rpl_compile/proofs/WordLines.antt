@@ -14,7 +14,7 @@ use Rattle.rpl_verify.specs.Places.{spots}
 use Rattle.rpl_verify.specs.Table.{appended, goes_by, of_list, picked, row, takes, widened}
 use Rattle.rpl_verify.specs.Names.{Scope}
 use Rattle.rpl_verify.specs.Kinds as V
-use Rattle.rpl_verify.specs.Budget.{onward, way_of}
+use Rattle.rpl_verify.specs.Budget.{onward, going_of}
 use Rattle.rpl_verify.specs.Notes.{words_kept}
 use Rattle.rpl_code.specs.Weight.{words_of}
 use Rattle.rpl_tree.specs.Cost.{Price}
@@ -62,7 +62,7 @@ module _ (scope : Scope) (lines : List Instruction) (spots_are : scope.spots ≡
 
   -- an instruction without names and jumps
   abbrev IsSimple : Instruction → Type 0
-  IsSimple i = ((p : ℕ) (b : Before) → judged scope p b i ≡ taken scope i b) × (way_of i ≡ onward) × (IsInvoke i → ⊥)
+  IsSimple i = ((p : ℕ) (b : Before) → judged scope p b i ≡ taken scope i b) × (going_of i ≡ onward) × (IsInvoke i → ⊥)
 
   -- it comes to so much
   line : (i : Instruction) (ks left : List ValueKind) (s : ℕ) → IsSimple i → row scope.heads scope.locals i ≡ takes ks left

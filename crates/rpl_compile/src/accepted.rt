@@ -1,8 +1,10 @@
-// Of an accepted ruleset the code is accepted, with the budgets of the ruleset.
+// Of an accepted ruleset the code is spelt by a text, and accepted, with the budgets of the ruleset.
 ghost use Rattle.std.specs.Prelude.{◌≡◌, ◌≤◌, List, Ok};
 ghost use Rattle.rw_model.specs.Draft.{Draft};
 ghost use Rattle.rpl_tree.specs.Tree.{Declared};
-ghost use Rattle.rpl_parse.specs.Bounds.{function_count, rule_count};
+ghost use Rattle.rw_model.specs.Basin.{IsBasin};
+ghost use Rattle.rpl_code.specs.Bounds.{IsCode};
+ghost use Rattle.rpl_parse.specs.Bounds.{AreBounded, function_count, rule_count};
 ghost use Rattle.rpl_types.specs.HasType.{IsTyped};
 ghost use Rattle.rpl_verify.specs.Budget.{ruling};
 ghost use Rattle.rpl_verify.specs.Fits.{AreFit};
@@ -16,6 +18,13 @@ ghost use Rattle.rpl_compile.specs.Translate.{translate};
 pub fn typed_is_kinded()
     ensures { (basin : Draft) (rules : List Declared)
         → IsTyped basin rules → AreKinded basin rules }
+{}
+
+/// The code of an accepted ruleset, with no more in it than a parsed one has, is one that a text spells: what `write_code` writes
+/// of it is read as that code again.
+pub fn compiled_code_can_be_spelt()
+    ensures { (basin : Draft) (rules : List Declared) → IsBasin basin → IsTyped basin rules
+        → AreBounded rules → IsCode (translate rules) }
 {}
 
 /// Code fits the basin where the ruleset is of these kinds and has no more declarations than a parsed one has.

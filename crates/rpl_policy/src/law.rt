@@ -15,6 +15,7 @@ ghost use Rattle.rpl_parse.specs.Bounds.{function_count, rule_count};
 ghost use Rattle.rpl_types.specs.HasType.{IsTyped};
 ghost use Rattle.rpl_verify.specs.Budget.{AreAccepted};
 ghost use Rattle.rpl_verify.specs.Worked.{cap_and_base_code, hundredth_code, raise_and_reset_code};
+ghost use Rattle.rpl_compile.specs.Budgets.{budgets_of};
 ghost use Rattle.rpl_compile.specs.Translate.{translate};
 ghost use Rattle.rpl_policy.specs.Firings.{AreVerified};
 ghost use Rattle.rpl_policy.specs.Policy.{policy_of_code, policy_of_rules};
@@ -77,6 +78,19 @@ pub fn firings_are_verified()
         → IsRun basin (policy_of_code basin code) inputs log → AreVerified basin code budgets log }
 {
     verified_code_is_safe();
+}
+
+/// Each firing in a run of an accepted ruleset is that of the machine on its code, which is accepted with the budgets of the
+/// ruleset, and so keeps to them.
+pub fn firings_of_rules_are_verified()
+    ensures { (basin : Draft) (rules : List Declared) (inputs : List (Cell × ℤ)) (log : Log)
+        → IsTyped basin rules → rule_count rules ≤ 200 → function_count rules ≤ 200
+        → IsRun basin (policy_of_rules basin rules) inputs log
+        → AreVerified basin (translate rules) (budgets_of rules) log }
+{
+    compiled_budgets();
+    policies_have_runs();
+    firings_are_verified();
 }
 
 /// A dam on one day, into which 100 flow. Rule 2 lets 50 out, and the dam comes to hold 1050; rule 1 holds it at 1020, and the dam

@@ -34,7 +34,7 @@ numbered_by xs n x h le = by (nat_le 1 n) (grind (arith, nat_tests, le))
     by true e = h
     by false e = absurd (cc e)
 
-get_behind : {A : Type 0} (xs ys : List A) (x : A) → slice_get ((xs ++ x ∷ []) ++ ys) (length xs) ≡ Some x
+pub get_behind : {A : Type 0} (xs ys : List A) (x : A) → slice_get ((xs ++ x ∷ []) ++ ys) (length xs) ≡ Some x
 get_behind [] ys x = refl
 get_behind (z ∷ xs) ys x = get_behind xs ys x
 

@@ -8,7 +8,7 @@ use Rattle.rpl_verify.specs.declared.notes.Part.TheVariants.{Count, Looks, Puts,
 use Rattle.rpl_verify.specs.Places.{loop_end, rest_of}
 use Rattle.rpl_verify.specs.Names.{Scope}
 use Rattle.rpl_verify.specs.Fits.{Before, room_on_top}
-use Rattle.rpl_verify.specs.Budget.{Way, onward, jumping, branching, entering, turning, first_of, most, most_from, table, way_of}
+use Rattle.rpl_verify.specs.Budget.{Going, onward, jumping, branching, entering, turning, first_of, most, most_from, table, going_of}
 use Rattle.rpl_verify.specs.Notes.{end_note, joined, limit_of, measure_of, note_of, noted, notes_of, price_in, repeated, stopping}
 
 -- a product with a number at least 1 is at least the other
@@ -87,7 +87,7 @@ module _ (scope : Scope) (budgets : List Budget) where
     repeat_stops room a x h = repeated_stops part room a x h ∙ ap (capped (limit_of part)) (sym (measure_repeats part room x))
 
     -- an entry made of numbers that stop is the entry that stops
-    pub most_stops : (place : ℕ) (way : Way) (price price2 room room2 : ℕ) (is : List Instruction) (from from2 : ℕ → ℕ) → price2 ≡ capped (limit_of part) price → room2 ≡ room → ((d : ℕ) → from2 d ≡ capped (limit_of part) (from d))
+    pub most_stops : (place : ℕ) (way : Going) (price price2 room room2 : ℕ) (is : List Instruction) (from from2 : ℕ → ℕ) → price2 ≡ capped (limit_of part) price → room2 ≡ room → ((d : ℕ) → from2 d ≡ capped (limit_of part) (from d))
         → most_from (stopping part) place way price2 room2 is from2 ≡ capped (limit_of part) (most_from (measure_of scope budgets part) place way price room is from)
     most_stops place onward price price2 room room2 is from from2 p r h = join_stops price2 _ price _ p (h (suc place))
     most_stops place (jumping to) price price2 room room2 is from from2 p r h = join_stops price2 _ price _ p (h to)
@@ -120,7 +120,7 @@ module _ (scope : Scope) (budgets : List Budget) where
         let stops : (d : ℕ) → slice_index (noted part (suc place) (notes_of scope budgets (rest_of bs) is) is) (d - suc place) ≡ capped (limit_of part) (slice_index behind (d - suc place)) =
         λ d. ap (λ ns. slice_index ns (d - suc place)) e ∙ index_capped (limit_of part) behind (d - suc place) in
         ap₂ (λ n ns. n ∷ ns)
-        (most_stops place (way_of i) (m.price b i) (price_in part (note_of scope budgets b i)) (room_on_top b.kinds) (room_on_top b.kinds) is (λ to. slice_index behind (to - suc place))
+        (most_stops place (going_of i) (m.price b i) (price_in part (note_of scope budgets b i)) (room_on_top b.kinds) (room_on_top b.kinds) is (λ to. slice_index behind (to - suc place))
         (λ to. slice_index (noted part (suc place) (notes_of scope budgets (rest_of bs) is) is) (to - suc place)) (price_stops part b i) refl stops)
         e
 
@@ -129,13 +129,13 @@ module _ (scope : Scope) (budgets : List Budget) where
 
 -- one place of the table, from those behind it
 pub noted_on : (part : Part) (most most2 : List ℕ) (p q : ℕ) (n : Note) (ns left : List Note) (i : Instruction) (is on : List Instruction) (x : ℕ) → q ≡ p + 1 → drop q most ≡ noted part q ns is → left ≡ n ∷ ns → on ≡ i ∷ is → p < length most → most2 ≡ set most p x
-    → x ≡ most_from (stopping part) p (way_of i) (price_in part n) n.room is (λ to. slice_index (drop (suc p) most) (to - suc p)) → drop p most2 ≡ noted part p left on
+    → x ≡ most_from (stopping part) p (going_of i) (price_in part n) n.room is (λ to. slice_index (drop (suc p) most) (to - suc p)) → drop p most2 ≡ noted part p left on
 noted_on part most most2 p q n ns left i is on x z h l o lt s v =
     let z2 : q ≡ suc p = omega (arith, z) in
     let z3 : p + 1 ≡ suc p = omega arith in
     let h2 : drop (suc p) most ≡ noted part (suc p) ns is = subst (λ j. drop j most ≡ noted part j ns is) z2 h in
-    let w : x ≡ most_from (stopping part) p (way_of i) (price_in part n) n.room is (λ to. slice_index (noted part (suc p) ns is) (to - suc p)) =
-    v ∙ ap (λ xs. most_from (stopping part) p (way_of i) (price_in part n) n.room is (λ to. slice_index xs (to - suc p))) h2 in
+    let w : x ≡ most_from (stopping part) p (going_of i) (price_in part n) n.room is (λ to. slice_index (noted part (suc p) ns is) (to - suc p)) =
+    v ∙ ap (λ xs. most_from (stopping part) p (going_of i) (price_in part n) n.room is (λ to. slice_index xs (to - suc p))) h2 in
     ap (drop p) s ∙ drop-set most p x lt ∙ ap₂ (λ y ys. y ∷ ys) w (ap (λ j. drop j most) z3 ∙ h2) ∙ ap₂ (noted part p) (sym l) (sym o)
 
 pub index-drop : (n : ℕ) (ns : List ℕ) (d k : ℕ) → n + d ≡ k → slice_index (drop n ns) d ≡ slice_index ns k

@@ -3,7 +3,7 @@ pub use Rattle.rpl_verify.proofs.Accepted.{bs, covered, earlier, exact, fits, nu
 pub use Rattle.rpl_verify.proofs.Acting.{fits_behind, good_branch, good_enter, good_jump, good_next, good_put, good_target, good_yield, names_there, on_top, row_takes}
 pub use Rattle.rpl_verify.proofs.Costs.{C, W}
 pub use Rattle.rpl_verify.proofs.Frames.{Acted, ActedOn, AreRunning, Fr, IsRunning, elements_are}
-pub use Rattle.rpl_verify.proofs.Judged.{Opens, before_at, closes_by, opens_by, same_loop_true, taken_is, taken_ok}
+pub use Rattle.rpl_verify.proofs.Judged.{Opens, closes_by, opens_by, same_loop_true, taken_is, taken_ok}
 pub use Rattle.rpl_verify.proofs.KindFacts.{AreRoomy, IsRoomy, and_true, date_is, is_kind_true, kinds_append, kinds_blank, kinds_get, kinds_length, kinds_take, number_is, roomy_blank, roomy_get, roomy_take, same_kind_true, slot_is, then_do_ok, truth_is}
 pub use Rattle.rpl_verify.proofs.Loops.{Opened, opened, shut_at}
 pub use Rattle.rpl_verify.proofs.Operated.{AreAll, IsOperation}
@@ -12,7 +12,7 @@ pub use Rattle.rpl_verify.proofs.States.{GoodOn, Inv, Waiting, acts, begun, bloc
 pub use Rattle.rpl_verify.proofs.Stepping.{IsCall, end_of_list}
 pub use Rattle.rpl_verify.proofs.VerifiedFacts.{answered, answered_resolved, few, rules_and_functions}
 pub use Rattle.rpl_verify.specs.Budget.{AreAccepted, count_of, first_of, looks_of, puts_of, words_of_kind, words_of_loop}
-pub use Rattle.rpl_verify.specs.Fits.{Before, Open, before, befores, behind, carried, end_kinds, found, heads_of, is_alike, locals_of, parameters_of, refusal, room_on_top, scope_of, taken, then_do}
+pub use Rattle.rpl_verify.specs.Fits.{Before, Open, before, before_at, befores, behind, carried, end_kinds, found, heads_of, is_alike, locals_of, parameters_of, refusal, room_on_top, scope_of, taken, then_do}
 pub use Rattle.rpl_verify.specs.Kinds.{are_same_kinds, element_of, is_kind, is_same_kind, list_kind, room_of, words_of_all}
 pub use Rattle.rpl_verify.specs.Machine.{Frame, Running, State, act, at_place, begin, behind_loop, branched, entered, fire_of_code, fired, first_frame, handed_back, in_loop, invoked, jumped, loaded, met, most_steps, onward, operated, put, returned, row_in, rule_from, run, step, step_at, step_by, step_in, stored, turned, with_made, words_in, words_of_running, yielded}
 pub use Rattle.rpl_verify.specs.Names.{Scope, call_misfit, name_misfit, put_misfit, unless_there}

@@ -4,10 +4,9 @@ use Rattle.rpl_code.specs.declared.instruction.Instruction.{Instruction}
 use Rattle.rpl_verify.specs.Places.{loop_end, rest_of}
 use Rattle.rpl_tree.specs.Budget.{Budget}
 use Rattle.rpl_verify.specs.Names.{Scope}
-use Rattle.rpl_verify.specs.Fits.{Before, room_on_top}
-use Rattle.rpl_verify.specs.Budget.{Measure, Way, onward, jumping, branching, entering, turning, way_of, at_a_time, first_of, most_from, summed, table, words_at, words_before}
+use Rattle.rpl_verify.specs.Fits.{Before, before_at, room_on_top}
+use Rattle.rpl_verify.specs.Budget.{Measure, Going, onward, jumping, branching, entering, turning, going_of, at_a_time, first_of, most_from, summed, table, words_at, words_before}
 use Rattle.rpl_verify.specs.Machine.{Running}
-use Rattle.rpl_verify.proofs.Judged.{before_at}
 use Rattle.rpl_verify.proofs.Loops.{drop_at}
 use Rattle.rpl_verify.proofs.Frames.{Flow, to_next, to_other, not_taken, is_taken, goes_in, goes_over, turns_back, goes_out}
 
@@ -66,11 +65,11 @@ module _ (m : Measure) where
     at_head : (p : ℕ) → M p ≡ slice_index (drop p T) 0
     at_head p = let z : p + 0 ≡ p = omega arith in sym (index_drop p 0 T ∙ ap (slice_index T) z)
 
-    pub entry_is : (p : ℕ) (i : Instruction) → slice_get lines p ≡ Some i → M p ≡ most_from m p (way_of i) (m.price (before_at bs p) i) (room_on_top (before_at bs p).kinds) (drop (suc p) lines) (look p)
+    pub entry_is : (p : ℕ) (i : Instruction) → slice_get lines p ≡ Some i → M p ≡ most_from m p (going_of i) (m.price (before_at bs p) i) (room_on_top (before_at bs p).kinds) (drop (suc p) lines) (look p)
     entry_is p i e =
         let le : p ≤ length lines = omega (arith, slice_get_within lines p i e) in
         at_head p ∙ ap (λ ns. slice_index ns 0) (tail p le ∙ ap (table m p (drop p bs)) (drop_at lines p i e))
-        ∙ ap (λ (b : Before). most_from m p (way_of i) (m.price b i) (room_on_top b.kinds) (drop (suc p) lines) (look p)) (first_drop p bs)
+        ∙ ap (λ (b : Before). most_from m p (going_of i) (m.price b i) (room_on_top b.kinds) (drop (suc p) lines) (look p)) (first_drop p bs)
 
     pub end_is : M (length lines) ≡ m.at_end (before_at bs (length lines))
     end_is =
@@ -88,31 +87,31 @@ module _ (m : Measure) where
       abbrev room : ℕ
       room = room_on_top (before_at bs p).kinds
 
-      by_way : (w : Way) → way_of i ≡ w → M p ≡ most_from m p w here room (drop (suc p) lines) (look p)
+      by_way : (w : Going) → going_of i ≡ w → M p ≡ most_from m p w here room (drop (suc p) lines) (look p)
       by_way w h = entry_is p i e ∙ ap (λ w. most_from m p w here room (drop (suc p) lines) (look p)) h
 
       le : suc p ≤ length lines
       le = omega (arith, slice_get_within lines p i e)
 
-      pub by_next : way_of i ≡ onward → M p ≡ m.joined here (M (suc p))
+      pub by_next : going_of i ≡ onward → M p ≡ m.joined here (M (suc p))
       by_next h = by_way onward h ∙ ap (m.joined here) (look_is p (suc p) le (omega arith))
 
-      pub by_jump : (to : ℕ) → way_of i ≡ jumping to → p < to → M p ≡ m.joined here (M to)
+      pub by_jump : (to : ℕ) → going_of i ≡ jumping to → p < to → M p ≡ m.joined here (M to)
       by_jump to h far = by_way (jumping to) h ∙ ap (m.joined here) (look_is p to le (omega (arith, far)))
 
-      pub by_branch : (to : ℕ) → way_of i ≡ branching to → M p ≡ m.joined here (max (M (suc p)) (look p to))
+      pub by_branch : (to : ℕ) → going_of i ≡ branching to → M p ≡ m.joined here (max (M (suc p)) (look p to))
       by_branch to h = by_way (branching to) h ∙ ap (λ n. m.joined here (max n (look p to))) (look_is p (suc p) le (omega arith))
 
-      pub by_far_branch : (to : ℕ) → way_of i ≡ branching to → p < to → M p ≡ m.joined here (max (M (suc p)) (M to))
+      pub by_far_branch : (to : ℕ) → going_of i ≡ branching to → p < to → M p ≡ m.joined here (max (M (suc p)) (M to))
       by_far_branch to h far = by_branch to h ∙ ap (λ n. m.joined here (max (M (suc p)) n)) (look_is p to le (omega (arith, far)))
 
-      pub by_entry : way_of i ≡ entering → M p ≡ m.joined here (m.joined (m.repeated room (M (suc p))) (look p (past p)))
+      pub by_entry : going_of i ≡ entering → M p ≡ m.joined here (m.joined (m.repeated room (M (suc p))) (look p (past p)))
       by_entry h = by_way entering h ∙ ap (λ n. m.joined here (m.joined (m.repeated room n) (look p (past p)))) (look_is p (suc p) le (omega arith))
 
-      pub by_far_entry : way_of i ≡ entering → p < past p → M p ≡ m.joined here (m.joined (m.repeated room (M (suc p))) (M (past p)))
+      pub by_far_entry : going_of i ≡ entering → p < past p → M p ≡ m.joined here (m.joined (m.repeated room (M (suc p))) (M (past p)))
       by_far_entry h far = by_entry h ∙ ap (λ n. m.joined here (m.joined (m.repeated room (M (suc p))) n)) (look_is p (past p) le (omega (arith, far)))
 
-      pub by_turn : way_of i ≡ turning → M p ≡ here
+      pub by_turn : going_of i ≡ turning → M p ≡ here
       by_turn h = by_way turning h
 
 -- ---- counts
@@ -138,7 +137,7 @@ module _ (scope : Scope) (budgets : List Budget) (price : Before → Instruction
   abbrev m : Measure
   m = summed scope budgets price
 
-  pub flow_costs : (p q : ℕ) (i : Instruction) (rs ss : List Running) → slice_get lines p ≡ Some i → Flow ends (way_of i) (room_on_top (before_at bs p).kinds) p q rs ss
+  pub flow_costs : (p q : ℕ) (i : Instruction) (rs ss : List Running) → slice_get lines p ≡ Some i → Flow ends (going_of i) (room_on_top (before_at bs p).kinds) p q rs ss
       → price (before_at bs p) i + (C q + loops_cost ss) ≤ C p + loops_cost rs
   flow_costs p q i rs ss e (to_next w h l) = omega (arith, by_next m lines bs p i e w, ap C h, ap loops_cost l)
   flow_costs p q i rs ss e (to_other w far l) = omega (arith, by_jump m lines bs p i e q w far, ap loops_cost l)
@@ -179,7 +178,7 @@ module _ (scope : Scope) (budgets : List Budget) (lines : List Instruction) (bs 
   loops_words [] = 0
   loops_words (r ∷ rs) = max (W (suc r.start)) (max (W (ending r.start)) (loops_words rs))
 
-  pub flow_words : (p q : ℕ) (i : Instruction) (rs ss : List Running) → slice_get lines p ≡ Some i → Flow ending (way_of i) (room_on_top (before_at bs p).kinds) p q rs ss
+  pub flow_words : (p q : ℕ) (i : Instruction) (rs ss : List Running) → slice_get lines p ≡ Some i → Flow ending (going_of i) (room_on_top (before_at bs p).kinds) p q rs ss
       → max (words_at scope budgets (before_at bs p) i) (max (W q) (loops_words ss)) ≤ max (W p) (loops_words rs)
   flow_words p q i rs ss e (to_next w h l) = omega (arith, by_next at_once lines bs p i e w, ap W h, ap loops_words l)
   flow_words p q i rs ss e (to_other w far l) = omega (arith, by_jump at_once lines bs p i e q w far, ap loops_words l)
@@ -196,9 +195,9 @@ module _ (scope : Scope) (budgets : List Budget) (lines : List Instruction) (bs 
 
   -- there is room for what is before an instruction
   pub words_fit : (p : ℕ) (i : Instruction) → slice_get lines p ≡ Some i → words_at scope budgets (before_at bs p) i ≤ W p
-  words_fit p i e = by (way_of i) refl
+  words_fit p i e = by (going_of i) refl
     where
-      by : (w : Way) → way_of i ≡ w → words_at scope budgets (before_at bs p) i ≤ W p
+      by : (w : Going) → going_of i ≡ w → words_at scope budgets (before_at bs p) i ≤ W p
       by onward h = omega (arith, by_next at_once lines bs p i e h)
       by (jumping to) h = let z = by_way at_once lines bs p i e (jumping to) h in omega (arith, z)
       by (branching to) h = omega (arith, by_branch at_once lines bs p i e to h)
@@ -214,9 +213,9 @@ module _ (scope : Scope) (budgets : List Budget) (price : Before → Instruction
   sum = summed scope budgets price
 
   pub price_fits : (p : ℕ) (i : Instruction) → slice_get lines p ≡ Some i → price (before_at bs p) i ≤ M sum lines bs p
-  price_fits p i e = by (way_of i) refl
+  price_fits p i e = by (going_of i) refl
     where
-      by : (w : Way) → way_of i ≡ w → price (before_at bs p) i ≤ M sum lines bs p
+      by : (w : Going) → going_of i ≡ w → price (before_at bs p) i ≤ M sum lines bs p
       by onward h = omega (arith, by_next sum lines bs p i e h)
       by (jumping to) h = let z = by_way sum lines bs p i e (jumping to) h in omega (arith, z)
       by (branching to) h = omega (arith, by_branch sum lines bs p i e to h)

@@ -10,7 +10,7 @@ use Rattle.rpl_verify.specs.Kinds.{are_same_kinds, is_kind, room_of, element_of}
 use Rattle.rpl_verify.specs.Table.{Row, goes_by, row, left_of, of_list, on_top_of, operand_count, operands_behind, or_wrong}
 use Rattle.rpl_verify.specs.Places.{Loop, visiting, mapping, is_same_loop, Bracket, opening, closing, level, bracket}
 use Rattle.rpl_verify.specs.Names.{Scope, name_misfit}
-use Rattle.rpl_verify.specs.Fits.{Open, Before, Misplaced, at_place, before, befores, behind, behind_loop, carried, closed, declared_at, element_on_top, end_kinds, ended, found, if_fits, judged, opened, restarted, room_on_top, shut, taken, then_do}
+use Rattle.rpl_verify.specs.Fits.{Open, Before, Misplaced, at_place, before, before_at, befores, behind, behind_loop, carried, closed, declared_at, element_on_top, end_kinds, ended, found, if_fits, judged, opened, restarted, room_on_top, shut, taken, then_do}
 use Rattle.rpl_verify.proofs.KindFacts.{and_true, same_kinds_true, is_kind_true, then_do_ok, same_ok, fits_ok, no_misfit}
 
 -- ---- steps of a judgement
@@ -158,12 +158,6 @@ module _ (scope : Scope) where
   rel_of p b i c h = behind_rel p b i c ((named p b i c h).1)
 
 -- ---- places
-
--- what is before a place
-abbrev pub before_at : List Before → ℕ → Before
-before_at [] n = before [] []
-before_at (b ∷ bs) zero = b
-before_at (b ∷ bs) (suc n) = before_at bs n
 
 module _ (scope : Scope) where
   pub record Parts (place : ℕ) (b : Before) (i : Instruction) (is : List Instruction) (bs : List Before) : Type 0 where

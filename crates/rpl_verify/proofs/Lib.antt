@@ -1,4 +1,7 @@
 pub mod Accepted
+pub mod Ways
+pub mod Accepting
+pub mod Refusing
 pub mod Running
 pub mod States
 pub mod Stepping

@@ -7,9 +7,9 @@ use Rattle.rpl_verify.specs.declared.verify_kind.VerifyKind.TheVariants.{Backwar
 use Rattle.rpl_verify.specs.Kinds.{top_of}
 use Rattle.rpl_verify.specs.Places.{Loop, is_same_loop, Bracket, opening, closing, level, bracket, Opener, closed as closed_by, declared_by, ends_before, loop_end, loop_ends, openers_behind, rest_of, start_of, Spot, spots, spots_from}
 use Rattle.rpl_verify.specs.Names.{Scope}
-use Rattle.rpl_verify.specs.Fits.{Open, Before, before, befores, behind_loop, found, innermost, is_same_place, judged, landing, lands_on}
+use Rattle.rpl_verify.specs.Fits.{Open, Before, before, before_at, befores, behind_loop, found, innermost, is_same_place, judged, landing, lands_on}
 use Rattle.rpl_verify.proofs.KindFacts.{same_ok, test_ok}
-use Rattle.rpl_verify.proofs.Judged.{OpenRel, before_at, begins, carried_is, end_shut, named, parts, places_fit, rel_of, same_loop_refl}
+use Rattle.rpl_verify.proofs.Judged.{OpenRel, begins, carried_is, end_shut, named, parts, places_fit, rel_of, same_loop_refl}
 
 pub drop_at : {A : Type 0} (xs : List A) (p : ℕ) (x : A) → slice_get xs p ≡ Some x → drop p xs ≡ x ∷ drop (suc p) xs
 drop_at [] p x h = absurd (cc h)

@@ -1,12 +1,12 @@
 -- Lists by number.
-use Rattle.rw_base.proofs.Common.{◌≡◌, ◌≢◌, ℕ, zero, suc, ◌≤◌, ◌<◌, Bool, true, false, cond, List, [], ◌∷◌, ◌++◌, length, Some, None, refl, sym, ap, ap₂, ◌∙◌, subst, arith, length-append, ◌⊎◌, slice_get, lookup, take, inl, inr, ◌-◌, get_or, Equal-is, nat_cmp, BTreeMap, get, Updates, is_at, exact_unsigned, slice_get_within, slice_get_read}
+use Rattle.rw_base.proofs.Common.{◌≡◌, ◌≢◌, ℕ, zero, suc, ◌≤◌, ◌<◌, ◌+◌, ◌==◌, ◌&&◌, Bool, true, false, cond, List, [], ◌∷◌, ◌++◌, length, Option, Some, None, nat_tests, refl, sym, ap, ap₂, ◌∙◌, subst, arith, length-append, ◌⊎◌, slice_get, lookup, take, inl, inr, ◌-◌, get_or, Equal-is, nat_cmp, BTreeMap, get, Updates, is_at, exact_unsigned, slice_get_within, slice_get_read}
 use Rattle.rpl_code.specs.declared.kind.ValueKind.{ValueKind}
 use Rattle.rpl_code.specs.declared.kind.ValueKind.TheVariants as K
 use Rattle.rpl_verify.specs.declared.stacks.Node.{Node}
 use Rattle.rpl_tree.specs.Budget.{capped, limits}
-use Rattle.rpl_verify.specs.Kinds.{are_same_kinds, words_of_all}
-use Rattle.rpl_verify.specs.Stacks.{at, lists_after, lists, code_of, key_of, IsNode, IsKept, Grows, IsPushed}
-use Rattle.rpl_verify.proofs.KindFacts.{same_kinds_true}
+use Rattle.rpl_verify.specs.Kinds.{are_same_kinds, is_same_kind, words_of_all}
+use Rattle.rpl_verify.specs.Stacks.{at, lists_after, lists, code_of, key_of, IsNode, IsKept, IsKnown, Grows, IsPushed, is_next, stands_on}
+use Rattle.rpl_verify.proofs.KindFacts.{and_true, same_kind_refl, same_kind_true, same_kinds_true}
 
 pub at-append : (ls ms : List (List ValueKind)) (n : ℕ) → n < length ls → at (ls ++ ms) n ≡ at ls n
 at-append [] ms n h = absurd (omega (arith, h))
@@ -72,26 +72,75 @@ node_new ns n w lt hi fl he sm =
     let b : at (lists (ns ++ n ∷ [])) n.below ≡ at (lists ns) n.below = ap (λ l. at l n.below) e ∙ at-append (lists ns) (new ∷ []) n.below (omega (arith, w, lt)) in
     record { low = lt; made = a ∙ ap (λ l. n.kind ∷ l) (sym b); high = hi ∙ ap (λ l. suc (length l)) (sym b); flat = fl; heavy = he ∙ ap (λ l. capped limits.words (words_of_all (n.kind ∷ l))) (sym b); small = sm }
 
-pub kept_push : (ns : List Node) (n : Node) (m m2 : BTreeMap ℕ ℕ) → IsKept ns m → n.below ≤ length ns → n.height ≡ suc (length (at (lists ns) n.below)) → n.height ≤ suc (length ns)
-    → n.words ≡ capped limits.words (words_of_all (n.kind ∷ at (lists ns) n.below)) → code_of n.kind < 262144 → get nat_cmp m (key_of n.below n.kind) ≡ None → Updates nat_cmp m m2 (key_of n.below n.kind) (Some (suc (length ns))) → IsKept (ns ++ n ∷ []) m2
-kept_push ns n m m2 h lt hi fl he sm absent u =
-    let e = lists-push ns n in
+got_same : {A : Type 0} (xs : List A) (x : A) (k : ℕ) → k < length xs → slice_get (xs ++ x ∷ []) k ≡ slice_get xs k
+got_same [] x k h = absurd (omega (arith, h))
+got_same (y ∷ xs) x zero h = refl
+got_same (y ∷ xs) x (suc k) h = got_same xs x k (omega (arith, h))
+
+next_kept : (ns : List Node) (n : Node) (b : ℕ) (k : ValueKind) → b < length ns → is_next (ns ++ n ∷ []) b k ≡ is_next ns b k
+next_kept ns n b k h = ap (stands_on b k) (got_same ns n b h)
+
+wide_push : (ns : List Node) (n : Node) → length (lists ns) ≡ suc (length ns) → length (lists (ns ++ n ∷ [])) ≡ suc (length (ns ++ n ∷ []))
+wide_push ns n w = ap length (lists-push ns n) ∙ length-append (lists ns) _ ∙ (let y = length-append ns (n ∷ []) in omega (arith, w, y))
+
+empty_push : (ns : List Node) (n : Node) → length (lists ns) ≡ suc (length ns) → at (lists ns) 0 ≡ [] → at (lists (ns ++ n ∷ [])) 0 ≡ []
+empty_push ns n w e = ap (λ l. at l 0) (lists-push ns n) ∙ at-append (lists ns) _ 0 (omega (arith, w)) ∙ e
+
+-- a node that may be added
+pub record IsNew (ns : List Node) (n : Node) : Type 0 where
+  pub low : n.below ≤ length ns
+  pub high : n.height ≡ suc (length (at (lists ns) n.below))
+  pub flat : n.height ≤ suc (length ns)
+  pub heavy : n.words ≡ capped limits.words (words_of_all (n.kind ∷ at (lists ns) n.below))
+  pub small : code_of n.kind < 262144
+
+nodes_push : (ns : List Node) (n : Node) (m : BTreeMap ℕ ℕ) → IsKept ns m → IsNew ns n → (k : ℕ) (x : Node) → slice_get (ns ++ n ∷ []) k ≡ Some x → IsNode (ns ++ n ∷ []) k x
+nodes_push ns n m h new k x g = elim (got_push ns n x k g) [
+  | inl p ↦ node_kept ns n x k h.wide p.0 (h.nodes k x p.1)
+  | inr p ↦ subst (λ y. IsNode (ns ++ n ∷ []) k y) p.1 (subst (λ j. IsNode (ns ++ n ∷ []) j n) (sym p.0) (node_new ns n h.wide new.low new.high new.flat new.heavy new.small))
+]
+
+apart_push : (ns : List Node) (n : Node) (m : BTreeMap ℕ ℕ) → IsKept ns m → (n.below ≢ length ns → is_next (ns ++ n ∷ []) n.below n.kind ≡ false)
+    → (k : ℕ) (x : Node) → slice_get (ns ++ n ∷ []) k ≡ Some x → x.below ≢ k → is_next (ns ++ n ∷ []) x.below x.kind ≡ false
+apart_push ns n m h new k x g older = elim (got_push ns n x k g) [
+  | inl p ↦ next_kept ns n x.below x.kind (let i = h.nodes k x p.1 in omega (arith, i.low, p.0)) ∙ h.apart k x p.1 older
+  | inr p ↦ subst (λ y. is_next (ns ++ n ∷ []) y.below y.kind ≡ false) p.1 (new (λ e. older (ap (λ (y : Node). y.below) (sym p.1) ∙ e ∙ sym p.0)))
+]
+
+known_push : (ns : List Node) (n : Node) (q v : ℕ) → IsKnown ns q v → IsKnown (ns ++ n ∷ []) q v
+known_push ns n q v w = record { place = w.place; node = w.node; is = w.is; here = got_old ns n w.node w.place w.here; key_is = w.key_is }
+
+pub kept_push : (ns : List Node) (n : Node) (m m2 : BTreeMap ℕ ℕ) → IsKept ns m → IsNew ns n → n.below < length ns → is_next ns n.below n.kind ≡ false
+    → get nat_cmp m (key_of n.below n.kind) ≡ None → Updates nat_cmp m m2 (key_of n.below n.kind) (Some (suc (length ns))) → IsKept (ns ++ n ∷ []) m2
+kept_push ns n m m2 h new lt next absent u =
     let key = key_of n.below n.kind in
     record {
-      wide = ap length e ∙ length-append (lists ns) _ ∙ (let z = h.wide in let y = length-append ns (n ∷ []) in omega (arith, z, y));
-      empty = ap (λ l. at l 0) e ∙ at-append (lists ns) _ 0 (let z = h.wide in omega (arith, z)) ∙ h.empty;
-      nodes = λ k x g. elim (got_push ns n x k g) [
-        | inl p ↦ node_kept ns n x k h.wide p.0 (h.nodes k x p.1)
-        | inr p ↦ subst (λ y. IsNode (ns ++ n ∷ []) k y) p.1 (subst (λ j. IsNode (ns ++ n ∷ []) j n) (sym p.0) (node_new ns n h.wide lt hi fl he sm))
-      ];
-      told = λ k x g. elim (got_push ns n x k g) [
-        | inl p ↦ finds_old m m2 key (suc (length ns)) (key_of x.below x.kind) (suc k) absent u (h.told k x p.1)
+      wide = wide_push ns n h.wide;
+      empty = empty_push ns n h.wide h.empty;
+      nodes = nodes_push ns n m h new;
+      told = λ k x g older. elim (got_push ns n x k g) [
+        | inl p ↦ finds_old m m2 key (suc (length ns)) (key_of x.below x.kind) (suc k) absent u (h.told k x p.1 older)
         | inr p ↦ subst (λ y. get nat_cmp m2 (key_of y.below y.kind) ≡ Some (suc k)) p.1 (u.1 ∙ ap (λ j. Some (suc j)) (sym p.0))
       ];
+      apart = apart_push ns n m h (λ _. next_kept ns n n.below n.kind lt ∙ next);
       known = λ q v g. elim (found_in m m2 key (suc (length ns)) q v u g) [
         | inl p ↦ record { place = length ns; node = n; is = sym p.1; here = got_new ns n; key_is = p.0 }
-        | inr p ↦ let w = h.known q v p in record { place = w.place; node = w.node; is = w.is; here = got_old ns n w.node w.place w.here; key_is = w.key_is }
+        | inr p ↦ known_push ns n q v (h.known q v p)
       ];
+    }
+
+pub kept_newest : (ns : List Node) (n : Node) (m : BTreeMap ℕ ℕ) → IsKept ns m → IsNew ns n → n.below ≡ length ns → IsKept (ns ++ n ∷ []) m
+kept_newest ns n m h new newest =
+    record {
+      wide = wide_push ns n h.wide;
+      empty = empty_push ns n h.wide h.empty;
+      nodes = nodes_push ns n m h new;
+      told = λ k x g older. elim (got_push ns n x k g) [
+        | inl p ↦ h.told k x p.1 older
+        | inr p ↦ absurd (older (ap (λ (y : Node). y.below) (sym p.1) ∙ newest ∙ sym p.0))
+      ];
+      apart = apart_push ns n m h (λ not. absurd (not newest));
+      known = λ q v g. known_push ns n q v (h.known q v g);
     }
 
 pub made_push : (ns : List Node) (n : Node) (v : ℕ) → length (lists ns) ≡ suc (length ns) → v ≡ suc (length ns) → IsPushed (lists ns) (lists (ns ++ n ∷ [])) n.kind n.below v
@@ -130,10 +179,65 @@ made_known ns m b v k h sm g =
       made = ap (at (lists ns)) w.is ∙ n.made ∙ ap₂ (λ x y. x ∷ at (lists ns) y) kd i.0;
     }
 
+-- a list that has the next number
+pub made_next : (ns : List Node) (m : BTreeMap ℕ ℕ) (b : ℕ) (k : ValueKind) → IsKept ns m → is_next ns b k ≡ true → IsPushed (lists ns) (lists ns) k b (b + 1)
+made_next ns m b k h t = by (slice_get ns b) refl t
+  where
+    by : (o : Option Node) → slice_get ns b ≡ o → stands_on b k o ≡ true → IsPushed (lists ns) (lists ns) k b (b + 1)
+    by None g e = absurd (cc e)
+    by (Some n) g e =
+        let two = and_true (n.below == b) (is_same_kind n.kind k) e in
+        let first = two.0 in
+        let low : n.below ≡ b = grind (arith, nat_tests) in
+        let kd : n.kind ≡ k = same_kind_true n.kind k two.1 in
+        let i = h.nodes b n g in
+        let z : b + 1 ≡ suc b = omega arith in
+        record {
+          within = let w = h.wide in let lt = slice_get_within ns b n g in omega (arith, w, lt);
+          made = ap (at (lists ns)) z ∙ i.made ∙ ap₂ (λ x y. x ∷ at (lists ns) y) kd low;
+        }
+
 nodes_at : (ns : List Node) (k : ℕ) → k < length ns → (n : Node) × (slice_get ns k ≡ Some n)
 nodes_at [] k h = absurd (omega (arith, h))
 nodes_at (n ∷ ns) zero h = (n, refl)
 nodes_at (n ∷ ns) (suc k) h = nodes_at ns k (omega (arith, h))
+
+next_is : (ns : List Node) (k : ℕ) (n : Node) → slice_get ns k ≡ Some n → n.below ≡ k → is_next ns k n.kind ≡ true
+next_is ns k n g e =
+    let t : (n.below == k) ≡ true = grind (arith, nat_tests) in
+    ap (stands_on k n.kind) g ∙ ap₂ (λ a b. a && b) t (same_kind_refl n.kind)
+
+-- two nodes of one list stand at one place
+same_place : (ns : List Node) (m : BTreeMap ℕ ℕ) (a b : ℕ) (p q : Node) → IsKept ns m → slice_get ns a ≡ Some p → slice_get ns b ≡ Some q → p.below ≡ q.below → p.kind ≡ q.kind → a ≡ b
+same_place ns m a b p q h pa qb low kind = by (p.below == a) (q.below == b) refl refl
+  where
+    clash : (x y : Node) (j k : ℕ) → slice_get ns j ≡ Some x → slice_get ns k ≡ Some y → x.below ≡ j → y.below ≢ k → x.below ≡ y.below → x.kind ≡ y.kind → ⊥
+    clash x y j k gx gy here there low kind =
+        let t : is_next ns y.below y.kind ≡ true = ap₂ (λ b k. is_next ns b k) (sym low ∙ here) (sym kind) ∙ next_is ns j x gx here in
+        let f = h.apart k y gy there in
+        absurd (cc (t, f))
+
+    by : (s t : Bool) → (p.below == a) ≡ s → (q.below == b) ≡ t → a ≡ b
+    by true true e f =
+        let x : p.below ≡ a = grind (arith, nat_tests) in
+        let y : q.below ≡ b = grind (arith, nat_tests) in
+        sym x ∙ low ∙ y
+    by true false e f =
+        let x : p.below ≡ a = grind (arith, nat_tests) in
+        let y : q.below ≢ b = grind (arith, nat_tests) in
+        absurd (clash p q a b pa qb x y low kind)
+    by false true e f =
+        let x : p.below ≢ a = grind (arith, nat_tests) in
+        let y : q.below ≡ b = grind (arith, nat_tests) in
+        absurd (clash q p b a qb pa y x (sym low) (sym kind))
+    by false false e f =
+        let x : p.below ≢ a = grind (arith, nat_tests) in
+        let y : q.below ≢ b = grind (arith, nat_tests) in
+        let t : get nat_cmp m (key_of p.below p.kind) ≡ get nat_cmp m (key_of q.below q.kind) = ap₂ (λ u v. get nat_cmp m (key_of u v)) low kind in
+        let u = h.told a p pa x in
+        let v = h.told b q qb y in
+        let w : Some (suc a) ≡ Some (suc b) = sym u ∙ t ∙ v in
+        cc w
 
 one : (ns : List Node) (m : BTreeMap ℕ ℕ) → IsKept ns m → (ks : List ValueKind) (a b : ℕ) → a < suc (length ns) → b < suc (length ns) → at (lists ns) a ≡ ks → at (lists ns) b ≡ ks → a ≡ b
 one ns m h ks zero zero la lb ea eb = refl
@@ -153,10 +257,7 @@ one ns m h (k ∷ ks) (suc a) (suc b) la lb ea eb =
     let ta : at (lists ns) p.0.below ≡ ks = cc (xm, ea) in
     let tb : at (lists ns) q.0.below ≡ ks = cc (ym, eb) in
     let low : p.0.below ≡ q.0.below = one ns m h ks p.0.below q.0.below (let z = x.low in omega (arith, z, la)) (let z = y.low in omega (arith, z, lb)) ta tb in
-    let t : get nat_cmp m (key_of p.0.below p.0.kind) ≡ get nat_cmp m (key_of q.0.below q.0.kind) = ap₂ (λ u v. get nat_cmp m (key_of u v)) low (ka ∙ sym kb) in
-    let u = h.told a p.0 p.1 in
-    let v = h.told b q.0 q.1 in
-    cc (t, u, v)
+    ap suc (same_place ns m a b p.0 q.0 h p.1 q.1 low (ka ∙ sym kb))
 
 pub same_is : (ns : List Node) (m : BTreeMap ℕ ℕ) (a b : ℕ) → IsKept ns m → a < length (lists ns) → b < length (lists ns) → are_same_kinds (at (lists ns) a) (at (lists ns) b) ≡ true → a ≡ b
 same_is ns m a b h la lb e = let w = h.wide in one ns m h (at (lists ns) a) a b (omega (arith, w, la)) (omega (arith, w, lb)) refl (sym (same_kinds_true _ _ e))
@@ -205,4 +306,4 @@ kept_cut (m ∷ ns) n (suc k) h = ap (λ l. m ∷ l) (kept_cut ns n k (omega (ar
 pub kept_same : (ns : List Node) (m m2 : BTreeMap ℕ ℕ) → m2.entries ≡ m.entries → IsKept ns m → IsKept ns m2
 kept_same ns m m2 e h =
     let same : (q : ℕ) → get nat_cmp m2 q ≡ get nat_cmp m q = λ q. ap (λ es. lookup (is_at (nat_cmp q)) es) e in
-    record { wide = h.wide; empty = h.empty; nodes = h.nodes; told = λ k n g. same (key_of n.below n.kind) ∙ h.told k n g; known = λ q v g. h.known q v (sym (same q) ∙ g) }
+    record { wide = h.wide; empty = h.empty; nodes = h.nodes; told = λ k n g older. same (key_of n.below n.kind) ∙ h.told k n g older; apart = h.apart; known = λ q v g. h.known q v (sym (same q) ∙ g) }

@@ -110,6 +110,7 @@ module _ (basin : Draft) (blocks : List Block) where
 -- ---- what is answered
 
 record IsAnswered (basin : Draft) (blocks : List Block) (a : Accepted) : Type 0 where
+  unchanged : a.blocks ≡ blocks
   accepted : AreAccepted basin a.blocks a.budgets
   resolved : a.resolved ≡ resolved_code basin a.blocks
 
@@ -120,11 +121,18 @@ is_answered basin blocks a h = by (ruling basin blocks) refl h
     by (Ok budgets) e h =
         let b : Accepted = record { blocks = blocks; budgets = budgets; resolved = resolved_code basin blocks } in
         let s : b ≡ a = same_ok b a h in
-        subst (IsAnswered basin blocks) s (record { accepted = e; resolved = refl })
+        subst (IsAnswered basin blocks) s (record { unchanged = refl; accepted = e; resolved = refl })
     by (Err why) e h = absurd (cc h)
+
+pub unchanged : (basin : Draft) (blocks : List Block) (a : Accepted) → verified basin blocks ≡ Ok a → a.blocks ≡ blocks
+unchanged basin blocks a h = let i = is_answered basin blocks a h in i.unchanged
 
 pub answered : (basin : Draft) (blocks : List Block) (a : Accepted) → verified basin blocks ≡ Ok a → AreAccepted basin a.blocks a.budgets
 answered basin blocks a h = let i = is_answered basin blocks a h in i.accepted
 
 pub answered_resolved : (basin : Draft) (blocks : List Block) (a : Accepted) → verified basin blocks ≡ Ok a → a.resolved ≡ resolved_code basin a.blocks
 answered_resolved basin blocks a h = let i = is_answered basin blocks a h in i.resolved
+
+pub answers : (basin : Draft) (blocks : List Block) (budgets : List Budget) → AreAccepted basin blocks budgets
+    → verified basin blocks ≡ Ok (record { blocks = blocks; budgets = budgets; resolved = resolved_code basin blocks })
+answers basin blocks budgets h = ap (with_budgets basin blocks) h

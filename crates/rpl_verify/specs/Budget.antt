@@ -19,21 +19,21 @@ use Rattle.rpl_verify.specs.Fits.{Open, Before, before, room_on_top, parameters_
 -- ---- ways through a block
 
 -- where an instruction goes on: to the next place, to another, to one of the two; into a loop or behind it; or to the loop's next turn
-pub data Way : Type 0 where
-  onward : Way
-  jumping : ℕ → Way
-  branching : ℕ → Way
-  entering : Way
-  turning : Way
+pub data Going : Type 0 where
+  onward : Going
+  jumping : ℕ → Going
+  branching : ℕ → Going
+  entering : Going
+  turning : Going
 
-abbrev pub way_of : Instruction → Way
-way_of (I.Jump to) = jumping to
-way_of (I.Branch to) = branching to
-way_of (I.Foreach n) = entering
-way_of (I.Map n) = entering
-way_of I.Next = turning
-way_of I.Yield = turning
-way_of _ = onward
+abbrev pub going_of : Instruction → Going
+going_of (I.Jump to) = jumping to
+going_of (I.Branch to) = branching to
+going_of (I.Foreach n) = entering
+going_of (I.Map n) = entering
+going_of I.Next = turning
+going_of I.Yield = turning
+going_of _ = onward
 
 -- what an instruction comes to by itself, with what is before it, and what the end of the block; how much one thing and another behind
 -- it come to, and how much so many turns
@@ -50,7 +50,7 @@ first_of (b ∷ bs) = b
 
 -- the most that there is from a place on, to the end of its loop or else of the block. `from` says so of the places behind it, `is`
 -- stands there, and the list of a loop that begins here has room for so many
-abbrev pub most_from : Measure → ℕ → Way → ℕ → ℕ → List Instruction → (ℕ → ℕ) → ℕ
+abbrev pub most_from : Measure → ℕ → Going → ℕ → ℕ → List Instruction → (ℕ → ℕ) → ℕ
 most_from m place onward price room is from = m.joined price (from (suc place))
 most_from m place (jumping to) price room is from = m.joined price (from to)
 most_from m place (branching to) price room is from = m.joined price (max (from (suc place)) (from to))
@@ -64,7 +64,7 @@ table m place bs [] = m.at_end (first_of bs) ∷ []
 table m place bs (i ∷ is) =
     let b : Before = first_of bs in
     let behind : List ℕ = table m (suc place) (rest_of bs) is in
-    most_from m place (way_of i) (m.price b i) (room_on_top b.kinds) is (λ to. slice_index behind (to - suc place)) ∷ behind
+    most_from m place (going_of i) (m.price b i) (room_on_top b.kinds) is (λ to. slice_index behind (to - suc place)) ∷ behind
 
 -- the most of all ways through a block
 abbrev pub most : Measure → List Before → List Instruction → ℕ
@@ -150,6 +150,14 @@ within_limits b =
     if nat_lt limits.looks b.looks then Err TooManyReads else
     if nat_lt limits.puts b.puts then Err TooManyPuts else
     if nat_lt limits.words b.words then Err TooDeep else Ok b
+
+-- a budget is above a limit
+abbrev pub IsOverLimit : VerifyKind → Type 0
+IsOverLimit TooCostly = Unit {0}
+IsOverLimit TooManyReads = Unit {0}
+IsOverLimit TooManyPuts = Unit {0}
+IsOverLimit TooDeep = Unit {0}
+IsOverLimit _ = ⊥
 
 pub record IsWithinLimits (b : Budget) : Type 0 where
   pub count : b.count ≤ limits.count

@@ -1,5 +1,5 @@
 -- When code fits a basin: what each place asks of the operands and loops before it, and the first place that doesn't get it.
-use Rattle.std.specs.Prelude.{◌≡◌, ℕ, suc, ◌&&◌, Bool, true, false, nat_lt, ◌==◌, List, [], ◌∷◌, ◌++◌, length, map, reverse, slice_get, Option, Some, None, Result, Ok, Err, if◌then◌else◌}
+use Rattle.std.specs.Prelude.{◌≡◌, ℕ, zero, suc, ◌&&◌, Bool, true, false, nat_lt, ◌==◌, List, [], ◌∷◌, ◌++◌, length, map, reverse, slice_get, Option, Some, None, Result, Ok, Err, if◌then◌else◌}
 use Rattle.rw_model.specs.Draft.{Draft}
 use Rattle.rpl_code.specs.declared.kind.ValueKind.{ValueKind}
 use Rattle.rpl_code.specs.declared.kind.ValueKind.TheVariants as K
@@ -170,6 +170,12 @@ abbrev pub befores : Scope → ℕ → Before → List Instruction → Result (L
 befores scope place b [] = at_place place (ended scope.head b b.loops) (λ c. Ok (c ∷ []))
 befores scope place b (i ∷ is) =
     at_place place (judged scope place b i) (λ c. then_do (befores scope (suc place) c is) (λ bs. Ok (b ∷ bs)))
+
+-- what is before a place
+abbrev pub before_at : List Before → ℕ → Before
+before_at [] n = before [] []
+before_at (b ∷ bs) zero = b
+before_at (b ∷ bs) (suc n) = before_at bs n
 
 abbrev pub parameters_of : BlockHead → List ValueKind
 parameters_of Rule = []

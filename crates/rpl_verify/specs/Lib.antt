@@ -13,6 +13,7 @@ pub mod Notes
 pub mod Verified
 pub mod Operations
 pub mod Machine
+pub mod Ways
 pub mod Safety
 pub mod Worked
 pub mod Resolved

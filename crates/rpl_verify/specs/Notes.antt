@@ -11,7 +11,7 @@ use Rattle.rpl_verify.specs.Kinds.{words_of_all}
 use Rattle.rpl_verify.specs.Places.{rest_of}
 use Rattle.rpl_verify.specs.Names.{Scope}
 use Rattle.rpl_verify.specs.Fits.{Before, Misplaced, before, befores, room_on_top, then_do}
-use Rattle.rpl_verify.specs.Budget.{Measure, at_a_time, count_of, first_of, looks_of, most_from, puts_of, summed, way_of, words_at, words_before, words_of_loops}
+use Rattle.rpl_verify.specs.Budget.{Measure, at_a_time, count_of, first_of, looks_of, most_from, puts_of, summed, going_of, words_at, words_before, words_of_loops}
 
 abbrev pub budget_seen : Numbers → Budget
 budget_seen b = budget b.instructions b.reads b.puts b.words
@@ -97,7 +97,7 @@ abbrev pub noted : Part → ℕ → List Note → List Instruction → List ℕ
 noted part place ns [] = first_price part ns ∷ []
 noted part place ns (i ∷ is) =
     let behind : List ℕ = noted part (suc place) (rest_of ns) is in
-    most_from (stopping part) place (way_of i) (first_price part ns) (first_room ns) is (λ to. slice_index behind (to - suc place)) ∷ behind
+    most_from (stopping part) place (going_of i) (first_price part ns) (first_room ns) is (λ to. slice_index behind (to - suc place)) ∷ behind
 
 -- the budget by notes
 abbrev pub budget_noted : List Note → List Instruction → Budget

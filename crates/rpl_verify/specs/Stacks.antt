@@ -1,12 +1,12 @@
 -- Lists of kinds, each held once, by number.
-use Rattle.std.specs.Prelude.{◌≡◌, ◌<◌, ◌≤◌, ◌+◌, ◌*◌, ℕ, zero, suc, List, [], ◌∷◌, ◌++◌, length, Some, slice_get}
+use Rattle.std.specs.Prelude.{◌≡◌, ◌≢◌, ◌<◌, ◌≤◌, ◌+◌, ◌*◌, ◌==◌, ◌&&◌, Bool, false, ℕ, zero, suc, List, [], ◌∷◌, ◌++◌, length, Option, Some, None, slice_get}
 use Rattle.std.specs.Ordering.{nat_cmp}
 use Rattle.std.specs.BTreeMap.{BTreeMap, get}
 use Rattle.rpl_code.specs.declared.kind.ValueKind.{ValueKind}
 use Rattle.rpl_code.specs.declared.kind.ValueKind.TheVariants as K
 use Rattle.rpl_tree.specs.Budget.{capped, limits}
 use Rattle.rpl_verify.specs.declared.stacks.Node.{Node}
-use Rattle.rpl_verify.specs.Kinds.{words_of_all}
+use Rattle.rpl_verify.specs.Kinds.{is_same_kind, words_of_all}
 use Rattle.rpl_verify.specs.Places.{rest_of}
 
 -- the list of a number
@@ -68,10 +68,19 @@ pub record IsKnown (ns : List Node) (key number : ℕ) : Type 0 where
   pub here : slice_get ns place ≡ Some node
   pub key_is : key_of node.below node.kind ≡ key
 
--- each list has one number
+-- the list of the next number stands on this one, with this kind on top
+abbrev pub stands_on : ℕ → ValueKind → Option Node → Bool
+stands_on below k None = false
+stands_on below k (Some n) = (n.below == below) && is_same_kind n.kind k
+
+abbrev pub is_next : List Node → ℕ → ValueKind → Bool
+is_next ns below k = stands_on below k (slice_get ns below)
+
+-- each list has one number: that behind the list below it, or else the one under its key
 pub record IsKept (ns : List Node) (m : BTreeMap ℕ ℕ) : Type 0 where
   pub wide : length (lists ns) ≡ suc (length ns)
   pub empty : at (lists ns) 0 ≡ []
   pub nodes : (k : ℕ) (n : Node) → slice_get ns k ≡ Some n → IsNode ns k n
-  pub told : (k : ℕ) (n : Node) → slice_get ns k ≡ Some n → get nat_cmp m (key_of n.below n.kind) ≡ Some (suc k)
+  pub told : (k : ℕ) (n : Node) → slice_get ns k ≡ Some n → n.below ≢ k → get nat_cmp m (key_of n.below n.kind) ≡ Some (suc k)
+  pub apart : (k : ℕ) (n : Node) → slice_get ns k ≡ Some n → n.below ≢ k → is_next ns n.below n.kind ≡ false
   pub known : (key number : ℕ) → get nat_cmp m key ≡ Some number → IsKnown ns key number

@@ -1,6 +1,7 @@
 -- Worked codes.
-use Rattle.std.specs.Prelude.{ℕ, zero, suc, ◌+◌, ℤ, length, pos, codes, false, List, [], ◌∷◌, ◌++◌, replicate, flat_map, Option, Some, None, Result}
+use Rattle.std.specs.Prelude.{ℕ, zero, suc, ◌+◌, ℤ, length, pos, codes, false, List, [], ◌∷◌, ◌++◌, replicate, flat_map, Option, Some, None, Result, Ok, IsSomeAnd, option_map}
 use Rattle.rw_model.specs.Draft.{Draft}
+use Rattle.rw_model.specs.Objects.{numbered}
 use Rattle.rw_model.specs.declared.kind.Kind.TheVariants.{Reservoir}
 use Rattle.rw_base.specs.declared.number.Cell.{Cell}
 use Rattle.rw_series.specs.Fire.{Fire}
@@ -11,12 +12,14 @@ use Rattle.rpl_code.specs.declared.instruction.Instruction.TheVariants as I
 use Rattle.rpl_code.specs.declared.block.BlockHead.TheVariants.{Rule, Function}
 use Rattle.rpl_code.specs.declared.block.Block.{Block}
 use Rattle.rpl_code.specs.Worked.{plain_rule}
-use Rattle.rpl_tree.specs.Budget.{Budget}
+use Rattle.rpl_tree.specs.Budget.{Budget, budget}
 use Rattle.rpl_tree.specs.Worked.{basin_of, dam, flow_object, numbers_object, pool, unknown_cells}
 use Rattle.rpl_verify.specs.declared.resolved.Resolved.{Resolved}
 use Rattle.rpl_verify.specs.declared.verify_kind.VerifyKind.{VerifyKind}
-use Rattle.rpl_verify.specs.Fits.{Refusal, first_misfit, refusal}
-use Rattle.rpl_verify.specs.Budget.{ruling}
+use Rattle.rpl_verify.specs.Names.{Scope}
+use Rattle.rpl_verify.specs.Fits.{Misplaced, Refusal, before, befores, first_misfit, refusal, scope_of, then_do}
+use Rattle.rpl_verify.specs.Budget.{count_of, looks_of, puts_of, ruling}
+use Rattle.rpl_verify.specs.Ways.{IsWay, sum_on, words_on}
 use Rattle.rpl_tree.specs.World.{World}
 use Rattle.rpl_verify.specs.Machine.{fire_of_code, first_frame}
 use Rattle.rpl_verify.specs.Resolved.{resolved_block}
@@ -164,6 +167,35 @@ long_locals n = rule_with (replicate n (K.NList 4096)) [] ∷ []
 -- the ruling of a code on the day of the dam
 abbrev pub ruled : List Block → Result (List Budget) Refusal
 ruled blocks = ruling one_dam blocks
+
+-- ---- ways
+
+-- each number of a list is put, unless the branch is taken
+abbrev pub put_or_not : List Block
+put_or_not = rule_with (K.N ∷ [])
+    (pair_then (I.Foreach 0 ∷ I.Bool false ∷ I.Branch 8 ∷ I.Load 0 ∷ put_outflow 0 ∷ I.Target [] ∷ I.Next ∷ [])) ∷ []
+
+-- a way through a block of this number
+abbrev pub IsWayIn : List Block → ℕ → List ℕ → Type 0
+IsWayIn code n way = IsSomeAnd (numbered code n) (λ block. IsWay block.lines way)
+
+-- what a way through that block comes to, by the budgets of the blocks before it
+abbrev pub along : Draft → List Block → List Budget → ℕ → List ℕ → Option (Result Budget Misplaced)
+along basin code budgets n way =
+    option_map (λ (block : Block).
+    let scope : Scope = scope_of basin code n block in
+    then_do (befores scope 0 (before [] []) block.lines) (λ bs.
+    Ok (
+    budget
+    (sum_on bs block.lines (count_of scope budgets) way)
+    (sum_on bs block.lines (looks_of scope budgets) way)
+    (sum_on bs block.lines (puts_of scope budgets) way)
+    (words_on bs block.lines scope budgets way)
+    ))) (numbered code n)
+
+-- of the rule of one block, on the day of the dam
+abbrev pub along_rule : List Block → List ℕ → Option (Result Budget Misplaced)
+along_rule code way = along one_dam code [] 1 way
 
 -- ---- firings
 

@@ -1,7 +1,8 @@
 // What the definitions of this crate come to, on codes that were worked out by hand.
-ghost use Rattle.std.specs.Prelude.{All, List, ◌≡◌, [], ◌∷◌, Err, None, Ok, Some, codes, neg_ℤ, pos, replicate, true, ◌+ℤ◌};
+ghost use Rattle.std.specs.Prelude.{All, ◌↔◌, IsTrue, false, List, ℕ, ◌≡◌, [], ◌∷◌, Err, None, Ok, Some, codes, neg_ℤ, pos, replicate, true, ◌+ℤ◌};
 ghost use Rattle.rw_base.specs.Quantity.{quantity_max};
 ghost use Rattle.rpl_code.specs.declared.kind.ValueKind.TheVariants as K;
+ghost use Rattle.rpl_code.specs.declared.instruction.Instruction.{Instruction};
 ghost use Rattle.rpl_code.specs.declared.instruction.Instruction.TheVariants as I;
 ghost use Rattle.rpl_code.specs.declared.block.Block.{Block};
 ghost use Rattle.rpl_code.specs.Worked.{plain_rule, seven_kept, two_puts};
@@ -12,13 +13,16 @@ ghost use Rattle.rpl_tree.specs.World.{cell_of, put_to};
 ghost use Rattle.rpl_tree.specs.Worked.{all_cells, done_by, ended_by, fire, only_slot, unknown_cells, x_ends, x_is};
 ghost use Rattle.rpl_verify.specs.declared.resolved.Resolved.TheVariants as R;
 ghost use Rattle.rpl_verify.specs.declared.verify_kind.VerifyKind.TheVariants.{BackwardJump, JumpOutside, LaterCall, MissingOperand, NoSuchName, NotSettable, PutInFunction, TargetStep, TooCostly, TooDeep, TooMany, TooManyPuts, TooManyReads, WrongOperand, WrongShape};
-ghost use Rattle.rpl_verify.specs.Budget.{AreAccepted, IsWithinLimits};
+ghost use Rattle.rpl_verify.specs.Budget.{AreAccepted, IsOverLimit, IsWithinLimits, at_a_time, most, ruling, summed};
 ghost use Rattle.rpl_verify.specs.Machine.{fire_of_code};
 ghost use Rattle.rpl_verify.specs.Resolved.{resolved_at, resolved_code};
 ghost use Rattle.rpl_verify.specs.Safety.{AreSafe};
 ghost use Rattle.rpl_verify.specs.Verified.{Accepted, verified};
-ghost use Rattle.rpl_verify.specs.Fits.{AreFit, first_misfit, refusal};
-ghost use Rattle.rpl_verify.specs.Worked.{cap_and_base_code, code_does, dam_and_flow, doubled_items, earlier_code, endless, hundredth_code, long_locals, many_puts, misfit_at, misfit_in, function_with, misfit_of, nested, number, number_function, numbers_basin, looks_of_firing, one_dam, one_or_sum, one_or_two, over_a_list, pair_then, put_before_look, put_outflow, put_spill, puts_of_firing, raise_and_reset_code, rule_with, ruled, second_slot, seen_before, skipped, sum_of_slots, spilling_dam, sum_ahead_code, sum_or_two, three_counted, tower, words_of_firing, x_by_truth, x_of, x_of_pool, x_slot, y_slot, put_x, resolved_of};
+ghost use Rattle.rpl_verify.specs.Fits.{AreFit, Before, Refusal, before, befores, first_misfit, refusal};
+ghost use Rattle.rpl_verify.specs.Names.{Scope};
+ghost use Rattle.rpl_verify.specs.Places.{spots};
+ghost use Rattle.rpl_verify.specs.Ways.{AreAcceptable, IsMost, sum_on, words_on};
+ghost use Rattle.rpl_verify.specs.Worked.{IsWayIn, along, along_rule, put_or_not, cap_and_base_code, code_does, dam_and_flow, doubled_items, earlier_code, endless, hundredth_code, long_locals, many_puts, misfit_at, misfit_in, function_with, misfit_of, nested, number, number_function, numbers_basin, looks_of_firing, one_dam, one_or_sum, one_or_two, over_a_list, pair_then, put_before_look, put_outflow, put_spill, puts_of_firing, raise_and_reset_code, rule_with, ruled, second_slot, seen_before, skipped, sum_of_slots, spilling_dam, sum_ahead_code, sum_or_two, three_counted, tower, words_of_firing, x_by_truth, x_of, x_of_pool, x_slot, y_slot, put_x, resolved_of};
 
 /// Codes that fit. What a jump leaves out is judged as well, with the operands that the target behind the jump declares.
 pub fn codes_that_fit()
@@ -328,6 +332,66 @@ pub fn accepted_code()
         → AreAccepted basin blocks budgets → All IsWithinLimits budgets }
 {}
 
+/// Ways through blocks and what they come to: through a loop's body, by either side of a branch, by a branch in a loop's body,
+/// over a call, and past what nothing reaches. The budget is that of the dearest, in each of its parts.
+pub fn ways()
+    ensures in_turns { IsWayIn two_puts 1 (0 ∷ 1 ∷ 2 ∷ 3 ∷ 4 ∷ 5 ∷ 6 ∷ 7 ∷ []) }
+    ensures turns { along_rule two_puts (0 ∷ 1 ∷ 2 ∷ 3 ∷ 4 ∷ 5 ∷ 6 ∷ 7 ∷ [])
+        ≡ Some (Ok (budget 12 0 2 7)) }
+    ensures in_sum { IsWayIn sum_or_two 1 (0 ∷ 1 ∷ 2 ∷ 3 ∷ 4 ∷ 5 ∷ 8 ∷ 9 ∷ 10 ∷ []) }
+    ensures sum { along_rule sum_or_two (0 ∷ 1 ∷ 2 ∷ 3 ∷ 4 ∷ 5 ∷ 8 ∷ 9 ∷ 10 ∷ [])
+        ≡ Some (Ok (budget 8 0 1 2)) }
+    ensures in_two { IsWayIn sum_or_two 1 (0 ∷ 1 ∷ 6 ∷ 7 ∷ 8 ∷ 9 ∷ 10 ∷ []) }
+    ensures two { along_rule sum_or_two (0 ∷ 1 ∷ 6 ∷ 7 ∷ 8 ∷ 9 ∷ 10 ∷ [])
+        ≡ Some (Ok (budget 6 0 1 1)) }
+    ensures in_put { IsWayIn put_or_not 1
+        (0 ∷ 1 ∷ 2 ∷ 3 ∷ 4 ∷ 5 ∷ 6 ∷ 7 ∷ 8 ∷ 9 ∷ 10 ∷ []) }
+    ensures put { along_rule put_or_not (0 ∷ 1 ∷ 2 ∷ 3 ∷ 4 ∷ 5 ∷ 6 ∷ 7 ∷ 8 ∷ 9 ∷ 10 ∷ [])
+        ≡ Some (Ok (budget 18 0 2 7)) }
+    ensures in_not { IsWayIn put_or_not 1 (0 ∷ 1 ∷ 2 ∷ 3 ∷ 4 ∷ 5 ∷ 8 ∷ 9 ∷ 10 ∷ []) }
+    ensures not_put { along_rule put_or_not (0 ∷ 1 ∷ 2 ∷ 3 ∷ 4 ∷ 5 ∷ 8 ∷ 9 ∷ 10 ∷ [])
+        ≡ Some (Ok (budget 14 0 0 7)) }
+    ensures put_or_not { ruled put_or_not ≡ Ok (budget 18 0 2 7 ∷ []) }
+    ensures in_call { IsWayIn sum_ahead_code 2
+        (0 ∷ 1 ∷ 2 ∷ 3 ∷ 4 ∷ 5 ∷ 6 ∷ 7 ∷ 8 ∷ 9 ∷ 10 ∷ 11 ∷ 12 ∷ 13 ∷ 14 ∷ []) }
+    ensures call { along dam_and_flow sum_ahead_code (budget 5 1 0 4 ∷ []) 2
+        (0 ∷ 1 ∷ 2 ∷ 3 ∷ 4 ∷ 5 ∷ 6 ∷ 7 ∷ 8 ∷ 9 ∷ 10 ∷ 11 ∷ 12 ∷ 13 ∷ 14 ∷ [])
+        ≡ Some (Ok (budget 34 2 1 13)) }
+    ensures past_it { IsWayIn skipped 1 (0 ∷ 3 ∷ 4 ∷ []) }
+    ensures skipped { along_rule skipped (0 ∷ 3 ∷ 4 ∷ []) ≡ Some (Ok (budget 2 0 0 0)) }
+    ensures nested { along_rule nested (0 ∷ 1 ∷ 2 ∷ 3 ∷ 4 ∷ 5 ∷ 6 ∷ 7 ∷ 8 ∷ 9 ∷ 10 ∷ [])
+        ≡ Some (Ok (budget 24 0 0 12)) }
+    ensures mapped { along_rule doubled_items
+        (0 ∷ 1 ∷ 2 ∷ 3 ∷ 4 ∷ 5 ∷ 6 ∷ 7 ∷ 8 ∷ 9 ∷ 10 ∷ 11 ∷ 12 ∷ [])
+        ≡ Some (Ok (budget 21 0 1 11)) }
+    ensures not_a_way { IsWayIn two_puts 1 (0 ∷ 1 ∷ 2 ∷ 3 ∷ 7 ∷ []) → IsTrue false }
+{}
+
+/// What the budgets mean. Of a block that fits, the numbers that budgets are made of are the most that its ways come to. So code is
+/// accepted exactly where it fits and the budgets that its ways have keep within the limits.
+pub fn budgets_of_ways()
+    ensures sums { (scope : Scope) (budgets : List Budget) (price : Before → Instruction → ℕ)
+        (lines : List Instruction) (bs : List Before)
+        → scope.spots ≡ spots lines → befores scope 0 (before [] []) lines ≡ Ok bs
+        → IsMost lines (sum_on bs lines price) (most (summed scope budgets price) bs lines) }
+    ensures words { (scope : Scope) (budgets : List Budget) (lines : List Instruction)
+        (bs : List Before)
+        → scope.spots ≡ spots lines → befores scope 0 (before [] []) lines ≡ Ok bs
+        → IsMost lines (words_on bs lines scope budgets) (most (at_a_time scope budgets) bs lines) }
+    ensures accepted { (basin : Draft) (blocks : List Block) (budgets : List Budget)
+        → AreAccepted basin blocks budgets ↔ AreAcceptable basin blocks budgets }
+{}
+
+/// Code that is refused has a first misfit, which the refusal tells, unless it is for a budget above a limit; and code that fits is
+/// refused for nothing else.
+pub fn refused_code()
+    ensures misfit { (basin : Draft) (blocks : List Block) (why : Refusal)
+        → ruling basin blocks ≡ Err why → (IsOverLimit why.misfit → ⊥)
+        → first_misfit basin blocks ≡ Some why }
+    ensures over { (basin : Draft) (blocks : List Block) (why : Refusal)
+        → ruling basin blocks ≡ Err why → AreFit basin blocks → IsOverLimit why.misfit }
+{}
+
 /// Verified code never goes wrong. However the cells are and at whatever timestep, each rule of accepted code is never stuck and
 /// ends. What it counts, how often it looks, inside the run and outside, the puts that it executes and the words of each
 /// state that it passes are at most those of its budget.
@@ -336,14 +400,23 @@ pub fn verified_code_is_safe()
         → AreAccepted basin blocks budgets → AreSafe basin blocks budgets }
 {}
 
-/// What `verify` answers is accepted code, and so it is safe; and its instructions are resolved.
+/// What `verify` answers is the code that it was given. That is accepted, and so it is safe; its instructions are resolved. Of all
+/// accepted code it answers that.
 pub fn answered_code_is_safe()
+    ensures unchanged { (basin : Draft) (blocks : List Block) (a : Accepted)
+        → verified basin blocks ≡ Ok a → a.blocks ≡ blocks }
     ensures accepted { (basin : Draft) (blocks : List Block) (a : Accepted)
         → verified basin blocks ≡ Ok a → AreAccepted basin a.blocks a.budgets }
     ensures safe { (basin : Draft) (blocks : List Block) (a : Accepted)
         → verified basin blocks ≡ Ok a → AreSafe basin a.blocks a.budgets }
     ensures resolved { (basin : Draft) (blocks : List Block) (a : Accepted)
         → verified basin blocks ≡ Ok a → a.resolved ≡ resolved_code basin a.blocks }
+    ensures all { (basin : Draft) (blocks : List Block) (budgets : List Budget)
+        → AreAccepted basin blocks budgets → verified basin blocks ≡ Ok (record {
+          blocks = blocks;
+          budgets = budgets;
+          resolved = resolved_code basin blocks;
+        }) }
 {}
 
 /// What firings pass: each look counts, also one outside the run, which looks at no cell; a put counts that is executed before

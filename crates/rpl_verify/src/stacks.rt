@@ -1,10 +1,11 @@
 // Lists of kinds, each held once: equal lists have one number.
-ghost use Rattle.std.specs.Prelude.{◌≡◌, ◌<◌, ◌+◌, [], ◌∷◌, length, IfOk};
+ghost use Rattle.std.specs.Prelude.{◌≡◌, ◌<◌, ◌+◌, suc, [], ◌∷◌, length, IfOk};
 ghost use Rattle.rpl_code.specs.Weight.{words_of};
 ghost use Rattle.rpl_tree.specs.Budget.{capped, limits};
 ghost use Rattle.rpl_verify.specs.Kinds.{are_same_kinds, top_of, words_of_all};
-ghost use Rattle.rpl_verify.specs.Stacks.{at, key_of, code_of, Grows, IsPushed, IsBelow};
+ghost use Rattle.rpl_verify.specs.Stacks.{at, key_of, code_of, is_next, Grows, IsPushed, IsBelow};
 
+use crate::kinds::is_same_kind;
 use rpl_code::ValueKind;
 use rw_base::NoMemory;
 use std::alloc::Global;
@@ -24,7 +25,8 @@ pub(crate) struct Node {
     words: u32,
 }
 
-/// Lists of kinds, the last one first, each by its number. Number 0 is the empty list.
+/// Lists of kinds, the last one first, each by its number. Number 0 is the empty list. A list that was made on the newest has the
+/// next number, and is found by that; all others are found in the map.
 #[derive(Drop)]
 pub(crate) struct Stacks {
     nodes: Vec<Node>,
@@ -67,6 +69,16 @@ fn words_above(kind: ValueKind, below: u32) -> u32
     (kind.words() + below).min(WORDS_CAP)
 }
 
+// Whether the list of the next number is this one, with this kind on top.
+fn is_next(nodes: &[Node], below: u32, kind: ValueKind) -> bool
+    ensures { result ≡ is_next nodes.now below kind }
+{
+    match nodes.get(below as usize) {
+        None => false,
+        Some(node) => node.below == below && is_same_kind(node.kind, kind),
+    }
+}
+
 impl Stacks {
     /// The empty list alone.
     pub(crate) fn new(alloc: Global) -> Stacks
@@ -76,6 +88,25 @@ impl Stacks {
             nodes: Vec::new(alloc),
             numbers: BTreeMap::new(alloc),
         }
+    }
+
+    // The number of the newest list with one kind more.
+    fn push_newest(&mut self, below: u32, kind: ValueKind) -> Result<u32, NoMemory>
+        requires newest { length self.old ≡ suc below }
+        requires few { suc below < 4294967296 }
+        requires small { code_of kind < 262144 }
+        ensures grows { Grows self.old self.new }
+        ensures made { IfOk result (λ n. IsPushed self.old self.new kind below n) }
+    {
+        let height = self.height(below) + 1;
+        let words = words_above(kind, self.words(below));
+        self.nodes.push(Node {
+            kind,
+            below,
+            height,
+            words,
+        })?;
+        Ok(below + 1)
     }
 
     /// The number of a list with one kind more.
@@ -88,6 +119,12 @@ impl Stacks {
             return Err(NoMemory);
         }
         let at = key(below, kind);
+        if below as usize == self.nodes.len() {
+            return self.push_newest(below, kind);
+        }
+        if is_next(&self.nodes, below, kind) {
+            return Ok(below + 1);
+        }
         match self.numbers.get(&at).copied() {
             Some(number) => Ok(number),
             None => {

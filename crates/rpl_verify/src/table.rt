@@ -3,7 +3,7 @@ ghost use Rattle.std.specs.Prelude.{◌≡◌, ◌<◌, ◌+◌, ◌-◌, ◌^�
 ghost use Rattle.rpl_code.specs.declared.instruction.Instruction.{Instruction};
 ghost use Rattle.rpl_tree.specs.Budget.{capped};
 ghost use Rattle.rpl_verify.specs.Places.{bracket, ends_before, loop_end};
-ghost use Rattle.rpl_verify.specs.Budget.{most_from, way_of};
+ghost use Rattle.rpl_verify.specs.Budget.{most_from, going_of};
 ghost use Rattle.rpl_verify.specs.Notes.{joined, limit_of, noted, price_in, repeated, stopping};
 
 use crate::notes::{Note, Part, cap_of};
@@ -83,7 +83,7 @@ fn most_from(
 ) -> u32
     requires { place < length most.now }
     ensures { (is : List Instruction) → loop_end (suc place) is ≡ end → result
-        ≡ most_from (stopping part) place (way_of instruction.now) price room is
+        ≡ most_from (stopping part) place (going_of instruction.now) price room is
         (λ to. slice_index (drop (suc place) most.now) (to - suc place)) }
 {
     match instruction {

@@ -1,10 +1,16 @@
-use Rattle.rw_base.proofs.Common.{◌≡◌, ◌∷◌, suc, ◌-◌, take, ◌+◌, ◌<◌, Some, None, sym, ap, ◌∙◌, subst, arith, length, nat_cmp, get, Updates}
+use Rattle.rw_base.proofs.Common.{◌≡◌, true, false, ◌∷◌, suc, ◌-◌, take, ◌+◌, ◌<◌, Some, None, sym, ap, ◌∙◌, subst, arith, length, nat_cmp, get, Updates}
 use Rattle.rpl_tree.specs.Budget.{capped, limits}
 use Rattle.rpl_verify.specs.declared.stacks.Node.{Node}
 use Rattle.rpl_verify.specs.Kinds.{words_of_all}
-use Rattle.rpl_verify.specs.Stacks.{at, lists, key_of, IsPushed, Grows}
-use Rattle.rpl_verify.proofs.StackFacts.{kept_push, made_push, grows_push, made_known, flat_at, kept_cut, kept_same}
+use Rattle.rpl_verify.specs.Stacks.{at, lists, key_of, is_next, IsPushed, Grows}
+use Rattle.rpl_verify.proofs.StackFacts.{IsNew, kept_push, made_push, grows_push, made_known, made_next, flat_at, kept_cut, kept_same}
 use Rattle.rpl_verify.proofs.stacks.Stacks.push.Goals as goal
+
+pub returns-then-is_next-clause-made : goal.returns-then-is_next-clause-made
+returns-then-is_next-clause-made c =
+    let t : is_next c.self.inside.nodes.items c.args.below c.args.kind ≡ true = sym (ap (λ ns. is_next ns c.args.below c.args.kind) c.deref.ensures.value) ∙ sym c.is_next.ensures ∙ c.if-is_next.true in
+    subst (λ ls. IsPushed ls ls c.args.kind c.args.below (c.args.below + 1)) c.self.view_is
+    (made_next c.self.inside.nodes.items c.self.inside.numbers c.args.below c.args.kind c.self.invariant t)
 
 pub returns-in-Some-clause-made : goal.returns-in-Some-clause-made
 returns-in-Some-clause-made c =
@@ -35,7 +41,9 @@ invariant_of-self-in-Ok c =
     let u : Updates nat_cmp m c.insert.new.self (key_of c.args.below c.args.kind) (Some (suc (length ns))) = rw (← c.key-at.ensures.key, ← len) (c.in-Ok.ensures.updates) in
     let few : c.words.result ≡ capped limits.words (words_of_all (at (lists ns) c.args.below)) = rw c.self.view_is c.words.ensures in
     let heavy : c.words_above-words.result ≡ capped limits.words (words_of_all (c.args.kind ∷ at (lists ns) c.args.below)) = let a = c.words_above-words.ensures in omega (arith, a, few) in
-    rw c.in_ok-push-in-None.ensures.items (kept_push ns n m c.insert.new.self inv (omega (arith, r, w)) (omega (arith, h)) (omega (arith, h, f, r, w)) heavy c.key-at.ensures.small absent u)
+    let next : is_next ns c.args.below c.args.kind ≡ false = sym (ap (λ ns. is_next ns c.args.below c.args.kind) c.deref.ensures.value) ∙ sym c.is_next.ensures ∙ c.if-is_next.false in
+    let new : IsNew ns n = record { low = omega (arith, r, w); high = omega (arith, h); flat = omega (arith, h, f, r, w); heavy = heavy; small = c.key-at.ensures.small } in
+    rw c.in_ok-push-in-None.ensures.items (kept_push ns n m c.insert.new.self inv new (omega (arith, r, w, c.if-below-len.false)) next absent u)
 
 pub invariant_of-self-in-Err : goal.invariant_of-self-in-Err
 invariant_of-self-in-Err c =
