@@ -1,7 +1,8 @@
 -- Rules that are met, going from watch to watch.
-use Rattle.rw_base.proofs.Common.{◌≡◌, ◌∙◌, ◌+◌, ◌-◌, ◌<◌, ◌≤◌, ◌==◌, ◌||◌, ℕ, zero, suc, Bool, true, false, List, [], ◌∷◌, ◌++◌, Option, None, Some, All, All-push, take, take_more, ap, arith, if◌then◌else◌, false≢true, get_or, get_or-set_other, get_or-set_same, get_or_append_left, get_or_from_slice_get, length, length-append, nat_eq, nat_eq_equiv, nat_le, nat_tests, none-some, option_map, refl, set, slice_get-get_or, slice_get_within, slice_index_or, subst, sym, unwrap_or}
+use Rattle.rw_base.proofs.Common.{◌≡◌, ◌∙◌, ◌+◌, ◌-◌, ◌<◌, ◌≤◌, ◌==◌, ◌||◌, ℕ, zero, suc, Bool, true, false, List, [], ◌∷◌, ◌++◌, Option, None, Some, IsSomeAnd, All, All-push, take, take_more, ap, arith, if◌then◌else◌, false≢true, get_or, get_or-set_other, get_or-set_same, get_or_append_left, get_or_from_slice_get, length, length-append, nat_eq, nat_eq_equiv, nat_le, nat_tests, none-some, option_map, refl, set, slice_get-get_or, slice_get_within, slice_index_or, subst, sym, unwrap_or}
 use Rattle.std.proofs.lemmas.List.{get_or_push}
 use Rattle.std.proofs.lemmas.Option.{slice_get_past}
+use Rattle.std.specs.List.{slice_get}
 use Rattle.rw_base.specs.declared.number.Cell.{Cell}
 use Rattle.rw_model.proofs.Numbered.{numbered-found, numbered-known}
 use Rattle.rw_model.specs.Objects.{numbered}
@@ -180,3 +181,18 @@ watching_more old new rule looks k look near is kept all watching =
     (sym (take_more looks k look near ∙ ap (λ l. take k looks ++ l ∷ []) (sym is)))
     (All-push (λ (l : Look). is_watching new l.cell rule ≡ true) (take k looks) look
     (λ place d there. kept (get_or (take k looks) place d).cell rule (all place d there)) watching)
+
+-- a cell in a place of looks whose cells are watched
+pub watching_in_place : (index : CellIndex) (rule : ℕ) (looks : List Look) (place : ℕ) (cell : Cell)
+    → All (λ (l : Look). is_watching index l.cell rule ≡ true) looks → IsSomeAnd (slice_get looks place) (λ (look : Look). look.cell ≡ cell)
+    → is_watching index cell rule ≡ true
+watching_in_place index rule looks place cell all there = by (slice_get looks place) refl there
+  where
+    by : (found : Option Look) → slice_get looks place ≡ found → IsSomeAnd found (λ (look : Look). look.cell ≡ cell)
+        → is_watching index cell rule ≡ true
+    by None is there = absurd there
+    by (Some look) is there =
+        let at : get_or looks place look ≡ look = get_or_from_slice_get looks place look look is in
+        ap (λ c. is_watching index c rule) (sym there)
+        ∙ ap (λ (l : Look). is_watching index l.cell rule) (sym at)
+        ∙ all place look (slice_get_within looks place look is)

@@ -94,8 +94,9 @@ impl Agenda {
         ensures marked { KeepsOtherMarks r.0 self.old self.new }
     {
         let place = r.0 - 1;
+        self.index
+            .watch_all(place, self.rules[usize::from(place)].looks(), looked);
         self.rules[usize::from(place)].keep(looked);
-        self.index.watch_all(place, looked);
         self.marks.clear(place);
     }
 }

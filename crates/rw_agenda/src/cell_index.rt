@@ -1,5 +1,5 @@
-ghost use Rattle.std.specs.Prelude.{◌≡◌, ◌≤◌, ◌<◌, ◌+◌, ◌*◌, ◌-◌, ◌||◌, ◌++◌, ◌∷◌, [], ℕ, All, IfOk, IfSome, Some, None, true, false, length, option_map, slice_index_or, vec_len};
-ghost use Rattle.std.specs.List.{list_any};
+ghost use Rattle.std.specs.Prelude.{◌≡◌, ◌≤◌, ◌<◌, ◌+◌, ◌*◌, ◌-◌, ◌||◌, ◌++◌, ◌∷◌, [], ℕ, All, IfOk, IfSome, IsSomeAnd, Some, None, true, false, length, option_map, slice_index_or, vec_len};
+ghost use Rattle.std.specs.List.{list_any, slice_get};
 ghost use Rattle.rw_base.specs.declared.number.Cell.{Cell};
 ghost use Rattle.rw_model.specs.Kept.{numbers_of};
 ghost use Rattle.rw_model.specs.Objects.{numbered};
@@ -81,8 +81,9 @@ impl CellIndex {
         self.full = false;
     }
 
-    /// The rule in this place looked at a cell, and watches it. This takes as long as there are rules that watch it.
-    pub(crate) fn watch(&mut self, rule: u16, cell: Cell)
+    /// The rule in this place looked at a cell, and watches it. Where it fired before in the timestep, this takes as long as there
+    /// are rules that watch the cell.
+    pub(crate) fn watch(&mut self, rule: u16, cell: Cell, again: bool)
         ensures watching { is_watching self.new cell rule ≡ true }
         ensures kept { (other : Cell) (earlier : ℕ) → is_watching self.old other earlier ≡ true
             → is_watching self.new other earlier ≡ true }
@@ -93,7 +94,7 @@ impl CellIndex {
             return;
         };
         let newest = self.newest[place];
-        if is_met(self.watches.as_slice(), newest, rule) {
+        if is_known(self.watches.as_slice(), newest, rule, again) {
             return;
         }
         if self.watches.len() >= self.room as usize {
@@ -104,15 +105,29 @@ impl CellIndex {
         self.newest[place] = self.watches.len() as u32;
     }
 
-    /// The rule in this place looked at these cells.
-    pub(crate) fn watch_all(&mut self, rule: u16, looked: &[Look])
+    /// The rule in this place looked at these cells, and watches them. It watches those already at which it looked before.
+    pub(crate) fn watch_all(&mut self, rule: u16, before: &[Look], looked: &[Look])
+        requires { All (λ (look : Look). is_watching self.old look.cell rule ≡ true) before.now }
         ensures watching { All (λ (look : Look). is_watching self.new look.cell rule ≡ true) looked.now }
         ensures kept { (other : Cell) (earlier : ℕ) → is_watching self.old other earlier ≡ true
             → is_watching self.new other earlier ≡ true }
     {
-        for look in looked {
-            self.watch(rule, look.cell);
+        for place in 0..looked.len() {
+            self.watch_at(rule, before, place, looked[place].cell);
         }
+    }
+
+    // The rule looked at a cell at this place of its looks.
+    fn watch_at(&mut self, rule: u16, before: &[Look], place: usize, cell: Cell)
+        requires { All (λ (look : Look). is_watching self.old look.cell rule ≡ true) before.now }
+        ensures watching { is_watching self.new cell rule ≡ true }
+        ensures kept { (other : Cell) (earlier : ℕ) → is_watching self.old other earlier ≡ true
+            → is_watching self.new other earlier ≡ true }
+    {
+        if is_in_place(before, place, cell) {
+            return;
+        }
+        self.watch(rule, cell, !before.is_empty());
     }
 
     /// Marks each rule that watches a cell of one of these slots at the timestep, and no other.
@@ -191,6 +206,38 @@ fn is_met(watches: &[Watch], newest: u32, rule: u16) -> bool
         number = watch.before;
     }
     false
+}
+
+// Whether the rule is the newest watch's.
+fn is_newest(watches: &[Watch], newest: u32, rule: u16) -> bool
+    ensures { result ≡ true → is_met watches.now (length watches.now) newest rule ≡ true }
+{
+    match watch_of(watches, newest) {
+        Some(watch) => watch.rule == rule,
+        None => false,
+    }
+}
+
+// Whether the rule is known to be met, going from the newest watch of a cell. Where it didn't fire before in the timestep, its
+// firing made the newest watches of the cells that it watches.
+fn is_known(watches: &[Watch], newest: u32, rule: u16, again: bool) -> bool
+    ensures { result ≡ true → is_met watches.now (length watches.now) newest rule ≡ true }
+{
+    if again {
+        is_met(watches, newest, rule)
+    } else {
+        is_newest(watches, newest, rule)
+    }
+}
+
+// Whether the look in a place was at this cell.
+fn is_in_place(looks: &[Look], place: usize, cell: Cell) -> bool
+    ensures { result ≡ true → IsSomeAnd (slice_get looks.now place) (λ look. look.cell ≡ cell) }
+{
+    match looks.get(place) {
+        Some(look) => look.cell == cell,
+        None => false,
+    }
 }
 
 // Adds a watch that leads to the cell's newest one, if there is one.

@@ -1,4 +1,4 @@
-ghost use Rattle.std.specs.Prelude.{◌≡◌, ◌≤◌, Some, IfOk, length, not};
+ghost use Rattle.std.specs.Prelude.{◌≡◌, ◌≤◌, [], Some, IfOk, length, not, unwrap_or};
 ghost use Rattle.rw_run.specs.Log.{value_in};
 ghost use Rattle.rw_run.specs.Next.{is_changed, is_same_value};
 ghost use Rattle.rw_series.specs.Series.{held};
@@ -56,6 +56,17 @@ impl LastLooks {
     {
         fill(&mut self.looks, looked);
         self.fired = true;
+    }
+
+    /// At what the rule looked when it last fired, nothing if it hasn't.
+    pub(crate) fn looks(&self) -> &[Look]
+        ensures { result.now ≡ unwrap_or self.now.looked [] }
+    {
+        if self.fired {
+            self.looks.as_slice()
+        } else {
+            &[]
+        }
     }
 
     /// Whether the rule hasn't fired, or one of the cells holds another value than it saw.

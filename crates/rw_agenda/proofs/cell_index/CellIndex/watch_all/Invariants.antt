@@ -4,8 +4,8 @@ use Rattle.rw_series.specs.declared.look.Look.{Look}
 use Rattle.rw_agenda.specs.CellIndex.{is_watching}
 use Rattle.rw_agenda.proofs.cell_index.CellIndex.watch_all.Given as goal
 
-abbrev pub invariant-loop-look : goal.invariant-loop-look
-invariant-loop-look l = record {
-  watching : All (λ (look : Look). is_watching l.self look.cell l.rule ≡ true) (take l.look-index l.looked);
+abbrev pub invariant-loop-place : goal.invariant-loop-place
+invariant-loop-place l = record {
+  watching : All (λ (look : Look). is_watching l.self look.cell l.rule ≡ true) (take l.place l.looked);
   kept : (other : Cell) (earlier : ℕ) → is_watching l.fn.self other earlier ≡ true → is_watching l.self other earlier ≡ true;
 }
