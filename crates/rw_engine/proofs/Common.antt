@@ -8,7 +8,8 @@ pub use Rattle.rw_model.specs.Turn.{IsStep}
 pub use Rattle.rw_dispatch.specs.declared.dispatch_end.DispatchEnd.{DispatchEnd}
 pub use Rattle.rw_engine.specs.Counts.{IsCounted, count_of, raised, room}
 pub use Rattle.rw_engine.specs.Engine.{Engine}
-pub use Rattle.rw_engine.specs.Givens.{HoldsAll, givens, givens_of, givens_to, if_given}
+pub use Rattle.rw_inputs.specs.Givens.{givens, givens_of, givens_to, if_given}
+pub use Rattle.rw_engine.specs.Held.{HoldsAll}
 pub use Rattle.rw_engine.specs.Lines.{Grows, fault_by, lines_by}
 pub use Rattle.rw_engine.specs.Passing.{ComesTo, Passes, Stands}
 pub use Rattle.rw_engine.specs.Shows.{IsBefore, IsEngineOf, Shows}

@@ -5,6 +5,5 @@ pub mod TakenBack
 pub mod Events
 pub mod Traces
 pub mod Steps
-pub mod Starts
 pub mod After
 pub mod Runs

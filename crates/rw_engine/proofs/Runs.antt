@@ -2,7 +2,7 @@
 use Rattle.rw_engine.proofs.Common.{ComesTo, Draft, Engine, Inputs, IsBefore, IsOver, IsRunOf, Log, Passes, RunFault, Shows, Stands, [], ap, arith, givens, no_rules, placed, refl, rests, standing, subst, sym, ℕ, ◌++◌, ◌+◌, ◌<◌, ◌∙◌, ◌∷◌, ◌≡◌}
 use Rattle.rw_run.specs.declared.run.Run.{Run}
 use Rattle.rw_engine.specs.declared.step_end.StepEnd.TheVariants.{Closed as IsClosed, Fault as IsFault}
-use Rattle.rw_engine.proofs.Starts.{standing-placed}
+use Rattle.rw_run.proofs.Placed.{standing-placed}
 use Rattle.rw_engine.proofs.Steps.{leads_on}
 
 pub stands_first : (basin : Draft) (inputs : Inputs) (engine : Engine) → Shows basin engine (placed [] (givens basin inputs)) → Stands basin inputs engine 0

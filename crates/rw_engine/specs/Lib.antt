@@ -1,5 +1,5 @@
 pub mod Counts
-pub mod Givens
+pub mod Held
 pub mod Undone
 pub mod Lines
 pub mod Engine

@@ -7,7 +7,7 @@ use Rattle.rw_run.specs.Runs.{Leads, IsRun, placed, standing, rests, inside}
 use Rattle.rw_run.specs.RunOf.{IsRunOf}
 use Rattle.rw_run.specs.declared.run.Run.{Run}
 use Rattle.rw_inputs.specs.Inputs.{Inputs}
-use Rattle.rw_engine.specs.Givens.{givens}
+use Rattle.rw_inputs.specs.Givens.{givens}
 use Rattle.rw_engine.specs.Engine.{Engine}
 use Rattle.rw_engine.specs.declared.step_end.StepEnd.{StepEnd}
 use Rattle.rw_engine.specs.Shows.{Shows, EndsBy}

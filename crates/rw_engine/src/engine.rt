@@ -6,7 +6,7 @@ ghost use Rattle.rw_run.specs.Log.{Log};
 ghost use Rattle.rw_run.specs.Runs.{placed};
 ghost use Rattle.rw_run.specs.RunOf.{IsRunOf};
 ghost use Rattle.rw_model.specs.Turn.{IsStep};
-ghost use Rattle.rw_engine.specs.Givens.{givens};
+ghost use Rattle.rw_inputs.specs.Givens.{givens};
 ghost use Rattle.rw_engine.specs.Shows.{IsEngineOf, Shows, IsBefore};
 ghost use Rattle.rw_engine.specs.Passing.{Passes};
 

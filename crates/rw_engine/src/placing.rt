@@ -6,7 +6,8 @@ ghost use Rattle.rw_inputs.specs.Inputs.{IsInputsOf, value_at};
 ghost use Rattle.rw_run.specs.Log.{Log};
 ghost use Rattle.rw_run.specs.Runs.{placed};
 ghost use Rattle.rw_dispatch.specs.Stage.{IsHeldIn};
-ghost use Rattle.rw_engine.specs.Givens.{if_given, givens_of, givens, HoldsAll};
+ghost use Rattle.rw_inputs.specs.Givens.{if_given, givens_of, givens};
+ghost use Rattle.rw_engine.specs.Held.{HoldsAll};
 
 use rw_base::{Cell, SlotNo, StepNo};
 use rw_inputs::Inputs;

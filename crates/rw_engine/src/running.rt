@@ -3,7 +3,7 @@ ghost use Rattle.rw_method.specs.Catalogue.{AreInOrder};
 ghost use Rattle.rw_inputs.specs.Inputs.{Inputs as Given, IsInputsOf};
 ghost use Rattle.rw_run.specs.Runs.{placed};
 ghost use Rattle.rw_engine.specs.Passing.{ComesTo};
-ghost use Rattle.rw_engine.specs.Givens.{givens};
+ghost use Rattle.rw_inputs.specs.Givens.{givens};
 ghost use Rattle.rw_engine.specs.Shows.{IsEngineOf, Shows};
 
 use crate::engine::Engine;

@@ -8,7 +8,7 @@ ghost use Rattle.rw_run.specs.Runs.{placed};
 ghost use Rattle.rw_run.specs.RunOf.{IsRunOf};
 ghost use Rattle.rw_model.specs.Turn.{IsStep, IsTurn};
 ghost use Rattle.rw_engine.specs.Counts.{count_of};
-ghost use Rattle.rw_engine.specs.Givens.{givens};
+ghost use Rattle.rw_inputs.specs.Givens.{givens};
 ghost use Rattle.rw_engine.specs.Shows.{IsEngineOf, Shows, IsBefore};
 ghost use Rattle.rw_engine.specs.State.{seen, IsOnTheWay, IsRevocable, IsStateOf, IsStill, IsWithinStep, HoldsWithin, Goes, Keeps, OnlyTells, end_by, ended_by};
 ghost use Rattle.rw_engine.specs.Passing.{Passes};

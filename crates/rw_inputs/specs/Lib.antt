@@ -3,6 +3,7 @@ pub mod Row
 pub mod Records
 pub mod Column
 pub mod Inputs
+pub mod Givens
 pub mod Sound
 pub mod Reading
 pub mod Taking

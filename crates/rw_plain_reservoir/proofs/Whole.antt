@@ -4,7 +4,7 @@ use Rattle.rw_calendar.specs.Stamps.{Timesteps}
 use Rattle.rw_model.proofs.Common.{IsBasin, IsLink, Draft, bounds_in}
 use Rattle.rw_run.proofs.Common.{Log, cells_of, Policy, input_content, no_rules, end_of, last_closed, IsRun, placed}
 use Rattle.rw_report.specs.Section.{section_of, values_in}
-use Rattle.rw_engine.proofs.Starts.{standing-placed, end-placed, closed-placed}
+use Rattle.rw_run.proofs.Placed.{standing-placed, end-placed, closed-placed}
 use Rattle.rw_plain_reservoir.proofs.Alone.{Case, basin_of, count_of, model_of, no-links}
 use Rattle.rw_plain_reservoir.proofs.Placed.{inflow-placed, outflow-placed, storage-placed}
 use Rattle.rw_plain_reservoir.proofs.Steps.{IsCase, Stands, Ends, Comes, run_end, runs_on}

@@ -11,7 +11,7 @@ ghost use Rattle.rw_run.specs.RunOf.{end_of, last_closed};
 ghost use Rattle.rw_run.specs.Runs.{IsRun};
 ghost use Rattle.rw_report.specs.Section.{section_of, values_in};
 ghost use Rattle.rw_plain_reservoir.specs.FirstForm.{FirstModel, IsFirstForm, IsFirstFlows};
-ghost use Rattle.rw_engine.specs.Givens.{givens};
+ghost use Rattle.rw_inputs.specs.Givens.{givens};
 ghost use Rattle.rw_plain_reservoir.specs.Reservoir.{IsReservoirRun, storage_at};
 ghost use Rattle.rw_plain_reservoir.specs.Table.{IsFirstText, columns, heading};
 

@@ -13,3 +13,4 @@ mod SameRuns
 mod SomeRun
 mod Choices
 pub mod Common
+pub mod Placed

@@ -6,7 +6,7 @@ use Rattle.rw_model.proofs.Common.{Draft, all_slots}
 use Rattle.rw_inputs.specs.Inputs.{Inputs, value_at}
 use Rattle.rw_run.specs.declared.run.Run.{Run}
 use Rattle.rw_run.proofs.Common.{Log, cells_of, cell_at, Policy, no_rules, IsRun, end_of}
-use Rattle.rw_engine.specs.Givens.{if_given, givens_of, givens_to, givens}
+use Rattle.rw_inputs.specs.Givens.{if_given, givens_of, givens_to, givens}
 use Rattle.rw_engine.specs.Passing.{ComesTo}
 
 module _ (inputs others : Inputs) (same : (slot step : ℕ) → value_at inputs slot step ≡ value_at others slot step) where

@@ -8,7 +8,7 @@ use Rattle.rw_run.specs.Next.{no_rules}
 use Rattle.rw_run.specs.Runs.{IsRun}
 use Rattle.rw_run.specs.RunOf.{end_of, last_closed}
 use Rattle.rw_report.specs.Section.{section_of, values_in}
-use Rattle.rw_engine.specs.Givens.{givens}
+use Rattle.rw_inputs.specs.Givens.{givens}
 
 -- the section of a log, before any batch of edits
 abbrev pub text_of : Draft → Log → List ℕ

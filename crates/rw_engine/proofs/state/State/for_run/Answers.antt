@@ -1,5 +1,5 @@
 use Rattle.rw_engine.proofs.Common.{[], givens, refl, sym, ◌∙◌}
-use Rattle.rw_engine.proofs.Starts.{trace-placed, closed-placed, end-placed}
+use Rattle.rw_run.proofs.Placed.{trace-placed, closed-placed, end-placed}
 use Rattle.rw_engine.proofs.Traces.{shows_nothing}
 use Rattle.rw_engine.proofs.state.State.for_run.Goals as goal
 

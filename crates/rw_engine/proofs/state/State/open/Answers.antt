@@ -1,6 +1,6 @@
 use Rattle.rw_engine.proofs.Common.{All-nil, AreCells, refl, rules, subst, sym, ◌∙◌}
 use Rattle.rw_run.proofs.Ready.{all_waiting-ready, AreReady}
-use Rattle.rw_engine.proofs.Starts.{settled_at_rest}
+use Rattle.rw_run.proofs.Placed.{settled_at_rest}
 use Rattle.rw_engine.proofs.Steps.{opens_step}
 use Rattle.rw_engine.proofs.state.State.open.Goals as goal
 

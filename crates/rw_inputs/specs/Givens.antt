@@ -1,16 +1,13 @@
 -- The inputs in the order in which a run places them: slot by slot, and for each slot timestep by timestep.
-use Rattle.std.specs.Prelude.{◌≡◌, ℕ, zero, suc, ℤ, List, [], ◌∷◌, ◌++◌, length, Option, Some, None}
+use Rattle.std.specs.Prelude.{ℕ, zero, suc, ℤ, List, [], ◌∷◌, ◌++◌, length, Option, Some, None}
 use Rattle.rw_base.specs.declared.number.Cell.{Cell}
 use Rattle.rw_model.specs.Draft.{Draft}
 use Rattle.rw_model.specs.Objects.{all_slots}
 use Rattle.rw_inputs.specs.Inputs.{Inputs, value_at}
-use Rattle.rw_series.specs.Series.{Series, held}
-use Rattle.rw_run.specs.Log.{Log, cells_of}
-use Rattle.rw_run.specs.Dispatch.{cell_at}
 
 abbrev pub if_given : ℕ → ℕ → Option ℤ → List (Cell × ℤ)
 if_given slot step None = []
-if_given slot step (Some value) = (cell_at slot step, value) ∷ []
+if_given slot step (Some value) = (record { slot = record { 0 = slot }; step = record { 0 = step } }, value) ∷ []
 
 -- what is given to a slot in the first timesteps
 abbrev pub givens_of : Inputs → ℕ → ℕ → List (Cell × ℤ)
@@ -25,7 +22,3 @@ givens_to inputs (suc slot) steps = givens_to inputs slot steps ++ givens_of inp
 -- all that is given
 abbrev pub givens : Draft → Inputs → List (Cell × ℤ)
 givens basin inputs = givens_to inputs (length (all_slots basin.objects)) basin.control.stamps.count
-
--- a series holds what the cells hold after a log
-abbrev pub HoldsAll : Draft → Series → Log → Type 0
-HoldsAll basin series log = (cell : Cell) → held series cell ≡ cells_of basin log cell

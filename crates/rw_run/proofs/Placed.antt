@@ -1,5 +1,10 @@
 -- The log of the inputs, and logs between timesteps.
-use Rattle.rw_engine.proofs.Common.{Cell, List, Log, Settled, [], append-nil, end_of, fault, given, last_closed, placed, refl, rests, standing, trace_of, ℕ, ℤ, ◌∙◌, ◌∷◌, ◌≡◌}
+use Rattle.rw_base.proofs.Common.{◌≡◌, ◌∙◌, ◌∷◌, ℕ, ℤ, List, [], append-nil, refl}
+use Rattle.rw_base.specs.declared.number.Cell.{Cell}
+use Rattle.rw_run.specs.Log.{Log, fault, given}
+use Rattle.rw_run.specs.RunOf.{end_of, last_closed, trace_of}
+use Rattle.rw_run.specs.Runs.{placed, rests, standing}
+use Rattle.rw_run.specs.declared.run.RunEnd.TheVariants.{Settled}
 
 pub trace-placed : (log : Log) (inputs : List (Cell × ℤ)) → trace_of (placed log inputs) ≡ trace_of log
 trace-placed log [] = refl
