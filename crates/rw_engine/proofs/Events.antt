@@ -1,5 +1,5 @@
 -- One event of the engine, over the log that its state holds.
-use Rattle.rw_engine.proofs.Common.{Bool, Cell, Cells, DispatchEnd, Draft, Engine, Event, Fault, GoesTo, HoldsWithin, IsCounted, List, Log, Look, None, Option, Put, RunFault, Settled, Shows, Some, State, [], ap, ap₂, arith, asked_for, cells_of, count_if, count_of, dispatched, dispatches, end_by, end_of, ended_by, event_of, false, fault, fault_by, first_of, held, held_after, idles, if◌then◌else◌, inside, last_closed, last_put, lines, lines_by, nat_le, nat_tests, next, next_of, no_rules, none-some, option_or, queued_after, raised, refl, same_Some, seen, solves, standing, subst, sym, trace_of, true, waiting, written_by, ℕ, ◌++◌, ◌<◌, ◌==◌, ◌∙◌, ◌∷◌, ◌≡◌}
+use Rattle.rw_engine.proofs.Common.{Bool, Cell, Cells, DispatchEnd, Draft, Engine, Event, Fault, GoesTo, HoldsWithin, IsCounted, List, Log, Look, None, Option, Policy, Put, RunFault, Settled, Shows, Some, State, [], ap, ap₂, arith, asked_for, cells_of, count_if, count_of, dispatched, dispatches, end_by, end_of, ended_by, event_of, false, fault, fault_by, first_of, held, held_after, idles, if◌then◌else◌, inside, last_closed, last_put, lines, lines_by, nat_le, nat_tests, next, next_of, none-some, option_or, queued_after, raised, refl, same_Some, seen, solves, standing, subst, sym, trace_of, true, waiting, written_by, ℕ, ◌++◌, ◌<◌, ◌==◌, ◌∙◌, ◌∷◌, ◌≡◌}
 use Rattle.rw_run.specs.declared.fault.RunFault.TheVariants.{ObjectLimit}
 use Rattle.rw_dispatch.specs.Answer.{Ends, answer_of}
 use Rattle.rw_dispatch.specs.declared.dispatch_end.DispatchEnd.TheVariants.{Idle as IsIdle, Solved as IsSolved, Conflict as IsConflict, OutOfRange as IsOutOfRange}
@@ -10,10 +10,10 @@ use Rattle.rw_engine.proofs.Traces.{shown_more}
 -- ---- which event follows
 
 -- the first that waits is dispatched, below the limit
-pub next_is : (basin : Draft) (cells : Cells) (step : ℕ) (log : Log) (object : ℕ) (rest : List ℕ) → waiting basin log ≡ object ∷ rest
-    → cells ≡ cells_of basin log → dispatches log object < basin.control.object_limit → next basin no_rules step log ≡ Some (dispatched basin cells object step)
-next_is basin cells step log object rest waits same below =
-    ap (λ queue. next_of basin no_rules (cells_of basin log) log step (first_of queue)) waits
+pub next_is : (basin : Draft) (policy : Policy) (cells : Cells) (step : ℕ) (log : Log) (object : ℕ) (rest : List ℕ) → waiting basin log ≡ object ∷ rest
+    → cells ≡ cells_of basin log → dispatches log object < basin.control.object_limit → next basin policy step log ≡ Some (dispatched basin cells object step)
+next_is basin policy cells step log object rest waits same below =
+    ap (λ queue. next_of basin policy (cells_of basin log) log step (first_of queue)) waits
     ∙ ap Some (often (nat_le basin.control.object_limit (dispatches log object)) refl ∙ ap (λ z. dispatched basin z object step) (sym same))
   where
     often : (reached : Bool) → nat_le basin.control.object_limit (dispatches log object) ≡ reached

@@ -1,12 +1,12 @@
 -- A run, timestep by timestep.
-use Rattle.rw_engine.proofs.Common.{ComesTo, Draft, Engine, Inputs, IsBefore, IsOver, IsRunOf, Log, Passes, RunFault, Shows, Stands, [], ap, arith, givens, no_rules, placed, refl, rests, standing, subst, sym, ℕ, ◌++◌, ◌+◌, ◌<◌, ◌∙◌, ◌∷◌, ◌≡◌}
+use Rattle.rw_engine.proofs.Common.{ComesTo, Draft, Engine, Inputs, IsBefore, IsOver, IsRunOf, Log, Passes, RunFault, Shows, Stands, [], ap, arith, givens, Policy, placed, refl, rests, standing, subst, sym, ℕ, ◌++◌, ◌+◌, ◌<◌, ◌∙◌, ◌∷◌, ◌≡◌}
 use Rattle.rw_run.specs.declared.run.Run.{Run}
 use Rattle.rw_engine.specs.declared.step_end.StepEnd.TheVariants.{Closed as IsClosed, Fault as IsFault}
 use Rattle.rw_run.proofs.Placed.{standing-placed}
 use Rattle.rw_engine.proofs.Steps.{leads_on}
 
-pub stands_first : (basin : Draft) (inputs : Inputs) (engine : Engine) → Shows basin engine (placed [] (givens basin inputs)) → Stands basin inputs engine 0
-stands_first basin inputs engine shows = record {
+pub stands_first : (basin : Draft) (policy : Policy) (inputs : Inputs) (engine : Engine) → Shows basin engine (placed [] (givens basin inputs)) → Stands basin policy inputs engine 0
+stands_first basin policy inputs engine shows = record {
   log = placed [] (givens basin inputs);
   events = [];
   leads = refl;
@@ -18,20 +18,20 @@ pub before_step : (basin : Draft) (log : Log) (step : ℕ) → standing log ≡ 
 before_step basin log step rest near = record { last = step; rest = rest; next_one = refl; exists = omega arith }
 
 -- a closed timestep leads on
-pub stands_next : (basin : Draft) (inputs : Inputs) (old new : Engine) (step : ℕ) → (stands : Stands basin inputs old step)
-    → Passes basin stands.log IsClosed new (step + 1) → Stands basin inputs new (step + 1)
-stands_next basin inputs old new step stands passes = record {
+pub stands_next : (basin : Draft) (policy : Policy) (inputs : Inputs) (old new : Engine) (step : ℕ) → (stands : Stands basin policy inputs old step)
+    → Passes basin policy stands.log IsClosed new (step + 1) → Stands basin policy inputs new (step + 1)
+stands_next basin policy inputs old new step stands passes = record {
   log = passes.last ∷ passes.before;
   events = stands.events ++ passes.events;
-  leads = leads_on basin no_rules (placed [] (givens basin inputs)) stands.events passes.events stands.log (passes.last ∷ passes.before) stands.leads passes.leads;
+  leads = leads_on basin policy (placed [] (givens basin inputs)) stands.events passes.events stands.log (passes.last ∷ passes.before) stands.leads passes.leads;
   shows = passes.shows;
   rest = ap (λ event. standing (event ∷ passes.before)) passes.ends;
 }
 
 -- after the last timestep the run is whole
-pub comes_settled : (basin : Draft) (inputs : Inputs) (engine : Engine) (step : ℕ) (run : Run) → (stands : Stands basin inputs engine step)
-    → step ≡ basin.control.stamps.count → IsRunOf basin stands.log run → ComesTo basin inputs run
-comes_settled basin inputs engine step run stands last is = record {
+pub comes_settled : (basin : Draft) (policy : Policy) (inputs : Inputs) (engine : Engine) (step : ℕ) (run : Run) → (stands : Stands basin policy inputs engine step)
+    → step ≡ basin.control.stamps.count → IsRunOf basin stands.log run → ComesTo basin policy inputs run
+comes_settled basin policy inputs engine step run stands last is = record {
   log = stands.log;
   whole = record {
     events = stands.events;
@@ -42,13 +42,13 @@ comes_settled basin inputs engine step run stands last is = record {
 }
 
 -- and after a fault
-pub comes_faulted : (basin : Draft) (inputs : Inputs) (old new : Engine) (step at : ℕ) (why : RunFault) (run : Run) → (stands : Stands basin inputs old step)
-    → (passes : Passes basin stands.log (IsFault why) new at) → IsRunOf basin (passes.last ∷ passes.before) run → ComesTo basin inputs run
-comes_faulted basin inputs old new step at why run stands passes is = record {
+pub comes_faulted : (basin : Draft) (policy : Policy) (inputs : Inputs) (old new : Engine) (step at : ℕ) (why : RunFault) (run : Run) → (stands : Stands basin policy inputs old step)
+    → (passes : Passes basin policy stands.log (IsFault why) new at) → IsRunOf basin (passes.last ∷ passes.before) run → ComesTo basin policy inputs run
+comes_faulted basin policy inputs old new step at why run stands passes is = record {
   log = passes.last ∷ passes.before;
   whole = record {
     events = stands.events ++ passes.events;
-    leads = leads_on basin no_rules (placed [] (givens basin inputs)) stands.events passes.events stands.log (passes.last ∷ passes.before) stands.leads passes.leads;
+    leads = leads_on basin policy (placed [] (givens basin inputs)) stands.events passes.events stands.log (passes.last ∷ passes.before) stands.leads passes.leads;
     end = subst (λ event. IsOver basin (standing (event ∷ passes.before))) (sym passes.ends) tt;
   };
   is = is;

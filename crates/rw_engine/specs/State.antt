@@ -6,7 +6,7 @@ use Rattle.rw_series.specs.Series.{held}
 use Rattle.rw_run.specs.Log.{Cells, Event, Log}
 use Rattle.rw_model.specs.Turn.{is_data}
 use Rattle.rw_run.specs.Waiting.{waiting}
-use Rattle.rw_run.specs.Next.{next, dispatches, no_rules}
+use Rattle.rw_run.specs.Next.{Policy, next, dispatches}
 use Rattle.rw_run.specs.Runs.{Leads, standing, inside}
 use Rattle.rw_engine.specs.Counts.{count_of, room}
 use Rattle.rw_engine.specs.Engine.{Engine}
@@ -53,16 +53,16 @@ GoesTo basin None state step log event = HoldsWithin basin state step (event ∷
 GoesTo basin (Some end) state step log event = EndsBy end step event × Shows basin (seen state) (event ∷ log)
 
 -- after the event that follows
-pub record Goes (basin : Draft) (end : Option StepEnd) (state : State) (step : ℕ) (log : Log) : Type 0 where
+pub record Goes (basin : Draft) (policy : Policy) (end : Option StepEnd) (state : State) (step : ℕ) (log : Log) : Type 0 where
   pub event : Event
-  pub follows : next basin no_rules step log ≡ Some event
+  pub follows : next basin policy step log ≡ Some event
   pub goes : GoesTo basin end state step log event
 
 -- within the timestep, on the way
-pub record Reached (basin : Draft) (start : Log) (state : State) (step : ℕ) : Type 0 where
+pub record Reached (basin : Draft) (policy : Policy) (start : Log) (state : State) (step : ℕ) : Type 0 where
   pub events : List Event
   pub log : Log
-  pub leads : Leads basin no_rules start events log
+  pub leads : Leads basin policy start events log
   pub holds : HoldsWithin basin state step log state.queue.waiting
 
 -- ---- what work within a timestep keeps

@@ -3,6 +3,7 @@ ghost use Rattle.rw_model.specs.Draft.{Draft};
 ghost use Rattle.rw_method.specs.Catalogue.{AreInOrder};
 ghost use Rattle.rw_inputs.specs.Inputs.{IsInputsOf};
 ghost use Rattle.rw_run.specs.Log.{Log};
+ghost use Rattle.rw_run.specs.Next.{no_rules};
 ghost use Rattle.rw_run.specs.Runs.{placed};
 ghost use Rattle.rw_run.specs.RunOf.{IsRunOf};
 ghost use Rattle.rw_model.specs.Turn.{IsStep};
@@ -78,7 +79,7 @@ impl Engine {
         requires step { IsStep basin.now step.0 }
         ensures made { IsEngineOf basin.now self.new }
         ensures passes { (log : Log) → Shows basin.now self.old log → IsBefore basin.now step.0 log
-            → IfOk result (λ end. Passes basin.now log end self.new step.0) }
+            → IfOk result (λ end. Passes basin.now no_rules log end self.new step.0) }
         ensures before { (log : Log) → Shows basin.now self.old log
             → IfErr result (λ _. Shows basin.now self.new log) }
         ensures kept { IsSome self.old.trace → IsSome self.new.trace }

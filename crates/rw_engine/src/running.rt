@@ -1,6 +1,7 @@
 ghost use Rattle.std.specs.Prelude.{◌≤◌, map, IfOk, [], IsSome};
 ghost use Rattle.rw_method.specs.Catalogue.{AreInOrder};
 ghost use Rattle.rw_inputs.specs.Inputs.{Inputs as Given, IsInputsOf};
+ghost use Rattle.rw_run.specs.Next.{no_rules};
 ghost use Rattle.rw_run.specs.Runs.{placed};
 ghost use Rattle.rw_engine.specs.Passing.{ComesTo};
 ghost use Rattle.rw_inputs.specs.Givens.{givens};
@@ -20,7 +21,7 @@ fn pass_all(mut engine: Engine, basin: &Basin, methods: &Catalogue) -> Result<Ru
     requires made { IsEngineOf basin.now engine }
     requires order { AreInOrder (map (λ b. code (b.vtable, b.value)) methods.now.methods.items) }
     ensures run { (inputs : Given) → Shows basin.now engine (placed [] (givens basin.now inputs))
-        → IfOk result (ComesTo basin.now inputs) }
+        → IfOk result (ComesTo basin.now no_rules inputs) }
     ensures closed { IfOk result (λ run. run.closed ≤ basin.now.control.stamps.count) }
     ensures kept { IsSome engine.trace → IfOk result (λ run. IsSome run.trace) }
 {
@@ -42,7 +43,7 @@ pub fn run_all(
 ) -> Result<Run, NoMemory>
     requires order { AreInOrder (map (λ b. code (b.vtable, b.value)) methods.now.methods.items) }
     requires inputs { IsInputsOf basin.now inputs.now }
-    ensures run { IfOk result (ComesTo basin.now inputs.now) }
+    ensures run { IfOk result (ComesTo basin.now no_rules inputs.now) }
     ensures closed { IfOk result (λ run. run.closed ≤ basin.now.control.stamps.count) }
     ensures kept { IfOk result (λ run. IsSome run.trace) }
 {
@@ -58,7 +59,7 @@ pub fn run_without_trace(
 ) -> Result<Run, NoMemory>
     requires order { AreInOrder (map (λ b. code (b.vtable, b.value)) methods.now.methods.items) }
     requires inputs { IsInputsOf basin.now inputs.now }
-    ensures run { IfOk result (ComesTo basin.now inputs.now) }
+    ensures run { IfOk result (ComesTo basin.now no_rules inputs.now) }
     ensures closed { IfOk result (λ run. run.closed ≤ basin.now.control.stamps.count) }
 {
     pass_all(Engine::without_trace(alloc, basin, inputs)?, basin, methods)

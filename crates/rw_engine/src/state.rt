@@ -3,7 +3,7 @@ ghost use Rattle.rw_model.specs.Draft.{Draft};
 ghost use Rattle.rw_method.specs.Catalogue.{AreInOrder};
 ghost use Rattle.rw_inputs.specs.Inputs.{IsInputsOf};
 ghost use Rattle.rw_run.specs.Log.{Log, opened};
-ghost use Rattle.rw_run.specs.Next.{dispatches};
+ghost use Rattle.rw_run.specs.Next.{dispatches, no_rules};
 ghost use Rattle.rw_run.specs.Runs.{placed};
 ghost use Rattle.rw_run.specs.RunOf.{IsRunOf};
 ghost use Rattle.rw_model.specs.Turn.{IsStep, IsTurn};
@@ -96,7 +96,7 @@ impl State {
         ensures keeps { Keeps basin.now self.old self.new }
         ensures still { IfErr result (λ _. IsStill self.old self.new) }
         ensures goes { (log : Log) → HoldsWithin basin.now self.old step.0 log []
-            → IfOk result (λ end. Goes basin.now (Some end) self.new step.0 log) }
+            → IfOk result (λ end. Goes basin.now no_rules (Some end) self.new step.0 log) }
         ensures wants { IfErr result (λ _. IsSome self.old.trace) }
     {
         self.trace.push(TraceEvent::Closed(step))?;
@@ -118,7 +118,7 @@ impl State {
         ensures still { IfErr result (λ _. IsStill self.old self.new) }
         ensures goes { (log : Log) (rest : List ℕ)
             → HoldsWithin basin.now self.old step.0 log (object.0 ∷ rest) → count ≡ dispatches log object.0
-            → IfOk result (λ end. Goes basin.now (Some end) self.new step.0 log) }
+            → IfOk result (λ end. Goes basin.now no_rules (Some end) self.new step.0 log) }
         ensures wants { IfErr result (λ _. IsSome self.old.trace) }
     {
         let fault = RunFault::ObjectLimit {
@@ -161,7 +161,7 @@ impl State {
         ensures on_the_way { IsOnTheWay basin.now result self.old self.new }
         ensures goes { (log : Log)
             → HoldsWithin basin.now self.old step.0 log (object.0 ∷ self.old.queue.waiting)
-            → IfOk result (λ end. Goes basin.now end self.new step.0 log) }
+            → IfOk result (λ end. Goes basin.now no_rules end self.new step.0 log) }
         ensures wants { IfErr result (λ _. IsSome self.old.trace) }
     {
         self.counts.raise(object.0);
@@ -189,7 +189,7 @@ impl State {
         ensures on_the_way { IsOnTheWay basin.now result self.old self.new }
         ensures goes { (log : Log)
             → HoldsWithin basin.now self.old step.0 log (object.0 ∷ self.old.queue.waiting)
-            → IfOk result (λ end. Goes basin.now end self.new step.0 log) }
+            → IfOk result (λ end. Goes basin.now no_rules end self.new step.0 log) }
         ensures wants { IfErr result (λ _. IsSome self.old.trace) }
     {
         let count = self.counts.get(object.0);
@@ -212,7 +212,7 @@ impl State {
         ensures keeps { Keeps basin.now self.old self.new }
         ensures on_the_way { IsOnTheWay basin.now result self.old self.new }
         ensures goes { (log : Log) → HoldsWithin basin.now self.old step.0 log self.old.queue.waiting
-            → IfOk result (λ end. Goes basin.now end self.new step.0 log) }
+            → IfOk result (λ end. Goes basin.now no_rules end self.new step.0 log) }
         ensures wants { IfErr result (λ _. IsSome self.old.trace) }
     {
         match self.queue.next() {
@@ -237,7 +237,7 @@ impl State {
         ensures still { IfErr result (λ _. IsStill self.old self.new) }
         ensures passes { (log : Log)
             → Shows basin.now (seen self.old) log → IsBefore basin.now step.0 log
-            → IfOk result (λ end. Passes basin.now log end (seen self.new) step.0) }
+            → IfOk result (λ end. Passes basin.now no_rules log end (seen self.new) step.0) }
         ensures wants { IfErr result (λ _. IsSome self.old.trace) }
     {
         self.open(basin, step)?;
@@ -261,7 +261,7 @@ impl State {
         ensures made { IsStateOf basin.now self.new }
         ensures passes { (log : Log)
             → Shows basin.now (seen self.old) log → IsBefore basin.now step.0 log
-            → IfOk result (λ end. Passes basin.now log end (seen self.new) step.0) }
+            → IfOk result (λ end. Passes basin.now no_rules log end (seen self.new) step.0) }
         ensures before { (log : Log) → Shows basin.now (seen self.old) log
             → IfErr result (λ _. Shows basin.now (seen self.new) log) }
         ensures kept { IsSome self.old.trace → IsSome self.new.trace }

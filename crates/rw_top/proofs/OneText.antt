@@ -35,7 +35,7 @@ one_text one_run basin inputs others end other text more same left right =
     (left.end_is ∙ ap end_of log ∙ sym right.end_is, left.text_is ∙ ap (text_of basin) log ∙ sym right.text_is)
 
 -- the section of what a run comes to
-pub text_is_run : (basin : Draft) (inputs : Inputs) (run : Run) (text : List ℕ) → ComesTo basin inputs run
+pub text_is_run : (basin : Draft) (inputs : Inputs) (run : Run) (text : List ℕ) → ComesTo basin no_rules inputs run
     → text ≡ section_of basin 0 run.end run.closed (values_in (held run.series)) → IsRunText basin inputs run.end text
 text_is_run basin inputs run text comes is =
     let values : values_in (held run.series) ≡ values_in (cells_of basin comes.log) = λ i slot step. option_map (λ (content : Content). content.value) (comes.is.cells (cell_at slot step) i) in

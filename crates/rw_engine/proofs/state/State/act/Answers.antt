@@ -1,4 +1,4 @@
-use Rattle.rw_engine.proofs.Common.{Leaves, [], ap, held, lines_by, refl, stage, subst, sym, take, ◌∙◌}
+use Rattle.rw_engine.proofs.Common.{Leaves, [], ap, held, lines_by, no_rules, refl, stage, subst, sym, take, ◌∙◌}
 use Rattle.rw_run.specs.Trace.{told}
 use Rattle.rw_run.specs.Dispatch.{dispatched, looks_of}
 use Rattle.rw_dispatch.proofs.Waking.{leaves_written}
@@ -63,7 +63,7 @@ returns-clause-goes g c = λ log holds.
     let made = leaves g c in
     rw (c.end_by.ensures.state, c.end_by.ensures.end) (record {
       event = event;
-      follows = next_is basin cells c.args.step.0 log c.args.object.0 old.queue.waiting (sym holds.queue) (λ i cell. holds.shows.cells cell i)
+      follows = next_is basin no_rules cells c.args.step.0 log c.args.object.0 old.queue.waiting (sym holds.queue) (λ i cell. holds.shows.cells cell i)
           (rw (← holds.counts c.args.object.0 own) c.requires.below);
       goes = goes_to basin old _ (looks_of basin cells c.args.object.0 c.args.step.0) c.args.step.0 c.args.object.0 old.queue.waiting log event c.judge_dispatch-end.result holds (record {
         told = record {
