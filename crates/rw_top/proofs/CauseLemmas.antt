@@ -13,9 +13,14 @@ use Rattle.rpl_code.specs.Answers.{Answers as AnswersCode}
 use Rattle.rpl_code.specs.Reading.{bad_line, truncated, read}
 use Rattle.rpl_code.specs.declared.fault.CodeFault.{CodeFault}
 use Rattle.rpl_code.specs.declared.fault.CodeFault.TheVariants as C
-use Rattle.rpl_verify.specs.Fits.{refusal as block_refusal}
+use Rattle.rpl_code.specs.declared.block.Block.{Block}
+use Rattle.rpl_tree.specs.Budget.{Budget}
+use Rattle.rpl_verify.specs.Budget.{ruling}
+use Rattle.rpl_verify.specs.Fits.{Refusal as BlockRefusal, refusal as block_refusal}
+use Rattle.rpl_verify.specs.Resolved.{resolved_code}
+use Rattle.rpl_verify.specs.Verified.{Accepted, verified, with_budgets}
 use Rattle.rpl_types.specs.Nodes.{Types as NodeTypes}
-use Rattle.rw_top.specs.Policy.{Unread, Misfit, Policy, BadRules, BadBlocks, BadToken, BadDeclaration, TooMany, BadNode, IsRulesetOf, RefusesNode}
+use Rattle.rw_top.specs.Policy.{Unread, Misfit, Policy, BadRules, BadBlocks, BadToken, BadDeclaration, TooMany, BadNode, IsCodeOf, IsRulesetOf, RefusesNode}
 use Rattle.rw_top.specs.declared.refusal.Refusal.TheVariants.{CannotRead, CannotWrite, NoMemory, Model, Grammar, Types, Code, Block as BlockAt, Inputs, TooLong}
 
 -- a fault that doesn't tell nothing tells why
@@ -108,6 +113,28 @@ accepted_rules basin text rules all spells is =
       typed = subst (λ rs. judged basin rs ≡ Ok all.types) same.0 same.1;
     }
 
+-- the code that is accepted, and why code is refused
+abbrev accepted_with : Draft → List Block → List Budget → Accepted
+accepted_with basin blocks budgets = record { blocks = blocks; budgets = budgets; resolved = resolved_code basin blocks }
+
+pub accepted_code : (basin : Draft) (blocks : List Block) (result : Result (List Budget) BlockRefusal) (code : Accepted)
+    → with_budgets basin blocks result ≡ Ok code → (blocks ≡ code.blocks) × (result ≡ Ok code.budgets)
+accepted_code basin blocks (Ok budgets) code is =
+    let same : accepted_with basin blocks budgets ≡ code = cc in
+    (ap (λ (c : Accepted). c.blocks) same, ap (λ (c : Accepted). Ok c.budgets) same)
+accepted_code basin blocks (Err why) code is = absurd cc
+
+pub refused_code : (basin : Draft) (blocks : List Block) (result : Result (List Budget) BlockRefusal) (why : BlockRefusal)
+    → with_budgets basin blocks result ≡ Err why → result ≡ Err why
+refused_code basin blocks (Ok budgets) why is = absurd cc
+refused_code basin blocks (Err refused) why is = cc
+
+pub its_code : (basin : Draft) (text : List ℕ) (blocks : List Block) (code : Accepted) → read text ≡ Ok blocks
+    → verified basin blocks ≡ Ok code → IsCodeOf basin text code.blocks code.budgets
+its_code basin text blocks code spells is =
+    let same = accepted_code basin blocks (ruling basin blocks) code is in
+    record { spells = spells ∙ ap (λ bs. Ok bs) same.0; accepted = ap (ruling basin) (sym same.0) ∙ same.1 }
+
 -- faults that are counted from earlier on
 rose_since : (first later now : ShelfView) (o : Option (List ℕ)) → NoneFell first.faults later.faults
     → IsSomeAnd o (λ path. Rose (later.faults path) (now.faults path))
@@ -145,16 +172,6 @@ pub found_later : {A : Type 0} (P : Holds → A → Type 0) (command : Command) 
 found_later P command first later now (Ok x) same fell found =
     let one : later.holds ≡ first.holds = λ i path. same path i in subst (λ holds. P holds x) one found
 found_later P command first later now (Err why) same fell cause = cause_earlier command first later now why same fell cause
-
--- a policy that is read later on
-pub read_later : {A : Type 0} (seen : A → Policy) (command : Command) (first later now : ShelfView) (basin : Draft) (result : Result A Refusal)
-    → ((path : List ℕ) → later.holds path ≡ first.holds path) → NoneFell first.faults later.faults
-    → MatchResult result (λ x. ReadsPolicy command later.holds basin (seen x)) (FileCause command (change later now))
-    → MatchResult result (λ x. (b : Draft) × ReadsPolicy command first.holds b (seen x)) (FileCause command (change first now))
-read_later seen command first later now basin (Ok x) same fell read =
-    let one : later.holds ≡ first.holds = λ i path. same path i in
-    (basin, subst (λ holds. ReadsPolicy command holds basin (seen x)) one read)
-read_later seen command first later now basin (Err why) same fell cause = cause_earlier command first later now why same fell cause
 
 -- a cause before anything was written is a cause of the refusal
 pub unwritten : (command : Command) (shelf : Change ShelfView) (out : Change SinkView) (why : Refusal)

@@ -1,24 +1,28 @@
 -- Words ask for one command.
-use Rattle.rw_top.proofs.Common.{Asks, Check, Command, Compile, IsSome, IsSomeAnd, List, Names, None, Option, Simulate, Some, [], ap, arith, false, length, nat_tests, refl, slice_index_or, subst, sym, words_of, ℕ, ◌==◌, ◌∙◌, ◌≡◌}
-use Rattle.rw_top.specs.declared.refusal.File.TheVariants.{Policy, Inputs}
+use Rattle.rw_top.proofs.Common.{Asks, Command, IsSome, IsSomeAnd, Job, List, None, Option, Some, [], ap, codes, drop, if◌then◌else◌, name_of, refl, slice_index_or, subst, sym, words_of, ℕ, ◌∙◌, ◌≡◌}
+use Rattle.rw_base.proofs.Common.{bytes_eq}
+use Rattle.rw_top.specs.declared.command.Job.TheVariants.{Simulate, Check, Compile}
 
--- the length of the word that names it
-abbrev name_length : List (List ℕ) → ℕ
-name_length words = length (slice_index_or words 0 [])
+-- the job that a word asks for
+abbrev job_named : List ℕ → Option Job
+job_named word =
+    if bytes_eq word (codes "simulate") then Some Simulate else
+    if bytes_eq word (codes "check") then Some Check else
+    if bytes_eq word (codes "compile") then Some Compile else None
 
-apart : (m n : ℕ) → (m == n) ≡ false → m ≡ n → ⊥
-apart m n differ same = absurd (grind (arith, nat_tests, differ, same))
+named : (job : Job) → job_named (name_of job) ≡ Some job
+named Simulate = refl
+named Check = refl
+named Compile = refl
+
+pub one_job : (a b : Job) → name_of a ≡ name_of b → a ≡ b
+one_job a b same = let both : Some a ≡ Some b = sym (named a) ∙ ap job_named same ∙ named b in cc
 
 same_words : (a b : Command) → words_of a ≡ words_of b → a ≡ b
-same_words (Simulate model inputs) (Simulate other more) same = cc
-same_words (Check model policy) (Check other more) same = cc
-same_words (Compile model rules) (Compile other more) same = cc
-same_words (Simulate model inputs) (Check other more) same = absurd (apart 8 5 refl (ap name_length same))
-same_words (Simulate model inputs) (Compile other more) same = absurd (apart 8 7 refl (ap name_length same))
-same_words (Check model policy) (Simulate other more) same = absurd (apart 5 8 refl (ap name_length same))
-same_words (Check model policy) (Compile other more) same = absurd (apart 5 7 refl (ap name_length same))
-same_words (Compile model rules) (Simulate other more) same = absurd (apart 7 8 refl (ap name_length same))
-same_words (Compile model rules) (Check other more) same = absurd (apart 7 5 refl (ap name_length same))
+same_words a b same =
+    let job = one_job a.job b.job (ap (λ words. slice_index_or words 0 []) same) in
+    let paths : a.paths ≡ b.paths = ap (drop 1) same in
+    λ i. record { job = job i; paths = paths i }
 
 pub one_command : (words : List (List ℕ)) (a b : Command) → Asks words a → Asks words b → a ≡ b
 one_command words a b h k = same_words a b (sym h.are ∙ k.are)
@@ -27,12 +31,6 @@ one_command words a b h k = same_words a b (sym h.are ∙ k.are)
 pub of_command : (words : List (List ℕ)) (a b : Command) → Asks words a → Asks words b
     → (P : Command → Type 0) → P a → P b
 of_command words a b h k P holds = subst P (one_command words a b h k) holds
-
--- a command that reads inputs reads no policy
-pub inputs_alone : (command : Command) → Names command Inputs → Names command Policy → ⊥
-inputs_alone (Simulate model inputs) is other = cc
-inputs_alone (Check model policy) is other = cc
-inputs_alone (Compile model rules) is other = cc
 
 -- what has a property is there
 pub is_there : {A : Type 0} (o : Option A) (P : A → Type 0) → IsSomeAnd o P → IsSome o

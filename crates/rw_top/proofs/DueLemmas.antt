@@ -1,22 +1,8 @@
 -- A refusal that is due is given, and none is given that isn't.
-use Rattle.rw_top.proofs.Common.{AcceptsAll, Cause, Change, Check, Command, Compile, EndsWith, FailsToRead, File, HasText, Holds, IfSome, IsFound, IsHonest, IsHonestFor, IsHonestOfAll, IsHonestUpTo, IsSome, IsSomeAnd, List, LongFile, None, Option, Reason, Refusal, Rose, ShelfView, Simulate, SinkView, Some, WasFound, cases_lt, file_of, inl, inr, order, path_of, refl, status_by, status_of, ℕ, ◌∙◌, ◌≡◌}
-use Rattle.rw_top.specs.Policy.{Ruleset}
-use Rattle.rw_top.specs.declared.refusal.File.TheVariants.{Model as ModelFile, Policy as PolicyFile, Inputs as InputsFile}
+use Rattle.rw_top.proofs.Common.{AcceptsAll, Cause, Change, Command, EndsWith, FailsToRead, File, HasText, Holds, IfSome, IsFound, IsHonest, IsHonestFor, IsHonestOfAll, IsHonestUpTo, IsSome, IsSomeAnd, List, LongFile, None, Option, Reason, Refusal, Rose, ShelfView, SinkView, Some, WasFound, cases_lt, file_of, inl, inr, order, path_of, refl, status_by, status_of, ℕ, ◌∙◌, ◌≡◌}
 use Rattle.rw_top.specs.declared.refusal.Refusal.TheVariants.{CannotRead, CannotWrite, NoMemory}
 use Rattle.rw_top.proofs.CauseLemmas.{told_status}
-use Rattle.rw_top.proofs.Findings.{IsToldUpTo, names, not_found, one_reason}
-
--- a text is written only where every file is accepted
-accepts_all : (command : Command) (holds : Holds) (status : ℕ) (text : List ℕ) → HasText command holds status text → AcceptsAll command holds
-accepts_all (Simulate model inputs) holds status text is ModelFile named = (is.2.basin, is.2.read.model)
-accepts_all (Simulate model inputs) holds status text is PolicyFile named = absurd cc
-accepts_all (Simulate model inputs) holds status text is InputsFile named = (is.2.basin, is.2.inputs, is.2.read)
-accepts_all (Check model policy) holds status text is ModelFile named = (is.1.basin, is.1.read.model)
-accepts_all (Check model policy) holds status text is PolicyFile named = (is.1.basin, is.1.policy, is.1.read)
-accepts_all (Check model policy) holds status text is InputsFile named = absurd cc
-accepts_all (Compile model rules) holds status text is ModelFile named = (is.1.basin, is.1.read.model)
-accepts_all (Compile model rules) holds status text is PolicyFile named = (is.1.basin, Ruleset is.1.rules, is.1.read)
-accepts_all (Compile model rules) holds status text is InputsFile named = absurd cc
+use Rattle.rw_top.proofs.Findings.{IsToldUpTo, accepts_read, names, not_found, one_reason}
 
 -- a path of which the shelf is honest is told, and had no fault
 told_at : (shelf : Change ShelfView) (o : Option (List ℕ)) → IfSome o (IsHonest shelf) → IfSome o (λ path. IsSome (shelf.before.holds path))
@@ -51,7 +37,7 @@ module _ (command : Command) (shelf : Change ShelfView) where
       → IsHonestFor command shelf reason → ⊥
   none_due status text is reason found honest =
       not_found command shelf.before.holds reason (told_by (file_of reason) honest)
-      (accepts_all command shelf.before.holds status text is (file_of reason) (names command shelf.before.holds reason found)) found
+      (accepts_read command shelf.before.holds is.files is.read (file_of reason) (names command shelf.before.holds reason found)) found
 
   module _ (out : Change SinkView) where
     -- what has to be refused is

@@ -1,11 +1,11 @@
 -- What is found of a file is one thing, where the shelf tells what its path holds: the file is accepted, or refused with
 -- one status, or too long.
-use Rattle.rw_top.proofs.Common.{Accepts, BadInputs, BadModel, BadPolicy, Command, Err, FILE_MAX, File, Holds, HoldsTooLong, IfSome, InputFault, IsFound, IsSome, IsSomeAnd, IsTextAt, IsTooLong, List, LongFile, ModelRefusal, Names, None, Ok, Option, Reaches, ReadsBoth, ReadsModel, ReadsPolicy, Reason, Refuses, RefusesInputs, RefusesModel, RefusesPolicy, Some, WasRead, ap, arith, cases_lt, file_of, inl, inr, length, model_of, order, path_of, policy_status, reads_code, refl, status_by, subst, sym, ℕ, ◌<◌, ◌∙◌, ◌≡◌, ◌≤◌, ◌⊎◌}
+use Rattle.rw_top.proofs.Common.{Accepts, AcceptsAll, AreRead, BadInputs, BadModel, BadPolicy, Command, Err, FILE_MAX, File, Files, Holds, HoldsTooLong, IfSome, InputFault, IsFound, IsSome, IsSomeAnd, IsTextAt, IsTooLong, List, LongFile, ModelRefusal, Names, None, Ok, Option, Reaches, ReadsInputs, ReadsModel, ReadsPolicy, Reason, Refuses, RefusesInputs, RefusesModel, RefusesPolicy, SaysAt, Some, WasRead, ap, arith, cases_lt, file_of, inl, inr, length, model_of, order, path_of, policy_status, reads_code, refl, status_by, subst, sym, ℕ, ◌<◌, ◌∙◌, ◌≡◌, ◌≤◌, ◌⊎◌}
 use Rattle.rw_model.specs.Draft.{Draft}
 use Rattle.rw_inputs.specs.Inputs.{Inputs as Given}
 use Rattle.rw_top.specs.Policy.{Policy as Rules, PolicyRefusal, RefusesText}
 use Rattle.rw_top.specs.declared.refusal.File.TheVariants.{Model, Policy, Inputs}
-use Rattle.rw_top.proofs.CommandLemmas.{inputs_alone, is_there}
+use Rattle.rw_top.proofs.CommandLemmas.{is_there}
 use Rattle.rw_top.proofs.OneReading.{one_policy_status, policy_clash, refuses_clash}
 
 -- what was read of a path that is told is one text
@@ -37,6 +37,11 @@ long_clash : (holds : Holds) (o : Option (List ℕ)) (a : List ℕ) → IfSome o
 long_clash holds None a told long h = absurd h
 long_clash holds (Some path) a told long h = not_long (holds path) a told long h.told h.short
 
+-- a file that isn't read isn't named
+not_named : (o : Option (List ℕ)) → o ≡ None → IsSome o → ⊥
+not_named None none some = absurd cc
+not_named (Some path) none some = absurd cc
+
 -- files of one place are one
 one_file : (a b : File) → order a ≡ order b → a ≡ b
 one_file Model Model same = refl
@@ -67,7 +72,7 @@ module _ (command : Command) (holds : Holds) where
   -- inputs that are refused aren't read
   inputs_clash : (why : InputFault) (b : Draft) (i : Given)
       → IsTold command holds Model → IsTold command holds Inputs
-      → RefusesInputs command holds why → ReadsBoth command holds b i → ⊥
+      → RefusesInputs command holds why → ReadsInputs command holds b i → ⊥
   inputs_clash why b i model inputs r h =
       let basin = one_basin r.basin b model r.model h.model in
       let text = same_text command holds Inputs r.text h.text inputs r.read h.read in
@@ -147,7 +152,7 @@ module _ (command : Command) (holds : Holds) where
   finding (BadInputs why) found = inl (refl, (why, found))
   finding (LongFile file) found = inr (found, refl)
 
-  -- behind a model that is read stand the policy and the inputs
+  -- behind a model that is read stands the policy, and behind both the inputs
   pub reaches_model : Reaches command holds Model
   reaches_model earlier named before = absurd (omega (arith, before))
 
@@ -156,10 +161,33 @@ module _ (command : Command) (holds : Holds) where
   reaches_policy basin model Policy named before = absurd (omega (arith, before))
   reaches_policy basin model Inputs named before = absurd (omega (arith, before))
 
-  pub reaches_inputs : (basin : Draft) → Names command Inputs → ReadsModel command holds basin → Reaches command holds Inputs
-  reaches_inputs basin is model Model named before = (basin, model)
-  reaches_inputs basin is model Policy named before = absurd (inputs_alone command is named)
-  reaches_inputs basin is model Inputs named before = absurd (omega (arith, before))
+  policy_there : (basin : Draft) (policy : Option Rules) → SaysAt command Policy policy (ReadsPolicy command holds basin)
+      → Names command Policy → Accepts command holds Policy
+  policy_there basin None says named = absurd (not_named (path_of command Policy) says named)
+  policy_there basin (Some policy) says named = (basin, policy, says)
+
+  pub reaches_inputs : (basin : Draft) (policy : Option Rules) → ReadsModel command holds basin
+      → SaysAt command Policy policy (ReadsPolicy command holds basin) → Reaches command holds Inputs
+  reaches_inputs basin policy model says Model named before = (basin, model)
+  reaches_inputs basin policy model says Policy named before = policy_there basin policy says named
+  reaches_inputs basin policy model says Inputs named before = absurd (omega (arith, before))
+
+  -- and of a shelf that holds the same
+  pub reaches_later : (now : Holds) → ((path : List ℕ) → now path ≡ holds path) → (file : File) → Reaches command holds file
+      → Reaches command now file
+  reaches_later now same file reached =
+      let one : now ≡ holds = λ i path. same path i in subst (λ h. Reaches command h file) (sym one) reached
+
+  inputs_there : (basin : Draft) (inputs : Option Given) → SaysAt command Inputs inputs (ReadsInputs command holds basin)
+      → Names command Inputs → Accepts command holds Inputs
+  inputs_there basin None says named = absurd (not_named (path_of command Inputs) says named)
+  inputs_there basin (Some inputs) says named = (basin, inputs, says)
+
+  -- where the files of the command are read, each of them is accepted
+  pub accepts_read : (files : Files) → AreRead command holds files → AcceptsAll command holds
+  accepts_read files read Model named = (files.basin, read.model)
+  accepts_read files read Policy named = policy_there files.basin files.policy read.policy named
+  accepts_read files read Inputs named = inputs_there files.basin files.inputs read.inputs named
 
   -- the file of a reason is read
   pub names : (reason : Reason) → IsFound command holds reason → Names command (file_of reason)
@@ -171,7 +199,7 @@ module _ (command : Command) (holds : Holds) where
   reached : (reason : Reason) → IsFound command holds reason → Reaches command holds (file_of reason)
   reached (BadModel why) found = reaches_model
   reached (BadPolicy why) found = reaches_policy found.basin found.model
-  reached (BadInputs why) found = reaches_inputs found.basin (names (BadInputs why) found) found.model
+  reached (BadInputs why) found = found.reached
   reached (LongFile file) found = found.reached
 
   -- where the file of a reason is accepted, the reason isn't found

@@ -1,9 +1,10 @@
 -- A call on one plain reservoir, by the law on the text of its run.
-use Rattle.rw_top.proofs.Common.{Call, Command, Fault, GrowsBy, HasRunText, IfOk, IsFirstText, IsRunText, List, None, Option, Promise, Reads, RunEnd, Settled, Simulate, WritesAll, ap, arith, model_of, refl, status_of_end, subst, sym, ℕ, ℤ, ◌↔◌, ◌∙◌, ◌≡◌, ◌≤◌}
+use Rattle.rw_top.proofs.Common.{Call, Command, Fault, GrowsBy, IfOk, IsFirstText, IsRunText, IsSomeAnd, IsTextOf, List, None, Option, Promise, Reads, ReadsInputs, RunEnd, SaysAt, Settled, Some, WritesAll, ap, arith, model_of, refl, simulates, status_of_end, subst, sym, ℕ, ℤ, ◌↔◌, ◌∙◌, ◌≡◌, ◌≤◌}
 use Rattle.rw_plain_reservoir.specs.FirstForm.{FirstModel, IsFirstForm, IsFirstFlows}
 use Rattle.rw_inputs.specs.Inputs.{Inputs as Given}
 use Rattle.rw_model.proofs.Common.{IsBasin, Draft}
 use Rattle.rw_top.specs.FirstCall.{IsFirstCall}
+use Rattle.rw_top.specs.declared.command.Job.TheVariants.{Simulate}
 use Rattle.rw_top.specs.declared.refusal.File.TheVariants.{Inputs}
 use Rattle.rw_top.proofs.CommandLemmas.{of_command}
 use Rattle.rw_top.proofs.Findings.{one_basin, same_text}
@@ -16,17 +17,20 @@ is_settled (Fault why) is = absurd (omega (arith, is))
 
 -- what was written is the text of the basin and the inputs that the shelf tells
 its_text : (call : Call) (model : FirstModel) (inflows outflows : List ℤ)
-    (first : IsFirstCall call model inflows outflows) (end : RunEnd) (text : List ℕ)
-    → HasRunText (Simulate first.model_path first.inputs_path) call.shelf.before.holds end text → IsRunText first.basin first.inputs end text
-its_text call model inflows outflows first end text is =
-    let command : Command = Simulate first.model_path first.inputs_path in
+    (first : IsFirstCall call model inflows outflows) (end : RunEnd) (text : List ℕ) (basin : Draft) (inputs : Option Given)
+    → SaysAt (simulates first.model_path first.inputs_path) Inputs inputs
+    (ReadsInputs (simulates first.model_path first.inputs_path) call.shelf.before.holds basin)
+    → IsSomeAnd inputs (λ given. IsRunText basin given end text) → IsRunText first.basin first.inputs end text
+its_text call model inflows outflows first end text basin None says is = absurd is
+its_text call model inflows outflows first end text basin (Some inputs) says is =
+    let command : Command = simulates first.model_path first.inputs_path in
     let holds = call.shelf.before.holds in
-    let basin = one_basin command holds is.basin first.basin first.told_model is.read.model first.read.model in
-    let bytes = same_text command holds Inputs is.read.text first.read.text first.told_inputs is.read.read first.read.read in
-    let reads : Reads first.basin first.read.text is.inputs =
-    subst (λ t. Reads first.basin t is.inputs) bytes (subst (λ d. Reads d is.read.text is.inputs) basin is.read.are) in
-    of_values is.inputs first.inputs (same_values first.basin first.read.text is.inputs first.inputs reads first.read.are) first.basin end text
-    (subst (λ d. IsRunText d is.inputs end text) basin is.run_text)
+    let same = one_basin command holds basin first.basin first.told_model says.model first.read.model in
+    let bytes = same_text command holds Inputs says.text first.read.text first.told_inputs says.read first.read.read in
+    let reads : Reads first.basin first.read.text inputs =
+    subst (λ t. Reads first.basin t inputs) bytes (subst (λ d. Reads d says.text inputs) same says.are) in
+    of_values inputs first.inputs (same_values first.basin first.read.text inputs first.inputs reads first.read.are) first.basin end text
+    (subst (λ d. IsRunText d inputs end text) same is)
 
 pub first_call : ((basin : Draft) (model : FirstModel) (inputs : Given) (inflows outflows : List ℤ)
     → IsBasin basin → IsFirstForm basin model → IsFirstFlows inputs model.run.count inflows outflows
@@ -39,16 +43,18 @@ pub first_call : ((basin : Draft) (model : FirstModel) (inputs : Given) (inflows
     × GrowsBy call.out.before.contents call.out.after.contents text × ((fault ≡ None) ↔ (status ≡ 0))
 first_call first_form basins call status model inflows outflows promise low first =
     let done = promise.done low in
-    let command : Command = Simulate first.model_path first.inputs_path in
+    let command : Command = simulates first.model_path first.inputs_path in
     let wrote = of_command call.words done.command command done.asked first.asked
     (λ it. WritesAll it call.shelf.before.holds call.out status) done.text in
-    let end = wrote.is.0 in
+    let files = wrote.is.files in
+    let its : IsTextOf Simulate files status wrote.text = wrote.is.is in
+    let end = its.0 in
     let valid : IsBasin first.basin = rw first.read.model.is at (basins first.read.model.text) in
     let table = first_form first.basin model first.inputs inflows outflows valid first.form first.flows end wrote.text
-    (its_text call model inflows outflows first end wrote.text wrote.is.2) in (
+    (its_text call model inflows outflows first end wrote.text files.basin files.inputs wrote.is.read.inputs its.2) in (
       table.0,
       wrote.text,
       table.1,
       wrote.grew,
-      (λ none. wrote.is.1 ∙ ap status_of_end (table.2.0 none), λ zero. table.2.1 (is_settled end (sym wrote.is.1 ∙ zero))),
+      (λ none. its.1 ∙ ap status_of_end (table.2.0 none), λ zero. table.2.1 (is_settled end (sym its.1 ∙ zero))),
     )

@@ -6,8 +6,11 @@ pub mod OneText
 pub mod Findings
 pub mod CauseLemmas
 pub mod DueLemmas
+pub mod Dues
 pub mod PromiseLemmas
 pub mod StatusLemmas
 pub mod TellLemmas
 pub mod BudgetLemmas
+pub mod CheckedPolicies
 pub mod FirstCall
+pub mod FilesRead

@@ -5,7 +5,9 @@ use Rattle.rpl_types.specs.Judged.{judged}
 use Rattle.rw_inputs.proofs.Same.{one_list}
 use Rattle.rw_model.specs.Draft.{Draft}
 use Rattle.rw_inputs.specs.Inputs.{Inputs, value_at, given_at}
-use Rattle.rpl_verify.specs.Verified.{Accepted, verified}
+use Rattle.rpl_code.specs.declared.block.Block.{Block}
+use Rattle.rpl_tree.specs.Budget.{Budget}
+use Rattle.rpl_verify.specs.Budget.{ruling}
 use Rattle.rw_top.specs.Policy.{BadCode, Unread, Misfit, Policy, Ruleset, Code, PolicyRefusal, BadRules, BadBlocks, RulesRefusal, BadToken, BadDeclaration, TooMany, BadNode, IsCodeOf, IsPolicyOf, IsRulesetOf, RefusesCode, RefusesRules, RefusesText}
 
 -- inputs that are refused aren't read
@@ -45,13 +47,13 @@ rules_clash basin text rules (BadNode why) h k =
     let both : Ok h.types ≡ Err why = sym h.typed ∙ ap (judged basin) same ∙ k.refused in cc
 
 -- nor is code
-code_clash : (basin : Draft) (text : List ℕ) (code : Accepted) (why : BadCode)
-    → IsCodeOf basin text code → RefusesCode basin text why → ⊥
-code_clash basin text code (Unread why) h k = let both : Ok h.blocks ≡ Err why = sym h.spells ∙ k in cc
-code_clash basin text code (Misfit why) h k =
-    let blocks : Ok h.blocks ≡ Ok k.blocks = sym h.spells ∙ k.spells in
-    let same : h.blocks ≡ k.blocks = cc in
-    let both : Ok code ≡ Err why = sym h.fits ∙ ap (verified basin) same ∙ k.refused in cc
+code_clash : (basin : Draft) (text : List ℕ) (blocks : List Block) (budgets : List Budget) (why : BadCode)
+    → IsCodeOf basin text blocks budgets → RefusesCode basin text why → ⊥
+code_clash basin text blocks budgets (Unread why) h k = let both : Ok blocks ≡ Err why = sym h.spells ∙ k in cc
+code_clash basin text blocks budgets (Misfit why) h k =
+    let read : Ok blocks ≡ Ok k.blocks = sym h.spells ∙ k.spells in
+    let same : blocks ≡ k.blocks = cc in
+    let both : Ok budgets ≡ Err why = sym h.accepted ∙ ap (ruling basin) same ∙ k.refused in cc
 
 -- a text is read as a ruleset or as code
 pub one_kind : (as_code : Bool) → as_code ≡ true → as_code ≡ false → ⊥
@@ -61,8 +63,8 @@ pub policy_clash : (as_code : Bool) (basin : Draft) (text : List ℕ) (policy : 
     → IsPolicyOf as_code basin text policy → RefusesText as_code basin text why → ⊥
 policy_clash as_code basin text (Ruleset rules) (BadRules why) h k = rules_clash basin text rules why h.1 k.1
 policy_clash as_code basin text (Ruleset rules) (BadBlocks why) h k = one_kind as_code k.0 h.0
-policy_clash as_code basin text (Code code) (BadRules why) h k = one_kind as_code h.0 k.0
-policy_clash as_code basin text (Code code) (BadBlocks why) h k = code_clash basin text code why h.1 k.1
+policy_clash as_code basin text (Code blocks budgets) (BadRules why) h k = one_kind as_code h.0 k.0
+policy_clash as_code basin text (Code blocks budgets) (BadBlocks why) h k = code_clash basin text blocks budgets why h.1 k.1
 
 -- what is refused of it brings one status
 pub one_policy_status : (as_code : Bool) (basin others : Draft) (text : List ℕ) (a b : PolicyRefusal)

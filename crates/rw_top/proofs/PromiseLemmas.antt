@@ -1,5 +1,6 @@
 -- A call that wrote its run, or was refused, keeps the promise.
-use Rattle.rw_top.proofs.Common.{Asks, Call, Cause, Check, Command, Compile, Fault, HasText, Holds, List, None, Promise, Refusal, RefusedCommand, RefusedWords, RunEnd, Settled, Simulate, Some, WasRefused, WritesAll, Wrote, arith, inl, inr, status_of, status_of_end, ℕ, ◌∙◌, ◌≡◌, ◌≤◌}
+use Rattle.rw_top.proofs.Common.{Asks, Call, Cause, Command, Fault, Files, IsTextOf, Job, List, None, Promise, Refusal, RefusedCommand, RefusedWords, RunEnd, Settled, Some, WasRefused, WritesAll, Wrote, arith, inl, inr, status_of, status_of_end, ℕ, ◌∙◌, ◌≡◌, ◌≤◌}
+use Rattle.rw_top.specs.declared.command.Job.TheVariants.{Simulate, Check, Compile}
 use Rattle.rw_top.specs.declared.refusal.Refusal.TheVariants.{Words}
 use Rattle.rw_top.proofs.CommandLemmas.{of_command}
 use Rattle.rw_top.proofs.DueLemmas.{complete, due, none_due}
@@ -8,10 +9,10 @@ at_most_1 : (end : RunEnd) → status_of_end end ≤ 1
 at_most_1 Settled = omega arith
 at_most_1 (Fault why) = omega arith
 
-status_at_most_1 : (command : Command) (holds : Holds) (status : ℕ) (text : List ℕ) → HasText command holds status text → status ≤ 1
-status_at_most_1 (Simulate model inputs) holds status text is = let most = at_most_1 is.0 in omega (arith, most, is.1)
-status_at_most_1 (Check model policy) holds status text is = omega (arith, is.0)
-status_at_most_1 (Compile model rules) holds status text is = omega (arith, is.0)
+status_at_most_1 : (job : Job) (files : Files) (status : ℕ) (text : List ℕ) → IsTextOf job files status text → status ≤ 1
+status_at_most_1 Simulate files status text is = let most = at_most_1 is.0 in omega (arith, most, is.1)
+status_at_most_1 Check files status text is = omega (arith, is.0)
+status_at_most_1 Compile files status text is = omega (arith, is.0)
 
 at_least_2 : (why : Refusal) → 2 ≤ status_of why
 at_least_2 Words = omega arith
@@ -24,7 +25,7 @@ was_refused call why was = was
 module _ (call : Call) (held : (path : List ℕ) → call.shelf.after.holds path ≡ call.shelf.before.holds path) where
   pub promised_text : (status : ℕ) → Wrote call status → Promise call status
   promised_text status wrote =
-      let low = status_at_most_1 wrote.command call.shelf.before.holds status wrote.text.text wrote.text.is in
+      let low = status_at_most_1 wrote.command.job wrote.text.is.files status wrote.text.text wrote.text.is.is in
       record {
         done = λ below. wrote;
         refused = λ above. absurd (omega (arith, low, above));

@@ -1,9 +1,16 @@
 -- What each status says of a call that keeps its promise.
-use Rattle.rw_top.proofs.Common.{AskFor, AskNothing, Asks, BadInputs, BadModel, BadPolicy, Call, Check, Command, Compile, FailsToRead, Fault, File, FindsTooLong, GrowsBy, HasText, InputFault, List, LongFile, ModelRefusal, Promise, Reason, Refusal, RefusedCommand, RefusesInputs, RefusesModel, RefusesPolicy, Rose, RunEnd, Settled, Simulate, WasFound, WasRefused, WritesFront, WroteCheck, WroteCode, WroteRun, arith, inl, inr, refl, status_by, status_of, status_of_end, ℕ, ◌∙◌, ◌≡◌, ◌≢◌, ◌≤◌, ◌⊎◌}
+use Rattle.rw_top.proofs.Common.{AskFor, AskNothing, Asks, BadInputs, BadModel, BadPolicy, AreRead, Call, Command, FailsToRead, Fault, File, Files, FindsTooLong, GrowsBy, Holds, InputFault, IsRunText, IsSomeAnd, IsTextOf, Job, None, Option, ReadsInputs, ReadsPolicy, SaysAt, Some, List, LongFile, ModelRefusal, Promise, Reason, Refusal, RefusedCommand, RefusesInputs, RefusesModel, RefusesPolicy, Rose, RunEnd, Settled, WasFound, WasRefused, WritesFront, WroteCheck, WroteCode, WroteRun, ap, arith, false, inl, inr, reads_code, refl, status_by, status_of, status_of_end, subst, takes_code, true, ℕ, ◌∙◌, ◌≡◌, ◌≢◌, ◌≤◌, ◌⊎◌}
 use Rattle.rw_run.specs.declared.fault.RunFault.{RunFault}
-use Rattle.rw_top.specs.Policy.{BadCode, RulesRefusal, BadRules, BadBlocks}
+use Rattle.rw_base.proofs.Common.{◌&&◌}
+use Rattle.rw_inputs.specs.Inputs.{Inputs as Given}
+use Rattle.rpl_code.specs.Spelling.{spelt}
+use Rattle.rw_top.specs.Budgets.{check_text}
+use Rattle.rw_top.specs.Policy.{BadCode, RulesRefusal, BadRules, BadBlocks, Policy as Rules, Ruleset, Code, code_of, is_code}
+use Rattle.rw_top.specs.declared.command.Job.TheVariants.{Simulate, Check, Compile}
+use Rattle.rw_top.specs.declared.refusal.File.TheVariants.{Policy as PolicyFile, Inputs as InputsFile}
 use Rattle.rw_top.specs.declared.refusal.Refusal.TheVariants.{Words, CannotRead, CannotWrite, NoMemory}
 use Rattle.rw_top.proofs.CauseLemmas.{told_status}
+use Rattle.rw_top.proofs.OneReading.{one_kind}
 
 settles : (call : Call) (end : RunEnd) → 0 ≡ status_of_end end → WroteRun call end → WroteRun call Settled
 settles call Settled is wrote = wrote
@@ -13,32 +20,58 @@ faults : (call : Call) (end : RunEnd) → 1 ≡ status_of_end end → WroteRun c
 faults call Settled is wrote = absurd (omega (arith, is))
 faults call (Fault why) is wrote = (why, wrote)
 
-module _ (call : Call) (text : List ℕ) (grew : GrowsBy call.out.before.contents call.out.after.contents text) where
-  settled_by : (command : Command) → Asks call.words command → HasText command call.shelf.before.holds 0 text
-      → WroteRun call Settled ⊎ WroteCheck call ⊎ WroteCode call
-  settled_by (Simulate model inputs) asked is =
-      inl (settles call is.0 is.1 (record { command = Simulate model inputs; asked = asked; text = text; is = is.2; grew = grew }))
-  settled_by (Check model policy) asked is =
-      inr (inl (record { command = Check model policy; asked = asked; text = text; is = is.1; grew = grew }))
-  settled_by (Compile model rules) asked is =
-      inr (inr (record { command = Compile model rules; asked = asked; text = text; is = is.1; grew = grew }))
+module _ (call : Call) (command : Command) (asked : Asks call.words command) (files : Files)
+    (read : AreRead command call.shelf.before.holds files) (text : List ℕ)
+    (grew : GrowsBy call.out.before.contents call.out.after.contents text) where
+  abbrev holds : Holds
+  holds = call.shelf.before.holds
 
-  faulted_by : (command : Command) → Asks call.words command → HasText command call.shelf.before.holds 1 text
-      → (why : RunFault) × WroteRun call (Fault why)
-  faulted_by (Simulate model inputs) asked is =
-      faults call is.0 is.1 (record { command = Simulate model inputs; asked = asked; text = text; is = is.2; grew = grew })
-  faulted_by (Check model policy) asked is = absurd (omega (arith, is.0))
-  faulted_by (Compile model rules) asked is = absurd (omega (arith, is.0))
+  wrote_run : (end : RunEnd) (inputs : Option Given) → SaysAt command InputsFile inputs (ReadsInputs command holds files.basin)
+      → IsSomeAnd inputs (λ given. IsRunText files.basin given end text) → WroteRun call end
+  wrote_run end None says is = absurd is
+  wrote_run end (Some inputs) says is =
+      record { command = command; asked = asked; basin = files.basin; inputs = inputs; read = says; text = text; is = is; grew = grew }
+
+  abbrev Grew : List ℕ → Type 0
+  Grew written = GrowsBy call.out.before.contents call.out.after.contents written
+
+  wrote_check : (policy : Option Rules) → SaysAt command PolicyFile policy (ReadsPolicy command holds files.basin)
+      → IsSomeAnd policy (λ rules. text ≡ check_text rules) → WroteCheck call
+  wrote_check None says is = absurd is
+  wrote_check (Some policy) says is =
+      record { command = command; asked = asked; basin = files.basin; policy = policy; read = says; grew = subst Grew is grew }
+
+  -- what is compiled is a ruleset
+  wrote_code : command.job ≡ Compile → (policy : Option Rules) → SaysAt command PolicyFile policy (ReadsPolicy command holds files.basin)
+      → IsSomeAnd policy (λ rules. text ≡ spelt (code_of rules)) → WroteCode call
+  wrote_code job None says is = absurd is
+  wrote_code job (Some (Ruleset rules)) says is =
+      record { command = command; asked = asked; basin = files.basin; rules = rules; read = says; grew = subst Grew is grew }
+  wrote_code job (Some (Code blocks budgets)) says is =
+      let as_code : reads_code command says.text ≡ true = says.is.0 in
+      absurd (one_kind _ as_code (ap (λ j. takes_code j && is_code says.text) job))
+
+  settled_by : (job : Job) → command.job ≡ job → IsTextOf job files 0 text → WroteRun call Settled ⊎ WroteCheck call ⊎ WroteCode call
+  settled_by Simulate job is = inl (settles call is.0 is.1 (wrote_run is.0 files.inputs read.inputs is.2))
+  settled_by Check job is = inr (inl (wrote_check files.policy read.policy is.1))
+  settled_by Compile job is = inr (inr (wrote_code job files.policy read.policy is.1))
+
+  faulted_by : (job : Job) → IsTextOf job files 1 text → (why : RunFault) × WroteRun call (Fault why)
+  faulted_by Simulate is = faults call is.0 is.1 (wrote_run is.0 files.inputs read.inputs is.2)
+  faulted_by Check is = absurd (omega (arith, is.0))
+  faulted_by Compile is = absurd (omega (arith, is.0))
 
 pub settled : (call : Call) → Promise call 0 → WroteRun call Settled ⊎ WroteCheck call ⊎ WroteCode call
 settled call promise =
     let wrote = promise.done (omega arith) in
-    settled_by call wrote.text.text wrote.text.grew wrote.command wrote.asked wrote.text.is
+    let is = wrote.text.is in
+    settled_by call wrote.command wrote.asked is.files is.read wrote.text.text wrote.text.grew wrote.command.job refl is.is
 
 pub faulted : (call : Call) → Promise call 1 → (why : RunFault) × WroteRun call (Fault why)
 faulted call promise =
     let wrote = promise.done (omega arith) in
-    faulted_by call wrote.text.text wrote.text.grew wrote.command wrote.asked wrote.text.is
+    let is = wrote.text.is in
+    faulted_by call wrote.command wrote.asked is.files is.read wrote.text.text wrote.text.grew wrote.command.job is.is
 
 module _ (call : Call) where
   by_words : (why : Refusal) → 2 ≡ status_of why → WasRefused call why → AskNothing call.words

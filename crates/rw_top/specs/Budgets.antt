@@ -15,16 +15,16 @@ use Rattle.rw_top.specs.Policy.{Policy, Ruleset, Code}
 -- how many rules and functions a policy has
 abbrev pub rules_in : Policy → ℕ
 rules_in (Ruleset rules) = rule_count rules
-rules_in (Code code) = count_alike Head.Rule code.blocks
+rules_in (Code blocks budgets) = count_alike Head.Rule blocks
 
 abbrev pub functions_in : Policy → ℕ
 functions_in (Ruleset rules) = function_count rules
-functions_in (Code code) = count_alike function_head code.blocks
+functions_in (Code blocks budgets) = count_alike function_head blocks
 
 -- the budgets of its rule of this number
 abbrev pub budget_in : Policy → ℕ → Option Budget
 budget_in (Ruleset rules) rule = rule_budget rules rule
-budget_in (Code code) rule = option_and_then (numbered code.budgets) (rule_from 1 code.blocks rule)
+budget_in (Code blocks budgets) rule = option_and_then (numbered budgets) (rule_from 1 blocks rule)
 
 -- how many rules and functions there are
 abbrev pub counts_line : ℕ → ℕ → List ℕ

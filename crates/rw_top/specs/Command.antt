@@ -1,63 +1,78 @@
 -- The words of the command line, and the command that they ask for.
-use Rattle.std.specs.Prelude.{◌≡◌, ◌≢◌, ℕ, ◌≤◌, List, [], ◌∷◌, length, map, codes, slice_index, string_bytes, String, Option, Some, None, IfSome, IsSome, Bool, true, false}
+use Rattle.std.specs.Prelude.{◌≡◌, ◌≢◌, ℕ, suc, ◌≤◌, ◌==◌, List, [], ◌∷◌, length, map, codes, slice_index, slice_index_or, string_bytes, String, Option, Some, None, option_map, IsSome, Bool, true, false, All, if◌then◌else◌}
 use Rattle.std.specs.declared.alloc.Global.{Global}
 use Rattle.rw_top.specs.declared.refusal.File.{File}
 use Rattle.rw_top.specs.declared.refusal.File.TheVariants.{Model, Policy, Inputs}
+use Rattle.rw_top.specs.declared.command.Job.{Job}
+use Rattle.rw_top.specs.declared.command.Job.TheVariants.{Simulate, Check, Compile}
 use Rattle.rw_top.specs.declared.command.Command.{Command as Named}
 
 -- the words, as bytes
 abbrev pub texts_of : List (String Global) → List (List ℕ)
 texts_of words = map string_bytes words
 
--- what words ask for, with the paths of the files
-pub data Command : Type 0 where
-  Simulate : List ℕ → List ℕ → Command
-  Check : List ℕ → List ℕ → Command
-  Compile : List ℕ → List ℕ → Command
+-- ---- jobs
 
--- the words that ask for it
-abbrev pub words_of : Command → List (List ℕ)
-words_of (Simulate model inputs) = codes "simulate" ∷ model ∷ inputs ∷ []
-words_of (Check model policy) = codes "check" ∷ model ∷ policy ∷ []
-words_of (Compile model rules) = codes "compile" ∷ model ∷ rules ∷ []
+-- the word that asks for a job
+abbrev pub name_of : Job → List ℕ
+name_of Simulate = codes "simulate"
+name_of Check = codes "check"
+name_of Compile = codes "compile"
 
--- the path of a file, where the command reads it
-abbrev pub path_of : Command → File → Option (List ℕ)
-path_of (Simulate model inputs) Model = Some model
-path_of (Simulate model inputs) Policy = None
-path_of (Simulate model inputs) Inputs = Some inputs
-path_of (Check model policy) Model = Some model
-path_of (Check model policy) Policy = Some policy
-path_of (Check model policy) Inputs = None
-path_of (Compile model rules) Model = Some model
-path_of (Compile model rules) Policy = Some rules
-path_of (Compile model rules) Inputs = None
+-- the files that it reads, in the order in which the words name them
+abbrev pub files_of : Job → List File
+files_of Simulate = Model ∷ Inputs ∷ []
+files_of Check = Model ∷ Policy ∷ []
+files_of Compile = Model ∷ Policy ∷ []
 
 -- its policy may be code. What is compiled is always read as a ruleset
-abbrev pub takes_code : Command → Bool
-takes_code (Simulate model inputs) = true
-takes_code (Check model policy) = true
-takes_code (Compile model rules) = false
+abbrev pub takes_code : Job → Bool
+takes_code Simulate = true
+takes_code Check = true
+takes_code Compile = false
 
--- the command reads the file
-abbrev pub Names : Command → File → Type 0
-Names command file = IsSome (path_of command file)
+-- ---- files
 
--- the files are read in this order
+-- files are read in this order
 abbrev pub order : File → ℕ
 order Model = 0
 order Policy = 1
 order Inputs = 2
+
+-- where a file stands among others, from 0 on
+abbrev pub place_in : List File → File → Option ℕ
+place_in [] file = None
+place_in (first ∷ rest) file = if order first == order file then Some 0 else option_map suc (place_in rest file)
+
+-- ---- commands
+
+-- a job, and the paths of the files that it reads
+pub record Command : Type 0 where
+  pub job : Job
+  pub paths : List (List ℕ)
+
+-- the words that ask for it
+abbrev pub words_of : Command → List (List ℕ)
+words_of command = name_of command.job ∷ command.paths
+
+-- the path of a file, where the command reads it. Where the word is missing it is empty, and so can't name a file
+abbrev pub path_of : Command → File → Option (List ℕ)
+path_of command file = option_map (λ place. slice_index_or command.paths place []) (place_in (files_of command.job) file)
+
+-- the command reads the file
+abbrev pub Names : Command → File → Type 0
+Names command file = IsSome (path_of command file)
 
 -- a word that can name a file: it isn't empty, and isn't an option, which begins with `-`
 pub record IsPath (word : List ℕ) : Type 0 where
   pub some : 1 ≤ length word
   pub no_option : slice_index word 0 ≢ 45
 
--- the words ask for the command, and its paths can name files
+-- the words ask for the command, which has a path for each file, and its paths can name files
 pub record Asks (words : List (List ℕ)) (command : Command) : Type 0 where
   pub are : words ≡ words_of command
-  pub paths : (file : File) → IfSome (path_of command file) IsPath
+  pub each : length command.paths ≡ length (files_of command.job)
+  pub paths : All IsPath command.paths
 
 -- they ask for none
 abbrev pub AskNothing : List (List ℕ) → Type 0
@@ -67,8 +82,10 @@ AskNothing words = (command : Command) → ¬ Asks words command
 abbrev pub AskFor : List (List ℕ) → (Command → Type 0) → Type 0
 AskFor words P = (command : Command) × Asks words command × P command
 
+-- the run of a model from inputs
+abbrev pub simulates : List ℕ → List ℕ → Command
+simulates model inputs = record { job = Simulate; paths = model ∷ inputs ∷ [] }
+
 -- the command that was read, in these terms
 abbrev pub command_of : Named → Command
-command_of (Named.Simulate model inputs) = Simulate model.now inputs.now
-command_of (Named.Check model policy) = Check model.now policy.now
-command_of (Named.Compile model rules) = Compile model.now rules.now
+command_of named = record { job = named.job; paths = texts_of named.paths.now }

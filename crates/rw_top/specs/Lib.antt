@@ -4,6 +4,7 @@ pub mod Policy
 pub mod Reading
 pub mod Reason
 pub mod RunText
+pub mod Ready
 pub mod Budgets
 pub mod Seen
 pub mod Written

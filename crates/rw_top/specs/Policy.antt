@@ -1,5 +1,5 @@
 -- What the text of a policy is found to be, with a basin.
-use Rattle.std.specs.Prelude.{◌≡◌, ℕ, ◌==◌, Bool, true, false, ◌||◌, bytes_eq, codes, List, Ok, Err}
+use Rattle.std.specs.Prelude.{◌≡◌, ℕ, ◌==◌, Bool, true, false, ◌||◌, bytes_eq, codes, List, Ok, Err, IsOk}
 use Rattle.std.specs.List.{starts_with}
 use Rattle.rw_model.specs.Draft.{Draft}
 use Rattle.rpl_tree.specs.Tree.{Declared}
@@ -8,8 +8,10 @@ use Rattle.rpl_types.specs.Judged.{Refusal, judged}
 use Rattle.rpl_types.specs.Nodes.{Types}
 use Rattle.rpl_code.specs.declared.block.Block.{Block}
 use Rattle.rpl_code.specs.Reading.{CodeRefusal, read}
+use Rattle.rpl_compile.specs.Translate.{translate}
+use Rattle.rpl_tree.specs.Budget.{Budget}
+use Rattle.rpl_verify.specs.Budget.{AreAccepted, ruling}
 use Rattle.rpl_verify.specs.Fits.{Refusal as BlockRefusal}
-use Rattle.rpl_verify.specs.Verified.{Accepted, verified}
 
 -- its first line is `CODE 1`
 abbrev pub is_code : List ℕ → Bool
@@ -51,17 +53,16 @@ pub data BadCode : Type 0 where
   Unread : CodeRefusal → BadCode
   Misfit : BlockRefusal → BadCode
 
--- the text is that of this code, which is accepted
-pub record IsCodeOf (basin : Draft) (text : List ℕ) (code : Accepted) : Type 0 where
-  pub blocks : List Block
+-- the text is that of these blocks, which are accepted, with the budget of each
+pub record IsCodeOf (basin : Draft) (text : List ℕ) (blocks : List Block) (budgets : List Budget) : Type 0 where
   pub spells : read text ≡ Ok blocks
-  pub fits : verified basin blocks ≡ Ok code
+  pub accepted : AreAccepted basin blocks budgets
 
 -- the text is that of code that is refused
 pub record RefusesBlock (basin : Draft) (text : List ℕ) (why : BlockRefusal) : Type 0 where
   pub blocks : List Block
   pub spells : read text ≡ Ok blocks
-  pub refused : verified basin blocks ≡ Err why
+  pub refused : ruling basin blocks ≡ Err why
 
 abbrev pub RefusesCode : Draft → List ℕ → BadCode → Type 0
 RefusesCode basin text (Unread why) = read text ≡ Err why
@@ -69,9 +70,10 @@ RefusesCode basin text (Misfit why) = RefusesBlock basin text why
 
 -- ---- policies
 
+-- a ruleset, or blocks of code with the budget of each
 pub data Policy : Type 0 where
   Ruleset : List Declared → Policy
-  Code : Accepted → Policy
+  Code : List Block → List Budget → Policy
 
 pub data PolicyRefusal : Type 0 where
   BadRules : RulesRefusal → PolicyRefusal
@@ -80,9 +82,19 @@ pub data PolicyRefusal : Type 0 where
 -- the text, which is read as code or as a ruleset, is that of this policy, which is accepted
 abbrev pub IsPolicyOf : Bool → Draft → List ℕ → Policy → Type 0
 IsPolicyOf as_code basin text (Ruleset rules) = (as_code ≡ false) × IsRulesetOf basin text rules
-IsPolicyOf as_code basin text (Code code) = (as_code ≡ true) × IsCodeOf basin text code
+IsPolicyOf as_code basin text (Code blocks budgets) = (as_code ≡ true) × IsCodeOf basin text blocks budgets
 
 -- the text, which is read so, is refused for this
 abbrev pub RefusesText : Bool → Draft → List ℕ → PolicyRefusal → Type 0
 RefusesText as_code basin text (BadRules why) = (as_code ≡ false) × RefusesRules basin text why
 RefusesText as_code basin text (BadBlocks why) = (as_code ≡ true) × RefusesCode basin text why
+
+-- its code: that of the ruleset, or the code itself
+abbrev pub code_of : Policy → List Block
+code_of (Ruleset rules) = translate rules
+code_of (Code blocks budgets) = blocks
+
+-- it is accepted for the basin, whatever text it is of
+abbrev pub IsAccepted : Draft → Policy → Type 0
+IsAccepted basin (Ruleset rules) = IsOk (judged basin rules)
+IsAccepted basin (Code blocks budgets) = AreAccepted basin blocks budgets

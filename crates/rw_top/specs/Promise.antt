@@ -2,14 +2,22 @@
 use Rattle.std.specs.Prelude.{◌≡◌, ◌⊎◌, ℕ, ◌≤◌, List}
 use Rattle.rw_io.specs.Causes.{Rose}
 use Rattle.rw_io.specs.Known.{GrowsBy}
+use Rattle.rw_inputs.specs.Inputs.{Inputs as Given}
+use Rattle.rw_model.specs.Draft.{Draft}
 use Rattle.rw_run.specs.declared.run.RunEnd.{RunEnd}
+use Rattle.rpl_tree.specs.Tree.{Declared}
+use Rattle.rpl_code.specs.Spelling.{spelt}
+use Rattle.rpl_compile.specs.Translate.{translate}
+use Rattle.rw_top.specs.Budgets.{check_text}
 use Rattle.rw_top.specs.Call.{Call}
 use Rattle.rw_top.specs.Command.{AskNothing, Asks, Command}
+use Rattle.rw_top.specs.Policy.{Policy as Rules, Ruleset}
 use Rattle.rw_top.specs.Reason.{Reason, IsFound, IsHonestFor, status_by}
 use Rattle.rw_top.specs.Lines.{line_of, words_line}
-use Rattle.rw_top.specs.Reading.{AcceptsAll, IsHonestOfAll}
+use Rattle.rw_top.specs.Reading.{AcceptsAll, IsHonestOfAll, ReadsInputs, ReadsPolicy}
 use Rattle.rw_top.specs.Refusal.{Cause, EndsWith, status_of}
-use Rattle.rw_top.specs.Written.{HasCheckText, HasCodeText, HasRunText, Tells, WritesAll}
+use Rattle.rw_top.specs.RunText.{IsRunText}
+use Rattle.rw_top.specs.Written.{Tells, WritesAll}
 use Rattle.rw_top.specs.declared.refusal.Refusal.{Refusal}
 use Rattle.rw_top.specs.declared.refusal.Refusal.TheVariants.{Words}
 
@@ -62,28 +70,33 @@ pub record Promise (call : Call) (status : ℕ) : Type 0 where
   -- no file is changed
   pub held : (path : List ℕ) → call.shelf.after.holds path ≡ call.shelf.before.holds path
 
--- ---- what a call wrote, by its command
+-- ---- what a call wrote, by its job
 
 -- a run that ends so, and its text
 pub record WroteRun (call : Call) (end : RunEnd) : Type 0 where
   pub command : Command
   pub asked : Asks call.words command
+  pub basin : Draft
+  pub inputs : Given
+  pub read : ReadsInputs command call.shelf.before.holds basin inputs
   pub text : List ℕ
-  pub is : HasRunText command call.shelf.before.holds end text
+  pub is : IsRunText basin inputs end text
   pub grew : GrowsBy call.out.before.contents call.out.after.contents text
 
 -- the budgets of a policy that is accepted
 pub record WroteCheck (call : Call) : Type 0 where
   pub command : Command
   pub asked : Asks call.words command
-  pub text : List ℕ
-  pub is : HasCheckText command call.shelf.before.holds text
-  pub grew : GrowsBy call.out.before.contents call.out.after.contents text
+  pub basin : Draft
+  pub policy : Rules
+  pub read : ReadsPolicy command call.shelf.before.holds basin policy
+  pub grew : GrowsBy call.out.before.contents call.out.after.contents (check_text policy)
 
 -- the code of a ruleset that is accepted
 pub record WroteCode (call : Call) : Type 0 where
   pub command : Command
   pub asked : Asks call.words command
-  pub text : List ℕ
-  pub is : HasCodeText command call.shelf.before.holds text
-  pub grew : GrowsBy call.out.before.contents call.out.after.contents text
+  pub basin : Draft
+  pub rules : List Declared
+  pub read : ReadsPolicy command call.shelf.before.holds basin (Ruleset rules)
+  pub grew : GrowsBy call.out.before.contents call.out.after.contents (spelt (translate rules))

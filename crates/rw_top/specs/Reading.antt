@@ -1,5 +1,5 @@
 -- What the files that a command names are found to be.
-use Rattle.std.specs.Prelude.{◌≡◌, Bool, ◌&&◌, ℕ, ◌<◌, ◌≤◌, List, Ok, Err, length, IfSome, IsSome, IsSomeAnd}
+use Rattle.std.specs.Prelude.{◌≡◌, Bool, ◌&&◌, ℕ, ◌<◌, ◌≤◌, List, Ok, Err, Option, None, MatchOption, length, IfSome, IsSome, IsSomeAnd}
 use Rattle.rw_io.specs.Causes.{Rose}
 use Rattle.rw_io.specs.declared.whole_file.TheConstants.{FILE_MAX}
 use Rattle.rw_model.specs.Draft.{Draft}
@@ -35,7 +35,7 @@ pub record ReadsModel (command : Command) (holds : Holds) (basin : Draft) : Type
 
 -- whether the command reads the text of its policy as code
 abbrev pub reads_code : Command → List ℕ → Bool
-reads_code command text = takes_code command && is_code text
+reads_code command text = takes_code command.job && is_code text
 
 -- the command names a model of this basin, and this policy for it
 pub record ReadsPolicy (command : Command) (holds : Holds) (basin : Draft) (policy : Rules) : Type 0 where
@@ -45,11 +45,48 @@ pub record ReadsPolicy (command : Command) (holds : Holds) (basin : Draft) (poli
   pub is : IsPolicyOf (reads_code command text) basin text policy
 
 -- the command names a model of this basin, and these inputs for it
-pub record ReadsBoth (command : Command) (holds : Holds) (basin : Draft) (inputs : Given) : Type 0 where
+pub record ReadsInputs (command : Command) (holds : Holds) (basin : Draft) (inputs : Given) : Type 0 where
   pub model : ReadsModel command holds basin
   pub text : List ℕ
   pub read : WasRead command holds Inputs text
   pub are : Reads basin text inputs
+
+-- ---- all files of a command
+
+-- what they say: the basin of its model, and the policy and the inputs, where it names them
+pub record Files : Type 0 where
+  pub basin : Draft
+  pub policy : Option Rules
+  pub inputs : Option Given
+
+-- a file that the command doesn't read says nothing, and any other is this
+abbrev pub SaysAt : {A : Type 0} → Command → File → Option A → (A → Type 0) → Type 0
+SaysAt command file found IsIt = MatchOption found (path_of command file ≡ None) IsIt
+
+-- the command's files are read, and this is what they say
+pub record AreRead (command : Command) (holds : Holds) (files : Files) : Type 0 where
+  pub model : ReadsModel command holds files.basin
+  pub policy : SaysAt command Policy files.policy (ReadsPolicy command holds files.basin)
+  pub inputs : SaysAt command Inputs files.inputs (ReadsInputs command holds files.basin)
+
+-- the file is accepted
+abbrev pub Accepts : Command → Holds → File → Type 0
+Accepts command holds Model = (basin : Draft) × ReadsModel command holds basin
+Accepts command holds Policy =
+    (basin : Draft) × (policy : Rules) × ReadsPolicy command holds basin policy
+Accepts command holds Inputs =
+    (basin : Draft) × (inputs : Given) × ReadsInputs command holds basin inputs
+
+-- every file that the command reads is
+abbrev pub AcceptsAll : Command → Holds → Type 0
+AcceptsAll command holds = (file : File) → Names command file → Accepts command holds file
+
+-- each file that is read before this one is accepted
+abbrev pub Reaches : Command → Holds → File → Type 0
+Reaches command holds file =
+    (earlier : File) → Names command earlier → order earlier < order file → Accepts command holds earlier
+
+-- ---- what is refused
 
 -- the command names a model that is refused for this
 pub record RefusesModel (command : Command) (holds : Holds) (why : ModelRefusal) : Type 0 where
@@ -65,30 +102,14 @@ pub record RefusesPolicy (command : Command) (holds : Holds) (why : PolicyRefusa
   pub read : WasRead command holds Policy text
   pub is : RefusesText (reads_code command text) basin text why
 
--- the command names a model, and inputs that are refused for this
+-- the command names a model, inputs are reached, and are refused for this
 pub record RefusesInputs (command : Command) (holds : Holds) (why : InputFault) : Type 0 where
   pub basin : Draft
   pub model : ReadsModel command holds basin
+  pub reached : Reaches command holds Inputs
   pub text : List ℕ
   pub read : WasRead command holds Inputs text
   pub are : Refuses basin text why
-
--- the file is accepted
-abbrev pub Accepts : Command → Holds → File → Type 0
-Accepts command holds Model = (basin : Draft) × ReadsModel command holds basin
-Accepts command holds Policy =
-    (basin : Draft) × (policy : Rules) × ReadsPolicy command holds basin policy
-Accepts command holds Inputs =
-    (basin : Draft) × (inputs : Given) × ReadsBoth command holds basin inputs
-
--- every file that the command reads is
-abbrev pub AcceptsAll : Command → Holds → Type 0
-AcceptsAll command holds = (file : File) → Names command file → Accepts command holds file
-
--- each file that is read before this one is accepted
-abbrev pub Reaches : Command → Holds → File → Type 0
-Reaches command holds file =
-    (earlier : File) → Names command earlier → order earlier < order file → Accepts command holds earlier
 
 -- the file is reached, and holds more than a file may, where that is told
 pub record HoldsTooLong (command : Command) (holds : Holds) (file : File) : Type 0 where

@@ -1,8 +1,14 @@
--- The policy that was read, in the definitions' terms.
+-- What was read, in the definitions' terms.
+use Rattle.std.specs.Prelude.{option_map}
 use Rattle.rpl_tree.specs.Seen.{rules_of}
 use Rattle.rw_top.specs.declared.policy.Policy.{Policy as Held}
+use Rattle.rw_top.specs.declared.files.Files.{Files as Read}
 use Rattle.rw_top.specs.Policy.{Policy, Ruleset, Code}
+use Rattle.rw_top.specs.Reading.{Files}
 
 abbrev pub policy_of : Held → Policy
 policy_of (Held.Ruleset typed) = Ruleset (rules_of typed.rules)
-policy_of (Held.Code code) = Code code
+policy_of (Held.Code code) = Code code.blocks code.budgets
+
+abbrev pub files_seen : Read → Files
+files_seen read = record { basin = read.basin; policy = option_map policy_of read.policy; inputs = read.inputs }

@@ -1,37 +1,98 @@
-ghost use Rattle.std.specs.Prelude.{◌≡◌, MatchBool, MatchOption, option_map};
-ghost use Rattle.rw_top.specs.Command.{Asks, AskNothing, IsPath, command_of, path_of, texts_of};
+ghost use Rattle.std.specs.Prelude.{◌≡◌, ◌≢◌, All, MatchBool, MatchOption, length, option_map, slice_index_or, string_bytes, [], Some};
+ghost use Rattle.rw_top.specs.Command.{Asks, AskNothing, IsPath, command_of, files_of, name_of, path_of, place_in, takes_code, texts_of};
+ghost use Rattle.rw_top.specs.declared.refusal.File.TheVariants as F;
 
 use crate::File;
 
-/// A command, and the paths that it names.
+/// What is done with the files.
 #[derive(Clone, Copy)]
-pub(crate) enum Command<'w> {
-    Simulate { model: &'w str, inputs: &'w str },
-    Check { model: &'w str, policy: &'w str },
-    Compile { model: &'w str, rules: &'w str },
+pub(crate) enum Job {
+    Simulate,
+    Check,
+    Compile,
+}
+
+impl Job {
+    // The job that a word asks for.
+    fn named(word: &str) -> Option<Job>
+        ensures { MatchOption result ((job : Job) → word.now ≢ name_of job)
+            (λ job. word.now ≡ name_of job) }
+    {
+        if word == "simulate" {
+            Some(Job::Simulate)
+        } else if word == "check" {
+            Some(Job::Check)
+        } else if word == "compile" {
+            Some(Job::Compile)
+        } else {
+            None
+        }
+    }
+
+    // How many files it reads.
+    fn file_count(self) -> usize
+        ensures { result ≡ length (files_of self) }
+    {
+        match self {
+            Job::Simulate | Job::Check | Job::Compile => 2,
+        }
+    }
+
+    // Which of its words names a file, from 0 on, where it reads that file.
+    fn place(self, file: File) -> Option<usize>
+        ensures { result ≡ place_in (files_of self) file }
+    {
+        match (self, file) {
+            (_, File::Model) => Some(0),
+            (Job::Check | Job::Compile, File::Policy) => Some(1),
+            (Job::Simulate, File::Inputs) => Some(1),
+            _ => None,
+        }
+    }
+
+    /// Whether its policy may be code.
+    pub(crate) fn takes_code(self) -> bool
+        ensures { result ≡ takes_code self }
+    {
+        match self {
+            Job::Simulate | Job::Check => true,
+            Job::Compile => false,
+        }
+    }
+}
+
+/// A command: its job, and the paths that it names, one for each file.
+#[derive(Clone, Copy)]
+pub(crate) struct Command<'w> {
+    pub(crate) job: Job,
+    paths: &'w [String],
+}
+
+// The word in a place, or the empty one.
+fn word_at(words: &[String], place: usize) -> &str
+    ensures { result.now ≡ slice_index_or (texts_of words.now) place [] }
+{
+    match words.get(place) {
+        Some(word) => word.as_str(),
+        None => "",
+    }
 }
 
 impl<'w> Command<'w> {
+    /// The path of the model.
+    pub(crate) fn model(&self) -> &'w str
+        ensures { Some result.now ≡ path_of (command_of self.now) F.Model }
+    {
+        word_at(self.paths, 0)
+    }
+
     /// The path of a file, where the command reads it.
     pub(crate) fn path(&self, file: File) -> Option<&'w str>
         ensures { option_map (λ path. path.now) result ≡ path_of (command_of self.now) file }
     {
-        match self {
-            Command::Simulate { model, inputs } => match file {
-                File::Model => Some(*model),
-                File::Policy => None,
-                File::Inputs => Some(*inputs),
-            },
-            Command::Check { model, policy } => match file {
-                File::Model => Some(*model),
-                File::Policy => Some(*policy),
-                File::Inputs => None,
-            },
-            Command::Compile { model, rules } => match file {
-                File::Model => Some(*model),
-                File::Policy => Some(*rules),
-                File::Inputs => None,
-            },
+        match self.job.place(file) {
+            Some(place) => Some(word_at(self.paths, place)),
+            None => None,
         }
     }
 }
@@ -45,35 +106,31 @@ fn is_path(word: &str) -> bool
     }
 }
 
+fn are_paths(words: &[String]) -> bool
+    ensures { MatchBool result (All IsPath (texts_of words.now))
+        (¬ All IsPath (texts_of words.now)) }
+{
+    for word in words {
+        if !is_path(word.as_str()) {
+            return false;
+        }
+    }
+    true
+}
+
 /// The command that the words ask for, if they ask for one.
 pub(crate) fn read_words(words: &[String]) -> Option<Command<'_>>
     ensures { MatchOption result (AskNothing (texts_of words.entry.now))
         (λ command. Asks (texts_of words.entry.now) (command_of command)) }
 {
-    let [name, model, second] = words else {
+    let [name, paths @ ..] = words else {
         return None;
     };
-    let model = model.as_str();
-    let second = second.as_str();
-    if !is_path(model) || !is_path(second) {
+    let Some(job) = Job::named(name.as_str()) else {
+        return None;
+    };
+    if paths.len() != job.file_count() || !are_paths(paths) {
         return None;
     }
-    if name.as_str() == "simulate" {
-        Some(Command::Simulate {
-            model,
-            inputs: second,
-        })
-    } else if name.as_str() == "check" {
-        Some(Command::Check {
-            model,
-            policy: second,
-        })
-    } else if name.as_str() == "compile" {
-        Some(Command::Compile {
-            model,
-            rules: second,
-        })
-    } else {
-        None
-    }
+    Some(Command { job, paths })
 }

@@ -1,33 +1,40 @@
 // The files of a command, read and judged, each before the next.
-ghost use Rattle.std.specs.Prelude.{◌≡◌, true, false, ℕ, ◌≤◌, List, MatchResult, IfOk, length};
+ghost use Rattle.std.specs.Prelude.{◌≡◌, ℕ, ◌≤◌, List, MatchResult, IfOk, Some, length};
 ghost use Rattle.rw_io.specs.Causes.{NoneFell};
 ghost use Rattle.rw_io.specs.Outside.{change};
-ghost use Rattle.rw_top.specs.Command.{Names, command_of, takes_code};
-ghost use Rattle.rpl_tree.specs.Seen.{rules_of};
-ghost use Rattle.rw_top.specs.Policy.{Ruleset};
-ghost use Rattle.rw_top.specs.Reading.{Reaches, ReadsBoth, ReadsModel, ReadsPolicy, WasRead};
-ghost use Rattle.rw_top.specs.Refusal.{FileCause};
-ghost use Rattle.rw_top.specs.Seen.{policy_of};
+ghost use Rattle.rw_top.specs.Command.{command_of, path_of};
+ghost use Rattle.rw_top.specs.Policy.{IsPolicyOf};
+ghost use Rattle.rw_top.specs.Reading.{AreRead, Reaches, ReadsInputs, ReadsModel, ReadsPolicy, SaysAt, WasRead, reads_code};
+ghost use Rattle.rw_top.specs.Refusal.{FileCause, IsPolicyRefusal};
+ghost use Rattle.rw_top.specs.Seen.{files_seen, policy_of};
 ghost use Rattle.rw_top.specs.declared.refusal.File.TheVariants as F;
 
 use crate::command::Command;
-use crate::judging::{judge_inputs, judge_model, judge_policy, judge_rules};
+use crate::judging::{is_code, judge_inputs, judge_model, judge_policy};
 use crate::policy::Policy;
 use crate::{File, Refusal};
-use rpl_types::Typed;
 use rw_inputs::Inputs;
 use rw_io::{Shelf, read_all};
 use rw_model::Basin;
 use std::alloc::Global;
+
+/// What the files of a command say: the policy and the inputs, where it names them.
+#[derive(Drop)]
+pub(crate) struct Files {
+    pub(crate) basin: Basin,
+    pub(crate) policy: Option<Policy>,
+    pub(crate) inputs: Option<Inputs>,
+}
 
 // The whole of a file that the command reads, where each file before it is accepted.
 fn read_file<S: Shelf>(
     alloc: Global,
     command: &Command<'_>,
     file: File,
+    path: &str,
     shelf: &mut S,
 ) -> Result<Vec<u8>, Refusal>
-    requires named { Names (command_of command.now) file }
+    requires named { path_of (command_of command.now) file ≡ Some path.now }
     requires reached { Reaches (command_of command.now) (S.seen shelf.old).holds file }
     ensures read { MatchResult result
         (λ text. WasRead (command_of command.now) (S.seen shelf.old).holds file text.items)
@@ -36,17 +43,14 @@ fn read_file<S: Shelf>(
     ensures held { (p : List ℕ) → (S.seen shelf.new).holds p ≡ (S.seen shelf.old).holds p }
     ensures later { NoneFell (S.seen shelf.old).faults (S.seen shelf.new).faults }
 {
-    let Some(path) = command.path(file) else {
-        unreachable!();
-    };
     match read_all(alloc, shelf, path) {
         Ok(text) => Ok(text),
         Err(end) => Err(Refusal::after(end, file)),
     }
 }
 
-/// Reads and judges the model of the command.
-pub(crate) fn read_basin<S: Shelf>(
+// Reads and judges the model of the command.
+fn read_basin<S: Shelf>(
     alloc: Global,
     command: &Command<'_>,
     shelf: &mut S,
@@ -57,73 +61,134 @@ pub(crate) fn read_basin<S: Shelf>(
     ensures held { (p : List ℕ) → (S.seen shelf.new).holds p ≡ (S.seen shelf.old).holds p }
     ensures later { NoneFell (S.seen shelf.old).faults (S.seen shelf.new).faults }
 {
-    match read_file(alloc, command, File::Model, shelf) {
+    match read_file(alloc, command, File::Model, command.model(), shelf) {
         Ok(text) => judge_model(alloc, &text),
         Err(refusal) => Err(refusal),
     }
 }
 
-/// Reads and judges the inputs of the command, for the basin that its model describes.
-pub(crate) fn read_given<S: Shelf>(
+// The policy of a text, which is read as the command takes it.
+fn judge_for(
     alloc: Global,
     command: &Command<'_>,
     basin: &Basin,
-    shelf: &mut S,
-) -> Result<Inputs, Refusal>
-    requires named { Names (command_of command.now) F.Inputs }
-    requires policy { ¬ Names (command_of command.now) F.Policy }
-    requires model { ReadsModel (command_of command.now) (S.seen shelf.old).holds basin.now }
-    ensures read { MatchResult result
-        (ReadsBoth (command_of command.now) (S.seen shelf.old).holds basin.now)
-        (FileCause (command_of command.now) (change (S.seen shelf.old) (S.seen shelf.new))) }
-    ensures held { (p : List ℕ) → (S.seen shelf.new).holds p ≡ (S.seen shelf.old).holds p }
-{
-    match read_file(alloc, command, File::Inputs, shelf) {
-        Ok(text) => judge_inputs(alloc, basin, &text),
-        Err(refusal) => Err(refusal),
-    }
-}
-
-/// Reads and judges the policy of the command, for the basin that its model describes.
-pub(crate) fn read_policy<S: Shelf>(
-    alloc: Global,
-    command: &Command<'_>,
-    basin: &Basin,
-    shelf: &mut S,
+    text: &[u8],
 ) -> Result<Policy, Refusal>
-    requires named { Names (command_of command.now) F.Policy }
-    requires code { takes_code (command_of command.now) ≡ true }
-    requires model { ReadsModel (command_of command.now) (S.seen shelf.old).holds basin.now }
-    ensures read { MatchResult result
-        (λ policy. ReadsPolicy (command_of command.now)
-        (S.seen shelf.old).holds basin.now (policy_of policy))
-        (FileCause (command_of command.now) (change (S.seen shelf.old) (S.seen shelf.new))) }
-    ensures held { (p : List ℕ) → (S.seen shelf.new).holds p ≡ (S.seen shelf.old).holds p }
+    requires { length text.now ≤ 16_777_216 }
+    ensures { MatchResult result
+        (λ policy. IsPolicyOf (reads_code (command_of command.now) text.now)
+        basin.now text.now (policy_of policy))
+        (IsPolicyRefusal (reads_code (command_of command.now) text.now) basin.now text.now) }
 {
-    match read_file(alloc, command, File::Policy, shelf) {
-        Ok(text) => judge_policy(alloc, basin, &text),
-        Err(refusal) => Err(refusal),
-    }
+    judge_policy(
+        alloc,
+        basin,
+        text,
+        command.job.takes_code() && is_code(text),
+    )
 }
 
-/// Reads and judges the ruleset of the command, for the basin that its model describes.
-pub(crate) fn read_rules<S: Shelf>(
+// Reads and judges the policy, where the command names one, for the basin of its model.
+fn read_policy<S: Shelf>(
     alloc: Global,
     command: &Command<'_>,
     basin: &Basin,
     shelf: &mut S,
-) -> Result<Typed, Refusal>
-    requires named { Names (command_of command.now) F.Policy }
-    requires rules { takes_code (command_of command.now) ≡ false }
+) -> Result<Option<Policy>, Refusal>
     requires model { ReadsModel (command_of command.now) (S.seen shelf.old).holds basin.now }
-    ensures read { MatchResult result
-        (λ typed. ReadsPolicy (command_of command.now)
-        (S.seen shelf.old).holds basin.now (Ruleset (rules_of typed.rules)))
+    ensures read { MatchResult result (λ found. SaysAt (command_of command.now) F.Policy found
+        (λ policy. ReadsPolicy (command_of command.now) (S.seen shelf.old).holds
+        basin.now (policy_of policy)))
+        (FileCause (command_of command.now) (change (S.seen shelf.old) (S.seen shelf.new))) }
+    ensures held { (p : List ℕ) → (S.seen shelf.new).holds p ≡ (S.seen shelf.old).holds p }
+    ensures later { NoneFell (S.seen shelf.old).faults (S.seen shelf.new).faults }
+{
+    let Some(path) = command.path(File::Policy) else {
+        return Ok(None);
+    };
+    match read_file(alloc, command, File::Policy, path, shelf) {
+        Ok(text) => match judge_for(alloc, command, basin, &text) {
+            Ok(policy) => Ok(Some(policy)),
+            Err(refusal) => Err(refusal),
+        },
+        Err(refusal) => Err(refusal),
+    }
+}
+
+// Reads and judges the inputs, where the command names them, for the basin of its model.
+fn read_given<S: Shelf>(
+    alloc: Global,
+    command: &Command<'_>,
+    basin: &Basin,
+    shelf: &mut S,
+) -> Result<Option<Inputs>, Refusal>
+    requires model { ReadsModel (command_of command.now) (S.seen shelf.old).holds basin.now }
+    requires reached { Reaches (command_of command.now) (S.seen shelf.old).holds F.Inputs }
+    ensures read { MatchResult result (λ found. SaysAt (command_of command.now) F.Inputs found
+        (ReadsInputs (command_of command.now) (S.seen shelf.old).holds basin.now))
         (FileCause (command_of command.now) (change (S.seen shelf.old) (S.seen shelf.new))) }
     ensures held { (p : List ℕ) → (S.seen shelf.new).holds p ≡ (S.seen shelf.old).holds p }
 {
-    match read_file(alloc, command, File::Policy, shelf) {
-        Ok(text) => judge_rules(alloc, basin, &text),
+    let Some(path) = command.path(File::Inputs) else {
+        return Ok(None);
+    };
+    match read_file(alloc, command, File::Inputs, path, shelf) {
+        Ok(text) => match judge_inputs(alloc, basin, &text) {
+            Ok(inputs) => Ok(Some(inputs)),
+            Err(refusal) => Err(refusal),
+        },
+        Err(refusal) => Err(refusal),
+    }
+}
+
+// Reads and judges the files behind the model.
+fn read_behind<S: Shelf>(
+    alloc: Global,
+    command: &Command<'_>,
+    basin: &Basin,
+    shelf: &mut S,
+) -> Result<(Option<Policy>, Option<Inputs>), Refusal>
+    requires model { ReadsModel (command_of command.now) (S.seen shelf.old).holds basin.now }
+    ensures read { MatchResult result (λ found. SaysAt (command_of command.now) F.Policy found.0
+        (λ policy. ReadsPolicy (command_of command.now) (S.seen shelf.old).holds
+        basin.now (policy_of policy))
+        × SaysAt (command_of command.now) F.Inputs found.1
+        (ReadsInputs (command_of command.now) (S.seen shelf.old).holds basin.now))
+        (FileCause (command_of command.now) (change (S.seen shelf.old) (S.seen shelf.new))) }
+    ensures held { (p : List ℕ) → (S.seen shelf.new).holds p ≡ (S.seen shelf.old).holds p }
+{
+    let policy = match read_policy(alloc, command, basin, shelf) {
+        Ok(policy) => policy,
+        Err(refusal) => return Err(refusal),
+    };
+    match read_given(alloc, command, basin, shelf) {
+        Ok(inputs) => Ok((policy, inputs)),
+        Err(refusal) => Err(refusal),
+    }
+}
+
+/// Reads and judges the files of the command, each before the next: its model, its policy and its inputs, where it names
+/// them.
+pub(crate) fn read_files<S: Shelf>(
+    alloc: Global,
+    command: &Command<'_>,
+    shelf: &mut S,
+) -> Result<Files, Refusal>
+    ensures read { MatchResult result
+        (λ files. AreRead (command_of command.now) (S.seen shelf.old).holds (files_seen files))
+        (FileCause (command_of command.now) (change (S.seen shelf.old) (S.seen shelf.new))) }
+    ensures held { (p : List ℕ) → (S.seen shelf.new).holds p ≡ (S.seen shelf.old).holds p }
+{
+    let basin = match read_basin(alloc, command, shelf) {
+        Ok(basin) => basin,
+        Err(refusal) => return Err(refusal),
+    };
+    match read_behind(alloc, command, &basin, shelf) {
+        Ok((policy, inputs)) => Ok(Files {
+            basin,
+            policy,
+            inputs,
+        }),
         Err(refusal) => Err(refusal),
     }
 }

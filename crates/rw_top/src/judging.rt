@@ -59,8 +59,8 @@ pub(crate) fn judge_inputs(alloc: Global, basin: &Basin, text: &[u8]) -> Result<
     }
 }
 
-// Whether the first line is `CODE 1`.
-fn is_code(text: &[u8]) -> bool
+/// Whether the first line is `CODE 1`.
+pub(crate) fn is_code(text: &[u8]) -> bool
     ensures { result ≡ is_code text.now }
 {
     text == b"CODE 1".as_slice() || text.starts_with(b"CODE 1\n")
@@ -102,8 +102,8 @@ fn refusal_of_types(_basin: &Basin, _text: &[u8], fault: TypeFault) -> Refusal
     }
 }
 
-/// The ruleset of a text, for the basin.
-pub(crate) fn judge_rules(alloc: Global, basin: &Basin, text: &[u8]) -> Result<Typed, Refusal>
+// The ruleset of a text, for the basin.
+fn judge_rules(alloc: Global, basin: &Basin, text: &[u8]) -> Result<Typed, Refusal>
     requires { length text.now ≤ 16_777_216 }
     ensures { MatchResult result (λ typed. IsRulesetOf basin.now text.now (rules_of typed.rules))
         (IsPolicyRefusal false basin.now text.now) }
@@ -151,7 +151,7 @@ fn refusal_of_block(_basin: &Basin, _text: &[u8], fault: VerifyFault) -> Refusal
 
 fn judge_code(alloc: Global, basin: &Basin, text: &[u8]) -> Result<Verified, Refusal>
     requires { length text.now ≤ 16_777_216 }
-    ensures { MatchResult result (IsCodeOf basin.now text.now)
+    ensures { MatchResult result (λ code. IsCodeOf basin.now text.now code.blocks code.budgets)
         (IsPolicyRefusal true basin.now text.now) }
 {
     let code = match read_blocks(alloc, text) {
@@ -164,14 +164,19 @@ fn judge_code(alloc: Global, basin: &Basin, text: &[u8]) -> Result<Verified, Ref
     }
 }
 
-/// The policy of a text, for the basin.
-pub(crate) fn judge_policy(alloc: Global, basin: &Basin, text: &[u8]) -> Result<Policy, Refusal>
+/// The policy of a text, which is read as code or as a ruleset, for the basin.
+pub(crate) fn judge_policy(
+    alloc: Global,
+    basin: &Basin,
+    text: &[u8],
+    as_code: bool,
+) -> Result<Policy, Refusal>
     requires { length text.now ≤ 16_777_216 }
     ensures { MatchResult result
-        (λ policy. IsPolicyOf (is_code text.now) basin.now text.now (policy_of policy))
-        (IsPolicyRefusal (is_code text.now) basin.now text.now) }
+        (λ policy. IsPolicyOf as_code basin.now text.now (policy_of policy))
+        (IsPolicyRefusal as_code basin.now text.now) }
 {
-    if is_code(text) {
+    if as_code {
         match judge_code(alloc, basin, text) {
             Ok(code) => Ok(Policy::Code(code)),
             Err(refusal) => Err(refusal),

@@ -1,5 +1,5 @@
 //! What the definitions of this crate speak of is one thing. Each law is the `ensures` of a function that does nothing.
-ghost use Rattle.std.specs.Prelude.{◌≡◌, ◌≢◌, ◌≤◌, ◌↔◌, ◌⊎◌, ℕ, ℤ, List, Option, None};
+ghost use Rattle.std.specs.Prelude.{◌≡◌, ◌≢◌, ◌≤◌, ◌↔◌, ◌⊎◌, ℕ, ℤ, Bool, List, Option, None, IfSome, IsSome};
 ghost use Rattle.rw_plain_reservoir.specs.FirstForm.{FirstModel, IsFirstForm, IsFirstFlows};
 ghost use Rattle.rw_plain_reservoir.specs.Table.{IsFirstText};
 ghost use Rattle.rw_io.specs.Causes.{Rose};
@@ -13,17 +13,25 @@ ghost use Rattle.rw_inputs.specs.Inputs.{Inputs, value_at};
 ghost use Rattle.rw_inputs.specs.Reading.{Reads, Refuses};
 ghost use Rattle.rw_run.specs.declared.run.RunEnd.{RunEnd};
 ghost use Rattle.rw_model_toml.specs.Refusal.{ModelRefusal};
+ghost use Rattle.rpl_tree.specs.Tree.{Declared};
+ghost use Rattle.rpl_parse.specs.Bounds.{function_count, rule_count};
+ghost use Rattle.rpl_types.specs.HasType.{IsTyped};
+ghost use Rattle.rpl_verify.specs.Budget.{AreAccepted};
+ghost use Rattle.rpl_compile.specs.Budgets.{budgets_of};
+ghost use Rattle.rpl_compile.specs.Translate.{translate};
+ghost use Rattle.rw_top.specs.Budgets.{budget_in, check_text, rules_in};
 ghost use Rattle.rw_top.specs.Call.{Call};
-ghost use Rattle.rw_top.specs.Command.{AskFor, AskNothing};
+ghost use Rattle.rw_top.specs.Command.{AskFor, AskNothing, Asks, Command, order, path_of, simulates};
 ghost use Rattle.rw_top.specs.FirstCall.{IsFirstCall};
-ghost use Rattle.rw_top.specs.Policy.{BadCode, RulesRefusal, BadRules, BadBlocks};
+ghost use Rattle.rw_top.specs.Policy.{BadCode, RulesRefusal, BadRules, BadBlocks, Policy, Ruleset, Code, IsPolicyOf};
 ghost use Rattle.rw_top.specs.Promise.{Promise, WroteCheck, WroteCode, WroteRun};
-ghost use Rattle.rw_top.specs.Reading.{RefusesInputs, RefusesModel, RefusesPolicy};
+ghost use Rattle.rw_top.specs.Reading.{AcceptsAll, HoldsTooLong, ReadsInputs, RefusesInputs, RefusesModel, RefusesPolicy};
 ghost use Rattle.rw_top.specs.Refusal.{FailsToRead, FindsTooLong};
 ghost use Rattle.rw_top.specs.Written.{WritesFront};
 ghost use Rattle.rw_top.specs.RunText.{IsRunText};
 ghost use Rattle.rw_top.specs.declared.refusal.File.{File};
 
+use rpl_compile::accepted::compiled_budgets;
 use rw_model_toml::law::files_are_basins;
 use rw_plain_reservoir::law::first_text;
 use rw_run::law::one_run;
@@ -60,10 +68,17 @@ pub fn first_form()
     first_text();
 }
 
-/// A call of `basin_main` that did such a run, of files that the shelf tells, wrote that table, and answered 0 exactly where
-/// no storage leaves its range.
+/// A call asks for such a run where its words do, the shelf tells both files, and these are read as the reservoir and its
+/// flows. Then `basin_main` wrote that table, and answered 0 exactly where no storage leaves its range, unless it refused.
 pub fn first_call()
-    ensures { (call : Call) (status : ℕ) (model : FirstModel) (inflows outflows : List ℤ)
+    ensures is { (call : Call) (model : FirstModel) (inflows outflows : List ℤ)
+        (m i : List ℕ) (basin : Draft) (inputs : Inputs)
+        → Asks call.words (simulates m i)
+        → IsSome (call.shelf.before.holds m) → IsSome (call.shelf.before.holds i)
+        → ReadsInputs (simulates m i) call.shelf.before.holds basin inputs
+        → IsFirstForm basin model → IsFirstFlows inputs model.run.count inflows outflows
+        → IsFirstCall call model inflows outflows }
+    ensures table { (call : Call) (status : ℕ) (model : FirstModel) (inflows outflows : List ℤ)
         → Promise call status → status ≤ 1 → IsFirstCall call model inflows outflows
         → (fault : Option ℤ) × (text : List ℕ) × IsFirstText model inflows outflows fault text
         × GrowsBy call.out.before.contents call.out.after.contents text
@@ -100,3 +115,66 @@ pub fn statuses()
     ensures untouched { (call : Call) (status : ℕ) → Promise call status → 2 ≤ status → status ≢ 4
         → call.out.after.contents ≡ call.out.before.contents }
 {}
+
+/// What has to be refused of a command is, with its status, unless memory was wanting: where the shelf tells the files up
+/// to the one that is refused, and had no fault of them. Where each file is accepted, and the output had no fault either,
+/// only memory can be wanting.
+pub fn dues()
+    ensures model { (call : Call) (status : ℕ) (command : Command) (why : ModelRefusal)
+        → Promise call status → Asks call.words command
+        → RefusesModel command call.shelf.before.holds why
+        → ((file : File) → order file ≤ 0 → IfSome (path_of command file) (λ path.
+        IsSome (call.shelf.before.holds path)
+        × ¬ Rose (call.shelf.before.faults path) (call.shelf.after.faults path)))
+        → (status ≡ 6) ⊎ (status ≡ 5) }
+    ensures rules { (call : Call) (status : ℕ) (command : Command) (why : RulesRefusal)
+        → Promise call status → Asks call.words command
+        → RefusesPolicy command call.shelf.before.holds (BadRules why)
+        → ((file : File) → order file ≤ 1 → IfSome (path_of command file) (λ path.
+        IsSome (call.shelf.before.holds path)
+        × ¬ Rose (call.shelf.before.faults path) (call.shelf.after.faults path)))
+        → (status ≡ 7) ⊎ (status ≡ 5) }
+    ensures code { (call : Call) (status : ℕ) (command : Command) (why : BadCode)
+        → Promise call status → Asks call.words command
+        → RefusesPolicy command call.shelf.before.holds (BadBlocks why)
+        → ((file : File) → order file ≤ 1 → IfSome (path_of command file) (λ path.
+        IsSome (call.shelf.before.holds path)
+        × ¬ Rose (call.shelf.before.faults path) (call.shelf.after.faults path)))
+        → (status ≡ 9) ⊎ (status ≡ 5) }
+    ensures inputs { (call : Call) (status : ℕ) (command : Command) (fault : InputFault)
+        → Promise call status → Asks call.words command
+        → RefusesInputs command call.shelf.before.holds fault
+        → ((file : File) → order file ≤ 2 → IfSome (path_of command file) (λ path.
+        IsSome (call.shelf.before.holds path)
+        × ¬ Rose (call.shelf.before.faults path) (call.shelf.after.faults path)))
+        → (status ≡ 8) ⊎ (status ≡ 5) }
+    ensures long { (call : Call) (status : ℕ) (command : Command) (file : File)
+        → Promise call status → Asks call.words command
+        → HoldsTooLong command call.shelf.before.holds file
+        → ((it : File) → order it ≤ order file → IfSome (path_of command it) (λ path.
+        IsSome (call.shelf.before.holds path)
+        × ¬ Rose (call.shelf.before.faults path) (call.shelf.after.faults path)))
+        → (status ≡ 10) ⊎ (status ≡ 5) }
+    ensures none { (call : Call) (status : ℕ) (command : Command)
+        → Promise call status → Asks call.words command
+        → AcceptsAll command call.shelf.before.holds
+        → ((file : File) → IfSome (path_of command file) (λ path.
+        IsSome (call.shelf.before.holds path)
+        × ¬ Rose (call.shelf.before.faults path) (call.shelf.after.faults path)))
+        → ¬ Rose call.out.before.faults call.out.after.faults
+        → (status ≤ 1) ⊎ (status ≡ 5) }
+{}
+
+/// Each rule of a policy that is accepted has its budgets, so that `check` writes a line for each. What it writes of a ruleset
+/// is what it writes of the ruleset's code, which is accepted with these budgets.
+pub fn checked_policies()
+    ensures each { (as_code : Bool) (basin : Draft) (text : List ℕ) (policy : Policy) (rule : ℕ)
+        → IsPolicyOf as_code basin text policy → 1 ≤ rule → rule ≤ rules_in policy
+        → IsSome (budget_in policy rule) }
+    ensures code { (basin : Draft) (rules : List Declared) → IsTyped basin rules
+        → rule_count rules ≤ 200 → function_count rules ≤ 200
+        → AreAccepted basin (translate rules) (budgets_of rules)
+        × (check_text (Ruleset rules) ≡ check_text (Code (translate rules) (budgets_of rules))) }
+{
+    compiled_budgets();
+}

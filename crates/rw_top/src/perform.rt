@@ -2,14 +2,19 @@ ghost use Rattle.std.specs.Prelude.{◌≡◌, ℕ, List, map, IfErr, IfOk, Matc
 ghost use Rattle.rw_io.specs.Outside.{change};
 ghost use Rattle.rw_method.specs.Catalogue.{AreInOrder};
 ghost use Rattle.rw_top.specs.Command.{command_of};
+ghost use Rattle.rw_top.specs.Ready.{AreReady};
 ghost use Rattle.rw_top.specs.Refusal.{Cause, FileCause};
-ghost use Rattle.rw_top.specs.Written.{HasText, WritesAll, status_of_end};
+ghost use Rattle.rw_top.specs.Seen.{files_seen};
+ghost use Rattle.rw_top.specs.declared.command.Job.TheVariants as J;
+ghost use Rattle.rw_top.specs.Written.{HasText, IsTextOf, WritesAll, status_of_end};
 
 use crate::Refusal;
-use crate::check::check_policy;
-use crate::command::Command;
-use crate::compile::compile_rules;
-use crate::simulate::simulate;
+use crate::check::budgets;
+use crate::command::{Command, Job};
+use crate::compile::code_text;
+use crate::files::{Files, read_files};
+use crate::simulate::run_text;
+use rw_base::NoMemory;
 use rw_engine::RunEnd;
 use rw_io::{Shelf, Sink, WriteFault, write_all};
 use rw_method::Catalogue;
@@ -22,6 +27,59 @@ fn status_of_run(end: &RunEnd) -> u8
     match end {
         RunEnd::Settled => 0,
         RunEnd::Fault(_) => 1,
+    }
+}
+
+// The table of the run of the files, and the status with which it is written.
+fn simulate(alloc: Global, files: &Files, methods: &Catalogue) -> Result<(Vec<u8>, u8), NoMemory>
+    requires order { AreInOrder (map (λ b. code (b.vtable, b.value)) methods.now.methods.items) }
+    requires ready { AreReady J.Simulate (files_seen files.now) }
+    ensures { IfOk result (λ pair. IsTextOf J.Simulate (files_seen files.now) pair.1 pair.0.items) }
+{
+    let Some(inputs) = &files.inputs else {
+        unreachable!();
+    };
+    let (text, end) = run_text(alloc, &files.basin, inputs, methods)?;
+    Ok((text, status_of_run(&end)))
+}
+
+// The budgets of the policy of the files, and the status with which they are written.
+fn check(alloc: Global, files: &Files) -> Result<(Vec<u8>, u8), NoMemory>
+    requires ready { AreReady J.Check (files_seen files.now) }
+    ensures { IfOk result (λ pair. IsTextOf J.Check (files_seen files.now) pair.1 pair.0.items) }
+{
+    let Some(policy) = &files.policy else {
+        unreachable!();
+    };
+    Ok((budgets(alloc, policy)?.into_bytes(), 0))
+}
+
+// The code of the policy of the files, and the status with which it is written.
+fn compile(alloc: Global, files: &Files) -> Result<(Vec<u8>, u8), NoMemory>
+    requires ready { AreReady J.Compile (files_seen files.now) }
+    ensures { IfOk result (λ pair. IsTextOf J.Compile (files_seen files.now) pair.1 pair.0.items) }
+{
+    let Some(policy) = &files.policy else {
+        unreachable!();
+    };
+    Ok((code_text(alloc, policy, &files.basin)?, 0))
+}
+
+// The text of a job by what its files say, and the status with which it is written.
+fn text_by(
+    alloc: Global,
+    job: Job,
+    files: &Files,
+    methods: &Catalogue,
+) -> Result<(Vec<u8>, u8), NoMemory>
+    requires order { AreInOrder (map (λ b. code (b.vtable, b.value)) methods.now.methods.items) }
+    requires ready { AreReady job (files_seen files.now) }
+    ensures { IfOk result (λ pair. IsTextOf job (files_seen files.now) pair.1 pair.0.items) }
+{
+    match job {
+        Job::Simulate => simulate(alloc, files, methods),
+        Job::Check => check(alloc, files),
+        Job::Compile => compile(alloc, files),
     }
 }
 
@@ -38,19 +96,13 @@ fn text_of<S: Shelf>(
         (FileCause (command_of command.now) (change (S.seen shelf.old) (S.seen shelf.new))) }
     ensures held { (p : List ℕ) → (S.seen shelf.new).holds p ≡ (S.seen shelf.old).holds p }
 {
-    match command {
-        Command::Simulate { .. } => match simulate(alloc, command, shelf, methods) {
-            Ok((text, end)) => Ok((text, status_of_run(&end))),
-            Err(refusal) => Err(refusal),
-        },
-        Command::Check { .. } => match check_policy(alloc, command, shelf) {
-            Ok(text) => Ok((text, 0)),
-            Err(refusal) => Err(refusal),
-        },
-        Command::Compile { .. } => match compile_rules(alloc, command, shelf) {
-            Ok(text) => Ok((text, 0)),
-            Err(refusal) => Err(refusal),
-        },
+    let files = match read_files(alloc, command, shelf) {
+        Ok(files) => files,
+        Err(refusal) => return Err(refusal),
+    };
+    match text_by(alloc, command.job, &files, methods) {
+        Ok(pair) => Ok(pair),
+        Err(NoMemory) => Err(Refusal::NoMemory),
     }
 }
 

@@ -18,8 +18,8 @@ pub(crate) enum Policy {
 // The budgets of a rule of code.
 fn code_cost(code: &Verified, rule: u16) -> TreeCost
     requires counted { 1 ≤ rule }
-    requires exists { rule ≤ rules_in (Code code.now) }
-    ensures { budget_in (Code code.now) rule ≡ Some (budget_seen result) }
+    requires exists { rule ≤ rules_in (Code code.now.blocks code.now.budgets) }
+    ensures { budget_in (Code code.now.blocks code.now.budgets) rule ≡ Some (budget_seen result) }
 {
     let budget = code.budget(code.rule_block(RuleNo(rule)));
     TreeCost {

@@ -1,0 +1,11 @@
+use Rattle.rw_top.proofs.CauseLemmas.{cause_earlier}
+use Rattle.rw_top.proofs.FilesRead.{inputs_reached}
+use Rattle.rw_top.proofs.files.read_behind.Goals as goal
+
+pub read_given-requires-clause-reached : goal.read_given-requires-clause-reached
+read_given-requires-clause-reached g c =
+    inputs_reached _ _ _ c.in-Ok.ensures.held c.args.basin.now c.in-Ok.policy c.requires.model c.in-Ok.ensures.read
+
+pub returns-in-Err-read_given-clause-read : goal.returns-in-Err-read_given-clause-read
+returns-in-Err-read_given-clause-read g c =
+    cause_earlier _ _ _ _ c.in-Err-read_given.refusal c.in-Ok.ensures.held c.in-Ok.ensures.later c.in-Err-read_given.ensures.read
