@@ -1,5 +1,5 @@
 -- The first rule that is due by the agenda is the one that is due by the log.
-use Rattle.rw_base.proofs.Common.{◌≡◌, ◌∙◌, ℕ, zero, suc, ◌≤◌, Bool, [], ◌∷◌, IfSome, None, Option, Some, ap, ap₂, arith, find, if◌then◌else◌, length, none-some, option_map, option_or, refl, reverse, reverse-append, same_Some, sym}
+use Rattle.rw_base.proofs.Common.{◌≡◌, ◌∙◌, ℕ, zero, suc, ◌≤◌, Bool, true, false, [], ◌∷◌, IfSome, None, Option, Some, ap, ap₂, arith, find, if◌then◌else◌, length, none-some, option_map, option_or, refl, reverse, reverse-append, same_Some, sym}
 use Rattle.std.proofs.lemmas.List.Folds.{find-append}
 use Rattle.rw_base.specs.declared.number.RuleNo.{RuleNo}
 use Rattle.rw_model.proofs.Common.{Draft}
