@@ -9,7 +9,7 @@ mod Agains
 mod StepEvents
 mod Reruns
 mod Lasts
-mod SameRuns
+pub mod SameRuns
 mod SomeRun
 mod Choices
 pub mod Common

@@ -1,11 +1,11 @@
-use Rattle.rw_engine.proofs.Common.{no_rules, rules}
+use Rattle.rw_engine.proofs.Common.{ap, closed_by, rules, ◌∙◌}
 use Rattle.rw_engine.proofs.Steps.{grows_more, still_more, reached_more, ends_step}
 use Rattle.rw_engine.proofs.Traces.{kept_before, kept_on}
 use Rattle.rw_engine.proofs.state.State.pass.Goals as goal
 
 pub returns-in-Some-clause-passes : goal.returns-in-Some-clause-passes
 returns-in-Some-clause-passes g c = λ log shows before.
-    ends_step c.args.basin.now no_rules log c.loop-end.self c.event.new.self c.args.step.0 c.in-Some.end (c.loop-end.invariant.reached log shows before)
+    ends_step c.args.setup.now.basin.now c.args.setup.now.policy.now log c.loop-end.self c.event.new.self c.args.step.0 c.in-Some.end (c.loop-end.invariant.reached log shows before)
     (λ l holds. rw c.in-Some.is at c.in_ok-end.ensures.goes l holds) before
 
 pub returns-in-Some-clause-revocable : goal.returns-in-Some-clause-revocable
@@ -25,7 +25,7 @@ returns-in_err-end-clause-revocable g c = record {
 pub loop-end-preserved : goal.loop-end-preserved
 loop-end-preserved g c = record {
   within = c.event.ensures.keeps.within;
-  reached = λ log shows before. reached_more c.args.basin.now no_rules _ c.loop-end.self c.event.new.self c.args.step.0 (c.loop-end.invariant.reached log shows before)
+  reached = λ log shows before. reached_more c.args.setup.now.basin.now c.args.setup.now.policy.now _ c.loop-end.self c.event.new.self c.args.step.0 (c.loop-end.invariant.reached log shows before)
       (λ l holds. rw c.in_default.is at c.in_ok-end.ensures.goes l holds);
   revocable = record {
     cells = c.event.ensures.keeps.within.undo;
@@ -39,3 +39,7 @@ pub returns-in_err-end-clause-wants : goal.returns-in_err-end-clause-wants
 returns-in_err-end-clause-wants g c =
     let kept = kept_before c.args.self.now.trace c.loop-end.self.trace c.loop-end.invariant.revocable.grows c.in_err-end.ensures.wants in
     search rules
+
+pub returns-in-Some-clause-closed : goal.returns-in-Some-clause-closed
+returns-in-Some-clause-closed g c =
+    (rw c.in-Some.is at c.in_ok-end.ensures.on_the_way) ∙ ap (closed_by c.in-Some.end c.args.step.0) c.loop-end.invariant.still.closed_steps

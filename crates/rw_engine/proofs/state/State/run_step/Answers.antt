@@ -6,7 +6,9 @@ pub returns-in-Err-clause-made : goal.returns-in-Err-clause-made
 returns-in-Err-clause-made g c = record {
   engine = record {
     valid = c.pass.ensures.made.engine.valid;
+    fits = c.pass.ensures.made.engine.fits;
     objects = c.pass.ensures.made.engine.objects;
+    rules = c.pass.ensures.made.engine.rules;
     series = record {
       made = c.take_back.ensures.made;
       bounded = λ cell content known is. c.requires.made.engine.series.bounded cell content known (sym (c.take_back.ensures.back cell ∙ c.pass.ensures.revocable.undo c.in-Err.ensures.wants cell) ∙ is);
@@ -14,6 +16,7 @@ returns-in-Err-clause-made g c = record {
     closed_steps = c.pass.ensures.made.engine.closed_steps;
   };
   counts = c.pass.ensures.made.counts;
+  firings = c.pass.ensures.made.firings;
 }
 
 pub returns-in-Ok-clause-kept : goal.returns-in-Ok-clause-kept
