@@ -14,3 +14,4 @@ mod SomeRun
 mod Choices
 pub mod Common
 pub mod Placed
+mod Openings

@@ -43,7 +43,13 @@ last_closed [] = 0
 last_closed (closed step ∷ log) = step
 last_closed (event ∷ log) = last_closed log
 
--- how many timesteps were opened: those that were closed, and the one in which a fault came
+-- how many timesteps were opened
+abbrev pub opened_in : Log → ℕ
+opened_in [] = 0
+opened_in (opened step ∷ log) = opened_in log + 1
+opened_in (event ∷ log) = opened_in log
+
+-- the same by how a run ended and its last closed timestep: those that were closed, and the one in which a fault came
 abbrev pub opened_by : RunEnd → ℕ → ℕ
 opened_by Settled last = last
 opened_by (Fault why) last = last + 1
