@@ -57,7 +57,6 @@ pub fn timesteps()
 {}
 
 /// A run has opened the timesteps that it closed, and the one in which a fault came.
-#[tactic(auto, using(crate::proofs::Openings::opened_steps))]
 pub fn opened_steps()
     ensures { (basin : Draft) (policy : Policy) (inputs : List (Cell × ℤ)) (log : Log)
         → IsRun basin policy inputs log
