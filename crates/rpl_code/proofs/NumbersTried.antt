@@ -1,5 +1,5 @@
 -- What a word is read as, where it is known whether digits stand there and which.
-use Rattle.rw_base.proofs.Common.{◌≡◌, ◌≢◌, ℕ, List, refl, sym, ap, subst, ◌∙◌, ◌<◌, ◌≤◌, ◌^◌, arith, Option, Some, None, Result, Err, Ok, is_ok, false, bytes_eq, IsUtf8, IsAscii, bytes_eq-Decides, ParsesUnsigned, decimal_injective, parse-decimal, IsAscii-decimal, IsUtf8-from_ascii, false≢true, decimal}
+use Rattle.rw_base.proofs.Common.{◌≡◌, ℕ, List, refl, sym, ap, subst, ◌∙◌, ◌<◌, ◌≤◌, ◌^◌, arith, Option, Some, None, Result, Err, Ok, is_ok, false, bytes_eq, IsUtf8, IsAscii, bytes_eq-Decides, ParsesUnsigned, decimal_injective, parse-decimal, IsAscii-decimal, IsUtf8-from_ascii, false≢true, decimal}
 use Rattle.rpl_code.specs.Words.{number_in}
 use Rattle.rpl_code.proofs.WordsRead.{number_is}
 use Rattle.rpl_code.proofs.WordsBack.{number_back}

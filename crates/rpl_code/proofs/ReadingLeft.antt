@@ -1,5 +1,6 @@
 -- What is left of a text is read as the whole of it would be.
 use Rattle.rw_base.proofs.Common.{◌≡◌, ℕ, List, [], ◌∷◌, ◌++◌, refl, sym, ap, subst, ◌∙◌, ◌+◌, append-nil, ◌&&◌, if◌then◌else◌, true, None, Result, Ok, Err, is_ok, MatchResult, bytes_eq, false≢true}
+use Rattle.rw_base.specs.Answers.{Answers}
 use Rattle.rpl_code.specs.declared.block.Block.{Block}
 use Rattle.rpl_code.specs.declared.progress.Progress.{Progress}
 use Rattle.rpl_code.specs.declared.progress.Progress.TheVariants as P
@@ -7,7 +8,7 @@ use Rattle.rpl_code.specs.declared.fault.CodeFault.{CodeFault}
 use Rattle.rpl_code.specs.declared.fault.CodeFault.TheVariants.{BadLine, Truncated, NoMemory}
 use Rattle.rpl_code.specs.Bounds.{IsCode}
 use Rattle.rpl_code.specs.Spelling.{spelt}
-use Rattle.rpl_code.specs.Answers.{Answers}
+use Rattle.rpl_code.specs.Answers.{refusal_of}
 use Rattle.rpl_code.proofs.CodeRead.{read_spelt}
 use Rattle.rpl_code.specs.Parting.{parted}
 use Rattle.rpl_code.specs.Reading.{may_end, truncated, CodeRefusal, bad_line, behind, said_at, unless_bad, all_said, read}
@@ -55,13 +56,18 @@ abbrev pub blocks_or : List Block → Result (List Block) CodeRefusal → List B
 blocks_or other (Ok blocks) = blocks
 blocks_or other (Err refusal) = other
 
-answered : (blocks : List Block) (result : Result (List Block) CodeFault) → Answers (Ok blocks) result
+abbrev Tells : List Block → Result (List Block) CodeFault → Type 0
+Tells blocks result = Answers NoMemory refusal_of (λ code. code) result (Ok blocks)
+
+answered : (blocks : List Block) (result : Result (List Block) CodeFault) → Tells blocks result
     → MatchResult result (λ code. code ≡ blocks) (λ fault. fault ≡ NoMemory)
 answered blocks (Ok code) e = sym (ap (blocks_or code) e)
-answered blocks (Err (BadLine line)) e = absurd (false≢true (sym (ap is_ok e)))
-answered blocks (Err Truncated) e = absurd (false≢true (sym (ap is_ok e)))
-answered blocks (Err NoMemory) e = refl
+answered blocks (Err (BadLine line)) why = absurd (false≢true (sym (ap is_ok (why.0 (bad_line line) refl))))
+answered blocks (Err Truncated) why = absurd (false≢true (sym (ap is_ok (why.0 truncated refl))))
+answered blocks (Err NoMemory) why = refl
 
-pub read_again : (blocks : List Block) (result : Result (List Block) CodeFault) → IsCode blocks → Answers (read (spelt blocks)) result
+pub read_again : (blocks : List Block) (result : Result (List Block) CodeFault) → IsCode blocks
+    → Answers NoMemory refusal_of (λ code. code) result (read (spelt blocks))
     → MatchResult result (λ code. code ≡ blocks) (λ fault. fault ≡ NoMemory)
-read_again blocks result is answers = answered blocks result (subst (λ reading. Answers reading result) (read_spelt blocks is) answers)
+read_again blocks result is answers =
+    answered blocks result (subst (λ reading. Answers NoMemory refusal_of (λ code. code) result reading) (read_spelt blocks is) answers)

@@ -1,6 +1,5 @@
--- What an answer of the readers says of a text.
-use Rattle.std.specs.Prelude.{◌≡◌, Option, Some, None, Result, Ok, Err, List}
-use Rattle.rpl_code.specs.declared.block.Block.{Block}
+-- What the faults of the readers say of a text.
+use Rattle.std.specs.Prelude.{◌≡◌, Option, Some, None, Result, Ok, Err}
 use Rattle.rpl_code.specs.declared.fault.CodeFault.{CodeFault}
 use Rattle.rpl_code.specs.declared.fault.CodeFault.TheVariants.{BadLine, Truncated, NoMemory}
 use Rattle.rpl_code.specs.declared.line_fault.LineFault.{LineFault}
@@ -12,9 +11,8 @@ abbrev pub Says : {A : Type 0} → Option A → Result A LineFault → Type 0
 Says meant (Ok x) = meant ≡ Some x
 Says meant (Err fault) = fault ≡ Bad → meant ≡ None
 
--- the code that a text is read as is answered, or why it is refused; nothing is said of it for want of memory
-abbrev pub Answers : Result (List Block) CodeRefusal → Result (List Block) CodeFault → Type 0
-Answers reading (Ok code) = reading ≡ Ok code
-Answers reading (Err (BadLine line)) = reading ≡ Err (bad_line line)
-Answers reading (Err Truncated) = reading ≡ Err truncated
-Answers reading (Err NoMemory) = Unit {0}
+-- why a text is no code. Want of memory tells nothing of it
+abbrev pub refusal_of : CodeFault → Option CodeRefusal
+refusal_of (BadLine line) = Some (bad_line line)
+refusal_of Truncated = Some truncated
+refusal_of NoMemory = None

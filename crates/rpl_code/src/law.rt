@@ -1,5 +1,6 @@
 // That spelling and reading are one, and what both come to on worked texts.
 ghost use Rattle.std.specs.Prelude.{◌≡◌, ◌≤◌, length, Ok, Err, [], ◌∷◌, ◌++◌, codes, List, ℕ, Result, MatchResult};
+ghost use Rattle.rw_base.specs.Answers.{Answers};
 ghost use Rattle.rpl_code.specs.declared.instruction.Instruction.TheVariants as Instruction;
 ghost use Rattle.rpl_code.specs.declared.block.Block.{Block};
 ghost use Rattle.rpl_code.specs.declared.fault.CodeFault.{CodeFault};
@@ -7,7 +8,7 @@ ghost use Rattle.rpl_code.specs.declared.fault.CodeFault.TheVariants.{NoMemory};
 ghost use Rattle.rpl_code.specs.Bounds.{IsCode};
 ghost use Rattle.rpl_code.specs.Spelling.{spelt};
 ghost use Rattle.rpl_code.specs.Reading.{read, bad_line, truncated};
-ghost use Rattle.rpl_code.specs.Answers.{Answers};
+ghost use Rattle.rpl_code.specs.Answers.{refusal_of};
 ghost use Rattle.rpl_code.specs.Worked.{
   plain_rule,
   capped,
@@ -91,6 +92,6 @@ pub fn read_is_written()
 /// A code that was written is read again as that code, or there is no memory.
 pub fn written_code_is_read_again()
     ensures { (blocks : List Block) (result : Result (List Block) CodeFault) → IsCode blocks
-        → Answers (read (spelt blocks)) result
+        → Answers NoMemory refusal_of (λ code. code) result (read (spelt blocks))
         → MatchResult result (λ code. code ≡ blocks) (λ fault. fault ≡ NoMemory) }
 {}

@@ -1,12 +1,14 @@
 // Texts are read as code.
 ghost use Rattle.std.specs.Prelude.{◌≡◌, ◌≤◌, ◌&&◌, [], List, None, false, Result, Err, length, IfOk, IfErr};
 ghost use Rattle.std.specs.Str.{bytes_eq};
+ghost use Rattle.rw_base.specs.Answers.{Answers, IsWhy};
 ghost use Rattle.rpl_code.specs.declared.block.Block.{Block};
+ghost use Rattle.rpl_code.specs.declared.fault.CodeFault.TheVariants as CodeFault;
 ghost use Rattle.rpl_code.specs.declared.line_fault.LineFault.TheVariants as LineFault;
 ghost use Rattle.rpl_code.specs.declared.progress.Progress.TheVariants as Progress;
 ghost use Rattle.rpl_code.specs.Reading.{CodeRefusal, bad_line, inside, may_say, may_end, said_at, read};
 ghost use Rattle.rpl_code.specs.Progress.{stage_of, Takes, TakesLine};
-ghost use Rattle.rpl_code.specs.Answers.{Answers};
+ghost use Rattle.rpl_code.specs.Answers.{refusal_of};
 
 use crate::cut::cut;
 use crate::line::said_in;
@@ -84,7 +86,8 @@ fn take_line(
 // What a fault of the line of this number says of the text.
 fn fault_at(number: u32, fault: LineFault) -> CodeFault
     ensures { (reading : Result (List Block) CodeRefusal)
-        → (fault ≡ LineFault.Bad → reading ≡ Err (bad_line number)) → Answers reading (Err result) }
+        → (fault ≡ LineFault.Bad → reading ≡ Err (bad_line number))
+        → IsWhy CodeFault.NoMemory refusal_of reading result }
 {
     match fault {
         LineFault::Bad => CodeFault::BadLine(number),
@@ -107,7 +110,7 @@ fn is_whole(progress: &Progress, left: &[u8]) -> bool
 /// line feed. `NoMemory` says nothing of the text.
 pub fn read_code(alloc: Global, text: &[u8]) -> Result<Code, CodeFault>
     requires { length text.now ≤ 16_777_216 }
-    ensures { Answers (read text.now) result }
+    ensures { Answers CodeFault.NoMemory refusal_of (λ code. code) result (read text.now) }
 {
     let mut code = Vec::new(alloc);
     let mut progress = Progress::Top;

@@ -1,12 +1,12 @@
 -- What is bounded in a ruleset, from the declarations on.
-use Rattle.rw_base.proofs.Common.{◌≡◌, ◌≤◌, ◌+◌, ◌++◌, ◌==◌, ℕ, Bool, true, false, List, [], ◌∷◌, length, refl, sym, ap, subst, arith, inl, inr}
+use Rattle.rw_base.proofs.Common.{◌≡◌, ◌≤◌, ◌+◌, ◌++◌, ◌==◌, ℕ, Bool, true, false, List, [], ◌∷◌, length, refl, sym, ap, subst, arith, inl, inr, Ok, Err, is_ok}
 use Rattle.rpl_tree.proofs.Common.{Declared, rule, function, rules_of, nodes_of}
 use Rattle.rpl_tree.specs.declared.rules.ParsedRules.{ParsedRules}
 use Rattle.rpl_parse.specs.Tokens.{Tok, Lined}
 use Rattle.rpl_parse.specs.Scan.{Scanned, all, bad_at, tokens}
 use Rattle.rpl_parse.specs.Depth.{declared_depth}
 use Rattle.rpl_parse.specs.Statements.{IsDeclaration}
-use Rattle.rpl_parse.specs.Declarations.{Piece, pieces, begins_rule, begins_function, one_more_if, is_full, Due, spelt, IsDue, IsDueOf, IsRuleset}
+use Rattle.rpl_parse.specs.Declarations.{Piece, pieces, begins_rule, begins_function, one_more_if, is_full, Due, IsDue, IsDueOf, IsRuleset}
 use Rattle.rpl_parse.specs.Bounds.{rule_count, function_count, AreWithin, AreBounded}
 use Rattle.rpl_parse.proofs.NodeFacts.{nodes_within, tokens_few, ArePieces, pieces_within}
 
@@ -43,20 +43,16 @@ begins ts (function x ps k b) r f h =
     rw h.0.1 (record { rules = omega arith; functions = refl; rules_left = λ e le. omega arith; functions_left = λ e le. not_so_many f e le })
 
 listed : Due → List Declared
-listed (spelt ds) = ds
-listed _ = []
+listed (Ok ds) = ds
+listed (Err why) = []
 
-is_spelt : Due → Bool
-is_spelt (spelt ds) = true
-is_spelt _ = false
-
-bounded : (k r f : ℕ) (before : List Declared) (ps : List Piece) (ds : List Declared) → IsDue k r f before ps (spelt ds)
+bounded : (k r f : ℕ) (before : List Declared) (ps : List Piece) (ds : List Declared) → IsDue k r f before ps (Ok ds)
     → (most : ℕ) → most ≤ 16777216 → ArePieces most ps → AreWithin declared_depth 100 before → AreWithin nodes_of 16777216 before → rule_count before ≡ r → function_count before ≡ f → r ≤ 200 → f ≤ 200 → AreBounded ds
-unfolding listed is_spelt
+unfolding listed
 bounded k r f before [] ds due most few small deep nodes er ef lr lf =
     subst AreBounded (sym (ap listed due)) (record { depth = deep; nodes = nodes; rules = omega (arith, er); functions = omega (arith, ef) })
-bounded k r f before (p ∷ ps) ds (inl h) most few small deep nodes er ef lr lf = absurd (cc (ap is_spelt h.1))
-bounded k r f before (p ∷ ps) ds (inr (inl h)) most few small deep nodes er ef lr lf = absurd (cc (ap is_spelt h.2))
+bounded k r f before (p ∷ ps) ds (inl h) most few small deep nodes er ef lr lf = absurd (cc (ap is_ok h.1))
+bounded k r f before (p ∷ ps) ds (inr (inl h)) most few small deep nodes er ef lr lf = absurd (cc (ap is_ok h.2))
 bounded k r f before (p ∷ ps) ds (inr (inr h)) most few small deep nodes er ef lr lf =
     let d = h.1.0 in
     let b = begins p.toks d r f h.1.1 in
@@ -71,10 +67,9 @@ bounded k r f before (p ∷ ps) ds (inr (inr h)) most few small deep nodes er ef
     (within_end declared_depth 100 before d deep (let a = h.1.1 in a.1))
     (within_end nodes_of 16777216 before d nodes (let a = nodes_within p.toks d h.1.1 in let l = small.0 in omega arith)) (omega (arith, nr, er, br)) (omega (arith, nf, ef, bf)) (omega (arith, br, lr2)) (omega (arith, bf, lf2))
 
-of_scanned : (s : Scanned) (ds : List Declared) → IsDueOf s (spelt ds) → ((ts : List Lined) → s ≡ all ts → length ts ≤ 16777216) → AreBounded ds
-unfolding is_spelt
+of_scanned : (s : Scanned) (ds : List Declared) → IsDueOf s (Ok ds) → ((ts : List Lined) → s ≡ all ts → length ts ≤ 16777216) → AreBounded ds
 of_scanned (all ts) ds h few = bounded 1 0 0 [] (pieces ts) ds h (length ts) (few ts refl) (pieces_within ts) tt tt refl refl (omega arith) (omega arith)
-of_scanned (bad_at line) ds h few = absurd (cc (ap is_spelt h))
+of_scanned (bad_at line) ds h few = absurd (cc (ap is_ok h))
 
 pub bounds_hold : (rules : ParsedRules) → IsRuleset rules → AreBounded (rules_of rules)
 bounds_hold rules h = of_scanned (tokens h.0) (rules_of rules) h.2 (λ ts e. let a = tokens_few h.0 ts e in let b = h.1 in omega arith)

@@ -1,10 +1,10 @@
 -- Where the first declaration is cut; that what is due is one thing.
-use Rattle.rw_base.proofs.Common.{◌≡◌, ◌<◌, ◌+◌, ◌∙◌, ◌++◌, ℕ, suc, Bool, true, false, List, [], ◌∷◌, length, map, take, drop, slice_index_or, Some, None, refl, sym, ap, subst, arith, if◌then◌else◌, inl, inr}
+use Rattle.rw_base.proofs.Common.{◌≡◌, ◌<◌, ◌+◌, ◌∙◌, ◌++◌, ℕ, suc, Bool, true, false, List, [], ◌∷◌, length, map, take, drop, slice_index_or, Option, Some, None, Ok, Err, refl, sym, ap, subst, arith, if◌then◌else◌, inl, inr}
 use Rattle.rpl_tree.specs.Tree.{Declared}
 use Rattle.rpl_parse.specs.declared.token.TokenAt.{TokenAt}
 use Rattle.rpl_parse.specs.Tokens.{Tok, Lined, seen, lined_of, toks}
 use Rattle.rpl_parse.specs.Scan.{Scanned, all, bad_at, tokens}
-use Rattle.rpl_parse.specs.Declarations.{Piece, piece, is_end, joined, pieces, begins_rule, begins_function, one_more_if, is_full, Due, spelt, bad_declaration, too_many, IsDue, IsDueOf, one_reading}
+use Rattle.rpl_parse.specs.Declarations.{Piece, piece, is_end, joined, pieces, begins_rule, begins_function, one_more_if, is_full, Due, bad_token, bad_declaration, too_many, IsDue, IsDueOf, some_reading, one_reading}
 use Rattle.rpl_parse.specs.Cut.{size}
 use Rattle.rpl_parse.specs.ReadingDeclared.{read_declared}
 use Rattle.rpl_parse.proofs.Both.{one_declaration, no_declaration, declared_sound}
@@ -31,22 +31,22 @@ first_piece source x (y ∷ ys) = by_end (is_end (seen source x.token)) (first_p
 
 -- What is due at the first declaration, which has these tokens.
 module _ (source : List ℕ) (k r f : ℕ) (before : List Declared) where
-  pub due_none : (xs : List TokenAt) → length xs ≡ 0 → IsDue k r f before (pieces (lineds source xs)) (spelt before)
+  pub due_none : (xs : List TokenAt) → length xs ≡ 0 → IsDue k r f before (pieces (lineds source xs)) (Ok before)
   due_none [] e = refl
   due_none (x ∷ xs) e = absurd (omega arith)
 
   abbrev pub First : List TokenAt → List Tok
   First xs = toks source (take (size (toks source xs)) xs)
 
-  pub due_full : (xs : List TokenAt) → 0 < length xs → is_full (First xs) r f ≡ true → IsDue k r f before (pieces (lineds source xs)) (too_many k)
+  pub due_full : (xs : List TokenAt) → 0 < length xs → is_full (First xs) r f ≡ true → IsDue k r f before (pieces (lineds source xs)) (Err (too_many k))
   due_full [] lt e = absurd (omega arith)
-  due_full (x ∷ more) lt e = subst (λ ps. IsDue k r f before ps (too_many k)) (sym (first_piece source x more)) (inl (e, refl))
+  due_full (x ∷ more) lt e = subst (λ ps. IsDue k r f before ps (Err (too_many k))) (sym (first_piece source x more)) (inl (e, refl))
 
   pub due_bad : (other : TokenAt) (xs : List TokenAt) → 0 < length xs → is_full (First xs) r f ≡ false → read_declared (First xs) ≡ None
-      → IsDue k r f before (pieces (lineds source xs)) (bad_declaration k (slice_index_or xs 0 other).line)
+      → IsDue k r f before (pieces (lineds source xs)) (Err (bad_declaration k (slice_index_or xs 0 other).line))
   due_bad other [] lt e g = absurd (omega arith)
   due_bad other (y ∷ more) lt e g =
-      subst (λ ps. IsDue k r f before ps (bad_declaration k y.line)) (sym (first_piece source y more)) (inr (inl (e, no_declaration (First (y ∷ more)) g, refl)))
+      subst (λ ps. IsDue k r f before ps (Err (bad_declaration k y.line))) (sym (first_piece source y more)) (inr (inl (e, no_declaration (First (y ∷ more)) g, refl)))
 
   pub due_later : (xs : List TokenAt) (d : Declared) (due : Due) → 0 < length xs → is_full (First xs) r f ≡ false → read_declared (First xs) ≡ Some d
       → IsDue (k + 1) (one_more_if (begins_rule (First xs)) r) (one_more_if (begins_function (First xs)) f) (before ++ d ∷ []) (pieces (lineds source (drop (size (toks source xs)) xs))) due
@@ -66,10 +66,10 @@ module _ (source : List ℕ) (k r f : ℕ) (before : List Declared) (n : ℕ) (x
   here : Here ≡ First source k r f before xs
   here = ap (λ m. toks source (take m xs)) e
 
-  pub found_full : is_full Here r f ≡ true → IsDue k r f before (pieces (lineds source xs)) (too_many k)
+  pub found_full : is_full Here r f ≡ true → IsDue k r f before (pieces (lineds source xs)) (Err (too_many k))
   found_full g = due_full source k r f before xs lt (subst (λ ts. is_full ts r f ≡ true) here g)
 
-  pub found_bad : (other : TokenAt) → is_full Here r f ≡ false → read_declared Here ≡ None → IsDue k r f before (pieces (lineds source xs)) (bad_declaration k (slice_index_or xs 0 other).line)
+  pub found_bad : (other : TokenAt) → is_full Here r f ≡ false → read_declared Here ≡ None → IsDue k r f before (pieces (lineds source xs)) (Err (bad_declaration k (slice_index_or xs 0 other).line))
   found_bad other g h = due_bad source k r f before other xs lt (subst (λ ts. is_full ts r f ≡ false) here g) (subst (λ ts. read_declared ts ≡ None) here h)
 
   pub found_later : (d : Declared) (due : Due) (r2 f2 : ℕ) (after : List Declared) (rest : List TokenAt) → is_full Here r f ≡ false → read_declared Here ≡ Some d
@@ -78,6 +78,31 @@ module _ (source : List ℕ) (k r f : ℕ) (before : List Declared) (n : ℕ) (x
   found_later d due r2 f2 after rest g h er ef ea el i =
       let same = moved (k + 1) due (er ∙ ap (λ ts. one_more_if (begins_rule ts) r) here) (ef ∙ ap (λ ts. one_more_if (begins_function ts) f) here) ea (ap (λ l. pieces (lineds source l)) (el ∙ ap (λ m. drop m xs) e)) i in
       due_later source k r f before xs d due lt (subst (λ ts. is_full ts r f ≡ false) here g) (subst (λ ts. read_declared ts ≡ Some d) here h) same
+
+-- something is due
+some_due : (k r f : ℕ) (before : List Declared) (ps : List Piece) → (due : Due) × IsDue k r f before ps due
+some_due k r f before [] = (Ok before, refl)
+some_due k r f before (p ∷ ps) =
+    by_full (is_full p.toks r f) refl (λ d. some_due (k + 1) (one_more_if (begins_rule p.toks) r) (one_more_if (begins_function p.toks) f) (before ++ d ∷ []) ps)
+  where
+    Later : Declared → Type 0
+    Later d = (due : Due) × IsDue (k + 1) (one_more_if (begins_rule p.toks) r) (one_more_if (begins_function p.toks) f) (before ++ d ∷ []) ps due
+
+    by_read : (read : Option Declared) → read_declared p.toks ≡ read → is_full p.toks r f ≡ false → ((d : Declared) → Later d)
+        → (due : Due) × IsDue k r f before (p ∷ ps) due
+    by_read None e fits later = (Err (bad_declaration k p.line), inr (inl (fits, no_declaration p.toks e, refl)))
+    by_read (Some d) e fits later = ((later d).0, inr (inr (fits, (d, declared_sound p.toks d e, (later d).1))))
+
+    by_full : (full : Bool) → is_full p.toks r f ≡ full → ((d : Declared) → Later d) → (due : Due) × IsDue k r f before (p ∷ ps) due
+    by_full true e later = (Err (too_many k), inl (e, refl))
+    by_full false e later = by_read (read_declared p.toks) refl e later
+
+some_due_of : (s : Scanned) → (due : Due) × IsDueOf s due
+some_due_of (all ts) = some_due 1 0 0 [] (pieces ts)
+some_due_of (bad_at line) = (Err (bad_token line), refl)
+
+pub some_reading_holds : some_reading
+some_reading_holds source = some_due_of (tokens source)
 
 -- what is due is one thing
 one_due : (k r f : ℕ) (before : List Declared) (ps : List Piece) (a b : Due) → IsDue k r f before ps a → IsDue k r f before ps b → a ≡ b

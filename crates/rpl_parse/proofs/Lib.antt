@@ -11,6 +11,7 @@ pub mod CompleteActs
 pub mod TurnsParameters
 pub mod Both
 pub mod CutFacts
+pub mod Answering
 pub mod Rows
 pub mod NodeFacts
 pub mod BoundFacts

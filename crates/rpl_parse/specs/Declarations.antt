@@ -1,5 +1,5 @@
 -- What a text is: where its declarations are cut, and the ruleset that it spells or the refusal that is due.
-use Rattle.std.specs.Prelude.{◌≡◌, ◌≤◌, ◌+◌, ◌==◌, ◌⊎◌, ◌++◌, ℕ, List, [], ◌∷◌, length, Bool, true, false, if◌then◌else◌}
+use Rattle.std.specs.Prelude.{◌≡◌, ◌≤◌, ◌+◌, ◌==◌, ◌⊎◌, ◌++◌, ℕ, List, [], ◌∷◌, length, Bool, true, false, if◌then◌else◌, Result, Ok, Err}
 use Rattle.rpl_tree.specs.Tree.{Declared}
 use Rattle.rpl_tree.specs.Seen.{rules_of}
 use Rattle.rpl_tree.specs.declared.rules.ParsedRules.{ParsedRules}
@@ -48,31 +48,38 @@ one_more_if false n = n
 abbrev pub is_full : List Tok → ℕ → ℕ → Bool
 is_full ts rules functions = if begins_rule ts then rules == 200 else (if begins_function ts then functions == 200 else false)
 
--- what is answered for a text
-pub data Due : Type 0 where
-  spelt : List Declared → Due
-  bad_token : ℕ → Due
-  bad_declaration : ℕ → ℕ → Due
-  too_many : ℕ → Due
+-- why a text is no ruleset: the line of a bad token; a declaration that isn't one, and its line; one too many
+pub data GrammarRefusal : Type 0 where
+  bad_token : ℕ → GrammarRefusal
+  bad_declaration : ℕ → ℕ → GrammarRefusal
+  too_many : ℕ → GrammarRefusal
+
+-- what is due for a text: the ruleset that it spells, or why it spells none
+abbrev pub Due : Type 0
+Due = Result (List Declared) GrammarRefusal
 
 -- What is due for the declarations from number k on, behind so many rules and functions, and those that were read. It goes by the
 -- first that is refused.
 abbrev pub IsDue : ℕ → ℕ → ℕ → List Declared → List Piece → Due → Type 0
-IsDue k rules functions before [] due = due ≡ spelt before
+IsDue k rules functions before [] due = due ≡ Ok before
 IsDue k rules functions before (p ∷ ps) due =
-    ((is_full p.toks rules functions ≡ true) × (due ≡ too_many k))
-    ⊎ ((is_full p.toks rules functions ≡ false) × ((d : Declared) → IsDeclaration p.toks d → ⊥) × (due ≡ bad_declaration k p.line))
+    ((is_full p.toks rules functions ≡ true) × (due ≡ Err (too_many k)))
+    ⊎ ((is_full p.toks rules functions ≡ false) × ((d : Declared) → IsDeclaration p.toks d → ⊥) × (due ≡ Err (bad_declaration k p.line)))
     ⊎ ((is_full p.toks rules functions ≡ false) × ((d : Declared) × IsDeclaration p.toks d
     × IsDue (k + 1) (one_more_if (begins_rule p.toks) rules) (one_more_if (begins_function p.toks) functions) (before ++ d ∷ []) ps due))
 
 -- all tokens are judged before any declaration
 abbrev pub IsDueOf : Scanned → Due → Type 0
 IsDueOf (all ts) due = IsDue 1 0 0 [] (pieces ts) due
-IsDueOf (bad_at line) due = due ≡ bad_token line
+IsDueOf (bad_at line) due = due ≡ Err (bad_token line)
 
 -- what a text is read as
 abbrev pub IsReading : List ℕ → Due → Type 0
 IsReading source due = IsDueOf (tokens source) due
+
+-- each text is read as something
+abbrev pub some_reading : Type 0
+some_reading = (source : List ℕ) → (due : Due) × IsReading source due
 
 -- what a text is read as is one thing
 abbrev pub one_reading : Type 0
@@ -80,4 +87,4 @@ one_reading = (source : List ℕ) (a b : Due) → IsReading source a → IsReadi
 
 -- the rules of some text that a file can hold
 abbrev pub IsRuleset : ParsedRules → Type 0
-IsRuleset rules = (source : List ℕ) × (length source ≤ 16777216) × IsReading source (spelt (rules_of rules))
+IsRuleset rules = (source : List ℕ) × (length source ≤ 16777216) × IsReading source (Ok (rules_of rules))

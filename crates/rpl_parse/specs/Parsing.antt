@@ -1,28 +1,27 @@
 -- What `parse` answers.
-use Rattle.std.specs.Prelude.{ℕ, List, [], map, Result, Ok, Err}
-use Rattle.std.specs.declared.vec.Vec.{Vec}
-use Rattle.std.specs.declared.alloc.Global.{Global}
+use Rattle.std.specs.Prelude.{ℕ, List, Option, Some, None, IfSome, Result, Ok, Err}
+use Rattle.rw_base.specs.Answers.{Answers}
+use Rattle.rpl_tree.specs.Tree.{Declared}
+use Rattle.rpl_tree.specs.Seen.{rules_of}
 use Rattle.rpl_tree.specs.declared.rules.ParsedRules.{ParsedRules}
-use Rattle.rpl_tree.specs.declared.rules.Declaration.{Declaration}
-use Rattle.rpl_tree.specs.Seen.{declared_of, rules_of}
 use Rattle.rpl_parse.specs.declared.fault.ParseFault.{ParseFault}
-use Rattle.rpl_parse.specs.declared.fault.ParseFault.TheVariants as F
-use Rattle.rpl_parse.specs.Declarations.{Piece, Due, spelt, bad_token, bad_declaration, too_many, IsDue, IsReading}
+use Rattle.rpl_parse.specs.declared.fault.ParseFault.TheVariants.{BadToken, BadDeclaration, TooMany, NoMemory}
+use Rattle.rpl_parse.specs.Declarations.{GrammarRefusal, bad_token, bad_declaration, too_many, Due, IsReading}
 
--- The text is read as the rules, or as the refusal; of want of memory nothing is said.
-abbrev pub Answers : Result ParsedRules ParseFault → List ℕ → Type 0
-Answers (Ok rules) source = IsReading source (spelt (rules_of rules))
-Answers (Err (F.BadToken line)) source = IsReading source (bad_token line)
-Answers (Err (F.BadDeclaration k line)) source = IsReading source (bad_declaration k line)
-Answers (Err (F.TooMany k)) source = IsReading source (too_many k)
-Answers (Err F.NoMemory) source = Unit {0}
+-- why a text is no ruleset. Want of memory tells nothing of it
+abbrev pub refusal_of : ParseFault → Option GrammarRefusal
+refusal_of (BadToken line) = Some (bad_token line)
+refusal_of (BadDeclaration k line) = Some (bad_declaration k line)
+refusal_of (TooMany k) = Some (too_many k)
+refusal_of NoMemory = None
 
-abbrev pub IsDueFirst : List Piece → Due → Type 0
-IsDueFirst ps due = IsDue 1 0 0 [] ps due
+-- the call answers what the text is read as, unless memory was wanting
+pub record AnswersReading (source : List ℕ) (result : Result ParsedRules ParseFault) : Type 0 where
+  pub due : Due
+  pub is_reading : IsReading source due
+  pub answers : Answers NoMemory refusal_of rules_of result due
 
-abbrev pub AnswersPieces : Result (Vec Declaration Global) ParseFault → List Piece → Type 0
-AnswersPieces (Ok ds) ps = IsDueFirst ps (spelt (map declared_of ds.items))
-AnswersPieces (Err (F.BadToken line)) ps = ⊥
-AnswersPieces (Err (F.BadDeclaration k line)) ps = IsDueFirst ps (bad_declaration k line)
-AnswersPieces (Err (F.TooMany k)) ps = IsDueFirst ps (too_many k)
-AnswersPieces (Err F.NoMemory) ps = Unit {0}
+-- what is answered is due. Of want of memory nothing is said
+abbrev pub TellsDue : {X : Type 0} → (Due → Type 0) → (X → List Declared) → Result X ParseFault → Type 0
+TellsDue IsDue seen (Ok x) = IsDue (Ok (seen x))
+TellsDue IsDue seen (Err fault) = IfSome (refusal_of fault) (λ refusal. IsDue (Err refusal))

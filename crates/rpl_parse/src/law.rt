@@ -1,5 +1,5 @@
 // What the definitions of this crate come to: worked tokens and declarations, and that a text is read in one way.
-ghost use Rattle.std.specs.Prelude.{◌≡◌, ◌≤◌, ℕ, List, [], ◌∷◌, codes, pos};
+ghost use Rattle.std.specs.Prelude.{◌≡◌, ◌≤◌, ℕ, List, [], ◌∷◌, Ok, Err, codes, pos};
 ghost use Rattle.rw_base.specs.Quantity.{quantity_max};
 ghost use Rattle.rpl_tree.specs.Tree.{Declared, brackets};
 ghost use Rattle.rpl_tree.specs.declared.rules.ParsedRules.{ParsedRules};
@@ -11,11 +11,12 @@ ghost use Rattle.rpl_parse.specs.Scan.{tokens, all, bad_at, greatest};
 ghost use Rattle.rpl_parse.specs.Depth.{depth};
 ghost use Rattle.rpl_parse.specs.Grammar.{Spells};
 ghost use Rattle.rpl_parse.specs.Statements.{IsDeclaration};
-ghost use Rattle.rpl_parse.specs.Declarations.{pieces, piece, IsReading, spelt, bad_token, one_reading, IsRuleset};
+ghost use Rattle.rpl_parse.specs.Declarations.{pieces, piece, IsReading, bad_token, some_reading, one_reading, IsRuleset};
 ghost use Rattle.rpl_parse.specs.Worked.{number, whole, marked, every_word, word_marks, every_sign, sign_marks, differences, from_the_left, logical, or_last, levels, tighter_right, turned, tighter_left, setting, set_to, comparisons};
 
 /// A text is read as one ruleset, or refused for one reason.
 pub fn one_reading()
+    ensures some { some_reading }
     ensures one { one_reading }
 {}
 
@@ -77,6 +78,6 @@ pub fn worked_rules()
 pub fn worked_pieces()
     ensures two { pieces (lined (mark Mark.EndRule) 1 ∷ lined (mark Mark.Rule) 2 ∷ lined (mark Mark.Is) 3 ∷ [])
         ≡ piece (mark Mark.EndRule ∷ []) 1 ∷ piece (mark Mark.Rule ∷ mark Mark.Is ∷ []) 2 ∷ [] }
-    ensures none { IsReading [] (spelt []) }
-    ensures bad { IsReading (codes "RULE @ 0") (bad_token 1) }
+    ensures none { IsReading [] (Ok []) }
+    ensures bad { IsReading (codes "RULE @ 0") (Err (bad_token 1)) }
 {}

@@ -1,6 +1,7 @@
 ghost use Rattle.std.specs.Prelude.{◌≡◌, ◌≤◌, ◌<◌, ◌+◌, ◌-◌, ◌^◌, ◌++◌, ◌∷◌, [], IfOk, IfErr, OnOk, length, drop, map};
-ghost use Rattle.rpl_parse.specs.Declarations.{is_full, one_more_if, begins_rule, pieces, IsRuleset};
-ghost use Rattle.rpl_parse.specs.Parsing.{Answers, AnswersPieces};
+ghost use Rattle.rpl_tree.specs.Seen.{declared_of};
+ghost use Rattle.rpl_parse.specs.Declarations.{is_full, one_more_if, begins_rule, pieces, IsDue, IsRuleset};
+ghost use Rattle.rpl_parse.specs.Parsing.{AnswersReading, TellsDue};
 ghost use Rattle.rpl_parse.specs.Tokens.{toks, lined_of};
 
 use crate::cut::{begins_function, begins_rule, size};
@@ -17,7 +18,7 @@ use std::alloc::Global;
 /// order, each for too many before its tokens: docs/LANGUAGE.md has the language.
 pub fn parse(alloc: Global, text: &[u8]) -> Result<ParsedRules, ParseFault>
     requires { length text.now ≤ 16_777_216 }
-    ensures reading { Answers result text.now }
+    ensures reading { AnswersReading text.now result }
     ensures ruleset { IfOk result (λ rules. IsRuleset rules) }
 {
     let tokens = match tokens_of(alloc, text) {
@@ -38,7 +39,8 @@ fn declarations(
     tokens: &[TokenAt],
 ) -> Result<Vec<Declaration>, ParseFault>
     requires { length tokens.now ≤ 16_777_216 }
-    ensures { AnswersPieces result (pieces (map (lined_of text.now) tokens.now)) }
+    ensures { TellsDue (IsDue 1 0 0 [] (pieces (map (lined_of text.now) tokens.now)))
+        (λ found. map declared_of found.items) result }
 {
     let mut found = Vec::new(alloc);
     let mut rules = 0;

@@ -4,10 +4,14 @@ use Rattle.rw_engine.proofs.Raises.{room_falls}
 use Rattle.rpl_verify.specs.Verified.{Accepted}
 use Rattle.rw_agenda.specs.Agenda.{IsIndexed, unfired}
 use Rattle.rw_dispatch.specs.Writes.{AreWrites}
-use Rattle.rw_run.specs.Log.{Cells}
+use Rattle.rw_base.specs.declared.memory.NoMemory.{NoMemory}
+use Rattle.rw_run.specs.Log.{Cells, Log}
 use Rattle.rw_rules.specs.Rules.{IsRulesOf, Rules, WrittenOn}
 use Rattle.rw_firing.specs.Firing.{most_looks}
 use Rattle.rw_engine.proofs.Common.{Asked, Event, last_put, option_or, refl, slice_index_or, undone_of, written_by}
+use Rattle.std.specs.Prelude.{Result, Err, IsErrAnd}
+use Rattle.rw_engine.specs.State.{Does, IsStill}
+use Rattle.rw_engine.specs.declared.step_end.StepEnd.{StepEnd}
 use Rattle.rw_engine.proofs.TakenBack.{noted, undo-kept, undo-made}
 
 -- each object has a count, and so has each rule
@@ -137,7 +141,7 @@ rules_on basin policy before after old new on made = record {
 
 -- ---- what is left to do
 
-pub less_objects : (basin : Draft) (old new : State) (object : ℕ) → IsCounted old.counts object → count_of old.counts object < basin.control.object_limit
+less_objects : (basin : Draft) (old new : State) (object : ℕ) → IsCounted old.counts object → count_of old.counts object < basin.control.object_limit
     → new.counts ≡ raised old.counts object → new.firings ≡ old.firings → left basin new < left basin old
 less_objects basin old new object known below counts firings =
     let less = room_falls basin.control.object_limit old.counts object known below in
@@ -145,7 +149,7 @@ less_objects basin old new object known below counts firings =
     let others : room basin.control.rule_limit new.firings ≡ room basin.control.rule_limit old.firings = ap (room basin.control.rule_limit) firings in
     omega (arith, less, own, others)
 
-pub less_rules : (basin : Draft) (old new : State) (rule : ℕ) → IsCounted old.firings rule → count_of old.firings rule < basin.control.rule_limit
+less_rules : (basin : Draft) (old new : State) (rule : ℕ) → IsCounted old.firings rule → count_of old.firings rule < basin.control.rule_limit
     → new.firings ≡ raised old.firings rule → new.counts ≡ old.counts → left basin new < left basin old
 less_rules basin old new rule known below firings counts =
     let less = room_falls basin.control.rule_limit old.firings rule known below in
@@ -154,7 +158,25 @@ less_rules basin old new rule known below firings counts =
     omega (arith, less, own, others)
 
 -- where no fault came, less is left to do
-pub on_the_way : (basin : Draft) (step : ℕ) (old new : State) (why : Option RunFault) → left basin new < left basin old → new.closed ≡ old.closed → new.end ≡ old.end
+on_the_way : (basin : Draft) (step : ℕ) (old new : State) (why : Option RunFault) → left basin new < left basin old → new.closed ≡ old.closed → new.end ≡ old.end
     → IsOnTheWay basin step (Ok (end_by why)) old (ended_by why new)
 on_the_way basin step old new None less closed end = (record { closed_steps = closed; end = end }, less)
 on_the_way basin step old new (Some why) less closed end = closed
+
+pub on_the_way_object : (basin : Draft) (step : ℕ) (old new : State) (why : Option RunFault) (object : ℕ) → IsCounted old.counts object
+    → count_of old.counts object < basin.control.object_limit → new.counts ≡ raised old.counts object → new.firings ≡ old.firings → new.closed ≡ old.closed → new.end ≡ old.end
+    → IsOnTheWay basin step (Ok (end_by why)) old (ended_by why new)
+on_the_way_object basin step old new why object known below counts firings closed end =
+    on_the_way basin step old new why (less_objects basin old new object known below counts firings) closed end
+
+pub on_the_way_rule : (basin : Draft) (step : ℕ) (old new : State) (why : Option RunFault) (rule : ℕ) → IsCounted old.firings rule
+    → count_of old.firings rule < basin.control.rule_limit → new.firings ≡ raised old.firings rule → new.counts ≡ old.counts → new.closed ≡ old.closed → new.end ≡ old.end
+    → IsOnTheWay basin step (Ok (end_by why)) old (ended_by why new)
+on_the_way_rule basin step old new why rule known below firings counts closed end =
+    on_the_way basin step old new why (less_rules basin old new rule known below firings counts) closed end
+
+-- memory wants for an event
+pub wanted : (basin : Draft) (policy : Accepted) (step : ℕ) (old new : State) (given : Log → Type 0) (result : Result (Option StepEnd) NoMemory) (why : NoMemory)
+    → IsErrAnd result (λ fault. fault ≡ why) → Keeps basin policy old new → IsStill old new → IsSome old.trace → Does basin policy step old new given result
+wanted basin policy step old new given (Ok end) why is keeps still kept = absurd is
+wanted basin policy step old new given (Err fault) why is keeps still kept = record { keeps = keeps; on_the_way = still; goes = λ log holds. tt; wants = kept }

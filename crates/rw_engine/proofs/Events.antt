@@ -115,7 +115,7 @@ pub record Went (basin : Draft) (old new : State) (looked : List Look) (step obj
 
 -- the timestep goes on, or the run ends by the fault
 pub goes_to : (basin : Draft) (policy : Accepted) (old new : State) (looked : List Look) (step object : ℕ) (rest : List ℕ) (log : Log) (event : Event) (ended : DispatchEnd)
-    → HoldsWithin basin policy old step log (object ∷ rest) → Went basin old new looked step object rest event ended → new.end ≡ old.end
+    → HoldsWithin basin policy old step (object ∷ rest) log → Went basin old new looked step object rest event ended → new.end ≡ old.end
     → (why : Option RunFault) → fault_by object step ended ≡ why → GoesTo basin policy (end_by why) (ended_by why new) step log event
 goes_to basin policy old new looked step object rest log event ended holds went end None is =
     let tells = says basin looked step object rest log event ended went.told.is in

@@ -79,11 +79,11 @@ pub record MadeSo (basin : Draft) (policy : Accepted) (old new : State) (rule st
   pub queue : new.queue.waiting ≡ old.queue.waiting ++ woken basin None old.queue.waiting (slots_at step written)
   pub looks : (firing : Firing) → firing.rule ≡ rule → firing.looked ≡ looks_at (held old.series) fire.looked → ShowsLooks policy new.rules (fired firing ∷ log)
 
-module _ (basin : Draft) (policy : Accepted) (old new : State) (rule step : ℕ) (log : Log) (fire : Fire) (holds : HoldsWithin basin policy old step log old.queue.waiting)
+module _ (basin : Draft) (policy : Accepted) (old new : State) (rule step : ℕ) (log : Log) (fire : Fire) (holds : HoldsWithin basin policy old step old.queue.waiting log)
     (end : new.end ≡ old.end) where
   goes_on : (is_done : Bool) (asked written : List Asked)
       → MadeSo basin policy old new rule step log fire written (FireLine (record { 0 = rule }) is_done fire.count ∷ map line_of written)
-      → HoldsWithin basin policy new step (fired (record {
+      → HoldsWithin basin policy new step new.queue.waiting (fired (record {
         rule = rule;
         step = step;
         is_done = is_done;
@@ -91,7 +91,7 @@ module _ (basin : Draft) (policy : Accepted) (old new : State) (rule step : ℕ)
         asked = asked;
         written = written;
         count = fire.count;
-      }) ∷ log) new.queue.waiting
+      }) ∷ log)
   goes_on is_done asked written made =
       let firing : Firing = record {
         rule = rule;
@@ -137,7 +137,7 @@ module _ (basin : Draft) (policy : Accepted) (old new : State) (rule step : ℕ)
   fired_to (OutOfRange value) made = (refl, ends_by _ made)
 
 -- the same, of an end that is told and its fault
-pub fired_on : (basin : Draft) (policy : Accepted) (old new : State) (rule step : ℕ) (log : Log) (fire : Fire) → HoldsWithin basin policy old step log old.queue.waiting
+pub fired_on : (basin : Draft) (policy : Accepted) (old new : State) (rule step : ℕ) (log : Log) (fire : Fire) → HoldsWithin basin policy old step old.queue.waiting log
     → new.end ≡ old.end → (so : FireEnd) → so ≡ fire.end → (why : Option RunFault) → why ≡ fault_of_rule rule step so
     → MadeSo basin policy old new rule step log fire (written_by (ended basin (held old.series) rule step fire fire.end))
     (lines_of_rule rule step fire.end fire.count (written_by (ended basin (held old.series) rule step fire fire.end)))

@@ -18,14 +18,14 @@ pub leads_on : (basin : Draft) (policy : Policy) (old : Log) (first last : List 
 leads_on basin policy old [] last mid new one other = subst (λ log. Leads basin policy log last new) one other
 leads_on basin policy old (event ∷ first) last mid new one other = (one.0, leads_on basin policy (event ∷ old) first last mid new one.1 other)
 
-follows_inside : (basin : Draft) (policy : Accepted) (state : State) (step : ℕ) (log : Log) (waits : List ℕ) → HoldsWithin basin policy state step log waits
+follows_inside : (basin : Draft) (policy : Accepted) (state : State) (step : ℕ) (log : Log) (waits : List ℕ) → HoldsWithin basin policy state step waits log
     → follows basin (policy_in basin policy) log ≡ next basin (policy_in basin policy) step log
 follows_inside basin policy state step log waits holds = ap (follows_in basin (policy_in basin policy) log) holds.open_step
 
 pub opens_step : (basin : Draft) (policy : Accepted) (old new : State) (step : ℕ) (log : Log) → Shows basin (seen old) log → new.series ≡ old.series
     → new.queue.waiting ≡ all_waiting basin → ((object : ℕ) → count_of new.counts object ≡ 0) → ((rule : ℕ) → count_of new.firings rule ≡ 0)
     → ShowsLooks policy new.rules (opened step ∷ log) → new.trace ≡ told old.trace (lines (opened step))
-    → new.closed ≡ old.closed → new.end ≡ Settled → HoldsWithin basin policy new step (opened step ∷ log) new.queue.waiting
+    → new.closed ≡ old.closed → new.end ≡ Settled → HoldsWithin basin policy new step new.queue.waiting (opened step ∷ log)
 opens_step basin policy old new step log shows series queue counts firings looks trace last end = record {
   open_step = refl;
   shows = record {
@@ -41,7 +41,7 @@ opens_step basin policy old new step log shows series queue counts firings looks
 }
 
 pub reached_more : (basin : Draft) (policy : Accepted) (start : Log) (old new : State) (step : ℕ) → Reached basin policy start old step
-    → ((log : Log) → HoldsWithin basin policy old step log old.queue.waiting → Goes basin policy None new step log) → Reached basin policy start new step
+    → ((log : Log) → HoldsWithin basin policy old step old.queue.waiting log → Goes basin policy None new step log) → Reached basin policy start new step
 reached_more basin policy start old new step reached goes =
     let went = goes reached.log reached.holds in record {
       events = reached.events ++ went.event ∷ [];
@@ -57,7 +57,7 @@ opened_next basin step last true test is exists = ap (λ n. Some (opened n)) (sy
 opened_next basin step last false test is exists = absurd (grind (arith, nat_tests))
 
 pub ends_step : (basin : Draft) (policy : Accepted) (log : Log) (old new : State) (step : ℕ) (end : StepEnd) → Reached basin policy (opened step ∷ log) old step
-    → ((l : Log) → HoldsWithin basin policy old step l old.queue.waiting → Goes basin policy (Some end) new step l) → IsBefore basin step log → Passes basin (policy_in basin policy) log end (seen new) step
+    → ((l : Log) → HoldsWithin basin policy old step old.queue.waiting l → Goes basin policy (Some end) new step l) → IsBefore basin step log → Passes basin (policy_in basin policy) log end (seen new) step
 ends_step basin policy log old new step end reached goes before =
     let went = goes reached.log reached.holds in
     let first : follows basin (policy_in basin policy) log ≡ Some (opened step) =

@@ -14,10 +14,8 @@ use Rattle.rw_rules.specs.Rules.{ShowsLooks, policy_in}
 use Rattle.rw_engine.specs.Counts.{count_of, room}
 use Rattle.rw_engine.specs.Engine.{Engine}
 use Rattle.rw_engine.specs.Lines.{Grows}
-use Rattle.rw_engine.specs.Passing.{Passes}
 use Rattle.rw_engine.specs.Shows.{IsEngineOf, Shows, EndsBy, closed_by}
 use Rattle.rw_engine.specs.Undone.{AreCells, CanUndo}
-use Rattle.rw_engine.specs.declared.setup.RunSetup.{RunSetup}
 use Rattle.rw_engine.specs.declared.state.State.{State}
 use Rattle.rw_engine.specs.declared.step_end.StepEnd.{StepEnd}
 use Rattle.rw_engine.specs.declared.step_end.StepEnd.TheVariants.{Fault as StepFault}
@@ -50,7 +48,7 @@ pub record IsWithinStep (basin : Draft) (policy : Accepted) (state : State) : Ty
   pub indexed : IsIndexed state.rules.agenda (held state.series)
 
 -- there it also has those that wait, how often each object was dispatched, how often each rule fired, and at what it looked
-pub record HoldsWithin (basin : Draft) (policy : Accepted) (state : State) (step : ℕ) (log : Log) (waits : List ℕ) : Type 0 where
+pub record HoldsWithin (basin : Draft) (policy : Accepted) (state : State) (step : ℕ) (waits : List ℕ) (log : Log) : Type 0 where
   pub open_step : standing log ≡ inside step
   pub shows : Shows basin (seen state) log
   pub queue : waits ≡ waiting basin log
@@ -60,7 +58,7 @@ pub record HoldsWithin (basin : Draft) (policy : Accepted) (state : State) (step
 
 -- after an event: the timestep goes on, or it ended by the event
 abbrev pub GoesTo : Draft → Accepted → Option StepEnd → State → ℕ → Log → Event → Type 0
-GoesTo basin policy None state step log event = HoldsWithin basin policy state step (event ∷ log) state.queue.waiting
+GoesTo basin policy None state step log event = HoldsWithin basin policy state step state.queue.waiting (event ∷ log)
 GoesTo basin policy (Some end) state step log event = EndsBy end step event × Shows basin (seen state) (event ∷ log)
 
 -- after the event that follows
@@ -74,7 +72,7 @@ pub record Reached (basin : Draft) (policy : Accepted) (start : Log) (state : St
   pub events : List Event
   pub log : Log
   pub leads : Leads basin (policy_in basin policy) start events log
-  pub holds : HoldsWithin basin policy state step log state.queue.waiting
+  pub holds : HoldsWithin basin policy state step state.queue.waiting log
 
 -- ---- what work within a timestep keeps
 
@@ -130,33 +128,14 @@ pub record Does (basin : Draft) (policy : Accepted) (step : ℕ) (old new : Stat
   -- memory wants only where a trace is kept
   pub wants : IfErr result (λ fault. IsSome old.trace)
 
--- ---- by what a run goes by
+-- ---- what is given of a log, for the event that follows it
 
-abbrev pub IsMade : RunSetup → State → Type 0
-IsMade setup state = IsStateOf setup.basin.now setup.policy.now state
+-- this rule is due, or none
+abbrev pub HoldsDue : Draft → Accepted → State → ℕ → Option ℕ → Log → Type 0
+HoldsDue basin policy state step due log =
+    HoldsWithin basin policy state step state.queue.waiting log × (first_due basin (policy_in basin policy) (held state.series) log ≡ due)
 
-abbrev pub IsWithin : RunSetup → State → Type 0
-IsWithin setup state = IsWithinStep setup.basin.now setup.policy.now state
-
-abbrev pub DoesEvent : RunSetup → ℕ → State → State → (Log → Type 0) → Result (Option StepEnd) NoMemory → Type 0
-DoesEvent setup step old new given result = Does setup.basin.now setup.policy.now step old new given result
-
--- the state has what this log leaves, in which these wait
-abbrev pub HoldsFor : RunSetup → State → ℕ → List ℕ → Log → Type 0
-HoldsFor setup state step waits log = HoldsWithin setup.basin.now setup.policy.now state step log waits
-
--- and this rule is due, or none
-abbrev pub HoldsDue : RunSetup → State → ℕ → Option ℕ → Log → Type 0
-HoldsDue setup state step due log =
-    HoldsFor setup state step state.queue.waiting log
-    × (first_due setup.basin.now (policy_in setup.basin.now setup.policy.now) (held state.series) log ≡ due)
-
--- and this event follows
-abbrev pub HoldsBefore : RunSetup → State → ℕ → List ℕ → Event → Log → Type 0
-HoldsBefore setup state step waits event log =
-    HoldsFor setup state step waits log
-    × (next setup.basin.now (policy_in setup.basin.now setup.policy.now) step log ≡ Some event)
-
--- the timestep passed so
-abbrev pub PassesTo : RunSetup → Log → StepEnd → State → ℕ → Type 0
-PassesTo setup log end state step = Passes setup.basin.now (policy_in setup.basin.now setup.policy.now) log end (seen state) step
+-- this event follows
+abbrev pub HoldsBefore : Draft → Accepted → State → ℕ → List ℕ → Event → Log → Type 0
+HoldsBefore basin policy state step waits event log =
+    HoldsWithin basin policy state step waits log × (next basin (policy_in basin policy) step log ≡ Some event)

@@ -10,8 +10,10 @@ ghost use Rattle.rw_run.specs.RunOf.{IsRunOf};
 ghost use Rattle.rw_model.specs.Turn.{IsStep, IsTurn};
 ghost use Rattle.rw_engine.specs.Counts.{count_of};
 ghost use Rattle.rw_inputs.specs.Givens.{givens};
+ghost use Rattle.rw_rules.specs.Rules.{policy_in};
+ghost use Rattle.rw_engine.specs.Passing.{Passes};
 ghost use Rattle.rw_engine.specs.Shows.{IsEngineOf, Shows, IsBefore, closed_by};
-ghost use Rattle.rw_engine.specs.State.{seen, IsRevocable, IsStateOf, IsStill, IsMade, IsWithin, HoldsFor, HoldsDue, HoldsBefore, DoesEvent, PassesTo, OnlyTells, end_by, ended_by};
+ghost use Rattle.rw_engine.specs.State.{seen, IsRevocable, Does, HoldsBefore, HoldsDue, HoldsWithin, IsStateOf, IsStill, IsWithinStep, OnlyTells, end_by, ended_by};
 
 use crate::counts::Counts;
 use crate::placing::place;
@@ -84,15 +86,15 @@ impl State {
 
     // Opens a timestep.
     fn open(&mut self, setup: &RunSetup, step: StepNo) -> Result<(), NoMemory>
-        requires made { IsMade setup.now self.old }
+        requires made { IsStateOf setup.now.basin.now setup.now.policy.now self.old }
         requires cleared { self.old.undo.items ≡ [] }
-        ensures made { IsMade setup.now self.new }
+        ensures made { IsStateOf setup.now.basin.now setup.now.policy.now self.new }
         ensures within { IfOk result
-            (λ _. IsWithin setup.now self.new) }
+            (λ _. IsWithinStep setup.now.basin.now setup.now.policy.now self.new) }
         ensures tells { OnlyTells self.old self.new }
         ensures opened { IfOk result (λ _. (log : Log)
             → Shows setup.now.basin.now (seen self.old) log → IsBefore setup.now.basin.now step.0 log
-            → HoldsFor setup.now self.new step.0 self.new.queue.waiting (opened step.0 ∷ log)) }
+            → HoldsWithin setup.now.basin.now setup.now.policy.now self.new step.0 self.new.queue.waiting (opened step.0 ∷ log)) }
         ensures wants { IfErr result (λ _. IsSome self.old.trace) }
     {
         self.trace.push(TraceEvent::Opened(step))?;
@@ -105,11 +107,11 @@ impl State {
 
     // Closes the open timestep.
     fn close(&mut self, setup: &RunSetup, step: StepNo) -> Result<Option<StepEnd>, NoMemory>
-        requires within { IsWithin setup.now self.old }
+        requires within { IsWithinStep setup.now.basin.now setup.now.policy.now self.old }
         requires idle { self.old.queue.waiting ≡ [] }
         requires step { IsStep setup.now.basin.now step.0 }
-        ensures { DoesEvent setup.now step.0 self.old self.new
-            (HoldsDue setup.now self.old step.0 None) result }
+        ensures { Does setup.now.basin.now setup.now.policy.now step.0 self.old self.new
+            (HoldsDue setup.now.basin.now setup.now.policy.now self.old step.0 None) result }
     {
         self.trace.push(TraceEvent::Closed(step))?;
         self.closed = step.0;
@@ -123,9 +125,9 @@ impl State {
         step: StepNo,
         why: RunFault,
     ) -> Result<Option<StepEnd>, NoMemory>
-        requires within { IsWithin setup.now self.old }
-        ensures { (waits : List ℕ) → DoesEvent setup.now step.0 self.old self.new
-            (HoldsBefore setup.now self.old step.0 waits (fault why)) result }
+        requires within { IsWithinStep setup.now.basin.now setup.now.policy.now self.old }
+        ensures { (waits : List ℕ) → Does setup.now.basin.now setup.now.policy.now step.0 self.old self.new
+            (HoldsBefore setup.now.basin.now setup.now.policy.now self.old step.0 waits (fault why)) result }
     {
         self.trace.push(TraceEvent::Fault(why))?;
         self.end = RunEnd::Fault(why);
@@ -153,12 +155,12 @@ impl State {
         object: ObjectNo,
         step: StepNo,
     ) -> Result<Option<StepEnd>, NoMemory>
-        requires within { IsWithin setup.now self.old }
+        requires within { IsWithinStep setup.now.basin.now setup.now.policy.now self.old }
         requires order { AreInOrder (map (λ b. code (b.vtable, b.value)) setup.now.methods.now.methods.items) }
         requires turn { IsTurn setup.now.basin.now object.0 step.0 }
         requires below { count_of self.old.counts object.0 < setup.now.basin.now.control.object_limit }
-        ensures { DoesEvent setup.now step.0 self.old self.new
-            (HoldsFor setup.now self.old step.0 (object.0 ∷ self.old.queue.waiting)) result }
+        ensures { Does setup.now.basin.now setup.now.policy.now step.0 self.old self.new
+            (HoldsWithin setup.now.basin.now setup.now.policy.now self.old step.0 (object.0 ∷ self.old.queue.waiting)) result }
     {
         self.counts.raise(object.0);
         let end = judge_dispatch(
@@ -186,11 +188,11 @@ impl State {
         object: ObjectNo,
         step: StepNo,
     ) -> Result<Option<StepEnd>, NoMemory>
-        requires within { IsWithin setup.now self.old }
+        requires within { IsWithinStep setup.now.basin.now setup.now.policy.now self.old }
         requires order { AreInOrder (map (λ b. code (b.vtable, b.value)) setup.now.methods.now.methods.items) }
         requires turn { IsTurn setup.now.basin.now object.0 step.0 }
-        ensures { DoesEvent setup.now step.0 self.old self.new
-            (HoldsFor setup.now self.old step.0 (object.0 ∷ self.old.queue.waiting)) result }
+        ensures { Does setup.now.basin.now setup.now.policy.now step.0 self.old self.new
+            (HoldsWithin setup.now.basin.now setup.now.policy.now self.old step.0 (object.0 ∷ self.old.queue.waiting)) result }
     {
         let count = self.counts.get(object.0);
         if setup.basin.control().object_limit <= count {
@@ -214,12 +216,12 @@ impl State {
         rule: RuleNo,
         step: StepNo,
     ) -> Result<Option<StepEnd>, NoMemory>
-        requires within { IsWithin setup.now self.old }
+        requires within { IsWithinStep setup.now.basin.now setup.now.policy.now self.old }
         requires idle { self.old.queue.waiting ≡ [] }
         requires turn { IsRuleTurn setup.now.basin.now setup.now.policy.now rule.0 step.0 }
         requires below { count_of self.old.firings rule.0 < setup.now.basin.now.control.rule_limit }
-        ensures { DoesEvent setup.now step.0 self.old self.new
-            (HoldsDue setup.now self.old step.0 (Some rule.0)) result }
+        ensures { Does setup.now.basin.now setup.now.policy.now step.0 self.old self.new
+            (HoldsDue setup.now.basin.now setup.now.policy.now self.old step.0 (Some rule.0)) result }
     {
         self.firings.raise(rule.0);
         let fired = self.rules.fire(
@@ -245,11 +247,11 @@ impl State {
         rule: RuleNo,
         step: StepNo,
     ) -> Result<Option<StepEnd>, NoMemory>
-        requires within { IsWithin setup.now self.old }
+        requires within { IsWithinStep setup.now.basin.now setup.now.policy.now self.old }
         requires idle { self.old.queue.waiting ≡ [] }
         requires turn { IsRuleTurn setup.now.basin.now setup.now.policy.now rule.0 step.0 }
-        ensures { DoesEvent setup.now step.0 self.old self.new
-            (HoldsDue setup.now self.old step.0 (Some rule.0)) result }
+        ensures { Does setup.now.basin.now setup.now.policy.now step.0 self.old self.new
+            (HoldsDue setup.now.basin.now setup.now.policy.now self.old step.0 (Some rule.0)) result }
     {
         let count = self.firings.get(rule.0);
         if setup.basin.control().rule_limit <= count {
@@ -260,11 +262,11 @@ impl State {
 
     // Where no object waits, the first rule that is due fires; where none is due, the timestep is closed.
     fn turn_to_rules(&mut self, setup: &RunSetup, step: StepNo) -> Result<Option<StepEnd>, NoMemory>
-        requires within { IsWithin setup.now self.old }
+        requires within { IsWithinStep setup.now.basin.now setup.now.policy.now self.old }
         requires idle { self.old.queue.waiting ≡ [] }
         requires step { IsStep setup.now.basin.now step.0 }
-        ensures { DoesEvent setup.now step.0 self.old self.new
-            (HoldsFor setup.now self.old step.0 self.old.queue.waiting) result }
+        ensures { Does setup.now.basin.now setup.now.policy.now step.0 self.old self.new
+            (HoldsWithin setup.now.basin.now setup.now.policy.now self.old step.0 self.old.queue.waiting) result }
     {
         match self.rules.due(&self.series) {
             Some(rule) => self.let_fire(setup, rule, step),
@@ -274,11 +276,11 @@ impl State {
 
     // The event that follows in the open timestep.
     fn event(&mut self, setup: &RunSetup, step: StepNo) -> Result<Option<StepEnd>, NoMemory>
-        requires within { IsWithin setup.now self.old }
+        requires within { IsWithinStep setup.now.basin.now setup.now.policy.now self.old }
         requires order { AreInOrder (map (λ b. code (b.vtable, b.value)) setup.now.methods.now.methods.items) }
         requires step { IsStep setup.now.basin.now step.0 }
-        ensures { DoesEvent setup.now step.0 self.old self.new
-            (HoldsFor setup.now self.old step.0 self.old.queue.waiting) result }
+        ensures { Does setup.now.basin.now setup.now.policy.now step.0 self.old self.new
+            (HoldsWithin setup.now.basin.now setup.now.policy.now self.old step.0 self.old.queue.waiting) result }
     {
         match self.queue.next() {
             Some(object) => self.ask(setup, object, step),
@@ -288,16 +290,17 @@ impl State {
 
     // The events of a timestep, of which the first opens it.
     fn pass(&mut self, setup: &RunSetup, step: StepNo) -> Result<StepEnd, NoMemory>
-        requires made { IsMade setup.now self.old }
+        requires made { IsStateOf setup.now.basin.now setup.now.policy.now self.old }
         requires cleared { self.old.undo.items ≡ [] }
         requires order { AreInOrder (map (λ b. code (b.vtable, b.value)) setup.now.methods.now.methods.items) }
         requires step { IsStep setup.now.basin.now step.0 }
-        ensures made { IsMade setup.now self.new }
+        ensures made { IsStateOf setup.now.basin.now setup.now.policy.now self.new }
         ensures revocable { IsRevocable setup.now.basin.now self.old self.new }
         ensures still { IfErr result (λ _. IsStill self.old self.new) }
         ensures passes { (log : Log) → Shows setup.now.basin.now (seen self.old) log
             → IsBefore setup.now.basin.now step.0 log
-            → IfOk result (λ end. PassesTo setup.now log end self.new step.0) }
+            → IfOk result (λ end. Passes setup.now.basin.now
+            (policy_in setup.now.basin.now setup.now.policy.now) log end (seen self.new) step.0) }
         ensures closed { IfOk result
             (λ end. self.new.closed ≡ closed_by end step.0 self.old.closed) }
         ensures wants { IfErr result (λ _. IsSome self.old.trace) }
@@ -312,13 +315,14 @@ impl State {
 
     /// Passes a timestep, and takes back what was done in it where memory wants for the rest.
     pub(crate) fn run_step(&mut self, setup: &RunSetup, step: StepNo) -> Result<StepEnd, NoMemory>
-        requires made { IsMade setup.now self.old }
+        requires made { IsStateOf setup.now.basin.now setup.now.policy.now self.old }
         requires order { AreInOrder (map (λ b. code (b.vtable, b.value)) setup.now.methods.now.methods.items) }
         requires step { IsStep setup.now.basin.now step.0 }
-        ensures made { IsMade setup.now self.new }
+        ensures made { IsStateOf setup.now.basin.now setup.now.policy.now self.new }
         ensures passes { (log : Log) → Shows setup.now.basin.now (seen self.old) log
             → IsBefore setup.now.basin.now step.0 log
-            → IfOk result (λ end. PassesTo setup.now log end self.new step.0) }
+            → IfOk result (λ end. Passes setup.now.basin.now
+            (policy_in setup.now.basin.now setup.now.policy.now) log end (seen self.new) step.0) }
         ensures before { (log : Log) → Shows setup.now.basin.now (seen self.old) log
             → IfErr result (λ _. Shows setup.now.basin.now (seen self.new) log) }
         ensures kept { IsSome self.old.trace → IsSome self.new.trace }

@@ -1,5 +1,5 @@
-use Rattle.rpl_parse.proofs.CutFacts.{one_reading_holds}
+use Rattle.rpl_parse.proofs.CutFacts.{some_reading_holds, one_reading_holds}
 use Rattle.rpl_parse.proofs.law.one_reading.Goals as goal
 
 pub returns : goal.returns
-returns c = record { one = one_reading_holds }
+returns c = record { some = some_reading_holds; one = one_reading_holds }

@@ -1,4 +1,4 @@
-use Rattle.rw_base.proofs.Common.{rules, arith, ◌<◌, ◌∙◌, sym, ap, ◌∷◌, [], length, map, map-append}
+use Rattle.rw_base.proofs.Common.{rules, arith, ◌<◌, ◌∙◌, sym, ap, ◌∷◌, [], length, map, map-append, Err}
 use Rattle.std.proofs.lemmas.List.{length-drop}
 use Rattle.rpl_tree.specs.Seen.{declared_of}
 use Rattle.rpl_parse.specs.Declarations.{one_more_if, too_many}
@@ -9,7 +9,7 @@ use Rattle.rpl_parse.proofs.ruleset.declarations.Goals as goal
 pub returns-then-is_full : goal.returns-then-is_full
 returns-then-is_full c =
     let l = c.loop-turn in
-    l.invariant.due (too_many l.number) (found_full c.args.text.now l.number l.rules l.functions (map declared_of l.found.items) c.size-n.result l.rest.now c.size-n.ensures.value (search (rules, arith)) (sym c.is_full.ensures ∙ c.if-is_full.true))
+    l.invariant.due (Err (too_many l.number)) (found_full c.args.text.now l.number l.rules l.functions (map declared_of l.found.items) c.size-n.result l.rest.now c.size-n.ensures.value (search (rules, arith)) (sym c.is_full.ensures ∙ c.if-is_full.true))
 
 pub returns-in-Err-Bad : goal.returns-in-Err-Bad
 returns-in-Err-Bad c =

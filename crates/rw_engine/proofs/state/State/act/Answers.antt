@@ -4,7 +4,7 @@ use Rattle.rw_run.specs.Dispatch.{dispatched, looks_of}
 use Rattle.rw_dispatch.proofs.Waking.{leaves_written}
 use Rattle.rw_dispatch.specs.Answer.{answer_of}
 use Rattle.rw_dispatch.specs.Writes.{AreWrites, CanWrite}
-use Rattle.rw_engine.proofs.After.{counted, keeps_noted, keeps_done, keeps_ended, less_objects, on_the_way, rules_on, stays_counted}
+use Rattle.rw_engine.proofs.After.{counted, keeps_noted, keeps_done, keeps_ended, on_the_way_object, rules_on, wanted, stays_counted}
 use Rattle.rw_engine.proofs.Events.{next_is, goes_to}
 use Rattle.rw_engine.proofs.TakenBack.{all_take, noted}
 use Rattle.rw_engine.proofs.Traces.{told_none}
@@ -15,29 +15,25 @@ pub returns-in_err-note : goal.returns-in_err-note
 returns-in_err-note g c =
     let basin = c.args.setup.now.basin.now in
     let writes = c.as_slice-writes.result.now in
-    let can = subst (AreWrites basin) (sym c.as_slice-writes.ensures) c.judge_dispatch-end.ensures.can in record {
-      keeps = keeps_noted basin c.args.setup.now.policy.now c.args.self.now _ c.requires.within
-          (stays_counted basin c.args.setup.now.policy.now c.args.self.now _ c.args.object.0 c.raise.ensures refl c.requires.within.made.engine.rules refl)
-          (take c.note.ensures.some.0 writes) (all_take (CanWrite basin) c.note.ensures.some.0 writes can) c.requires.within.indexed refl refl
-          ([], sym (told_none _)) c.note.ensures.some.1;
-      on_the_way = record { closed_steps = refl; end = refl };
-      goes = λ log holds. tt;
-      wants = c.in_err-note.ensures.wants;
-    }
+    let can = subst (AreWrites basin) (sym c.as_slice-writes.ensures) c.judge_dispatch-end.ensures.can in
+    wanted basin c.args.setup.now.policy.now c.args.step.0 c.args.self.now _ _ c.from_residual.result _ c.from_residual.ensures.1
+    (keeps_noted basin c.args.setup.now.policy.now c.args.self.now _ c.requires.within
+    (stays_counted basin c.args.setup.now.policy.now c.args.self.now _ c.args.object.0 c.raise.ensures refl c.requires.within.made.engine.rules refl)
+    (take c.note.ensures.some.0 writes) (all_take (CanWrite basin) c.note.ensures.some.0 writes can) c.requires.within.indexed refl refl
+    ([], sym (told_none _)) c.note.ensures.some.1)
+    (record { closed_steps = refl; end = refl }) c.in_err-note.ensures.wants
 
 pub returns-in_err-fault : goal.returns-in_err-fault
 returns-in_err-fault g c =
     let basin = c.args.setup.now.basin.now in
     let writes = c.as_slice-writes.result.now in
-    let can = subst (AreWrites basin) (sym c.as_slice-writes.ensures) c.judge_dispatch-end.ensures.can in record {
-      keeps = keeps_noted basin c.args.setup.now.policy.now c.args.self.now _ c.requires.within
-          (stays_counted basin c.args.setup.now.policy.now c.args.self.now _ c.args.object.0 c.raise.ensures refl c.requires.within.made.engine.rules refl)
-          (take c.note.ensures.some.0 writes) (all_take (CanWrite basin) c.note.ensures.some.0 writes can) c.requires.within.indexed refl refl
-          c.tell.ensures.grows c.note.ensures.some.1;
-      on_the_way = record { closed_steps = refl; end = refl };
-      goes = λ log holds. tt;
-      wants = c.in_err-fault.ensures.wants;
-    }
+    let can = subst (AreWrites basin) (sym c.as_slice-writes.ensures) c.judge_dispatch-end.ensures.can in
+    wanted basin c.args.setup.now.policy.now c.args.step.0 c.args.self.now _ _ c.from_residual-in_err-fault.result _ c.from_residual-in_err-fault.ensures.1
+    (keeps_noted basin c.args.setup.now.policy.now c.args.self.now _ c.requires.within
+    (stays_counted basin c.args.setup.now.policy.now c.args.self.now _ c.args.object.0 c.raise.ensures refl c.requires.within.made.engine.rules refl)
+    (take c.note.ensures.some.0 writes) (all_take (CanWrite basin) c.note.ensures.some.0 writes can) c.requires.within.indexed refl refl
+    c.tell.ensures.grows c.note.ensures.some.1)
+    (record { closed_steps = refl; end = refl }) c.in_err-fault.ensures.wants
 
 leaves : (g : _) (c : goal.After-end_by g) → Leaves c.args.setup.now.basin.now (dispatched c.args.setup.now.basin.now (held c.args.self.now.series) c.args.object.0 c.args.step.0)
     (stage c.args.self.now.series c.args.self.now.queue) (stage c.make.new.series c.wake_written.new.self)
@@ -75,7 +71,7 @@ returns g c =
           (stays_counted basin policy old _ object c.raise.ensures refl (rules_on basin policy cells (held c.make.new.series) old.rules c.touched.new.self on within.made.engine.rules) refl)
           event writes (c.as_slice-writes.ensures ∙ c.judge_dispatch-end.ensures.writes) can (on.indexed within.indexed)
           (record { series = c.make.ensures.made; queue = c.wake_written.ensures.made }) made c.tell.ensures.grows noted_cells c.in_ok-note.ensures.all);
-      on_the_way = on_the_way basin step old _ c.in_ok-fault.fault (less_objects basin old _ object (counted basin policy old object within known) c.requires.below c.raise.ensures refl) refl refl;
+      on_the_way = on_the_way_object basin step old _ c.in_ok-fault.fault object (counted basin policy old object within known) c.requires.below c.raise.ensures refl refl refl;
       goes = λ log holds. record {
         event = event;
         follows = next_is basin (policy_in basin policy) cells step log object old.queue.waiting (sym holds.queue) (λ i cell. holds.shows.cells cell i)

@@ -5,14 +5,14 @@ use Rattle.rw_run.specs.Trace.{told}
 use Rattle.rw_run.specs.Waiting.{slots_at, woken}
 use Rattle.rw_dispatch.specs.Writes.{AreWrites, CanWrite}
 use Rattle.rw_rules.specs.Rules.{policy_in}
-use Rattle.rw_engine.proofs.After.{keeps_noted, keeps_done, keeps_ended, less_rules, on_the_way, rules_on, stays_fired}
+use Rattle.rw_engine.proofs.After.{keeps_noted, keeps_done, keeps_ended, on_the_way_rule, rules_on, wanted, stays_fired}
 use Rattle.rw_engine.proofs.Firings.{after_all, fired_on, looks_on, rule_fires}
 use Rattle.rw_engine.proofs.TakenBack.{all_take, noted}
 use Rattle.rw_engine.proofs.Traces.{told_none}
 use Rattle.rw_engine.proofs.state.State.fire.Goals as goal
 
-pub raise-requires : goal.raise-requires
-raise-requires g c =
+pub raise-requires-clause-known : goal.raise-requires-clause-known
+raise-requires-clause-known g c =
     let made = c.requires.within.made in
     let turn = c.requires.turn in
     record { first = turn.first; last = subst (λ n. c.args.rule.0 ≤ n) (sym (made.firings ∙ made.engine.rules.many)) turn.last }
@@ -21,29 +21,25 @@ pub returns-in_err-note : goal.returns-in_err-note
 returns-in_err-note g c =
     let basin = c.args.setup.now.basin.now in
     let writes = c.written-writes.result.now in
-    let can = subst (AreWrites basin) (sym c.written-writes.ensures) c.fire-fired.ensures.can in record {
-      keeps = keeps_noted basin c.args.setup.now.policy.now c.args.self.now _ c.requires.within
-          (stays_fired basin c.args.setup.now.policy.now c.args.self.now _ c.args.rule.0 c.raise.ensures refl c.fire-fired.ensures.made refl)
-          (take c.note.ensures.some.0 writes) (all_take (CanWrite basin) c.note.ensures.some.0 writes can)
-          (c.fire-fired.ensures.keeps.indexed c.requires.within.indexed) refl refl ([], sym (told_none _)) c.note.ensures.some.1;
-      on_the_way = record { closed_steps = refl; end = refl };
-      goes = λ log holds. tt;
-      wants = c.in_err-note.ensures.wants;
-    }
+    let can = subst (AreWrites basin) (sym c.written-writes.ensures) c.fire-fired.ensures.can in
+    wanted basin c.args.setup.now.policy.now c.args.step.0 c.args.self.now _ _ c.from_residual.result _ c.from_residual.ensures.1
+    (keeps_noted basin c.args.setup.now.policy.now c.args.self.now _ c.requires.within
+    (stays_fired basin c.args.setup.now.policy.now c.args.self.now _ c.args.rule.0 c.raise.ensures refl c.fire-fired.ensures.made refl)
+    (take c.note.ensures.some.0 writes) (all_take (CanWrite basin) c.note.ensures.some.0 writes can)
+    (c.fire-fired.ensures.keeps.indexed c.requires.within.indexed) refl refl ([], sym (told_none _)) c.note.ensures.some.1)
+    (record { closed_steps = refl; end = refl }) c.in_err-note.ensures.wants
 
 pub returns-in_err-fault : goal.returns-in_err-fault
 returns-in_err-fault g c =
     let basin = c.args.setup.now.basin.now in
     let writes = c.written-writes.result.now in
-    let can = subst (AreWrites basin) (sym c.written-writes.ensures) c.fire-fired.ensures.can in record {
-      keeps = keeps_noted basin c.args.setup.now.policy.now c.args.self.now _ c.requires.within
-          (stays_fired basin c.args.setup.now.policy.now c.args.self.now _ c.args.rule.0 c.raise.ensures refl c.fire-fired.ensures.made refl)
-          (take c.note.ensures.some.0 writes) (all_take (CanWrite basin) c.note.ensures.some.0 writes can)
-          (c.fire-fired.ensures.keeps.indexed c.requires.within.indexed) refl refl c.tell_firing.ensures.grows c.note.ensures.some.1;
-      on_the_way = record { closed_steps = refl; end = refl };
-      goes = λ log holds. tt;
-      wants = c.in_err-fault.ensures.wants;
-    }
+    let can = subst (AreWrites basin) (sym c.written-writes.ensures) c.fire-fired.ensures.can in
+    wanted basin c.args.setup.now.policy.now c.args.step.0 c.args.self.now _ _ c.from_residual-in_err-fault.result _ c.from_residual-in_err-fault.ensures.1
+    (keeps_noted basin c.args.setup.now.policy.now c.args.self.now _ c.requires.within
+    (stays_fired basin c.args.setup.now.policy.now c.args.self.now _ c.args.rule.0 c.raise.ensures refl c.fire-fired.ensures.made refl)
+    (take c.note.ensures.some.0 writes) (all_take (CanWrite basin) c.note.ensures.some.0 writes can)
+    (c.fire-fired.ensures.keeps.indexed c.requires.within.indexed) refl refl c.tell_firing.ensures.grows c.note.ensures.some.1)
+    (record { closed_steps = refl; end = refl }) c.in_err-fault.ensures.wants
 
 pub returns : goal.returns
 returns g c =
@@ -72,7 +68,7 @@ returns g c =
           (stays_fired basin policy old _ rule c.raise.ensures refl (rules_on basin policy cells (held c.write.new.series) c.fire-fired.new.self c.write.new.self on c.fire-fired.ensures.made) refl)
           (fired firing) writes c.written-writes.ensures can (on.indexed (c.fire-fired.ensures.keeps.indexed within.indexed))
           c.write.ensures.made made c.tell_firing.ensures.grows noted_cells c.in_ok-note.ensures.all);
-      on_the_way = on_the_way basin step old _ c.in_ok-fault.fault (less_rules basin old _ rule known c.requires.below c.raise.ensures refl) refl refl;
+      on_the_way = on_the_way_rule basin step old _ c.in_ok-fault.fault rule known c.requires.below c.raise.ensures refl refl refl;
       goes = λ log given.
           let holds = given.0 in
           let written = tells.written in record {

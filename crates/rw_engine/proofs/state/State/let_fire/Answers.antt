@@ -3,8 +3,8 @@ use Rattle.rw_rules.specs.Rules.{policy_in}
 use Rattle.rw_engine.proofs.Firings.{after_all, rule_stops}
 use Rattle.rw_engine.proofs.state.State.let_fire.Goals as goal
 
-pub get-requires : goal.get-requires
-get-requires g c =
+pub get-count-requires : goal.get-count-requires
+get-count-requires g c =
     let made = c.requires.within.made in
     let turn = c.requires.turn in
     record { first = turn.first; last = subst (λ n. c.args.rule.0 ≤ n) (sym (made.firings ∙ made.engine.rules.many)) turn.last }

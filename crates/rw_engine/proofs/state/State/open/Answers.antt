@@ -5,7 +5,7 @@ use Rattle.rw_engine.proofs.Steps.{opens_step}
 use Rattle.rw_engine.proofs.state.State.open.Goals as goal
 
 pub returns-clause-made : goal.returns-clause-made
-returns-clause-made c = record {
+returns-clause-made g c = record {
   engine = record {
     valid = c.requires.made.engine.valid;
     fits = c.requires.made.engine.fits;
@@ -20,14 +20,14 @@ returns-clause-made c = record {
 }
 
 pub returns-clause-within : goal.returns-clause-within
-returns-clause-within c = record {
-  made = returns-clause-made c;
+returns-clause-within g c = record {
+  made = returns-clause-made g c;
   ready = subst (AreReady c.args.setup.now.basin.now) (sym c.begin_step.ensures.all) (all_waiting-ready c.args.setup.now.basin.now);
   undo = subst (AreCells c.args.setup.now.basin.now) (sym c.requires.cleared) (All-nil _);
   indexed = c.begin_step-2.ensures.indexed _;
 }
 
 pub returns-clause-opened : goal.returns-clause-opened
-returns-clause-opened c = λ log shows before.
+returns-clause-opened g c = λ log shows before.
     opens_step c.args.setup.now.basin.now c.args.setup.now.policy.now c.args.self.now _ c.args.step.0 log shows refl c.begin_step.ensures.all
     c.clear.ensures.zero c.clear-2.ensures.zero (c.begin_step-2.ensures.fresh c.args.setup.now.policy.now log c.args.step.0) (search rules) refl (shows.end ∙ settled_at_rest log before.last before.rest)

@@ -1,5 +1,6 @@
-use Rattle.std.proofs.Common.{Option, List, IsSome, subst, sym, ◌∙◌}
-use Rattle.rw_engine.proofs.Traces.{kept_on}
+use Rattle.std.proofs.Common.{IfSome, IsSome, List, Option, ap, option_map, subst, sym, take, ◌∙◌, ◌≡◌}
+use Rattle.rw_run.specs.RunOf.{trace_of}
+use Rattle.rw_engine.proofs.Traces.{kept_on, shortened}
 use Rattle.rw_engine.proofs.state.State.run_step.Goals as goal
 
 pub returns-in-Err-clause-made : goal.returns-in-Err-clause-made
@@ -21,3 +22,14 @@ returns-in-Err-clause-made g c = record {
 
 pub returns-in-Ok-clause-kept : goal.returns-in-Ok-clause-kept
 returns-in-Ok-clause-kept g c = kept_on c.args.self.now.trace c.pass.new.self.trace c.pass.ensures.revocable.grows
+
+pub returns-in-Err-clause-before : goal.returns-in-Err-clause-before
+returns-in-Err-clause-before g c = λ log shows.
+    let old = c.args.self.now in
+    let same = c.truncate.ensures ∙ ap (λ count. option_map (take count) c.pass.new.self.trace) c.len-mark.ensures
+    ∙ shortened old.trace c.pass.new.self.trace c.pass.ensures.revocable.grows in record {
+      cells = λ cell. c.take_back.ensures.back cell ∙ c.pass.ensures.revocable.undo c.in-Err.ensures.wants cell ∙ shows.cells cell;
+      trace = subst (λ trace. IfSome trace (λ lines. lines ≡ trace_of log)) (sym same) shows.trace;
+      closed_steps = c.in-Err.ensures.still.closed_steps ∙ shows.closed_steps;
+      end = c.in-Err.ensures.still.end ∙ shows.end;
+    }

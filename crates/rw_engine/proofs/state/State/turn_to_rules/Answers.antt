@@ -28,8 +28,8 @@ returns-in-Some g c =
       wants = does.wants;
     }
 
-pub returns-in_default : goal.returns-in_default
-returns-in_default g c =
+pub returns-in-None : goal.returns-in-None
+returns-in-None g c =
     let basin = c.args.setup.now.basin.now in
     let policy = c.args.setup.now.policy.now in
     let does = c.close.ensures in record {
@@ -38,7 +38,7 @@ returns-in_default g c =
       goes = λ log holds. does.goes log (
         holds,
         sym (c.due.ensures.due basin policy log c.requires.within.made.engine.rules holds.looks)
-            ∙ ap (option_map (λ (rule : RuleNo). rule.0)) c.in_default.is,
+            ∙ ap (option_map (λ (rule : RuleNo). rule.0)) c.in-None.is,
       );
       wants = does.wants;
     }

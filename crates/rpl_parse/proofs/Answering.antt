@@ -1,0 +1,47 @@
+-- What is answered for a text, from what is due.
+use Rattle.rw_base.proofs.Common.{◌≡◌, ℕ, List, [], map, Option, Some, Result, Ok, Err, ap, none-some, refl, same_Some, subst, sym, ◌∙◌}
+use Rattle.rpl_tree.specs.Tree.{Declared}
+use Rattle.rpl_tree.specs.Seen.{rules_of}
+use Rattle.rpl_tree.specs.declared.rules.ParsedRules.{ParsedRules}
+use Rattle.rpl_parse.specs.declared.token.TokenAt.{TokenAt}
+use Rattle.rpl_parse.specs.declared.fault.ParseFault.{ParseFault}
+use Rattle.rpl_parse.specs.declared.fault.ParseFault.TheVariants.{BadToken, BadDeclaration, TooMany, NoMemory}
+use Rattle.rpl_parse.specs.Tokens.{lined_of}
+use Rattle.rpl_parse.specs.Scan.{all, tokens}
+use Rattle.rpl_parse.specs.Declarations.{GrammarRefusal, bad_token, bad_declaration, too_many, pieces, IsDue, IsDueOf, IsReading}
+use Rattle.rpl_parse.specs.Parsing.{AnswersReading, TellsDue, refusal_of}
+use Rattle.rpl_parse.proofs.CutFacts.{some_reading_holds}
+
+-- what is due for the tokens of a text is due for the text
+pub of_tokens : {X : Type 0} (source : List ℕ) (ts : List TokenAt) (seen : X → List Declared) (result : Result X ParseFault)
+    → tokens source ≡ all (map (lined_of source) ts) → TellsDue (IsDue 1 0 0 [] (pieces (map (lined_of source) ts))) seen result
+    → TellsDue (IsReading source) seen result
+of_tokens source ts seen result e is = subst (λ s. TellsDue (IsDueOf s) seen result) (sym e) is
+
+tells : (source : List ℕ) (fault : ParseFault) (refusal : GrammarRefusal) → refusal_of fault ≡ Some refusal → IsReading source (Err refusal)
+    → AnswersReading source (Err fault)
+tells source fault refusal told is = record {
+  due = Err refusal;
+  is_reading = is;
+  answers = (λ other found. ap Err (same_Some refusal other (sym told ∙ found)), λ none. absurd (none-some refusal (sym none ∙ told)));
+}
+
+-- where memory is wanting something is due, too
+pub answers_reading : (source : List ℕ) (result : Result ParsedRules ParseFault) → TellsDue (IsReading source) rules_of result
+    → AnswersReading source result
+answers_reading source (Ok rules) is = record { due = Ok (rules_of rules); is_reading = is; answers = refl }
+answers_reading source (Err (BadToken line)) is = tells source (BadToken line) (bad_token line) refl is
+answers_reading source (Err (BadDeclaration k line)) is = tells source (BadDeclaration k line) (bad_declaration k line) refl is
+answers_reading source (Err (TooMany k)) is = tells source (TooMany k) (too_many k) refl is
+answers_reading source (Err NoMemory) is =
+    let read = some_reading_holds source in
+    record { due = read.0; is_reading = read.1; answers = (λ refusal told. absurd (none-some refusal told), λ none. refl) }
+
+-- what is answered is due
+pub tells_due : (source : List ℕ) (result : Result ParsedRules ParseFault) → AnswersReading source result
+    → TellsDue (IsReading source) rules_of result
+tells_due source (Ok rules) h = subst (IsReading source) h.answers h.is_reading
+tells_due source (Err (BadToken line)) h = subst (IsReading source) (h.answers.0 (bad_token line) refl) h.is_reading
+tells_due source (Err (BadDeclaration k line)) h = subst (IsReading source) (h.answers.0 (bad_declaration k line) refl) h.is_reading
+tells_due source (Err (TooMany k)) h = subst (IsReading source) (h.answers.0 (too_many k) refl) h.is_reading
+tells_due source (Err NoMemory) h = tt
