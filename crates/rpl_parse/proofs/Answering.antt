@@ -1,22 +1,12 @@
 -- What is answered for a text, from what is due.
-use Rattle.rw_base.proofs.Common.{◌≡◌, ℕ, List, [], map, Option, Some, Result, Ok, Err, ap, none-some, refl, same_Some, subst, sym, ◌∙◌}
-use Rattle.rpl_tree.specs.Tree.{Declared}
+use Rattle.rw_base.proofs.Common.{◌≡◌, ℕ, List, Some, Result, Ok, Err, ap, none-some, refl, same_Some, subst, sym, ◌∙◌}
 use Rattle.rpl_tree.specs.Seen.{rules_of}
 use Rattle.rpl_tree.specs.declared.rules.ParsedRules.{ParsedRules}
-use Rattle.rpl_parse.specs.declared.token.TokenAt.{TokenAt}
 use Rattle.rpl_parse.specs.declared.fault.ParseFault.{ParseFault}
 use Rattle.rpl_parse.specs.declared.fault.ParseFault.TheVariants.{BadToken, BadDeclaration, TooMany, NoMemory}
-use Rattle.rpl_parse.specs.Tokens.{lined_of}
-use Rattle.rpl_parse.specs.Scan.{all, tokens}
-use Rattle.rpl_parse.specs.Declarations.{GrammarRefusal, bad_token, bad_declaration, too_many, pieces, IsDue, IsDueOf, IsReading}
+use Rattle.rpl_parse.specs.Declarations.{GrammarRefusal, bad_token, bad_declaration, too_many, IsReading}
 use Rattle.rpl_parse.specs.Parsing.{AnswersReading, TellsDue, refusal_of}
 use Rattle.rpl_parse.proofs.CutFacts.{some_reading_holds}
-
--- what is due for the tokens of a text is due for the text
-pub of_tokens : {X : Type 0} (source : List ℕ) (ts : List TokenAt) (seen : X → List Declared) (result : Result X ParseFault)
-    → tokens source ≡ all (map (lined_of source) ts) → TellsDue (IsDue 1 0 0 [] (pieces (map (lined_of source) ts))) seen result
-    → TellsDue (IsReading source) seen result
-of_tokens source ts seen result e is = subst (λ s. TellsDue (IsDueOf s) seen result) (sym e) is
 
 tells : (source : List ℕ) (fault : ParseFault) (refusal : GrammarRefusal) → refusal_of fault ≡ Some refusal → IsReading source (Err refusal)
     → AnswersReading source (Err fault)

@@ -1,5 +1,5 @@
 -- What is bounded in a ruleset, from the declarations on.
-use Rattle.rw_base.proofs.Common.{◌≡◌, ◌≤◌, ◌+◌, ◌++◌, ◌==◌, ℕ, Bool, true, false, List, [], ◌∷◌, length, refl, sym, ap, subst, arith, inl, inr, Ok, Err, is_ok}
+use Rattle.rw_base.proofs.Common.{◌≡◌, ◌≤◌, ◌+◌, ◌++◌, ◌==◌, ℕ, false, List, [], ◌∷◌, length, refl, sym, ap, subst, arith, inl, inr, Ok, Err}
 use Rattle.rpl_tree.proofs.Common.{Declared, rule, function, rules_of, nodes_of}
 use Rattle.rpl_tree.specs.declared.rules.ParsedRules.{ParsedRules}
 use Rattle.rpl_parse.specs.Tokens.{Tok, Lined}
@@ -51,8 +51,8 @@ bounded : (k r f : ℕ) (before : List Declared) (ps : List Piece) (ds : List De
 unfolding listed
 bounded k r f before [] ds due most few small deep nodes er ef lr lf =
     subst AreBounded (sym (ap listed due)) (record { depth = deep; nodes = nodes; rules = omega (arith, er); functions = omega (arith, ef) })
-bounded k r f before (p ∷ ps) ds (inl h) most few small deep nodes er ef lr lf = absurd (cc (ap is_ok h.1))
-bounded k r f before (p ∷ ps) ds (inr (inl h)) most few small deep nodes er ef lr lf = absurd (cc (ap is_ok h.2))
+bounded k r f before (p ∷ ps) ds (inl h) most few small deep nodes er ef lr lf = absurd (cc h.1)
+bounded k r f before (p ∷ ps) ds (inr (inl h)) most few small deep nodes er ef lr lf = absurd (cc h.2)
 bounded k r f before (p ∷ ps) ds (inr (inr h)) most few small deep nodes er ef lr lf =
     let d = h.1.0 in
     let b = begins p.toks d r f h.1.1 in
@@ -69,7 +69,7 @@ bounded k r f before (p ∷ ps) ds (inr (inr h)) most few small deep nodes er ef
 
 of_scanned : (s : Scanned) (ds : List Declared) → IsDueOf s (Ok ds) → ((ts : List Lined) → s ≡ all ts → length ts ≤ 16777216) → AreBounded ds
 of_scanned (all ts) ds h few = bounded 1 0 0 [] (pieces ts) ds h (length ts) (few ts refl) (pieces_within ts) tt tt refl refl (omega arith) (omega arith)
-of_scanned (bad_at line) ds h few = absurd (cc (ap is_ok h))
+of_scanned (bad_at line) ds h few = absurd (cc h)
 
 pub bounds_hold : (rules : ParsedRules) → IsRuleset rules → AreBounded (rules_of rules)
 bounds_hold rules h = of_scanned (tokens h.0) (rules_of rules) h.2 (λ ts e. let a = tokens_few h.0 ts e in let b = h.1 in omega arith)

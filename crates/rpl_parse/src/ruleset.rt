@@ -1,6 +1,6 @@
 ghost use Rattle.std.specs.Prelude.{◌≡◌, ◌≤◌, ◌<◌, ◌+◌, ◌-◌, ◌^◌, ◌++◌, ◌∷◌, [], IfOk, IfErr, OnOk, length, drop, map};
-ghost use Rattle.rpl_tree.specs.Seen.{declared_of};
-ghost use Rattle.rpl_parse.specs.Declarations.{is_full, one_more_if, begins_rule, pieces, IsDue, IsRuleset};
+ghost use Rattle.rpl_tree.specs.Seen.{declared_of, rules_of};
+ghost use Rattle.rpl_parse.specs.Declarations.{is_full, one_more_if, begins_rule, pieces, IsDue, IsReading, IsRuleset};
 ghost use Rattle.rpl_parse.specs.Parsing.{AnswersReading, TellsDue};
 ghost use Rattle.rpl_parse.specs.Tokens.{toks, lined_of};
 
@@ -19,6 +19,15 @@ use std::alloc::Global;
 pub fn parse(alloc: Global, text: &[u8]) -> Result<ParsedRules, ParseFault>
     requires { length text.now ≤ 16_777_216 }
     ensures reading { AnswersReading text.now result }
+    ensures ruleset { IfOk result (λ rules. IsRuleset rules) }
+{
+    rules_in(alloc, text)
+}
+
+/// What is due for a text.
+fn rules_in(alloc: Global, text: &[u8]) -> Result<ParsedRules, ParseFault>
+    requires { length text.now ≤ 16_777_216 }
+    ensures reading { TellsDue (IsReading text.now) rules_of result }
     ensures ruleset { IfOk result (λ rules. IsRuleset rules) }
 {
     let tokens = match tokens_of(alloc, text) {
