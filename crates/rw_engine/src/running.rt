@@ -5,7 +5,7 @@ ghost use Rattle.rpl_verify.specs.Verified.{verified};
 ghost use Rattle.rw_run.specs.Runs.{placed};
 ghost use Rattle.rw_run.specs.RunOf.{opened_by};
 ghost use Rattle.rw_rules.specs.Rules.{policy_in};
-ghost use Rattle.rw_engine.specs.Passing.{ComesTo};
+ghost use Rattle.rw_engine.specs.Passing.{ComesTo, CountsSteps};
 ghost use Rattle.rw_inputs.specs.Givens.{givens};
 ghost use Rattle.rw_engine.specs.Shows.{IsEngineOf, Shows};
 
@@ -76,9 +76,7 @@ pub fn run_all<L: Ledger>(
     ensures run { IfOk result (ComesTo basin.now (policy_in basin.now policy.now) inputs.now) }
     ensures closed { IfOk result (λ run. run.closed ≤ basin.now.control.stamps.count) }
     ensures kept { IfOk result (λ run. IsSome run.trace) }
-    ensures counted { IfOk result
-        (λ run. steps.new ≡ steps.old + opened_by run.end run.closed) }
-    ensures few { (steps.old ≤ steps.new) × (steps.new ≤ steps.old + basin.now.control.stamps.count) }
+    ensures counted { CountsSteps basin.now steps.old steps.new result }
 {
     let engine = Engine::for_run(alloc, basin, policy, inputs)?;
     let setup = RunSetup {
@@ -105,9 +103,7 @@ pub fn run_without_trace<L: Ledger>(
     requires inputs { IsInputsOf basin.now inputs.now }
     ensures run { IfOk result (ComesTo basin.now (policy_in basin.now policy.now) inputs.now) }
     ensures closed { IfOk result (λ run. run.closed ≤ basin.now.control.stamps.count) }
-    ensures counted { IfOk result
-        (λ run. steps.new ≡ steps.old + opened_by run.end run.closed) }
-    ensures few { (steps.old ≤ steps.new) × (steps.new ≤ steps.old + basin.now.control.stamps.count) }
+    ensures counted { CountsSteps basin.now steps.old steps.new result }
 {
     let engine = Engine::without_trace(alloc, basin, policy, inputs)?;
     let setup = RunSetup {

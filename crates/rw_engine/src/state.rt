@@ -2,18 +2,17 @@ ghost use Rattle.std.specs.Prelude.{◌≡◌, ◌<◌, ◌∷◌, [], ℕ, List
 ghost use Rattle.rw_model.specs.Draft.{Draft};
 ghost use Rattle.rw_method.specs.Catalogue.{AreInOrder};
 ghost use Rattle.rw_inputs.specs.Inputs.{IsInputsOf};
-ghost use Rattle.rw_run.specs.Log.{Log, fault, opened};
+ghost use Rattle.rw_run.specs.Log.{Log, fault};
 ghost use Rattle.rpl_verify.specs.Verified.{Accepted, verified};
-ghost use Rattle.rw_firing.specs.Firing.{IsRuleTurn};
+ghost use Rattle.rw_rules.specs.Firing.{IsRuleTurn};
 ghost use Rattle.rw_run.specs.Runs.{placed};
 ghost use Rattle.rw_run.specs.RunOf.{IsRunOf};
 ghost use Rattle.rw_model.specs.Turn.{IsStep, IsTurn};
 ghost use Rattle.rw_engine.specs.Counts.{count_of};
 ghost use Rattle.rw_inputs.specs.Givens.{givens};
-ghost use Rattle.rw_rules.specs.Rules.{policy_in};
-ghost use Rattle.rw_engine.specs.Passing.{Passes};
-ghost use Rattle.rw_engine.specs.Shows.{IsEngineOf, Shows, IsBefore, closed_by};
-ghost use Rattle.rw_engine.specs.State.{seen, IsRevocable, Does, HoldsBefore, HoldsDue, HoldsWithin, IsStateOf, IsStill, IsWithinStep, OnlyTells, end_by, ended_by};
+ghost use Rattle.rw_engine.specs.Passing.{RunsStep};
+ghost use Rattle.rw_engine.specs.Shows.{IsEngineOf, Shows};
+ghost use Rattle.rw_engine.specs.State.{seen, Does, HasPassed, HoldsBefore, HoldsDue, HoldsWithin, IsFresh, IsOpened, IsStateOf, IsWithinStep, OnlyTells, end_by, ended_by};
 
 use crate::counts::Counts;
 use crate::placing::place;
@@ -86,15 +85,11 @@ impl State {
 
     // Opens a timestep.
     fn open(&mut self, setup: &RunSetup, step: StepNo) -> Result<(), NoMemory>
-        requires made { IsStateOf setup.now.basin.now setup.now.policy.now self.old }
-        requires cleared { self.old.undo.items ≡ [] }
+        requires fresh { IsFresh setup.now.basin.now setup.now.policy.now self.old }
         ensures made { IsStateOf setup.now.basin.now setup.now.policy.now self.new }
-        ensures within { IfOk result
-            (λ _. IsWithinStep setup.now.basin.now setup.now.policy.now self.new) }
         ensures tells { OnlyTells self.old self.new }
-        ensures opened { IfOk result (λ _. (log : Log)
-            → Shows setup.now.basin.now (seen self.old) log → IsBefore setup.now.basin.now step.0 log
-            → HoldsWithin setup.now.basin.now setup.now.policy.now self.new step.0 self.new.queue.waiting (opened step.0 ∷ log)) }
+        ensures opened { IfOk result
+            (λ _. IsOpened setup.now.basin.now setup.now.policy.now step.0 self.old self.new) }
         ensures wants { IfErr result (λ _. IsSome self.old.trace) }
     {
         self.trace.push(TraceEvent::Opened(step))?;
@@ -290,20 +285,10 @@ impl State {
 
     // The events of a timestep, of which the first opens it.
     fn pass(&mut self, setup: &RunSetup, step: StepNo) -> Result<StepEnd, NoMemory>
-        requires made { IsStateOf setup.now.basin.now setup.now.policy.now self.old }
-        requires cleared { self.old.undo.items ≡ [] }
+        requires fresh { IsFresh setup.now.basin.now setup.now.policy.now self.old }
         requires order { AreInOrder (map (λ b. code (b.vtable, b.value)) setup.now.methods.now.methods.items) }
         requires step { IsStep setup.now.basin.now step.0 }
-        ensures made { IsStateOf setup.now.basin.now setup.now.policy.now self.new }
-        ensures revocable { IsRevocable setup.now.basin.now self.old self.new }
-        ensures still { IfErr result (λ _. IsStill self.old self.new) }
-        ensures passes { (log : Log) → Shows setup.now.basin.now (seen self.old) log
-            → IsBefore setup.now.basin.now step.0 log
-            → IfOk result (λ end. Passes setup.now.basin.now
-            (policy_in setup.now.basin.now setup.now.policy.now) log end (seen self.new) step.0) }
-        ensures closed { IfOk result
-            (λ end. self.new.closed ≡ closed_by end step.0 self.old.closed) }
-        ensures wants { IfErr result (λ _. IsSome self.old.trace) }
+        ensures { HasPassed setup.now.basin.now setup.now.policy.now step.0 self.old self.new result }
     {
         self.open(setup, step)?;
         loop {
@@ -319,15 +304,8 @@ impl State {
         requires order { AreInOrder (map (λ b. code (b.vtable, b.value)) setup.now.methods.now.methods.items) }
         requires step { IsStep setup.now.basin.now step.0 }
         ensures made { IsStateOf setup.now.basin.now setup.now.policy.now self.new }
-        ensures passes { (log : Log) → Shows setup.now.basin.now (seen self.old) log
-            → IsBefore setup.now.basin.now step.0 log
-            → IfOk result (λ end. Passes setup.now.basin.now
-            (policy_in setup.now.basin.now setup.now.policy.now) log end (seen self.new) step.0) }
-        ensures before { (log : Log) → Shows setup.now.basin.now (seen self.old) log
-            → IfErr result (λ _. Shows setup.now.basin.now (seen self.new) log) }
-        ensures kept { IsSome self.old.trace → IsSome self.new.trace }
-        ensures closed { IfOk result
-            (λ end. self.new.closed ≡ closed_by end step.0 self.old.closed) }
+        ensures runs { RunsStep setup.now.basin.now setup.now.policy.now step.0
+            (seen self.old) (seen self.new) result }
     {
         self.undo.clear();
         let mark = self.trace.len();

@@ -20,13 +20,13 @@ loop-before-preserved g c =
     let was = c.loop-before.invariant.steps in
     let more = c.in_ok-end.ensures.counted in
     record {
-      made = c.run_step.ensures.made;
-      kept = λ kept. c.run_step.ensures.kept (c.loop-before.invariant.kept kept);
-      last = rw c.in-Closed.is at c.in_ok-end.ensures.closed;
+      made = c.run_step.ensures.runs.made;
+      kept = λ kept. c.run_step.ensures.runs.kept (c.loop-before.invariant.kept kept);
+      last = rw c.in-Closed.is at c.in_ok-end.ensures.runs.closed_steps;
       steps = omega (arith, was, more);
       stands = λ inputs shows. let stands = c.loop-before.invariant.stands inputs shows in
           stands_next basin (policy_in basin c.args.setup.now.policy.now) inputs c.loop-before.engine c.run_step.new.self c.loop-before.before stands
-          (rw c.in-Closed.is at c.in_ok-end.ensures.passes stands.log stands.shows (before_step basin stands.log c.loop-before.before stands.rest near));
+          (rw c.in-Closed.is at c.in_ok-end.ensures.runs.passes stands.log stands.shows (before_step basin stands.log c.loop-before.before stands.rest near));
     }
 
 pub returns-in-Fault-clause-run : goal.returns-in-Fault-clause-run
@@ -35,8 +35,8 @@ returns-in-Fault-clause-run g c = λ inputs shows.
     let stands = c.loop-before.invariant.stands inputs shows in
     let steps = ap (λ (k : RunControl). k.stamps.count) c.control.ensures in
     let near : c.loop-before.before < basin.control.stamps.count = let test = c.loop-before-test.true in let value = c.count-before-end.ensures.value in omega arith in
-    let passes = rw c.in-Fault.is at c.in_ok-end.ensures.passes stands.log stands.shows (before_step basin stands.log c.loop-before.before stands.rest near) in
-    let is = c.finish.ensures.run basin c.args.setup.now.policy.now (passes.last ∷ passes.before) c.run_step.ensures.made passes.shows in
+    let passes = rw c.in-Fault.is at c.in_ok-end.ensures.runs.passes stands.log stands.shows (before_step basin stands.log c.loop-before.before stands.rest near) in
+    let is = c.finish.ensures.run basin c.args.setup.now.policy.now (passes.last ∷ passes.before) c.run_step.ensures.runs.made passes.shows in
     comes_faulted basin (policy_in basin c.args.setup.now.policy.now) inputs c.loop-before.engine c.run_step.new.self c.loop-before.before (c.loop-before.before + 1)
     c.in-Fault.field-0 c.finish.result stands passes is
 
@@ -46,9 +46,9 @@ returns-in-Fault-clause-counted g c = λ inputs shows.
     let stands = c.loop-before.invariant.stands inputs shows in
     let steps = ap (λ (k : RunControl). k.stamps.count) c.control.ensures in
     let near : c.loop-before.before < basin.control.stamps.count = let test = c.loop-before-test.true in let value = c.count-before-end.ensures.value in omega arith in
-    let passes = rw c.in-Fault.is at c.in_ok-end.ensures.passes stands.log stands.shows (before_step basin stands.log c.loop-before.before stands.rest near) in
-    let is = c.finish.ensures.run basin c.args.setup.now.policy.now (passes.last ∷ passes.before) c.run_step.ensures.made passes.shows in
-    let last : c.run_step.new.self.closed ≡ c.loop-before.engine.closed = rw c.in-Fault.is at c.in_ok-end.ensures.closed in
+    let passes = rw c.in-Fault.is at c.in_ok-end.ensures.runs.passes stands.log stands.shows (before_step basin stands.log c.loop-before.before stands.rest near) in
+    let is = c.finish.ensures.run basin c.args.setup.now.policy.now (passes.last ∷ passes.before) c.run_step.ensures.runs.made passes.shows in
+    let last : c.run_step.new.self.closed ≡ c.loop-before.engine.closed = rw c.in-Fault.is at c.in_ok-end.ensures.runs.closed_steps in
     counted_fault _ _ c.loop-before.before c.finish.result.end c.finish.result.closed c.in-Fault.field-0
     (is.end ∙ ap (λ event. end_of (event ∷ passes.before)) passes.ends) (c.finish.ensures.same.0 ∙ last ∙ c.loop-before.invariant.last)
     c.loop-before.invariant.steps c.in_ok-end.ensures.counted

@@ -7,4 +7,8 @@ pass_all-requires-clause-begun g c =
     c.in_ok-engine.ensures.shows.closed_steps ∙ closed-placed [] (givens c.args.basin.now c.args.inputs.now)
 
 pub returns-clause-counted : goal.returns-clause-counted
-returns-clause-counted g c = c.pass_all.ensures.counted c.args.inputs.now c.in_ok-engine.ensures.shows
+returns-clause-counted g c = record {
+  opened_steps = c.pass_all.ensures.counted c.args.inputs.now c.in_ok-engine.ensures.shows;
+  rises = c.pass_all.ensures.few.0;
+  few = c.pass_all.ensures.few.1;
+}

@@ -17,7 +17,7 @@ use Rattle.rpl_verify.specs.Safety.{AreSafe, puts_from}
 use Rattle.rpl_verify.specs.Verified.{Accepted}
 use Rattle.rpl_verify.proofs.Accepted.{rule_there}
 use Rattle.rpl_policy.proofs.Verified.{has_block}
-use Rattle.rw_firing.specs.Firing.{most_looks}
+use Rattle.rw_rules.specs.Firing.{most_looks}
 
 -- ---- blocks
 

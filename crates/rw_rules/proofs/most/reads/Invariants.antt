@@ -1,6 +1,6 @@
 use Rattle.rw_base.proofs.Common.{length, slice_index_or, ℕ, ◌-◌, ◌≡◌, ◌≤◌}
-use Rattle.rw_firing.specs.Firing.{most_looks}
-use Rattle.rw_firing.proofs.most.reads.Given as goal
+use Rattle.rw_rules.specs.Firing.{most_looks}
+use Rattle.rw_rules.proofs.most.reads.Given as goal
 
 abbrev pub invariant-loop-before : goal.invariant-loop-before
 invariant-loop-before l = record {

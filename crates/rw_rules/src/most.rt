@@ -2,7 +2,7 @@ ghost use Rattle.std.specs.Prelude.{◌≡◌, ◌≤◌, Ok, IfOk};
 ghost use Rattle.rpl_code.specs.declared.block.BlockHead.TheVariants.{Rule as RuleHead};
 ghost use Rattle.rpl_verify.specs.Fits.{count_alike};
 ghost use Rattle.rpl_verify.specs.Verified.{verified};
-ghost use Rattle.rw_firing.specs.Firing.{AreReads, most_looks};
+ghost use Rattle.rw_rules.specs.Firing.{AreReads, most_looks};
 
 use rpl_verify::Verified;
 use rpl_verify::law::{accepted_code, answered_code_is_safe};

@@ -4,7 +4,7 @@ ghost use Rattle.rw_run.specs.Log.{written_by};
 ghost use Rattle.rw_series.specs.Series.{held};
 ghost use Rattle.rw_dispatch.specs.Writes.{AreWrites};
 ghost use Rattle.rpl_machine.specs.Fired.{cells_of};
-ghost use Rattle.rw_firing.specs.Firing.{IsRuleTurn, event_of, firing_in, most_looks};
+ghost use Rattle.rw_rules.specs.Firing.{IsRuleTurn, event_of, firing_in, most_looks};
 
 use rpl_machine::{Fired, Machine};
 use rpl_predef::Predefs;

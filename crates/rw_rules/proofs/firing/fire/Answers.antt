@@ -7,9 +7,9 @@ use Rattle.rpl_machine.specs.Fired.{fire_seen}
 use Rattle.rpl_machine.specs.Steps.{value_in}
 use Rattle.rpl_policy.proofs.Asking.{code_asks}
 use Rattle.rpl_policy.proofs.FramedCode.{code_silent}
-use Rattle.rw_firing.specs.Firing.{most_looks}
-use Rattle.rw_firing.proofs.Fires.{few_looks, few_puts, written_told}
-use Rattle.rw_firing.proofs.firing.fire.Goals as goal
+use Rattle.rw_rules.specs.Firing.{most_looks}
+use Rattle.rw_rules.proofs.Fires.{few_looks, few_puts, written_told}
+use Rattle.rw_rules.proofs.firing.fire.Goals as goal
 
 pub judge-requires-clause-can : goal.judge-requires-clause-can
 judge-requires-clause-can g c =

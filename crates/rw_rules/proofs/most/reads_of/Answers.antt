@@ -1,5 +1,5 @@
-use Rattle.rw_firing.proofs.Fires.{its_block}
-use Rattle.rw_firing.proofs.most.reads_of.Goals as goal
+use Rattle.rw_rules.proofs.Fires.{its_block}
+use Rattle.rw_rules.proofs.most.reads_of.Goals as goal
 
 pub budget-requires-clause-exists : goal.budget-requires-clause-exists
 budget-requires-clause-exists c =
