@@ -29,7 +29,8 @@ fn pass_all<L: Ledger>(
 ) -> Result<Run, NoMemory>
     requires made { IsEngineOf setup.now.basin.now setup.now.policy.now engine }
     requires begun { engine.closed ≡ 0 }
-    requires order { AreInOrder (map (λ b. code (b.vtable, b.value)) setup.now.methods.now.methods.items) }
+    requires order { AreInOrder
+        (map (λ b. code (b.vtable, b.value)) setup.now.methods.now.methods.items) }
     ensures run { (inputs : Given)
         → Shows setup.now.basin.now engine (placed [] (givens setup.now.basin.now inputs))
         → IfOk result (ComesTo setup.now.basin.now

@@ -121,8 +121,10 @@ impl State {
         why: RunFault,
     ) -> Result<Option<StepEnd>, NoMemory>
         requires within { IsWithinStep setup.now.basin.now setup.now.policy.now self.old }
-        ensures { (waits : List ℕ) → Does setup.now.basin.now setup.now.policy.now step.0 self.old self.new
-            (HoldsBefore setup.now.basin.now setup.now.policy.now self.old step.0 waits (fault why)) result }
+        ensures { (waits : List ℕ)
+            → Does setup.now.basin.now setup.now.policy.now step.0 self.old self.new
+            (HoldsBefore setup.now.basin.now setup.now.policy.now self.old step.0 waits
+            (fault why)) result }
     {
         self.trace.push(TraceEvent::Fault(why))?;
         self.end = RunEnd::Fault(why);
@@ -151,11 +153,14 @@ impl State {
         step: StepNo,
     ) -> Result<Option<StepEnd>, NoMemory>
         requires within { IsWithinStep setup.now.basin.now setup.now.policy.now self.old }
-        requires order { AreInOrder (map (λ b. code (b.vtable, b.value)) setup.now.methods.now.methods.items) }
+        requires order { AreInOrder
+            (map (λ b. code (b.vtable, b.value)) setup.now.methods.now.methods.items) }
         requires turn { IsTurn setup.now.basin.now object.0 step.0 }
-        requires below { count_of self.old.counts object.0 < setup.now.basin.now.control.object_limit }
+        requires below { count_of self.old.counts object.0
+            < setup.now.basin.now.control.object_limit }
         ensures { Does setup.now.basin.now setup.now.policy.now step.0 self.old self.new
-            (HoldsWithin setup.now.basin.now setup.now.policy.now self.old step.0 (object.0 ∷ self.old.queue.waiting)) result }
+            (HoldsWithin setup.now.basin.now setup.now.policy.now self.old step.0
+            (object.0 ∷ self.old.queue.waiting)) result }
     {
         self.counts.raise(object.0);
         let end = judge_dispatch(
@@ -184,10 +189,12 @@ impl State {
         step: StepNo,
     ) -> Result<Option<StepEnd>, NoMemory>
         requires within { IsWithinStep setup.now.basin.now setup.now.policy.now self.old }
-        requires order { AreInOrder (map (λ b. code (b.vtable, b.value)) setup.now.methods.now.methods.items) }
+        requires order { AreInOrder
+            (map (λ b. code (b.vtable, b.value)) setup.now.methods.now.methods.items) }
         requires turn { IsTurn setup.now.basin.now object.0 step.0 }
         ensures { Does setup.now.basin.now setup.now.policy.now step.0 self.old self.new
-            (HoldsWithin setup.now.basin.now setup.now.policy.now self.old step.0 (object.0 ∷ self.old.queue.waiting)) result }
+            (HoldsWithin setup.now.basin.now setup.now.policy.now self.old step.0
+            (object.0 ∷ self.old.queue.waiting)) result }
     {
         let count = self.counts.get(object.0);
         if setup.basin.control().object_limit <= count {
@@ -216,7 +223,8 @@ impl State {
         requires turn { IsRuleTurn setup.now.basin.now setup.now.policy.now rule.0 step.0 }
         requires below { count_of self.old.firings rule.0 < setup.now.basin.now.control.rule_limit }
         ensures { Does setup.now.basin.now setup.now.policy.now step.0 self.old self.new
-            (HoldsDue setup.now.basin.now setup.now.policy.now self.old step.0 (Some rule.0)) result }
+            (HoldsDue setup.now.basin.now setup.now.policy.now self.old step.0
+            (Some rule.0)) result }
     {
         self.firings.raise(rule.0);
         let fired = self.rules.fire(
@@ -246,7 +254,8 @@ impl State {
         requires idle { self.old.queue.waiting ≡ [] }
         requires turn { IsRuleTurn setup.now.basin.now setup.now.policy.now rule.0 step.0 }
         ensures { Does setup.now.basin.now setup.now.policy.now step.0 self.old self.new
-            (HoldsDue setup.now.basin.now setup.now.policy.now self.old step.0 (Some rule.0)) result }
+            (HoldsDue setup.now.basin.now setup.now.policy.now self.old step.0
+            (Some rule.0)) result }
     {
         let count = self.firings.get(rule.0);
         if setup.basin.control().rule_limit <= count {
@@ -261,7 +270,8 @@ impl State {
         requires idle { self.old.queue.waiting ≡ [] }
         requires step { IsStep setup.now.basin.now step.0 }
         ensures { Does setup.now.basin.now setup.now.policy.now step.0 self.old self.new
-            (HoldsWithin setup.now.basin.now setup.now.policy.now self.old step.0 self.old.queue.waiting) result }
+            (HoldsWithin setup.now.basin.now setup.now.policy.now self.old step.0
+            self.old.queue.waiting) result }
     {
         match self.rules.due(&self.series) {
             Some(rule) => self.let_fire(setup, rule, step),
@@ -272,10 +282,12 @@ impl State {
     // The event that follows in the open timestep.
     fn event(&mut self, setup: &RunSetup, step: StepNo) -> Result<Option<StepEnd>, NoMemory>
         requires within { IsWithinStep setup.now.basin.now setup.now.policy.now self.old }
-        requires order { AreInOrder (map (λ b. code (b.vtable, b.value)) setup.now.methods.now.methods.items) }
+        requires order { AreInOrder
+            (map (λ b. code (b.vtable, b.value)) setup.now.methods.now.methods.items) }
         requires step { IsStep setup.now.basin.now step.0 }
         ensures { Does setup.now.basin.now setup.now.policy.now step.0 self.old self.new
-            (HoldsWithin setup.now.basin.now setup.now.policy.now self.old step.0 self.old.queue.waiting) result }
+            (HoldsWithin setup.now.basin.now setup.now.policy.now self.old step.0
+            self.old.queue.waiting) result }
     {
         match self.queue.next() {
             Some(object) => self.ask(setup, object, step),
@@ -286,9 +298,11 @@ impl State {
     // The events of a timestep, of which the first opens it.
     fn pass(&mut self, setup: &RunSetup, step: StepNo) -> Result<StepEnd, NoMemory>
         requires fresh { IsFresh setup.now.basin.now setup.now.policy.now self.old }
-        requires order { AreInOrder (map (λ b. code (b.vtable, b.value)) setup.now.methods.now.methods.items) }
+        requires order { AreInOrder
+            (map (λ b. code (b.vtable, b.value)) setup.now.methods.now.methods.items) }
         requires step { IsStep setup.now.basin.now step.0 }
-        ensures { HasPassed setup.now.basin.now setup.now.policy.now step.0 self.old self.new result }
+        ensures { HasPassed setup.now.basin.now setup.now.policy.now step.0
+            self.old self.new result }
     {
         self.open(setup, step)?;
         loop {
@@ -301,7 +315,8 @@ impl State {
     /// Passes a timestep, and takes back what was done in it where memory wants for the rest.
     pub(crate) fn run_step(&mut self, setup: &RunSetup, step: StepNo) -> Result<StepEnd, NoMemory>
         requires made { IsStateOf setup.now.basin.now setup.now.policy.now self.old }
-        requires order { AreInOrder (map (λ b. code (b.vtable, b.value)) setup.now.methods.now.methods.items) }
+        requires order { AreInOrder
+            (map (λ b. code (b.vtable, b.value)) setup.now.methods.now.methods.items) }
         requires step { IsStep setup.now.basin.now step.0 }
         ensures made { IsStateOf setup.now.basin.now setup.now.policy.now self.new }
         ensures runs { RunsStep setup.now.basin.now setup.now.policy.now step.0
@@ -321,8 +336,8 @@ impl State {
 
     /// What the run came to.
     pub(crate) fn finish(self) -> Run
-        ensures run { (basin : Draft) (policy : Accepted) (log : Log) → IsEngineOf basin policy (seen self)
-            → Shows basin (seen self) log → IsRunOf basin log result }
+        ensures run { (basin : Draft) (policy : Accepted) (log : Log)
+            → IsEngineOf basin policy (seen self) → Shows basin (seen self) log → IsRunOf basin log result }
         ensures closed { result.closed ≡ self.closed }
         ensures trace { result.trace ≡ self.trace }
     {
