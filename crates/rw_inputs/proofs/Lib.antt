@@ -6,3 +6,4 @@ pub mod Keeping
 pub mod Digits
 pub mod Rows
 pub mod Groups
+pub mod Refusing
