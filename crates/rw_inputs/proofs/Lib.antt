@@ -7,3 +7,4 @@ pub mod Digits
 pub mod Rows
 pub mod Groups
 pub mod Refusing
+pub mod Edited

@@ -8,3 +8,5 @@ pub mod Sound
 pub mod Refusal
 pub mod Reading
 pub mod Taking
+pub mod Edits
+pub mod EditRows

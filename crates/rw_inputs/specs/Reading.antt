@@ -3,6 +3,8 @@ use Rattle.std.specs.Prelude.{◌≡◌, ℕ, ◌+◌, ◌==◌, nat_le, max, mi
 use Rattle.std.specs.List.{list_any}
 use Rattle.rw_model.specs.Draft.{Draft}
 use Rattle.rw_inputs.specs.declared.fault.InputKind.TheVariants.{Header, Twice}
+use Rattle.rw_inputs.specs.declared.wrong.Part.{Part}
+use Rattle.rw_inputs.specs.declared.wrong.Part.TheVariants.{Row, Batch, Slot, Step, Value}
 use Rattle.rw_inputs.specs.declared.wrong.Wrong.{Wrong}
 use Rattle.rw_inputs.specs.declared.given.Given.{Given}
 use Rattle.rw_base.specs.Answers.{unless_refused}
@@ -30,12 +32,20 @@ shares_cell basin given other =
 abbrev pub wrong_behind : Draft → List Fields → Result Given Wrong → Option Wrong
 wrong_behind basin before (Err wrong) = Some wrong
 wrong_behind basin before (Ok given) =
-    if list_any (shares_cell basin given) (givens basin before) then Some (record { kind = Twice; column = 0 }) else None
+    if list_any (shares_cell basin given) (givens basin before) then Some (record { kind = Twice; part = Row }) else None
+
+-- in which column a part of a row stands. Column 0 is the whole row; a row of inputs has no batch
+abbrev pub column : Part → ℕ
+column Row = 0
+column Batch = 0
+column Slot = 1
+column Step = 2
+column Value = 3
 
 -- the refusal of a row of this number, if it is refused, or else the one that stands behind it
 abbrev pub refused_or : ℕ → Option Wrong → Option InputRefusal → Option InputRefusal
 refused_or number None later = later
-refused_or number (Some wrong) later = Some (refused_at wrong.kind number wrong.column)
+refused_or number (Some wrong) later = Some (refused_at wrong.kind number (column wrong.part))
 
 -- the first refusal of rows that stand behind others, where their numbers count from the one that is given
 abbrev pub first_refusal : Draft → ℕ → List Fields → List Fields → Option InputRefusal

@@ -5,10 +5,12 @@
 #![tactic(auto)]
 
 mod column;
+mod edit;
 mod fault;
 mod given;
 mod inputs;
 pub mod law;
+mod limits;
 mod number;
 mod reading;
 mod records;

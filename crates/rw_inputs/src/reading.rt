@@ -6,14 +6,14 @@ ghost use Rattle.rw_inputs.specs.declared.fault.InputKind.TheVariants as InputKi
 ghost use Rattle.rw_model.specs.Draft.{Draft};
 ghost use Rattle.rw_inputs.specs.Records.{Fields};
 ghost use Rattle.rw_inputs.specs.Inputs.{IsInputsOf, Keeps, value_at};
-ghost use Rattle.rw_inputs.specs.Reading.{givens, first_refusal, inputs_of, is_header, read_records, values_of};
+ghost use Rattle.rw_inputs.specs.Reading.{column, givens, first_refusal, inputs_of, is_header, read_records, values_of};
 ghost use Rattle.rw_inputs.specs.Refusal.{refusal_of, Tells};
 ghost use Rattle.rw_inputs.specs.Taking.{TakesRow, RefusesRow};
 
 use crate::inputs::Inputs;
 use crate::records::Records;
 use crate::row::{read_row, three_fields};
-use crate::wrong::Wrong;
+use crate::wrong::{Part, Wrong};
 use crate::{InputFault, InputKind};
 use csv::ByteRecord;
 use rw_base::NoMemory;
@@ -42,14 +42,26 @@ fn is_header(row: &ByteRecord) -> bool
     }
 }
 
+// In which column a part of a row stands.
+fn column(part: Part) -> u8
+    ensures { result ≡ column part }
+{
+    match part {
+        Part::Row | Part::Batch => 0,
+        Part::Slot => 1,
+        Part::Step => 2,
+        Part::Value => 3,
+    }
+}
+
 // The refusal of the row of a number.
 fn refused(number: u32, wrong: Wrong) -> InputFault
-    ensures { result ≡ InputFault.Refused wrong.kind number wrong.column }
+    ensures { result ≡ InputFault.Refused wrong.kind number (column wrong.part) }
 {
     InputFault::Refused {
         kind: wrong.kind,
         row: number,
-        column: wrong.column,
+        column: column(wrong.part),
     }
 }
 
@@ -75,7 +87,7 @@ fn take_row(
             number,
             Wrong {
                 kind: InputKind::Twice,
-                column: 0,
+                part: Part::Row,
             },
         )),
         Err(NoMemory) => Err(InputFault::NoMemory),

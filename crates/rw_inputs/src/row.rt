@@ -13,15 +13,15 @@ use crate::InputKind;
 use crate::given::Given;
 use crate::number::{position_of, read_number, read_signed};
 use crate::span::Span;
-use crate::wrong::Wrong;
+use crate::wrong::{Part, Wrong};
 use csv::ByteRecord;
 use rw_base::{Qty, SlotNo};
 use rw_model::Basin;
 
-fn wrong(kind: InputKind, column: u8) -> Wrong
-    ensures { result ≡ record { kind = kind; column = column } }
+fn wrong(kind: InputKind, part: Part) -> Wrong
+    ensures { result ≡ record { kind = kind; part = part } }
 {
-    Wrong { kind, column }
+    Wrong { kind, part }
 }
 
 // The text that the bytes are, if they are UTF-8.
@@ -61,12 +61,12 @@ fn read_slot(basin: &Basin, text: &[u8]) -> Result<u16, Wrong>
     ensures known { IfOk result (IsSlot basin.now.objects) }
 {
     let Some(slot) = slot_of_text(basin, text) else {
-        return Err(wrong(InputKind::UnknownSlot, 1));
+        return Err(wrong(InputKind::UnknownSlot, Part::Slot));
     };
     if basin.settable(slot) {
         Ok(slot.0)
     } else {
-        Err(wrong(InputKind::NotSettable, 1))
+        Err(wrong(InputKind::NotSettable, Part::Slot))
     }
 }
 
@@ -94,7 +94,7 @@ fn read_span(basin: &Basin, text: &[u8]) -> Result<Span, Wrong>
     ensures { result ≡ read_span basin.now text.now }
 {
     let Some((first, last)) = span_in(text) else {
-        return Err(wrong(InputKind::NotANumber, 2));
+        return Err(wrong(InputKind::NotANumber, Part::Step));
     };
     if 1 <= first && first <= last && last <= u64::from(basin.control().stamps.count()) {
         Ok(Span {
@@ -102,7 +102,7 @@ fn read_span(basin: &Basin, text: &[u8]) -> Result<Span, Wrong>
             last: last as u16,
         })
     } else {
-        Err(wrong(InputKind::StepOutside, 2))
+        Err(wrong(InputKind::StepOutside, Part::Step))
     }
 }
 
@@ -128,11 +128,11 @@ fn read_value(basin: &Basin, slot: u16, text: &[u8]) -> Result<Qty, Wrong>
         (IsBetween (bounds_in basin.now.objects basin.now.links basin.now.bounds slot)) }
 {
     let Some(value) = read_signed(text) else {
-        return Err(wrong(InputKind::NotANumber, 3));
+        return Err(wrong(InputKind::NotANumber, Part::Value));
     };
     match within_bounds(basin.bounds(SlotNo(slot)), value) {
         Some(value) => Ok(value),
-        None => Err(wrong(InputKind::OutOfBounds, 3)),
+        None => Err(wrong(InputKind::OutOfBounds, Part::Value)),
     }
 }
 
@@ -179,6 +179,6 @@ pub fn read_row(basin: &Basin, row: &ByteRecord) -> Result<Given, Wrong>
 {
     match three_fields(row) {
         Some((slot, span, value)) => read_fields(basin, slot, span, value),
-        None => Err(wrong(InputKind::Ragged, 0)),
+        None => Err(wrong(InputKind::Ragged, Part::Row)),
     }
 }
