@@ -1,5 +1,5 @@
 -- Values after edits.
-use Rattle.rw_base.proofs.Common.{◌≡◌, ℕ, Bool, true, false, if◌then◌else◌, ◌||◌, List, [], ◌∷◌, ◌++◌, refl, ap, ◌∙◌, list_any}
+use Rattle.rw_base.proofs.Common.{◌≡◌, ℕ, Bool, true, false, ◌||◌, List, [], ◌∷◌, ◌++◌, refl, ◌∙◌, list_any}
 use Rattle.rw_inputs.specs.declared.edit.Edit.{Edit}
 use Rattle.rw_inputs.specs.Edits.{Batch, Values, after_batch, after_batches, after_edit, names}
 

@@ -8,3 +8,5 @@ pub mod Rows
 pub mod Groups
 pub mod Refusing
 pub mod Edited
+pub mod Setting
+pub mod Batches

@@ -8,7 +8,7 @@ use Rattle.rw_inputs.specs.declared.fault.InputFault.TheVariants.{NoMemory}
 use Rattle.rw_inputs.specs.declared.given.Given.{Given}
 use Rattle.rw_inputs.specs.Records.{Fields}
 use Rattle.rw_inputs.specs.Refusal.{InputRefusal, refusal_of, Tells}
-use Rattle.rw_inputs.specs.Inputs.{Inputs, Keeps, value_at}
+use Rattle.rw_inputs.specs.Inputs.{Inputs, Keeps}
 use Rattle.rw_inputs.specs.Reading.{givens, first_refusal, values_of}
 use Rattle.rw_inputs.specs.Taking.{RefusesRow}
 
@@ -25,11 +25,13 @@ row_refused basin number before old rows row inputs fault due next is kept refus
     subst (Tells fault) (sym (ap (first_refusal basin number before) next) ∙ is)
     (refuses before kept (first_refusal basin (number + 1) (before ++ row ∷ []) rows))
 
+-- a call that hands on a fault answers what it tells
+pub answers-fault : {X A : Type 0} (seen : X → A) (result : Result X InputFault) (fault : InputFault) (reading : Result A InputRefusal)
+    → IsErrAnd result (λ e. e ≡ fault) → IsWhy NoMemory refusal_of reading fault → Answers NoMemory refusal_of seen result reading
+answers-fault seen (Ok x) fault reading same why = absurd same
+answers-fault seen (Err e) fault reading same why = subst (IsWhy NoMemory refusal_of reading) (sym same) why
+
 -- what refuses the records refuses what they give
-pub answers-fault : (basin : Draft) (result : Result Inputs InputFault) (fault : InputFault) (reading : Result (List Given) InputRefusal)
-    → IsErrAnd result (λ e. e ≡ fault) → IsWhy NoMemory refusal_of reading fault
-    → Answers NoMemory refusal_of value_at result (values_of basin reading)
-answers-fault basin (Ok x) fault reading same why = absurd same
-answers-fault basin (Err e) fault reading same why =
-    subst (IsWhy NoMemory refusal_of (values_of basin reading)) (sym same)
-    ((λ refusal is. ap (values_of basin) (why.0 refusal is)), why.1)
+pub values-fault : (basin : Draft) (fault : InputFault) (reading : Result (List Given) InputRefusal)
+    → IsWhy NoMemory refusal_of reading fault → IsWhy NoMemory refusal_of (values_of basin reading) fault
+values-fault basin fault reading why = ((λ refusal is. ap (values_of basin) (why.0 refusal is)), why.1)

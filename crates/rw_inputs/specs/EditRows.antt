@@ -1,6 +1,7 @@
 -- What a text of edits is read as: its batches, or the first refusal.
-use Rattle.std.specs.Prelude.{ℕ, ◌+◌, ◌-◌, ◌==◌, nat_le, max, min, ℤ, Bool, false, ◌&&◌, ◌||◌, if◌then◌else◌, List, [], ◌∷◌, ◌++◌, length, slice_index_or, slice_set, Option, Some, None, Result, Ok, Err, bytes_eq, codes}
+use Rattle.std.specs.Prelude.{ℕ, ◌+◌, ◌-◌, ◌==◌, nat_le, ℤ, Bool, false, ◌&&◌, ◌||◌, if◌then◌else◌, List, [], ◌∷◌, ◌++◌, length, slice_index_or, slice_set, Option, Some, None, Result, Ok, Err, bytes_eq, codes}
 use Rattle.std.specs.List.{list_any}
+use Rattle.rw_base.specs.Answers.{unless_refused}
 use Rattle.rw_model.specs.Draft.{Draft}
 use Rattle.rw_inputs.specs.declared.limits.TheConstants.{BATCHES_MAX, EDITS_MAX}
 use Rattle.rw_inputs.specs.declared.fault.InputKind.TheVariants.{Header, NotANumber, Twice, Ragged, BatchOrder, TooMany}
@@ -8,7 +9,6 @@ use Rattle.rw_inputs.specs.declared.wrong.Part.{Part}
 use Rattle.rw_inputs.specs.declared.wrong.Part.TheVariants.{Row, Batch as BatchPart, Slot, Step, Value}
 use Rattle.rw_inputs.specs.declared.wrong.Wrong.{Wrong}
 use Rattle.rw_inputs.specs.declared.edit.Edit.{Edit}
-use Rattle.rw_inputs.specs.declared.span.Span.{Span}
 use Rattle.rw_inputs.specs.Refusal.{InputRefusal, refused_at}
 use Rattle.rw_inputs.specs.Records.{Fields, records_of}
 use Rattle.rw_inputs.specs.Number.{read_number}
@@ -54,9 +54,9 @@ read_edit basin slot span value = do
 
 -- ---- behind the rows before it
 
--- both name one cell: the later of their first timesteps isn't behind the earlier of their last ones
+-- both name one cell: each begins no later than the other ends
 abbrev pub meets : Edit → Edit → Bool
-meets edit other = edit.slot == other.slot && nat_le (max edit.first other.first) (min edit.last other.last)
+meets edit other = edit.slot == other.slot && (nat_le edit.first other.last && nat_le other.first edit.last)
 
 -- the batch of this number, which has no edits if it isn't there. Batches count from 1
 abbrev pub batch_at : List Batch → ℕ → Batch
@@ -71,12 +71,17 @@ abbrev pub with_edit : List Batch → ℕ → Edit → List Batch
 with_edit batches number edit =
     slice_set (opened batches number) (number - 1) (batch_at (opened batches number) number ++ edit ∷ [])
 
--- no earlier edit of its batch names one of its cells, and not too many rows stand before it. The header is row 1
-abbrev pub admit : ℕ → List Batch → ℕ → Edit → Result (List Batch) Wrong
-admit row batches number edit =
+-- what is wrong with an edit behind others: an earlier one of its batch names one of its cells, or too many rows stand before
+-- it. The header is row 1
+abbrev pub wrong_among : ℕ → List Batch → ℕ → Edit → Option Wrong
+wrong_among row batches number edit =
     if list_any (meets edit) (batch_at batches number)
-    then wrong Twice Row
-    else (if nat_le row (EDITS_MAX + 1) then Ok (with_edit batches number edit) else wrong TooMany Row)
+    then Some (record { kind = Twice; part = Row })
+    else (if nat_le row (EDITS_MAX + 1) then None else Some (record { kind = TooMany; part = Row }))
+
+-- the batches with the edit, if nothing is wrong with it behind others
+abbrev pub admit : ℕ → List Batch → ℕ → Edit → Result (List Batch) Wrong
+admit row batches number edit = unless_refused (wrong_among row batches number edit) (with_edit batches number edit)
 
 -- the fields of a record of four
 abbrev pub four_fields : Fields → Option (List ℕ × List ℕ × List ℕ × List ℕ)

@@ -18,7 +18,8 @@ use csv::ByteRecord;
 use rw_base::{Qty, SlotNo};
 use rw_model::Basin;
 
-fn wrong(kind: InputKind, part: Part) -> Wrong
+/// What is wrong, with a part of a row.
+pub fn wrong(kind: InputKind, part: Part) -> Wrong
     ensures { result ≡ record { kind = kind; part = part } }
 {
     Wrong { kind, part }
@@ -55,8 +56,8 @@ fn slot_of_text(basin: &Basin, text: &[u8]) -> Option<SlotNo>
     slot_of_names(basin, &text[..dot], &text[dot + 1..])
 }
 
-// A slot of the model that inputs can set.
-fn read_slot(basin: &Basin, text: &[u8]) -> Result<u16, Wrong>
+/// A slot of the model that inputs can set.
+pub fn read_slot(basin: &Basin, text: &[u8]) -> Result<u16, Wrong>
     ensures read { result ≡ read_slot basin.now text.now }
     ensures known { IfOk result (IsSlot basin.now.objects) }
 {
@@ -89,8 +90,8 @@ fn span_in(text: &[u8]) -> Option<(u64, u64)>
     }
 }
 
-// A timestep of the run, or a range of timesteps of the run.
-fn read_span(basin: &Basin, text: &[u8]) -> Result<Span, Wrong>
+/// A timestep of the run, or a range of timesteps of the run.
+pub fn read_span(basin: &Basin, text: &[u8]) -> Result<Span, Wrong>
     ensures { result ≡ read_span basin.now text.now }
 {
     let Some((first, last)) = span_in(text) else {
@@ -120,8 +121,8 @@ fn within_bounds(bounds: (i64, i64), value: i64) -> Option<Qty>
     }
 }
 
-// A value that the slot can have.
-fn read_value(basin: &Basin, slot: u16, text: &[u8]) -> Result<Qty, Wrong>
+/// A value that the slot can have.
+pub fn read_value(basin: &Basin, slot: u16, text: &[u8]) -> Result<Qty, Wrong>
     requires { IsSlot basin.now.objects slot }
     ensures read { result ≡ read_value basin.now slot text.now }
     ensures within { IfOk result
