@@ -1,5 +1,5 @@
 -- The names that proofs cite, passed on from one place. Declares nothing.
-pub use Rattle.rw_base.proofs.Common.{All, All-cons, All-head, All-nil, All-tail, Bool, IsSome, IsTrue, List, None, Ok, Option, Some, [], ap, append-nil, append_assoc, ap₂, arith, cons_option, false, filter_map, filter_map-append, get_or, if◌then◌else◌, length, length-set, list_any, map, nat_le, nat_lt, nat_tests, none-some, option_map, option_or, range_with_len, refl, rules, same_Some, set, subst, suc, sym, take, true, unwrap_or, zero, ℕ, ℤ, ◌++◌, ◌+◌, ◌-◌, ◌<◌, ◌==◌, ◌||◌, ◌∙◌, ◌∷◌, ◌≡◌, ◌≤◌}
+pub use Rattle.rw_base.proofs.Common.{All, All-cons, All-head, All-nil, All-tail, Bool, IsSome, IsTrue, List, None, Ok, Option, Some, [], ap, append-nil, append_assoc, ap₂, arith, cons_option, false, filter_map, filter_map-append, get_or, if◌then◌else◌, length, length-set, list_any, map, nat_le, nat_lt, nat_tests, none-some, option_map, option_or, range_with_len, refl, rules, same_Some, set, slice_index_or, subst, suc, sym, take, true, unwrap_or, zero, ℕ, ℤ, ◌++◌, ◌+◌, ◌-◌, ◌<◌, ◌==◌, ◌||◌, ◌∙◌, ◌∷◌, ◌≡◌, ◌≤◌}
 pub use Rattle.rw_base.specs.declared.number.Cell.{Cell}
 pub use Rattle.rw_dispatch.proofs.Makes.{AreBounded-put, put-set}
 pub use Rattle.rw_dispatch.specs.Answer.{Tells, event_of, written_in}
@@ -10,10 +10,10 @@ pub use Rattle.rw_engine.specs.Counts.{IsCounted, count_of, raised, room}
 pub use Rattle.rw_engine.specs.Engine.{Engine}
 pub use Rattle.rw_inputs.specs.Givens.{givens, givens_of, givens_to, if_given}
 pub use Rattle.rw_engine.specs.Held.{HoldsAll}
-pub use Rattle.rw_engine.specs.Lines.{Grows, fault_by, lines_by}
+pub use Rattle.rw_engine.specs.Lines.{Grows, fault_by, fault_of_rule, lines_by, lines_of_rule}
 pub use Rattle.rw_engine.specs.Passing.{ComesTo, Passes, Stands}
-pub use Rattle.rw_engine.specs.Shows.{IsBefore, IsEngineOf, Shows}
-pub use Rattle.rw_engine.specs.State.{Goes, GoesTo, HoldsWithin, IsOnTheWay, IsRevocable, IsStill, IsWithinStep, Keeps, Reached, end_by, ended_by, seen}
+pub use Rattle.rw_engine.specs.Shows.{IsBefore, IsEngineOf, Shows, closed_by}
+pub use Rattle.rw_engine.specs.State.{Does, Goes, GoesTo, HoldsWithin, IsOnTheWay, IsRevocable, IsStill, IsWithinStep, Keeps, Reached, end_by, ended_by, left, seen}
 pub use Rattle.rw_engine.specs.Undone.{AreCells, taken_back, undone_of}
 pub use Rattle.rw_engine.specs.declared.state.State.{State}
 pub use Rattle.rw_engine.specs.declared.undo.Undone.{Undone}

@@ -1,9 +1,12 @@
 -- One event of the engine, over the log that its state holds.
-use Rattle.rw_engine.proofs.Common.{Bool, Cell, Cells, DispatchEnd, Draft, Engine, Event, Fault, GoesTo, HoldsWithin, IsCounted, List, Log, Look, None, Option, Policy, Put, RunFault, Settled, Shows, Some, State, [], ap, ap₂, arith, asked_for, cells_of, count_if, count_of, dispatched, dispatches, end_by, end_of, ended_by, event_of, false, fault, fault_by, first_of, held, held_after, idles, if◌then◌else◌, inside, last_closed, last_put, lines, lines_by, nat_le, nat_tests, next, next_of, none-some, option_or, queued_after, raised, refl, same_Some, seen, solves, standing, subst, sym, trace_of, true, waiting, written_by, ℕ, ◌++◌, ◌<◌, ◌==◌, ◌∙◌, ◌∷◌, ◌≡◌}
+use Rattle.rw_engine.proofs.Common.{Bool, Cell, Cells, DispatchEnd, Draft, Engine, Event, Fault, GoesTo, HoldsWithin, IsCounted, List, Log, Look, None, Option, Policy, Put, RunFault, Settled, Shows, Some, State, [], ap, ap₂, arith, asked_for, cells_of, count_if, count_of, dispatched, dispatches, end_by, end_of, ended_by, event_of, false, fault, fault_by, first_of, held, held_after, idles, if◌then◌else◌, inside, last_closed, last_put, lines, lines_by, nat_le, nat_tests, next, next_of, none-some, option_or, queued_after, raised, refl, same_Some, seen, slice_index_or, solves, standing, subst, sym, trace_of, true, waiting, written_by, ℕ, ◌++◌, ◌-◌, ◌<◌, ◌==◌, ◌∙◌, ◌∷◌, ◌≡◌}
 use Rattle.rw_run.specs.declared.fault.RunFault.TheVariants.{ObjectLimit}
 use Rattle.rw_dispatch.specs.Answer.{Ends, answer_of}
 use Rattle.rw_dispatch.specs.declared.dispatch_end.DispatchEnd.TheVariants.{Idle as IsIdle, Solved as IsSolved, Conflict as IsConflict, OutOfRange as IsOutOfRange}
 use Rattle.rw_run.specs.Trace.{told as with_lines}
+use Rattle.rw_agenda.specs.Agenda.{Entry, unfired}
+use Rattle.rpl_verify.specs.Verified.{Accepted}
+use Rattle.rw_run.specs.Next.{firings, last_looks}
 use Rattle.rw_engine.proofs.Raises.{raised_at}
 use Rattle.rw_engine.proofs.Traces.{shown_more}
 
@@ -42,6 +45,8 @@ module _ (basin : Draft) (looked : List Look) (step object : ℕ) (rest : List �
   record Says (event : Event) (ended : DispatchEnd) : Type 0 where
     pub lines_are : lines_by object step ended (written_by event) ≡ lines event
     pub last : last_closed (event ∷ log) ≡ last_closed log
+    pub looks : (rule : ℕ) → last_looks (event ∷ log) rule ≡ last_looks log rule
+    pub fires : (rule : ℕ) → firings (event ∷ log) rule ≡ firings log rule
     pub calm : fault_by object step ended ≡ None → (end_of (event ∷ log) ≡ Settled) × (standing (event ∷ log) ≡ inside step)
         × (waiting basin log ≡ object ∷ rest → waiting basin (event ∷ log) ≡ queued_after basin event rest)
         × ((other : ℕ) → dispatches (event ∷ log) other ≡ count_if (object == other) (dispatches log other))
@@ -51,12 +56,16 @@ module _ (basin : Draft) (looked : List Look) (step object : ℕ) (rest : List �
   of_end IsIdle asked written = record {
     lines_are = refl;
     last = refl;
+    looks = λ rule. refl;
+    fires = λ rule. refl;
     calm = λ none. (refl, refl, λ waits. idles basin log object step looked [] rest waits, λ other. refl);
     faulted = λ why some. absurd (none-some _ some);
   }
   of_end IsSolved asked written = record {
     lines_are = refl;
     last = refl;
+    looks = λ rule. refl;
+    fires = λ rule. refl;
     calm = λ none. (
       refl,
       refl,
@@ -68,12 +77,16 @@ module _ (basin : Draft) (looked : List Look) (step object : ℕ) (rest : List �
   of_end (IsConflict slot held_there solves_here) asked written = record {
     lines_are = refl;
     last = refl;
+    looks = λ rule. refl;
+    fires = λ rule. refl;
     calm = λ none. absurd (none-some _ (sym none));
     faulted = λ why some. ap fault (same_Some _ _ some);
   }
   of_end (IsOutOfRange slot value) asked written = record {
     lines_are = refl;
     last = refl;
+    looks = λ rule. refl;
+    fires = λ rule. refl;
     calm = λ none. absurd (none-some _ (sym none));
     faulted = λ why some. ap fault (same_Some _ _ some);
   }
@@ -97,12 +110,14 @@ pub record Went (basin : Draft) (old new : State) (looked : List Look) (step obj
   pub counted : IsCounted old.counts object
   pub counts : new.counts ≡ raised old.counts object
   pub queue : new.queue.waiting ≡ queued_after basin event rest
+  pub rules : new.rules.agenda.rules ≡ old.rules.agenda.rules
+  pub firings : new.firings ≡ old.firings
 
 -- the timestep goes on, or the run ends by the fault
-pub goes_to : (basin : Draft) (old new : State) (looked : List Look) (step object : ℕ) (rest : List ℕ) (log : Log) (event : Event) (ended : DispatchEnd)
-    → HoldsWithin basin old step log (object ∷ rest) → Went basin old new looked step object rest event ended → new.end ≡ old.end
-    → (why : Option RunFault) → fault_by object step ended ≡ why → GoesTo basin (end_by why) (ended_by why new) step log event
-goes_to basin old new looked step object rest log event ended holds went end None is =
+pub goes_to : (basin : Draft) (policy : Accepted) (old new : State) (looked : List Look) (step object : ℕ) (rest : List ℕ) (log : Log) (event : Event) (ended : DispatchEnd)
+    → HoldsWithin basin policy old step (object ∷ rest) log → Went basin old new looked step object rest event ended → new.end ≡ old.end
+    → (why : Option RunFault) → fault_by object step ended ≡ why → GoesTo basin policy (end_by why) (ended_by why new) step log event
+goes_to basin policy old new looked step object rest log event ended holds went end None is =
     let tells = says basin looked step object rest log event ended went.told.is in
     let calm = tells.calm is in record {
       open_step = calm.1;
@@ -113,8 +128,11 @@ goes_to basin old new looked step object rest log event ended holds went end Non
           ap (λ counts. count_of counts other) went.counts
           ∙ raised_at old.counts object other went.counted known.first
           ∙ ap (count_if (object == other)) (holds.counts other known) ∙ sym (calm.3 other);
+      looks = λ rule first last.
+          ap (λ (entries : List Entry). (slice_index_or entries (rule - 1) (unfired 0)).looked) went.rules ∙ holds.looks rule first last ∙ sym (tells.looks rule);
+      firings = λ rule first. ap (λ counts. count_of counts rule) went.firings ∙ holds.firings rule first ∙ sym (tells.fires rule);
     }
-goes_to basin old new looked step object rest log event ended holds went end (Some why) is =
+goes_to basin policy old new looked step object rest log event ended holds went end (Some why) is =
     let faulted = (says basin looked step object rest log event ended went.told.is).faulted why is in (
       faulted,
       shown basin looked step object rest log (seen old) (seen (record new { end = Fault why })) event ended holds.shows

@@ -6,4 +6,5 @@ pub mod Events
 pub mod Traces
 pub mod Steps
 pub mod After
+pub mod Firings
 pub mod Runs

@@ -2,7 +2,13 @@
 use Rattle.rw_engine.proofs.Common.{ComesTo, Draft, Engine, Inputs, IsBefore, IsOver, IsRunOf, Log, Passes, RunFault, Shows, Stands, [], ap, arith, givens, Policy, placed, refl, rests, standing, subst, sym, ℕ, ◌++◌, ◌+◌, ◌<◌, ◌∙◌, ◌∷◌, ◌≡◌}
 use Rattle.rw_run.specs.declared.run.Run.{Run}
 use Rattle.rw_engine.specs.declared.step_end.StepEnd.TheVariants.{Closed as IsClosed, Fault as IsFault}
-use Rattle.rw_run.proofs.Placed.{standing-placed}
+use Rattle.rw_run.specs.declared.run.RunEnd.{RunEnd}
+use Rattle.rw_run.proofs.SameRuns.{same_runs}
+use Rattle.rw_run.specs.Next.{no_rules}
+use Rattle.rw_run.specs.RunOf.{opened_by}
+use Rattle.rw_rules.specs.Rules.{policy_in}
+use Rattle.rw_engine.proofs.Common.{Fault, ap₂, end_of}
+use Rattle.rw_run.proofs.Placed.{settled_at_rest, standing-placed}
 use Rattle.rw_engine.proofs.Steps.{leads_on}
 
 pub stands_first : (basin : Draft) (policy : Policy) (inputs : Inputs) (engine : Engine) → Shows basin engine (placed [] (givens basin inputs)) → Stands basin policy inputs engine 0
@@ -52,4 +58,28 @@ comes_faulted basin policy inputs old new step at why run stands passes is = rec
     end = subst (λ event. IsOver basin (standing (event ∷ passes.before))) (sym passes.ends) tt;
   };
   is = is;
+}
+
+-- ---- how many timesteps were opened
+
+pub counted_settled : (old new before : ℕ) (end : RunEnd) (closed : ℕ) (log : Log) → standing log ≡ rests before → end ≡ end_of log → closed ≡ before
+    → new ≡ old + before → new ≡ old + opened_by end closed
+counted_settled old new before end closed log rest is last counted =
+    counted ∙ ap (λ n. old + n) (sym (ap₂ opened_by (is ∙ settled_at_rest log before rest) last))
+
+pub counted_fault : (old new before : ℕ) (end : RunEnd) (closed : ℕ) (why : RunFault) {mid : ℕ} → end ≡ Fault why → closed ≡ before → mid ≡ old + before → new ≡ mid + 1
+    → new ≡ old + opened_by end closed
+counted_fault old new before end closed why is last were more =
+    let all : new ≡ old + (before + 1) = omega (arith, were, more) in all ∙ ap (λ n. old + n) (sym (ap₂ opened_by is last))
+
+-- ---- without rules
+
+-- a run of code in which no rule is is a run of no rules
+pub without_rules : (basin : Draft) (inputs : Inputs) (run : Run) → ComesTo basin (policy_in basin (record { blocks = []; budgets = []; resolved = [] })) inputs run
+    → ComesTo basin no_rules inputs run
+without_rules basin inputs run comes = record {
+  log = comes.log;
+  whole = same_runs basin (policy_in basin (record { blocks = []; budgets = []; resolved = [] })) no_rules (givens basin inputs) comes.log
+      (record { rules = refl; same = λ rule step values is. absurd (omega (arith, is.first, is.last)) }) comes.whole;
+  is = comes.is;
 }

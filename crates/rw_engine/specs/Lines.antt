@@ -1,9 +1,11 @@
--- The lines of a trace for a dispatch that ended so, and the fault that it is.
-use Rattle.std.specs.Prelude.{ℕ, List, [], ◌∷◌, ◌≡◌, map, Option, Some, None}
+-- The lines of a trace for a dispatch or a firing that ended so, and the fault that it is.
+use Rattle.std.specs.Prelude.{ℕ, Bool, true, false, List, [], ◌∷◌, ◌≡◌, map, Option, Some, None}
 use Rattle.rw_run.specs.declared.fault.RunFault.{RunFault}
-use Rattle.rw_run.specs.declared.fault.RunFault.TheVariants.{Conflict, ObjectOutOfRange}
+use Rattle.rw_run.specs.declared.fault.RunFault.TheVariants.{Conflict, ObjectOutOfRange, ZeroDivisor, RuleOutOfRange}
+use Rattle.rw_series.specs.declared.fire.FireEnd.{FireEnd}
+use Rattle.rw_series.specs.declared.fire.FireEnd.TheVariants.{Done, Unknown, ZeroDivisor as DividesByZero, OutOfRange}
 use Rattle.rw_run.specs.declared.trace.TraceEvent.{TraceEvent}
-use Rattle.rw_run.specs.declared.trace.TraceEvent.TheVariants.{Idle, Solve, Fault}
+use Rattle.rw_run.specs.declared.trace.TraceEvent.TheVariants.{Idle, Solve, Fire, Fault}
 use Rattle.rw_run.specs.Log.{Asked}
 use Rattle.rw_run.specs.RunOf.{line_of}
 use Rattle.rw_run.specs.Trace.{told}
@@ -21,12 +23,32 @@ abbrev pub fault_line : Option RunFault → List TraceEvent
 fault_line None = []
 fault_line (Some fault) = Fault fault ∷ []
 
+-- a fault has its line alone
+abbrev pub by_fault : Option RunFault → List TraceEvent → List TraceEvent
+by_fault None lines = lines
+by_fault (Some fault) lines = Fault fault ∷ []
+
 -- its lines, where these are written
 abbrev pub lines_by : ℕ → ℕ → DispatchEnd → List Asked → List TraceEvent
 lines_by object step IsIdle writes = Idle (record { 0 = object }) ∷ []
 lines_by object step IsSolved writes = Solve (record { 0 = object }) ∷ map line_of writes
 lines_by object step (IsConflict slot held solved) writes = fault_line (fault_by object step (IsConflict slot held solved))
 lines_by object step (IsOutOfRange slot value) writes = fault_line (fault_by object step (IsOutOfRange slot value))
+
+-- the fault that a firing of a rule is, if it is one
+abbrev pub fault_of_rule : ℕ → ℕ → FireEnd → Option RunFault
+fault_of_rule rule step Done = None
+fault_of_rule rule step Unknown = None
+fault_of_rule rule step DividesByZero = Some (ZeroDivisor (record { 0 = rule }) (record { 0 = step }))
+fault_of_rule rule step (OutOfRange value) = Some (RuleOutOfRange (record { 0 = rule }) (record { 0 = step }) value)
+
+abbrev pub is_done : FireEnd → Bool
+is_done Done = true
+is_done end = false
+
+-- the lines of a firing that ended so after so many units, where these are written
+abbrev pub lines_of_rule : ℕ → ℕ → FireEnd → ℕ → List Asked → List TraceEvent
+lines_of_rule rule step end count writes = by_fault (fault_of_rule rule step end) (Fire (record { 0 = rule }) (is_done end) count ∷ map line_of writes)
 
 -- the second trace is the first with more lines
 abbrev pub Grows : Option (List TraceEvent) → Option (List TraceEvent) → Type 0

@@ -1,5 +1,5 @@
 -- The log that an engine stands for.
-use Rattle.std.specs.Prelude.{◌≡◌, ℕ, ◌+◌, ◌≤◌, length, IfSome}
+use Rattle.std.specs.Prelude.{◌≡◌, ℕ, ◌+◌, ◌≤◌, length, IfSome, Ok}
 use Rattle.rw_base.specs.declared.number.Cell.{Cell}
 use Rattle.rw_model.specs.Draft.{Draft}
 use Rattle.rw_model.specs.Basin.{IsBasin}
@@ -8,14 +8,18 @@ use Rattle.rw_run.specs.Log.{Event, closed, fault, Log, cells_of}
 use Rattle.rw_run.specs.Runs.{standing, rests}
 use Rattle.rw_run.specs.RunOf.{trace_of, end_of, last_closed}
 use Rattle.rw_dispatch.specs.Stage.{IsHeldIn}
+use Rattle.rpl_verify.specs.Verified.{Accepted, verified}
+use Rattle.rw_rules.specs.Rules.{IsRulesOf}
 use Rattle.rw_engine.specs.Engine.{Engine}
 use Rattle.rw_engine.specs.declared.step_end.StepEnd.{StepEnd}
 use Rattle.rw_engine.specs.declared.step_end.StepEnd.TheVariants.{Closed as IsClosed, Fault as IsFault}
 
--- an engine made for the basin: its slots hold values that they can have
-pub record IsEngineOf (basin : Draft) (engine : Engine) : Type 0 where
+-- an engine made for the basin and a policy that is accepted for it: its slots hold values that they can have
+pub record IsEngineOf (basin : Draft) (policy : Accepted) (engine : Engine) : Type 0 where
   pub valid : IsBasin basin
+  pub fits : verified basin policy.blocks ≡ Ok policy
   pub objects : engine.objects ≡ length basin.objects
+  pub rules : IsRulesOf basin policy engine.rules
   pub series : IsHeldIn basin engine.series
   pub closed_steps : engine.closed ≤ basin.control.stamps.count
 
@@ -36,3 +40,8 @@ pub record IsBefore (basin : Draft) (step : ℕ) (log : Log) : Type 0 where
 abbrev pub EndsBy : StepEnd → ℕ → Event → Type 0
 EndsBy IsClosed step event = event ≡ closed step
 EndsBy (IsFault why) step event = event ≡ fault why
+
+-- the last closed timestep once a timestep ended so, where it was this before
+abbrev pub closed_by : StepEnd → ℕ → ℕ → ℕ
+closed_by IsClosed step before = step
+closed_by (IsFault why) step before = before

@@ -1,19 +1,22 @@
-ghost use Rattle.std.specs.Prelude.{◌≤◌, [], map, IfOk, IfErr, ◌≡◌, IsSome};
+ghost use Rattle.std.specs.Prelude.{◌≤◌, ◌+◌, [], map, IfOk, ◌≡◌, IsSome, Ok};
 ghost use Rattle.rw_model.specs.Draft.{Draft};
 ghost use Rattle.rw_method.specs.Catalogue.{AreInOrder};
 ghost use Rattle.rw_inputs.specs.Inputs.{IsInputsOf};
+ghost use Rattle.rpl_verify.specs.Verified.{Accepted, verified};
 ghost use Rattle.rw_run.specs.Log.{Log};
-ghost use Rattle.rw_run.specs.Next.{no_rules};
 ghost use Rattle.rw_run.specs.Runs.{placed};
 ghost use Rattle.rw_run.specs.RunOf.{IsRunOf};
 ghost use Rattle.rw_model.specs.Turn.{IsStep};
 ghost use Rattle.rw_inputs.specs.Givens.{givens};
-ghost use Rattle.rw_engine.specs.Shows.{IsEngineOf, Shows, IsBefore};
-ghost use Rattle.rw_engine.specs.Passing.{Passes};
+ghost use Rattle.rw_engine.specs.Shows.{IsEngineOf, Shows};
+ghost use Rattle.rw_engine.specs.Passing.{RunsStep, steps_of};
 
+use crate::setup::RunSetup;
 use crate::state::State;
 use crate::step_end::StepEnd;
-use rw_base::{NoMemory, StepNo};
+use rpl_predef::Predefs;
+use rpl_verify::Verified;
+use rw_base::{Ledger, NoMemory, StepNo, Steps};
 use rw_inputs::Inputs;
 use rw_method::Catalogue;
 use rw_model::Basin;
@@ -21,7 +24,7 @@ use rw_run::{Run, Trace};
 use std::alloc::Global;
 use std::marker::Model;
 
-/// A run on its way, seen as what it shows: what the cells hold, the trace, the last closed timestep, and how it stands. It
+/// A run on its way, seen as what it shows: its rules, what the cells hold, the trace, the last closed timestep, and how it stands. It
 /// stands for a log of events, which `Shows` says.
 #[derive(Drop)]
 pub struct Engine {
@@ -37,63 +40,83 @@ impl Model for Engine {
 
     ghost view = { λ engine. seen engine.state };
 
-    ghost invariant = { λ engine. length engine.state.counts ≡ engine.state.queue.objects };
+    ghost invariant = { λ engine. (length engine.state.counts ≡ engine.state.queue.objects)
+        × (length engine.state.firings ≡ length engine.state.rules.agenda.rules) };
 }
 
 impl Engine {
     /// The engine of a run whose inputs are placed, and no timestep opened. It shows the log of the inputs.
-    pub fn for_run(alloc: Global, basin: &Basin, inputs: &Inputs) -> Result<Engine, NoMemory>
+    pub fn for_run(
+        alloc: Global,
+        basin: &Basin,
+        policy: &Verified,
+        inputs: &Inputs,
+    ) -> Result<Engine, NoMemory>
+        requires fits { verified basin.now policy.now.blocks ≡ Ok policy.now }
         requires inputs { IsInputsOf basin.now inputs.now }
-        ensures made { IfOk result (IsEngineOf basin.now) }
+        ensures made { IfOk result (IsEngineOf basin.now policy.now) }
         ensures shows { IfOk result
             (λ engine. Shows basin.now engine (placed [] (givens basin.now inputs.now))) }
         ensures kept { IfOk result (λ engine. IsSome engine.trace) }
     {
         Ok(Engine {
-            state: State::for_run(alloc, basin, inputs, Trace::new(alloc))?,
+            state: State::for_run(alloc, basin, policy, inputs, Trace::new(alloc))?,
         })
     }
 
     /// The same without a trace: no line is kept, and within a timestep no memory is taken.
-    pub fn without_trace(alloc: Global, basin: &Basin, inputs: &Inputs) -> Result<Engine, NoMemory>
+    pub fn without_trace(
+        alloc: Global,
+        basin: &Basin,
+        policy: &Verified,
+        inputs: &Inputs,
+    ) -> Result<Engine, NoMemory>
+        requires fits { verified basin.now policy.now.blocks ≡ Ok policy.now }
         requires inputs { IsInputsOf basin.now inputs.now }
-        ensures made { IfOk result (IsEngineOf basin.now) }
+        ensures made { IfOk result (IsEngineOf basin.now policy.now) }
         ensures shows { IfOk result
             (λ engine. Shows basin.now engine (placed [] (givens basin.now inputs.now))) }
     {
         Ok(Engine {
-            state: State::for_run(alloc, basin, inputs, Trace::unkept(alloc))?,
+            state: State::for_run(alloc, basin, policy, inputs, Trace::unkept(alloc))?,
         })
     }
 
     /// Passes the timestep after the last closed one: it is opened, event follows event, and it is closed or ends by a
-    /// fault. After want of memory the engine shows the log that it showed before.
-    pub fn run_step(
+    /// fault, and is counted in `steps`. After want of memory it isn't, and the engine shows the log that it showed before.
+    pub fn run_step<L: Ledger>(
         &mut self,
         basin: &Basin,
         methods: &Catalogue,
+        policy: &Verified,
+        predefs: &Predefs,
         step: StepNo,
+        steps: &mut Steps<L>,
     ) -> Result<StepEnd, NoMemory>
-        requires made { IsEngineOf basin.now self.old }
+        requires made { IsEngineOf basin.now policy.now self.old }
         requires order { AreInOrder (map (λ b. code (b.vtable, b.value)) methods.now.methods.items) }
         requires step { IsStep basin.now step.0 }
-        ensures made { IsEngineOf basin.now self.new }
-        ensures passes { (log : Log) → Shows basin.now self.old log → IsBefore basin.now step.0 log
-            → IfOk result (λ end. Passes basin.now no_rules log end self.new step.0) }
-        ensures before { (log : Log) → Shows basin.now self.old log
-            → IfErr result (λ _. Shows basin.now self.new log) }
-        ensures kept { IsSome self.old.trace → IsSome self.new.trace }
+        ensures runs { RunsStep basin.now policy.now step.0 self.old self.new result }
+        ensures counted { steps.new ≡ steps.old + steps_of result }
     {
-        self.state.run_step(basin, methods, step)
+        let setup = RunSetup {
+            basin,
+            methods,
+            policy,
+            predefs,
+        };
+        let end = self.state.run_step(&setup, step)?;
+        steps.tick();
+        Ok(end)
     }
 
     /// What the run came to, or so far where timesteps are left. It takes no memory.
     pub fn finish(self) -> Run
-        ensures run { (basin : Draft) (log : Log) → IsEngineOf basin self → Shows basin self log
-            → IsRunOf basin log result }
-        ensures closed { (basin : Draft) → IsEngineOf basin self
+        ensures run { (basin : Draft) (policy : Accepted) (log : Log) → IsEngineOf basin policy self
+            → Shows basin self log → IsRunOf basin log result }
+        ensures closed { (basin : Draft) (policy : Accepted) → IsEngineOf basin policy self
             → result.closed ≤ basin.control.stamps.count }
-        ensures trace { result.trace ≡ self.trace }
+        ensures same { (result.closed ≡ self.closed) × (result.trace ≡ self.trace) }
     {
         self.state.finish()
     }

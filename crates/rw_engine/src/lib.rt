@@ -6,8 +6,10 @@
 
 mod counts;
 mod engine;
+pub mod law;
 mod placing;
 mod running;
+mod setup;
 mod state;
 mod step_end;
 mod trace_lines;

@@ -1,15 +1,20 @@
-ghost use Rattle.std.specs.Prelude.{◌≤◌, map, IfOk, [], IsSome};
+ghost use Rattle.std.specs.Prelude.{◌≡◌, ◌≤◌, ◌+◌, map, IfOk, [], IsSome, Ok};
 ghost use Rattle.rw_method.specs.Catalogue.{AreInOrder};
 ghost use Rattle.rw_inputs.specs.Inputs.{Inputs as Given, IsInputsOf};
-ghost use Rattle.rw_run.specs.Next.{no_rules};
+ghost use Rattle.rpl_verify.specs.Verified.{verified};
 ghost use Rattle.rw_run.specs.Runs.{placed};
-ghost use Rattle.rw_engine.specs.Passing.{ComesTo};
+ghost use Rattle.rw_run.specs.RunOf.{opened_by};
+ghost use Rattle.rw_rules.specs.Rules.{policy_in};
+ghost use Rattle.rw_engine.specs.Passing.{ComesTo, CountsSteps};
 ghost use Rattle.rw_inputs.specs.Givens.{givens};
 ghost use Rattle.rw_engine.specs.Shows.{IsEngineOf, Shows};
 
 use crate::engine::Engine;
+use crate::setup::RunSetup;
 use crate::step_end::StepEnd;
-use rw_base::{NoMemory, StepNo};
+use rpl_predef::Predefs;
+use rpl_verify::Verified;
+use rw_base::{Ledger, NoMemory, StepNo, Steps};
 use rw_inputs::Inputs;
 use rw_method::Catalogue;
 use rw_model::Basin;
@@ -17,16 +22,37 @@ use rw_run::Run;
 use std::alloc::Global;
 
 // Passes timestep after timestep, up to the last one or to a fault.
-fn pass_all(mut engine: Engine, basin: &Basin, methods: &Catalogue) -> Result<Run, NoMemory>
-    requires made { IsEngineOf basin.now engine }
-    requires order { AreInOrder (map (λ b. code (b.vtable, b.value)) methods.now.methods.items) }
-    ensures run { (inputs : Given) → Shows basin.now engine (placed [] (givens basin.now inputs))
-        → IfOk result (ComesTo basin.now no_rules inputs) }
-    ensures closed { IfOk result (λ run. run.closed ≤ basin.now.control.stamps.count) }
+fn pass_all<L: Ledger>(
+    mut engine: Engine,
+    setup: &RunSetup,
+    steps: &mut Steps<L>,
+) -> Result<Run, NoMemory>
+    requires made { IsEngineOf setup.now.basin.now setup.now.policy.now engine }
+    requires begun { engine.closed ≡ 0 }
+    requires order { AreInOrder
+        (map (λ b. code (b.vtable, b.value)) setup.now.methods.now.methods.items) }
+    ensures run { (inputs : Given)
+        → Shows setup.now.basin.now engine (placed [] (givens setup.now.basin.now inputs))
+        → IfOk result (ComesTo setup.now.basin.now
+        (policy_in setup.now.basin.now setup.now.policy.now) inputs) }
+    ensures counted { (inputs : Given)
+        → Shows setup.now.basin.now engine (placed [] (givens setup.now.basin.now inputs))
+        → IfOk result (λ run. steps.new ≡ steps.old + opened_by run.end run.closed) }
+    ensures closed { IfOk result (λ run. run.closed ≤ setup.now.basin.now.control.stamps.count) }
     ensures kept { IsSome engine.trace → IfOk result (λ run. IsSome run.trace) }
+    ensures few { (steps.old ≤ steps.new)
+        × (steps.new ≤ steps.old + setup.now.basin.now.control.stamps.count) }
 {
-    for before in 0..basin.control().stamps.count() {
-        match engine.run_step(basin, methods, StepNo(before + 1))? {
+    for before in 0..setup.basin.control().stamps.count() {
+        let end = engine.run_step(
+            setup.basin,
+            setup.methods,
+            setup.policy,
+            setup.predefs,
+            StepNo(before + 1),
+            steps,
+        )?;
+        match end {
             StepEnd::Closed => {}
             StepEnd::Fault(_) => return Ok(engine.finish()),
         }
@@ -34,33 +60,58 @@ fn pass_all(mut engine: Engine, basin: &Basin, methods: &Catalogue) -> Result<Ru
     Ok(engine.finish())
 }
 
-/// Runs all timesteps of a basin from its inputs, up to the last one or to a fault, and answers what the run comes to.
-pub fn run_all(
+/// Runs all timesteps of a basin from its inputs, up to the last one or to a fault, and answers what the run comes to. Each
+/// opened timestep is counted.
+pub fn run_all<L: Ledger>(
     alloc: Global,
     basin: &Basin,
     methods: &Catalogue,
+    policy: &Verified,
+    predefs: &Predefs,
     inputs: &Inputs,
+    steps: &mut Steps<L>,
 ) -> Result<Run, NoMemory>
+    requires fits { verified basin.now policy.now.blocks ≡ Ok policy.now }
     requires order { AreInOrder (map (λ b. code (b.vtable, b.value)) methods.now.methods.items) }
     requires inputs { IsInputsOf basin.now inputs.now }
-    ensures run { IfOk result (ComesTo basin.now no_rules inputs.now) }
+    ensures run { IfOk result (ComesTo basin.now (policy_in basin.now policy.now) inputs.now) }
     ensures closed { IfOk result (λ run. run.closed ≤ basin.now.control.stamps.count) }
     ensures kept { IfOk result (λ run. IsSome run.trace) }
+    ensures counted { CountsSteps basin.now steps.old steps.new result }
 {
-    pass_all(Engine::for_run(alloc, basin, inputs)?, basin, methods)
+    let engine = Engine::for_run(alloc, basin, policy, inputs)?;
+    let setup = RunSetup {
+        basin,
+        methods,
+        policy,
+        predefs,
+    };
+    pass_all(engine, &setup, steps)
 }
 
 /// The same without a trace: what the run comes to but for its lines.
-pub fn run_without_trace(
+pub fn run_without_trace<L: Ledger>(
     alloc: Global,
     basin: &Basin,
     methods: &Catalogue,
+    policy: &Verified,
+    predefs: &Predefs,
     inputs: &Inputs,
+    steps: &mut Steps<L>,
 ) -> Result<Run, NoMemory>
+    requires fits { verified basin.now policy.now.blocks ≡ Ok policy.now }
     requires order { AreInOrder (map (λ b. code (b.vtable, b.value)) methods.now.methods.items) }
     requires inputs { IsInputsOf basin.now inputs.now }
-    ensures run { IfOk result (ComesTo basin.now no_rules inputs.now) }
+    ensures run { IfOk result (ComesTo basin.now (policy_in basin.now policy.now) inputs.now) }
     ensures closed { IfOk result (λ run. run.closed ≤ basin.now.control.stamps.count) }
+    ensures counted { CountsSteps basin.now steps.old steps.new result }
 {
-    pass_all(Engine::without_trace(alloc, basin, inputs)?, basin, methods)
+    let engine = Engine::without_trace(alloc, basin, policy, inputs)?;
+    let setup = RunSetup {
+        basin,
+        methods,
+        policy,
+        predefs,
+    };
+    pass_all(engine, &setup, steps)
 }

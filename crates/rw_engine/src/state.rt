@@ -1,39 +1,45 @@
-ghost use Rattle.std.specs.Prelude.{◌≡◌, ◌<◌, ◌≤◌, ◌∷◌, [], ℕ, List, map, Some, IfOk, IfErr, IfSome, IsSome};
+ghost use Rattle.std.specs.Prelude.{◌≡◌, ◌<◌, ◌∷◌, [], ℕ, List, map, Some, None, Ok, IfOk, IfErr, IfSome, IsSome};
 ghost use Rattle.rw_model.specs.Draft.{Draft};
 ghost use Rattle.rw_method.specs.Catalogue.{AreInOrder};
 ghost use Rattle.rw_inputs.specs.Inputs.{IsInputsOf};
-ghost use Rattle.rw_run.specs.Log.{Log, opened};
-ghost use Rattle.rw_run.specs.Next.{dispatches, no_rules};
+ghost use Rattle.rw_run.specs.Log.{Log, fault};
+ghost use Rattle.rpl_verify.specs.Verified.{Accepted, verified};
+ghost use Rattle.rw_rules.specs.Firing.{IsRuleTurn};
 ghost use Rattle.rw_run.specs.Runs.{placed};
 ghost use Rattle.rw_run.specs.RunOf.{IsRunOf};
 ghost use Rattle.rw_model.specs.Turn.{IsStep, IsTurn};
 ghost use Rattle.rw_engine.specs.Counts.{count_of};
 ghost use Rattle.rw_inputs.specs.Givens.{givens};
-ghost use Rattle.rw_engine.specs.Shows.{IsEngineOf, Shows, IsBefore};
-ghost use Rattle.rw_engine.specs.State.{seen, IsOnTheWay, IsRevocable, IsStateOf, IsStill, IsWithinStep, HoldsWithin, Goes, Keeps, OnlyTells, end_by, ended_by};
-ghost use Rattle.rw_engine.specs.Passing.{Passes};
+ghost use Rattle.rw_engine.specs.Passing.{RunsStep};
+ghost use Rattle.rw_engine.specs.Shows.{IsEngineOf, Shows};
+ghost use Rattle.rw_engine.specs.State.{seen, Does, HasPassed, HoldsBefore, HoldsDue, HoldsWithin, IsFresh, IsOpened, IsStateOf, IsWithinStep, OnlyTells, end_by, ended_by};
 
 use crate::counts::Counts;
 use crate::placing::place;
+use crate::setup::RunSetup;
 use crate::step_end::StepEnd;
-use crate::trace_lines::tell;
+use crate::trace_lines::{tell, tell_firing};
 use crate::undo::{Undone, note, take_back};
-use rw_base::{NoMemory, ObjectNo, StepNo};
+use rpl_verify::Verified;
+use rw_base::{NoMemory, ObjectNo, RuleNo, StepNo};
 use rw_dispatch::{Queue, Workspace, judge_dispatch, make};
 use rw_inputs::Inputs;
-use rw_method::Catalogue;
 use rw_model::Basin;
+use rw_rules::Rules;
 use rw_run::{Run, RunEnd, RunFault, Trace, TraceEvent};
 use rw_series::Series;
 use std::alloc::Global;
 
-/// What an engine works on. Queue and counts are those of the open timestep, and what can be undone was put in it.
+/// What an engine works on. Queue, rules and counts, of dispatches and of firings, are those of the open timestep, and what can be
+/// undone was put in it.
 #[derive(Drop)]
 pub(crate) struct State {
     series: Series,
     queue: Queue,
+    rules: Rules,
     work: Workspace,
     counts: Counts,
+    firings: Counts,
     trace: Trace,
     closed: u16,
     end: RunEnd,
@@ -45,25 +51,31 @@ impl State {
     pub(crate) fn for_run(
         alloc: Global,
         basin: &Basin,
+        policy: &Verified,
         inputs: &Inputs,
         trace: Trace,
     ) -> Result<State, NoMemory>
+        requires fits { verified basin.now policy.now.blocks ≡ Ok policy.now }
         requires inputs { IsInputsOf basin.now inputs.now }
         requires fresh { IfSome trace (λ lines. lines ≡ []) }
-        ensures made { IfOk result (IsStateOf basin.now) }
+        ensures made { IfOk result (IsStateOf basin.now policy.now) }
         ensures shows { IfOk result
             (λ state. Shows basin.now (seen state) (placed [] (givens basin.now inputs.now))) }
         ensures trace { IfOk result (λ state. state.trace ≡ trace) }
     {
         let mut series = Series::sized(alloc, basin)?;
         let queue = Queue::for_basin(alloc, basin)?;
+        let rules = Rules::for_policy(alloc, policy, basin)?;
         let counts = Counts::zero(alloc, basin.object_count())?;
+        let firings = Counts::zero(alloc, policy.rule_count())?;
         place(basin, inputs, &mut series);
         Ok(State {
             series,
             queue,
+            rules,
             work: Workspace::new(),
             counts,
+            firings,
             trace,
             closed: 0,
             end: RunEnd::Settled,
@@ -72,63 +84,51 @@ impl State {
     }
 
     // Opens a timestep.
-    fn open(&mut self, basin: &Basin, step: StepNo) -> Result<(), NoMemory>
-        requires made { IsStateOf basin.now self.old }
-        requires cleared { self.old.undo.items ≡ [] }
-        ensures made { IsStateOf basin.now self.new }
-        ensures within { IfOk result (λ _. IsWithinStep basin.now self.new) }
+    fn open(&mut self, setup: &RunSetup, step: StepNo) -> Result<(), NoMemory>
+        requires fresh { IsFresh setup.now.basin.now setup.now.policy.now self.old }
+        ensures made { IsStateOf setup.now.basin.now setup.now.policy.now self.new }
         ensures tells { OnlyTells self.old self.new }
-        ensures opened { IfOk result (λ _. (log : Log)
-            → Shows basin.now (seen self.old) log → IsBefore basin.now step.0 log
-            → HoldsWithin basin.now self.new step.0 (opened step.0 ∷ log) self.new.queue.waiting) }
+        ensures opened { IfOk result
+            (λ _. IsOpened setup.now.basin.now setup.now.policy.now step.0 self.old self.new) }
         ensures wants { IfErr result (λ _. IsSome self.old.trace) }
     {
         self.trace.push(TraceEvent::Opened(step))?;
-        self.queue.begin_step(basin);
+        self.queue.begin_step(setup.basin);
+        self.rules.begin_step();
         self.counts.clear();
+        self.firings.clear();
         Ok(())
     }
 
     // Closes the open timestep.
-    fn close(&mut self, basin: &Basin, step: StepNo) -> Result<StepEnd, NoMemory>
-        requires within { IsWithinStep basin.now self.old }
-        requires step { IsStep basin.now step.0 }
-        ensures keeps { Keeps basin.now self.old self.new }
-        ensures still { IfErr result (λ _. IsStill self.old self.new) }
-        ensures goes { (log : Log) → HoldsWithin basin.now self.old step.0 log []
-            → IfOk result (λ end. Goes basin.now no_rules (Some end) self.new step.0 log) }
-        ensures wants { IfErr result (λ _. IsSome self.old.trace) }
+    fn close(&mut self, setup: &RunSetup, step: StepNo) -> Result<Option<StepEnd>, NoMemory>
+        requires within { IsWithinStep setup.now.basin.now setup.now.policy.now self.old }
+        requires idle { self.old.queue.waiting ≡ [] }
+        requires step { IsStep setup.now.basin.now step.0 }
+        ensures { Does setup.now.basin.now setup.now.policy.now step.0 self.old self.new
+            (HoldsDue setup.now.basin.now setup.now.policy.now self.old step.0 None) result }
     {
         self.trace.push(TraceEvent::Closed(step))?;
         self.closed = step.0;
-        Ok(StepEnd::Closed)
+        Ok(Some(StepEnd::Closed))
     }
 
     // Ends the run by a limit that is reached.
     fn exceed(
         &mut self,
-        basin: &Basin,
-        object: ObjectNo,
+        setup: &RunSetup,
         step: StepNo,
-        count: u8,
-    ) -> Result<StepEnd, NoMemory>
-        requires within { IsWithinStep basin.now self.old }
-        requires limit { basin.now.control.object_limit ≤ count }
-        ensures keeps { Keeps basin.now self.old self.new }
-        ensures still { IfErr result (λ _. IsStill self.old self.new) }
-        ensures goes { (log : Log) (rest : List ℕ)
-            → HoldsWithin basin.now self.old step.0 log (object.0 ∷ rest) → count ≡ dispatches log object.0
-            → IfOk result (λ end. Goes basin.now no_rules (Some end) self.new step.0 log) }
-        ensures wants { IfErr result (λ _. IsSome self.old.trace) }
+        why: RunFault,
+    ) -> Result<Option<StepEnd>, NoMemory>
+        requires within { IsWithinStep setup.now.basin.now setup.now.policy.now self.old }
+        ensures { (waits : List ℕ)
+            → Does setup.now.basin.now setup.now.policy.now step.0 self.old self.new
+            (HoldsBefore setup.now.basin.now setup.now.policy.now self.old step.0 waits
+            (fault why)) result }
     {
-        let fault = RunFault::ObjectLimit {
-            object,
-            step,
-            count,
-        };
-        self.trace.push(TraceEvent::Fault(fault))?;
-        self.end = RunEnd::Fault(fault);
-        Ok(StepEnd::Fault(fault))
+        self.trace.push(TraceEvent::Fault(why))?;
+        self.end = RunEnd::Fault(why);
+        Ok(Some(StepEnd::Fault(why)))
     }
 
     // Ends the run by the fault, if there is one.
@@ -148,131 +148,187 @@ impl State {
     // Dispatches the object that was taken out of the queue, below its limit.
     fn act(
         &mut self,
-        basin: &Basin,
-        methods: &Catalogue,
+        setup: &RunSetup,
         object: ObjectNo,
         step: StepNo,
     ) -> Result<Option<StepEnd>, NoMemory>
-        requires within { IsWithinStep basin.now self.old }
-        requires order { AreInOrder (map (λ b. code (b.vtable, b.value)) methods.now.methods.items) }
-        requires turn { IsTurn basin.now object.0 step.0 }
-        requires below { count_of self.old.counts object.0 < basin.now.control.object_limit }
-        ensures keeps { Keeps basin.now self.old self.new }
-        ensures on_the_way { IsOnTheWay basin.now result self.old self.new }
-        ensures goes { (log : Log)
-            → HoldsWithin basin.now self.old step.0 log (object.0 ∷ self.old.queue.waiting)
-            → IfOk result (λ end. Goes basin.now no_rules end self.new step.0 log) }
-        ensures wants { IfErr result (λ _. IsSome self.old.trace) }
+        requires within { IsWithinStep setup.now.basin.now setup.now.policy.now self.old }
+        requires order { AreInOrder
+            (map (λ b. code (b.vtable, b.value)) setup.now.methods.now.methods.items) }
+        requires turn { IsTurn setup.now.basin.now object.0 step.0 }
+        requires below { count_of self.old.counts object.0
+            < setup.now.basin.now.control.object_limit }
+        ensures { Does setup.now.basin.now setup.now.policy.now step.0 self.old self.new
+            (HoldsWithin setup.now.basin.now setup.now.policy.now self.old step.0
+            (object.0 ∷ self.old.queue.waiting)) result }
     {
         self.counts.raise(object.0);
-        let end = judge_dispatch(basin, methods, &self.series, object, step, &mut self.work);
+        let end = judge_dispatch(
+            setup.basin,
+            setup.methods,
+            &self.series,
+            object,
+            step,
+            &mut self.work,
+        );
         let writes = self.work.writes.as_slice();
         note(&mut self.undo, &self.trace, &self.series, writes)?;
         let fault = tell(&mut self.trace, object, step, &end, writes)?;
-        make(basin, &mut self.series, writes);
-        self.queue.wake_written(basin, step, writes, Some(object));
+        make(setup.basin, &mut self.series, writes);
+        self.queue
+            .wake_written(setup.basin, step, writes, Some(object));
+        self.rules.touched(setup.basin, writes);
         Ok(self.end_by(fault))
     }
 
     // Dispatches the object that was taken out of the queue, unless its limit is reached.
     fn ask(
         &mut self,
-        basin: &Basin,
-        methods: &Catalogue,
+        setup: &RunSetup,
         object: ObjectNo,
         step: StepNo,
     ) -> Result<Option<StepEnd>, NoMemory>
-        requires within { IsWithinStep basin.now self.old }
-        requires order { AreInOrder (map (λ b. code (b.vtable, b.value)) methods.now.methods.items) }
-        requires turn { IsTurn basin.now object.0 step.0 }
-        ensures keeps { Keeps basin.now self.old self.new }
-        ensures on_the_way { IsOnTheWay basin.now result self.old self.new }
-        ensures goes { (log : Log)
-            → HoldsWithin basin.now self.old step.0 log (object.0 ∷ self.old.queue.waiting)
-            → IfOk result (λ end. Goes basin.now no_rules end self.new step.0 log) }
-        ensures wants { IfErr result (λ _. IsSome self.old.trace) }
+        requires within { IsWithinStep setup.now.basin.now setup.now.policy.now self.old }
+        requires order { AreInOrder
+            (map (λ b. code (b.vtable, b.value)) setup.now.methods.now.methods.items) }
+        requires turn { IsTurn setup.now.basin.now object.0 step.0 }
+        ensures { Does setup.now.basin.now setup.now.policy.now step.0 self.old self.new
+            (HoldsWithin setup.now.basin.now setup.now.policy.now self.old step.0
+            (object.0 ∷ self.old.queue.waiting)) result }
     {
         let count = self.counts.get(object.0);
-        if basin.control().object_limit <= count {
-            return Ok(Some(self.exceed(basin, object, step, count)?));
+        if setup.basin.control().object_limit <= count {
+            return self.exceed(
+                setup,
+                step,
+                RunFault::ObjectLimit {
+                    object,
+                    step,
+                    count,
+                },
+            );
         }
-        self.act(basin, methods, object, step)
+        self.act(setup, object, step)
+    }
+
+    // Lets the rule fire that is due, below its limit.
+    fn fire(
+        &mut self,
+        setup: &RunSetup,
+        rule: RuleNo,
+        step: StepNo,
+    ) -> Result<Option<StepEnd>, NoMemory>
+        requires within { IsWithinStep setup.now.basin.now setup.now.policy.now self.old }
+        requires idle { self.old.queue.waiting ≡ [] }
+        requires turn { IsRuleTurn setup.now.basin.now setup.now.policy.now rule.0 step.0 }
+        requires below { count_of self.old.firings rule.0 < setup.now.basin.now.control.rule_limit }
+        ensures { Does setup.now.basin.now setup.now.policy.now step.0 self.old self.new
+            (HoldsDue setup.now.basin.now setup.now.policy.now self.old step.0
+            (Some rule.0)) result }
+    {
+        self.firings.raise(rule.0);
+        let fired = self.rules.fire(
+            setup.policy,
+            setup.predefs,
+            setup.basin,
+            &self.series,
+            rule,
+            step,
+        );
+        let writes = self.rules.written();
+        note(&mut self.undo, &self.trace, &self.series, writes)?;
+        let fault = tell_firing(&mut self.trace, rule, step, &fired, writes)?;
+        self.rules
+            .write(setup.basin, &mut self.series, &mut self.queue, step);
+        Ok(self.end_by(fault))
+    }
+
+    // Lets the rule fire that is due, unless its limit is reached.
+    fn let_fire(
+        &mut self,
+        setup: &RunSetup,
+        rule: RuleNo,
+        step: StepNo,
+    ) -> Result<Option<StepEnd>, NoMemory>
+        requires within { IsWithinStep setup.now.basin.now setup.now.policy.now self.old }
+        requires idle { self.old.queue.waiting ≡ [] }
+        requires turn { IsRuleTurn setup.now.basin.now setup.now.policy.now rule.0 step.0 }
+        ensures { Does setup.now.basin.now setup.now.policy.now step.0 self.old self.new
+            (HoldsDue setup.now.basin.now setup.now.policy.now self.old step.0
+            (Some rule.0)) result }
+    {
+        let count = self.firings.get(rule.0);
+        if setup.basin.control().rule_limit <= count {
+            return self.exceed(setup, step, RunFault::RuleLimit { rule, step, count });
+        }
+        self.fire(setup, rule, step)
+    }
+
+    // Where no object waits, the first rule that is due fires; where none is due, the timestep is closed.
+    fn turn_to_rules(&mut self, setup: &RunSetup, step: StepNo) -> Result<Option<StepEnd>, NoMemory>
+        requires within { IsWithinStep setup.now.basin.now setup.now.policy.now self.old }
+        requires idle { self.old.queue.waiting ≡ [] }
+        requires step { IsStep setup.now.basin.now step.0 }
+        ensures { Does setup.now.basin.now setup.now.policy.now step.0 self.old self.new
+            (HoldsWithin setup.now.basin.now setup.now.policy.now self.old step.0
+            self.old.queue.waiting) result }
+    {
+        match self.rules.due(&self.series) {
+            Some(rule) => self.let_fire(setup, rule, step),
+            None => self.close(setup, step),
+        }
     }
 
     // The event that follows in the open timestep.
-    fn event(
-        &mut self,
-        basin: &Basin,
-        methods: &Catalogue,
-        step: StepNo,
-    ) -> Result<Option<StepEnd>, NoMemory>
-        requires within { IsWithinStep basin.now self.old }
-        requires order { AreInOrder (map (λ b. code (b.vtable, b.value)) methods.now.methods.items) }
-        requires step { IsStep basin.now step.0 }
-        ensures keeps { Keeps basin.now self.old self.new }
-        ensures on_the_way { IsOnTheWay basin.now result self.old self.new }
-        ensures goes { (log : Log) → HoldsWithin basin.now self.old step.0 log self.old.queue.waiting
-            → IfOk result (λ end. Goes basin.now no_rules end self.new step.0 log) }
-        ensures wants { IfErr result (λ _. IsSome self.old.trace) }
+    fn event(&mut self, setup: &RunSetup, step: StepNo) -> Result<Option<StepEnd>, NoMemory>
+        requires within { IsWithinStep setup.now.basin.now setup.now.policy.now self.old }
+        requires order { AreInOrder
+            (map (λ b. code (b.vtable, b.value)) setup.now.methods.now.methods.items) }
+        requires step { IsStep setup.now.basin.now step.0 }
+        ensures { Does setup.now.basin.now setup.now.policy.now step.0 self.old self.new
+            (HoldsWithin setup.now.basin.now setup.now.policy.now self.old step.0
+            self.old.queue.waiting) result }
     {
         match self.queue.next() {
-            Some(object) => self.ask(basin, methods, object, step),
-            None => Ok(Some(self.close(basin, step)?)),
+            Some(object) => self.ask(setup, object, step),
+            None => self.turn_to_rules(setup, step),
         }
     }
 
     // The events of a timestep, of which the first opens it.
-    fn pass(
-        &mut self,
-        basin: &Basin,
-        methods: &Catalogue,
-        step: StepNo,
-    ) -> Result<StepEnd, NoMemory>
-        requires made { IsStateOf basin.now self.old }
-        requires cleared { self.old.undo.items ≡ [] }
-        requires order { AreInOrder (map (λ b. code (b.vtable, b.value)) methods.now.methods.items) }
-        requires step { IsStep basin.now step.0 }
-        ensures made { IsStateOf basin.now self.new }
-        ensures revocable { IsRevocable basin.now self.old self.new }
-        ensures still { IfErr result (λ _. IsStill self.old self.new) }
-        ensures passes { (log : Log)
-            → Shows basin.now (seen self.old) log → IsBefore basin.now step.0 log
-            → IfOk result (λ end. Passes basin.now no_rules log end (seen self.new) step.0) }
-        ensures wants { IfErr result (λ _. IsSome self.old.trace) }
+    fn pass(&mut self, setup: &RunSetup, step: StepNo) -> Result<StepEnd, NoMemory>
+        requires fresh { IsFresh setup.now.basin.now setup.now.policy.now self.old }
+        requires order { AreInOrder
+            (map (λ b. code (b.vtable, b.value)) setup.now.methods.now.methods.items) }
+        requires step { IsStep setup.now.basin.now step.0 }
+        ensures { HasPassed setup.now.basin.now setup.now.policy.now step.0
+            self.old self.new result }
     {
-        self.open(basin, step)?;
+        self.open(setup, step)?;
         loop {
-            if let Some(end) = self.event(basin, methods, step)? {
+            if let Some(end) = self.event(setup, step)? {
                 return Ok(end);
             }
         }
     }
 
     /// Passes a timestep, and takes back what was done in it where memory wants for the rest.
-    pub(crate) fn run_step(
-        &mut self,
-        basin: &Basin,
-        methods: &Catalogue,
-        step: StepNo,
-    ) -> Result<StepEnd, NoMemory>
-        requires made { IsStateOf basin.now self.old }
-        requires order { AreInOrder (map (λ b. code (b.vtable, b.value)) methods.now.methods.items) }
-        requires step { IsStep basin.now step.0 }
-        ensures made { IsStateOf basin.now self.new }
-        ensures passes { (log : Log)
-            → Shows basin.now (seen self.old) log → IsBefore basin.now step.0 log
-            → IfOk result (λ end. Passes basin.now no_rules log end (seen self.new) step.0) }
-        ensures before { (log : Log) → Shows basin.now (seen self.old) log
-            → IfErr result (λ _. Shows basin.now (seen self.new) log) }
-        ensures kept { IsSome self.old.trace → IsSome self.new.trace }
+    pub(crate) fn run_step(&mut self, setup: &RunSetup, step: StepNo) -> Result<StepEnd, NoMemory>
+        requires made { IsStateOf setup.now.basin.now setup.now.policy.now self.old }
+        requires order { AreInOrder
+            (map (λ b. code (b.vtable, b.value)) setup.now.methods.now.methods.items) }
+        requires step { IsStep setup.now.basin.now step.0 }
+        ensures made { IsStateOf setup.now.basin.now setup.now.policy.now self.new }
+        ensures runs { RunsStep setup.now.basin.now setup.now.policy.now step.0
+            (seen self.old) (seen self.new) result }
     {
         self.undo.clear();
         let mark = self.trace.len();
-        match self.pass(basin, methods, step) {
+        match self.pass(setup, step) {
             Ok(end) => Ok(end),
             Err(NoMemory) => {
                 self.trace.truncate(mark);
-                take_back(basin, &mut self.series, &mut self.undo);
+                take_back(setup.basin, &mut self.series, &mut self.undo);
                 Err(NoMemory)
             }
         }
@@ -280,8 +336,8 @@ impl State {
 
     /// What the run came to.
     pub(crate) fn finish(self) -> Run
-        ensures run { (basin : Draft) (log : Log) → IsEngineOf basin (seen self)
-            → Shows basin (seen self) log → IsRunOf basin log result }
+        ensures run { (basin : Draft) (policy : Accepted) (log : Log)
+            → IsEngineOf basin policy (seen self) → Shows basin (seen self) log → IsRunOf basin log result }
         ensures closed { result.closed ≡ self.closed }
         ensures trace { result.trace ≡ self.trace }
     {

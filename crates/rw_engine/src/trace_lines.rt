@@ -1,13 +1,15 @@
-//! Writing the trace of a dispatch.
-ghost use Rattle.std.specs.Prelude.{◌≡◌, [], ◌∷◌, map, IfOk, IfErr, IsSome, Some};
+//! Writing the lines of events.
+ghost use Rattle.std.specs.Prelude.{◌≡◌, [], ◌∷◌, map, IfOk, IfErr, IsSome, None, Some};
 ghost use Rattle.rw_run.specs.declared.trace.TraceEvent.TheVariants as Line;
 ghost use Rattle.rw_run.specs.RunOf.{line_of};
 ghost use Rattle.rw_run.specs.Trace.{told};
-ghost use Rattle.rw_engine.specs.Lines.{lines_by, fault_by, Grows};
+ghost use Rattle.rw_engine.specs.Lines.{lines_by, lines_of_rule, fault_by, fault_of_rule, Grows};
 
-use rw_base::{NoMemory, ObjectNo, StepNo};
+use rw_base::{NoMemory, ObjectNo, RuleNo, StepNo};
 use rw_dispatch::DispatchEnd;
+use rw_rules::RuleFired;
 use rw_run::{RunFault, Trace, TraceEvent, Write};
+use rw_series::FireEnd;
 
 // The line of what is written.
 fn line_of(write: &Write) -> TraceEvent
@@ -43,6 +45,22 @@ fn tell_fault(trace: &mut Trace, fault: RunFault) -> Result<Option<RunFault>, No
     Ok(Some(fault))
 }
 
+// Writes a line, and one for each of these below it.
+fn tell_done(
+    trace: &mut Trace,
+    line: TraceEvent,
+    writes: &[Write],
+) -> Result<Option<RunFault>, NoMemory>
+    ensures told { IfOk result (λ ended. (trace.new
+        ≡ told trace.old (line ∷ map line_of writes.now)) × (ended ≡ None)) }
+    ensures grows { Grows trace.old trace.new }
+    ensures wants { IfErr result (λ _. IsSome trace.old) }
+{
+    trace.push(line)?;
+    tell_writes(trace, writes)?;
+    Ok(None)
+}
+
 /// Writes the lines of a dispatch that ended so and writes these, and answers the fault that it is, if it is one.
 pub(crate) fn tell(
     trace: &mut Trace,
@@ -58,15 +76,8 @@ pub(crate) fn tell(
     ensures wants { IfErr result (λ _. IsSome trace.old) }
 {
     match end {
-        DispatchEnd::Idle => {
-            trace.push(TraceEvent::Idle(object))?;
-            Ok(None)
-        }
-        DispatchEnd::Solved => {
-            trace.push(TraceEvent::Solve(object))?;
-            tell_writes(trace, writes)?;
-            Ok(None)
-        }
+        DispatchEnd::Idle => tell_done(trace, TraceEvent::Idle(object), &[]),
+        DispatchEnd::Solved => tell_done(trace, TraceEvent::Solve(object), writes),
         DispatchEnd::Conflict { slot, held, solved } => tell_fault(
             trace,
             RunFault::Conflict {
@@ -86,5 +97,36 @@ pub(crate) fn tell(
                 value: *value,
             },
         ),
+    }
+}
+
+/// Writes the lines of a rule's firing that writes these, and answers the fault that it is, if it is one.
+pub(crate) fn tell_firing(
+    trace: &mut Trace,
+    rule: RuleNo,
+    step: StepNo,
+    fired: &RuleFired,
+    writes: &[Write],
+) -> Result<Option<RunFault>, NoMemory>
+    ensures told { IfOk result (λ _. trace.new ≡ told trace.old
+        (lines_of_rule rule.0 step.0 fired.now.end fired.now.count writes.now)) }
+    ensures fault { IfOk result (λ fault. fault ≡ fault_of_rule rule.0 step.0 fired.now.end) }
+    ensures grows { Grows trace.old trace.new }
+    ensures wants { IfErr result (λ _. IsSome trace.old) }
+{
+    let count = fired.count;
+    match fired.end {
+        FireEnd::Done => {
+            let done = true;
+            tell_done(trace, TraceEvent::Fire { rule, done, count }, writes)
+        }
+        FireEnd::Unknown => {
+            let done = false;
+            tell_done(trace, TraceEvent::Fire { rule, done, count }, writes)
+        }
+        FireEnd::ZeroDivisor => tell_fault(trace, RunFault::ZeroDivisor { rule, step }),
+        FireEnd::OutOfRange(value) => {
+            tell_fault(trace, RunFault::RuleOutOfRange { rule, step, value })
+        }
     }
 }

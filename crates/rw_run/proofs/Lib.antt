@@ -9,8 +9,9 @@ mod Agains
 mod StepEvents
 mod Reruns
 mod Lasts
-mod SameRuns
+pub mod SameRuns
 mod SomeRun
 mod Choices
 pub mod Common
 pub mod Placed
+mod Openings

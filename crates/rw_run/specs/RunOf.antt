@@ -1,5 +1,5 @@
 -- What a log comes to: how it ended, how many timesteps were closed, and the lines of its trace.
-use Rattle.std.specs.Prelude.{◌≡◌, ℕ, List, [], ◌∷◌, ◌++◌, map, IfSome}
+use Rattle.std.specs.Prelude.{◌≡◌, ℕ, ◌+◌, List, [], ◌∷◌, ◌++◌, map, IfSome}
 use Rattle.rw_base.specs.declared.number.Cell.{Cell}
 use Rattle.rw_model.specs.Draft.{Draft}
 use Rattle.rw_series.specs.Series.{held, IsSeriesOf}
@@ -42,6 +42,17 @@ abbrev pub last_closed : Log → ℕ
 last_closed [] = 0
 last_closed (closed step ∷ log) = step
 last_closed (event ∷ log) = last_closed log
+
+-- how many timesteps were opened
+abbrev pub opened_in : Log → ℕ
+opened_in [] = 0
+opened_in (opened step ∷ log) = opened_in log + 1
+opened_in (event ∷ log) = opened_in log
+
+-- the same by how a run ended and its last closed timestep: those that were closed, and the one in which a fault came
+abbrev pub opened_by : RunEnd → ℕ → ℕ
+opened_by Settled last = last
+opened_by (Fault why) last = last + 1
 
 -- a run that came to what this log comes to
 pub record IsRunOf (basin : Draft) (log : Log) (run : Run) : Type 0 where

@@ -15,6 +15,7 @@ ghost use Rattle.rw_run.specs.Next.{Policy, no_rules};
 ghost use Rattle.rw_run.specs.Policy.{FireAlike, IsPolicyOf};
 ghost use Rattle.rw_run.specs.Runs.{IsRun, Leads, follows, placed, rests, standing};
 ghost use Rattle.rw_run.specs.Choice.{MayFollow, MayLead};
+ghost use Rattle.rw_run.specs.RunOf.{end_of, last_closed, opened_by, opened_in};
 ghost use Rattle.rw_run.specs.Step.{before_closing, before_opening, cell_count, events_of, line_count, looked_at};
 ghost use Rattle.rw_run.specs.Reuse.{AreRerun, AreRising, IsReused};
 ghost use Rattle.rw_run.specs.Timestep.{AreLooked, IsTimestep, WasHeld};
@@ -53,6 +54,13 @@ pub fn timesteps()
         → basin.control.stamps.count ≤ step → follows basin policy (closed step ∷ log) ≡ None }
     ensures fault { (basin : Draft) (policy : Policy) (log : Log) (why : RunFault)
         → follows basin policy (fault why ∷ log) ≡ None }
+{}
+
+/// A run has opened the timesteps that it closed, and the one in which a fault came.
+pub fn opened_steps()
+    ensures { (basin : Draft) (policy : Policy) (inputs : List (Cell × ℤ)) (log : Log)
+        → IsRun basin policy inputs log
+        → opened_in log ≡ opened_by (end_of log) (last_closed log) }
 {}
 
 /// A basin, a policy and inputs have one run.

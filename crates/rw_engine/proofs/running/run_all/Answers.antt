@@ -1,0 +1,14 @@
+use Rattle.rw_engine.proofs.Common.{[], givens, ◌∙◌}
+use Rattle.rw_run.proofs.Placed.{closed-placed}
+use Rattle.rw_engine.proofs.running.run_all.Goals as goal
+
+pub pass_all-requires-clause-begun : goal.pass_all-requires-clause-begun
+pass_all-requires-clause-begun g c =
+    c.in_ok-engine.ensures.shows.closed_steps ∙ closed-placed [] (givens c.args.basin.now c.args.inputs.now)
+
+pub returns-clause-counted : goal.returns-clause-counted
+returns-clause-counted g c = record {
+  opened_steps = c.pass_all.ensures.counted c.args.inputs.now c.in_ok-engine.ensures.shows;
+  rises = c.pass_all.ensures.few.0;
+  few = c.pass_all.ensures.few.1;
+}

@@ -1,0 +1,31 @@
+use Rattle.rw_engine.proofs.Common.{None, closed, held, lines, refl, rules, sym, trace_of, ◌∙◌}
+use Rattle.rw_rules.specs.Rules.{policy_in}
+use Rattle.rw_engine.proofs.Events.{settled_inside}
+use Rattle.rw_engine.proofs.Firings.{after_all}
+use Rattle.rw_engine.proofs.Traces.{shown_more}
+use Rattle.rw_engine.proofs.state.State.close.Goals as goal
+
+pub returns : goal.returns
+returns g c =
+    let basin = c.args.setup.now.basin.now in
+    let old = c.args.self.now in
+    let step = c.args.step.0 in
+    record {
+      keeps = search rules;
+      on_the_way = refl;
+      goes = λ log given. record {
+        event = closed step;
+        follows = after_all basin (policy_in basin c.args.setup.now.policy.now) (held old.series) step log None (sym given.0.queue ∙ c.requires.idle)
+            (λ i cell. given.0.shows.cells cell i) given.1;
+        goes = (
+          refl,
+          record {
+            cells = given.0.shows.cells;
+            trace = shown_more old.trace c.push.new.self (trace_of log) (lines (closed step)) c.in_ok-push.ensures.pushed given.0.shows.trace;
+            closed_steps = refl;
+            end = given.0.shows.end ∙ settled_inside log step given.0.open_step;
+          },
+        );
+      };
+      wants = tt;
+    }
