@@ -5,12 +5,12 @@ use Rattle.rw_model.proofs.Common.{Draft, numbered}
 use Rattle.rw_model.proofs.Numbered.{numbered-found}
 use Rattle.rw_series.specs.Fire.{Fire}
 use Rattle.rw_series.specs.declared.fire.FireEnd.{FireEnd}
-use Rattle.rw_series.specs.declared.fire.FireEnd.TheVariants.{Done, OutOfRange, Unknown, ZeroDivisor}
+use Rattle.rw_series.specs.declared.fire.FireEnd.TheVariants.{Done}
 use Rattle.rw_run.specs.Log.{Cells, written_by}
 use Rattle.rw_run.specs.Next.{ended}
 use Rattle.rw_writes.specs.Writes.{writes_of}
 use Rattle.rpl_code.specs.declared.block.Block.{Block}
-use Rattle.rpl_tree.proofs.Common.{Answer, Budget, Trail, World, ended as answer_ended, fire_of, stuck, value}
+use Rattle.rpl_tree.proofs.Common.{Answer, Budget, Trail, World, fire_of, stuck}
 use Rattle.rpl_verify.specs.Budget.{AreAccepted, IsWithinLimits}
 use Rattle.rpl_verify.specs.Machine.{Frame, fire_of_code, fired, first_frame, most_steps, rule_from, run}
 use Rattle.rpl_verify.specs.Safety.{AreSafe, puts_from}
@@ -32,9 +32,8 @@ its_block basin policy accepted rule n stands =
 -- ---- puts
 
 told_puts : (a : Answer (Unit {0})) (t : Trail) (fire : Fire) → fire_of a t ≡ Some fire → length fire.puts ≤ length t.puts
-told_puts (value done) t fire is = let same = ap (λ (f : Fire). length f.puts) (same_Some _ fire is) in omega (arith, same)
-told_puts (answer_ended e) t fire is = let same = ap (λ (f : Fire). length f.puts) (same_Some _ fire is) in omega (arith, same)
 told_puts stuck t fire is = absurd (none-some fire is)
+told_puts a t fire is = let same = ap (λ (f : Fire). length f.puts) (same_Some _ fire is) in omega (arith, same)
 
 puts_told : (code : List Block) (w : World) (o : Option Frame) (fire : Fire) → fired code w o ≡ Some fire → length fire.puts ≤ puts_from code w o
 puts_told code w None fire is = absurd (none-some fire is)
@@ -74,7 +73,5 @@ module _ (basin : Draft) (policy : Accepted) (safe : AreSafe basin policy.blocks
 
 pub written_told : (basin : Draft) (cells : Cells) (rule step : ℕ) (fire : Fire) (end : FireEnd) → fire.end ≡ end → (fire.end ≢ Done → fire.puts ≡ [])
     → writes_of basin cells rule step fire.puts ≡ written_by (ended basin cells rule step fire end)
-written_told basin cells rule step fire ZeroDivisor is silent = ap (writes_of basin cells rule step) (silent (λ done. cc (sym is ∙ done)))
-written_told basin cells rule step fire (OutOfRange z) is silent = ap (writes_of basin cells rule step) (silent (λ done. cc (sym is ∙ done)))
-written_told basin cells rule step fire Unknown is silent = ap (writes_of basin cells rule step) (silent (λ done. cc (sym is ∙ done)))
 written_told basin cells rule step fire Done is silent = refl
+written_told basin cells rule step fire end is silent = ap (writes_of basin cells rule step) (silent (λ done. cc (sym is ∙ done)))
