@@ -4,9 +4,9 @@ pub mod Policy
 pub mod Reading
 pub mod Reason
 pub mod RunText
-pub mod Ready
 pub mod Budgets
 pub mod Seen
+pub mod Ready
 pub mod Written
 pub mod Refusal
 pub mod Lines

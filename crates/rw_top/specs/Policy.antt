@@ -1,5 +1,5 @@
 -- What the text of a policy is found to be, with a basin.
-use Rattle.std.specs.Prelude.{◌≡◌, ℕ, ◌==◌, Bool, true, false, ◌||◌, bytes_eq, codes, List, Ok, Err, IsOk}
+use Rattle.std.specs.Prelude.{◌≡◌, ℕ, ◌==◌, Bool, true, false, ◌||◌, bytes_eq, codes, List, Ok, Err}
 use Rattle.std.specs.List.{starts_with}
 use Rattle.rw_model.specs.Draft.{Draft}
 use Rattle.rpl_tree.specs.Tree.{Declared}
@@ -93,8 +93,3 @@ RefusesText as_code basin text (BadBlocks why) = (as_code ≡ true) × RefusesCo
 abbrev pub code_of : Policy → List Block
 code_of (Ruleset rules) = translate rules
 code_of (Code blocks budgets) = blocks
-
--- it is accepted for the basin, whatever text it is of
-abbrev pub IsAccepted : Draft → Policy → Type 0
-IsAccepted basin (Ruleset rules) = IsOk (judged basin rules)
-IsAccepted basin (Code blocks budgets) = AreAccepted basin blocks budgets

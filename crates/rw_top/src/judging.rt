@@ -12,9 +12,10 @@ ghost use Rattle.rw_inputs.specs.Reading.{Reads};
 ghost use Rattle.rw_model.specs.Draft.{Draft};
 ghost use Rattle.rw_model_toml.specs.Fault.{IsWhy};
 ghost use Rattle.rw_model_toml.specs.Model.{model_of};
-ghost use Rattle.rw_top.specs.Policy.{IsCodeOf, IsPolicyOf, IsRulesetOf, RefusesBlock, RefusesNode, is_code};
+ghost use Rattle.rw_top.specs.Policy.{RefusesBlock, RefusesNode, is_code};
+ghost use Rattle.rw_top.specs.Ready.{IsMadeOf};
+ghost use Rattle.rw_top.specs.declared.policy.Policy.TheVariants as Held;
 ghost use Rattle.rw_top.specs.Refusal.{IsInputRefusal, IsModelRefusal, IsPolicyRefusal};
-ghost use Rattle.rw_top.specs.Seen.{policy_of};
 
 use crate::Refusal;
 use crate::policy::Policy;
@@ -105,7 +106,7 @@ fn refusal_of_types(_basin: &Basin, _text: &[u8], fault: TypeFault) -> Refusal
 // The ruleset of a text, for the basin.
 fn judge_rules(alloc: Global, basin: &Basin, text: &[u8]) -> Result<Typed, Refusal>
     requires { length text.now ≤ 16_777_216 }
-    ensures { MatchResult result (λ typed. IsRulesetOf basin.now text.now (rules_of typed.rules))
+    ensures { MatchResult result (λ typed. IsMadeOf false basin.now text.now (Held.Ruleset typed))
         (IsPolicyRefusal false basin.now text.now) }
 {
     let rules = match parse_rules(alloc, text) {
@@ -151,7 +152,7 @@ fn refusal_of_block(_basin: &Basin, _text: &[u8], fault: VerifyFault) -> Refusal
 
 fn judge_code(alloc: Global, basin: &Basin, text: &[u8]) -> Result<Verified, Refusal>
     requires { length text.now ≤ 16_777_216 }
-    ensures { MatchResult result (λ code. IsCodeOf basin.now text.now code.blocks code.budgets)
+    ensures { MatchResult result (λ code. IsMadeOf true basin.now text.now (Held.Code code))
         (IsPolicyRefusal true basin.now text.now) }
 {
     let code = match read_blocks(alloc, text) {
@@ -172,8 +173,7 @@ pub(crate) fn judge_policy(
     as_code: bool,
 ) -> Result<Policy, Refusal>
     requires { length text.now ≤ 16_777_216 }
-    ensures { MatchResult result
-        (λ policy. IsPolicyOf as_code basin.now text.now (policy_of policy))
+    ensures { MatchResult result (IsMadeOf as_code basin.now text.now)
         (IsPolicyRefusal as_code basin.now text.now) }
 {
     if as_code {

@@ -4,6 +4,7 @@ ghost use Rattle.rw_plain_reservoir.specs.FirstForm.{FirstModel, IsFirstForm, Is
 ghost use Rattle.rw_plain_reservoir.specs.Table.{IsFirstText};
 ghost use Rattle.rw_io.specs.Causes.{Rose};
 ghost use Rattle.rw_io.specs.Known.{GrowsBy};
+ghost use Rattle.rw_run.specs.Next.{Policy as RunPolicy, no_rules};
 ghost use Rattle.rw_run.specs.declared.fault.RunFault.{RunFault};
 ghost use Rattle.rw_run.specs.declared.run.RunEnd.TheVariants.{Settled, Fault};
 ghost use Rattle.rw_model.specs.Basin.{IsBasin};
@@ -24,7 +25,7 @@ ghost use Rattle.rw_top.specs.Call.{Call};
 ghost use Rattle.rw_top.specs.Command.{AskFor, AskNothing, Asks, Command, order, path_of, simulates};
 ghost use Rattle.rw_top.specs.FirstCall.{IsFirstCall};
 ghost use Rattle.rw_top.specs.Policy.{BadCode, RulesRefusal, BadRules, BadBlocks, Policy, Ruleset, Code, IsPolicyOf};
-ghost use Rattle.rw_top.specs.Promise.{Promise, WroteCheck, WroteCode, WroteRun};
+ghost use Rattle.rw_top.specs.Promise.{Promise, WroteCheck, WroteCode, WroteRules, WroteRun};
 ghost use Rattle.rw_top.specs.Reading.{AcceptsAll, HoldsTooLong, ReadsInputs, RefusesInputs, RefusesModel, RefusesPolicy};
 ghost use Rattle.rw_top.specs.Refusal.{FailsToRead, FindsTooLong};
 ghost use Rattle.rw_top.specs.Written.{WritesFront};
@@ -45,11 +46,12 @@ pub fn one_inputs()
         → Reads basin text inputs → ¬ Refuses basin text fault }
 {}
 
-/// A basin and its inputs have one run, which has one end and one text, and all that counts of inputs are their values.
+/// A basin, a policy and inputs have one run, which has one end and one text, and all that counts of inputs are their values.
 pub fn one_text()
-    ensures { (basin : Draft) (inputs others : Inputs) (end other : RunEnd) (text more : List ℕ)
+    ensures { (basin : Draft) (policy : RunPolicy) (inputs others : Inputs)
+        (end other : RunEnd) (text more : List ℕ)
         → ((slot step : ℕ) → value_at inputs slot step ≡ value_at others slot step)
-        → IsRunText basin inputs end text → IsRunText basin others other more
+        → IsRunText basin policy inputs end text → IsRunText basin policy others other more
         → (end ≡ other) × (text ≡ more) }
 {
     one_run();
@@ -61,7 +63,7 @@ pub fn first_form()
     ensures { (basin : Draft) (model : FirstModel) (inputs : Inputs) (inflows outflows : List ℤ)
         → IsBasin basin → IsFirstForm basin model
         → IsFirstFlows inputs model.run.count inflows outflows
-        → (end : RunEnd) (text : List ℕ) → IsRunText basin inputs end text
+        → (end : RunEnd) (text : List ℕ) → IsRunText basin no_rules inputs end text
         → (fault : Option ℤ) × IsFirstText model inflows outflows fault text
         × ((fault ≡ None) ↔ (end ≡ Settled)) }
 {
@@ -91,9 +93,9 @@ pub fn first_call()
 /// What each status says of a call that keeps its promise. 5 says nothing: want of memory may always come.
 pub fn statuses()
     ensures settled { (call : Call) → Promise call 0
-        → WroteRun call Settled ⊎ WroteCheck call ⊎ WroteCode call }
+        → WroteRun call Settled ⊎ WroteRules call Settled ⊎ WroteCheck call ⊎ WroteCode call }
     ensures faulted { (call : Call) → Promise call 1
-        → (why : RunFault) × WroteRun call (Fault why) }
+        → (why : RunFault) × (WroteRun call (Fault why) ⊎ WroteRules call (Fault why)) }
     ensures words { (call : Call) → Promise call 2 → AskNothing call.words }
     ensures read_fault { (call : Call) → Promise call 3
         → AskFor call.words (λ command. (file : File) × FailsToRead command call.shelf file) }
@@ -116,9 +118,9 @@ pub fn statuses()
         → call.out.after.contents ≡ call.out.before.contents }
 {}
 
-/// What has to be refused of a command is, with its status, unless memory was wanting: where the shelf tells the files up
-/// to the one that is refused, and had no fault of them. Where each file is accepted, and the output had no fault either,
-/// only memory can be wanting.
+/// What has to be refused of a command is, with its status, unless memory was wanting: where the shelf tells the files up to the one
+/// that is refused, and had no fault of them. Where each file is accepted, and the output had no fault either, only memory can be
+/// wanting.
 pub fn dues()
     ensures model { (call : Call) (status : ℕ) (command : Command) (why : ModelRefusal)
         → Promise call status → Asks call.words command

@@ -13,6 +13,7 @@ pub mod law;
 mod perform;
 mod policy;
 mod refusal;
+mod run;
 mod simulate;
 mod tell;
 mod top;
