@@ -1,5 +1,5 @@
 -- What is read of a text is one thing.
-use Rattle.rw_top.proofs.Common.{Bool, Declared, Err, InputFault, IsReading, List, Ok, Reads, Refuses, ap, bad_declaration, bad_token, false, policy_status, read_records, refl, spelt, sym, too_many, true, ℕ, ◌∙◌, ◌≡◌}
+use Rattle.rw_top.proofs.Common.{Bool, Declared, Err, InputFault, IsReading, List, Ok, Reads, Refuses, ap, false, policy_status, read_records, refl, sym, true, ℕ, ◌∙◌, ◌≡◌}
 use Rattle.rpl_parse.proofs.CutFacts.{one_reading_holds}
 use Rattle.rpl_types.specs.Judged.{judged}
 use Rattle.rw_inputs.proofs.Same.{one_list}
@@ -8,7 +8,7 @@ use Rattle.rw_inputs.specs.Inputs.{Inputs, value_at, given_at}
 use Rattle.rpl_code.specs.declared.block.Block.{Block}
 use Rattle.rpl_tree.specs.Budget.{Budget}
 use Rattle.rpl_verify.specs.Budget.{ruling}
-use Rattle.rw_top.specs.Policy.{BadCode, Unread, Misfit, Policy, Ruleset, Code, PolicyRefusal, BadRules, BadBlocks, RulesRefusal, BadToken, BadDeclaration, TooMany, BadNode, IsCodeOf, IsPolicyOf, IsRulesetOf, RefusesCode, RefusesRules, RefusesText}
+use Rattle.rw_top.specs.Policy.{BadCode, Unread, Misfit, Policy, Ruleset, Code, PolicyRefusal, BadRules, BadBlocks, RulesRefusal, BadGrammar, BadNode, IsCodeOf, IsPolicyOf, IsRulesetOf, RefusesCode, RefusesRules, RefusesText}
 
 -- inputs that are refused aren't read
 pub refuses_clash : (basin : Draft) (text : List ℕ) (inputs : Inputs) (fault : InputFault)
@@ -28,20 +28,14 @@ same_values basin text inputs others h k slot step =
     h.kept.values slot step ∙ ap (λ rs. given_at basin rs slot step) rows ∙ sym (k.kept.values slot step)
 
 -- a text spells one ruleset
-one_ruleset : (text : List ℕ) (rules others : List Declared) → IsReading text (spelt rules) → IsReading text (spelt others) → rules ≡ others
+one_ruleset : (text : List ℕ) (rules others : List Declared) → IsReading text (Ok rules) → IsReading text (Ok others) → rules ≡ others
 one_ruleset text rules others h k =
-    let same : spelt rules ≡ spelt others = one_reading_holds text (spelt rules) (spelt others) h k in cc
+    let same = one_reading_holds text (Ok rules) (Ok others) h k in cc
 
 -- rules that are refused aren't accepted
 rules_clash : (basin : Draft) (text : List ℕ) (rules : List Declared) (why : RulesRefusal)
     → IsRulesetOf basin text rules → RefusesRules basin text why → ⊥
-rules_clash basin text rules (BadToken line) h k =
-    let same : spelt rules ≡ bad_token line = one_reading_holds text (spelt rules) (bad_token line) h.spells k in cc
-rules_clash basin text rules (BadDeclaration declaration line) h k =
-    let same : spelt rules ≡ bad_declaration declaration line =
-    one_reading_holds text (spelt rules) (bad_declaration declaration line) h.spells k in cc
-rules_clash basin text rules (TooMany declaration) h k =
-    let same : spelt rules ≡ too_many declaration = one_reading_holds text (spelt rules) (too_many declaration) h.spells k in cc
+rules_clash basin text rules (BadGrammar why) h k = let same = one_reading_holds text (Ok rules) (Err why) h.spells k in cc
 rules_clash basin text rules (BadNode why) h k =
     let same = one_ruleset text rules k.rules h.spells k.spells in
     let both : Ok h.types ≡ Err why = sym h.typed ∙ ap (judged basin) same ∙ k.refused in cc
