@@ -178,7 +178,8 @@ kind = "reservoir"
 initial_storage = 1000
 "#;
 
-const CAP_AND_BASE: &str = "CODE 1\nRULE\nLOCALS -\nslot Dam.Storage\nnow\nread\nnum 1020\ncall Min\nput Dam.Storage 0\nEND\nRULE\nLOCALS -\nnum 50\nput Dam.Outflow 0\nEND\n";
+const CAP_AND_BASE: &str =
+    "CODE 1\nRULE\nLOCALS -\nslot Dam.Storage\nnow\nread\nnum 1020\ncall Min\nput Dam.Storage 0\nEND\nRULE\nLOCALS -\nnum 50\nput Dam.Outflow 0\nEND\n";
 
 const INFLOW: &str = "slot,step,value\nDam.Inflow,1,100\n";
 
@@ -191,7 +192,11 @@ fn fire(rule: u16, count: u64) -> TraceEvent {
 }
 
 fn check_dam(rt: &impl Abort, run: &Run) {
-    let (dam, cap, base) = (ObjectNo(1), Writer::Rule(RuleNo(1)), Writer::Rule(RuleNo(2)));
+    let (dam, cap, base) = (
+        ObjectNo(1),
+        Writer::Rule(RuleNo(1)),
+        Writer::Rule(RuleNo(2)),
+    );
     let lines = [
         TraceEvent::Opened(StepNo(1)),
         TraceEvent::Idle(dam),

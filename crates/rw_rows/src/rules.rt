@@ -20,8 +20,7 @@ const CAP_AND_BASE: &[u8] =
 const THEIR_CODE: &[u8] =
     b"CODE 1\nRULE\nLOCALS -\nslot Dam.Storage\nnow\nread\nnum 1020\ncall Min\nput Dam.Storage 0\nEND\nRULE\nLOCALS -\nnum 50\nput Dam.Outflow 0\nEND\n";
 
-const BY_ZERO: &[u8] =
-    b"RULE \"none\": Dam.Outflow[t] := 100 \"m3\" / 0 \"step\"; ENDRULE\n";
+const BY_ZERO: &[u8] = b"RULE \"none\": Dam.Outflow[t] := 100 \"m3\" / 0 \"step\"; ENDRULE\n";
 
 const CAPPED: Simulation<'static> = Simulation {
     model: MODEL,
@@ -86,10 +85,7 @@ const RUNS: &[(&[u8], Simulation<'static>)] = &[
 ];
 
 // The first of the runs, counted from 0, that doesn't come to what is wanted.
-fn first_unmet(
-    alloc: Global,
-    rows: &[(&[u8], Simulation<'_>)],
-) -> Result<Option<usize>, NoMemory> {
+fn first_unmet(alloc: Global, rows: &[(&[u8], Simulation<'_>)]) -> Result<Option<usize>, NoMemory> {
     for k in 0..rows.len() {
         let (policy, want) = rows[k];
         if !runs_by(alloc, &RUN, policy, want)? {
