@@ -1,6 +1,6 @@
 -- Causes as the code comes to them, step by step.
 use Rattle.rw_top.proofs.Common.{BadInputs, BadModel, BadPolicy, Cause, Change, Checked, Command, Declared, Err, FILE_MAX, File, FileCause, Holds, IsErrOf, IsPolicyRefusal, IsReading, IsSomeAnd, IsTooLong, List, LongFile, MatchResult, None, NoneFell, Ok, Option, Reaches, ReadsPolicy, Reason, Refusal, Result, Rose, ShelfView, SinkView, Some, WasFound, ap, arith, change, checked, false, inr, option_map, path_of, reason_of, refl, refusal_after, status_by, status_of, subst, sym, true, with_types, ℕ, ◌<◌, ◌∙◌, ◌≡◌}
-use Rattle.rw_inputs.specs.declared.fault.InputFault.TheVariants.{Refused}
+use Rattle.rw_inputs.specs.Refusal.{refused_at}
 use Rattle.rw_io.specs.declared.whole_file.ReadEnd.{ReadEnd}
 use Rattle.rw_io.specs.declared.whole_file.ReadEnd.TheVariants.{ReadFault, TooLong as EndTooLong, NoMemory as EndNoMemory}
 use Rattle.rw_model.specs.Draft.{Draft}
@@ -47,7 +47,7 @@ told_status (Types kind declaration node) reason tells =
 told_status (Code fault) reason tells = told_by (λ bad. BadPolicy (BadBlocks (Unread bad))) 9 (λ bad. refl) (refusal_of_code fault) reason tells
 told_status (BlockAt kind block place) reason tells =
     let same : BadPolicy (BadBlocks (Misfit (block_refusal kind block place))) ≡ reason = cc in ap status_by same
-told_status (Inputs kind row column) reason tells = let same : BadInputs (Refused kind row column) ≡ reason = cc in ap status_by same
+told_status (Inputs kind row column) reason tells = let same : BadInputs (refused_at kind row column) ≡ reason = cc in ap status_by same
 told_status (TooLong file) reason tells = let same : LongFile file ≡ reason = cc in ap status_by same
 told_status why reason tells = absurd cc
 

@@ -3,8 +3,8 @@ pub use Rattle.rpl_parse.specs.Declarations.{IsReading}
 pub use Rattle.rpl_tree.specs.Tree.{Declared, function, rule}
 pub use Rattle.rpl_types.specs.Checked.{Checked, checked, declaration_from, declaration_of_rule, with_types}
 pub use Rattle.rw_base.proofs.Common.{Bool, Err, IfOk, IfSome, IsSome, IsSomeAnd, List, MatchBool, MatchResult, None, Ok, Option, Result, Some, [], ap, ap₂, arith, cases_lt, codes, common_steps, false, get_or, if◌then◌else◌, inl, inr, length, nat_tests, option_map, refl, rules, slice_index_or, string_bytes, subst, suc, sym, take_all, true, zero, ℕ, ℤ, ◌++◌, ◌+◌, ◌-◌, ◌<◌, ◌==◌, ◌↔◌, ◌∙◌, ◌∷◌, ◌≡◌, ◌≢◌, ◌≤◌, ◌⊎◌}
-pub use Rattle.rw_inputs.specs.Reading.{Reads, Refuses, read_records}
-pub use Rattle.rw_inputs.specs.declared.fault.InputFault.{InputFault}
+pub use Rattle.rw_inputs.specs.Reading.{Reads, Refuses}
+pub use Rattle.rw_inputs.specs.Refusal.{InputRefusal}
 pub use Rattle.rw_io.proofs.KnownLemmas.{GrowsBy-trans, PrefixGrew-left, PrefixGrew-right}
 pub use Rattle.rw_io.specs.Causes.{NoneFell, Rose}
 pub use Rattle.rw_io.specs.Known.{GrowsBy, PrefixGrew}

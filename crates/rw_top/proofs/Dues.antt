@@ -1,5 +1,5 @@
 -- What has to be refused of a call that keeps its promise, in terms of what its shelf tells.
-use Rattle.rw_top.proofs.Common.{AcceptsAll, Asks, BadInputs, BadModel, BadPolicy, Call, Change, Command, File, HoldsTooLong, IfSome, InputFault, IsHonest, IsSome, List, LongFile, ModelRefusal, None, Option, Promise, RefusesInputs, RefusesModel, RefusesPolicy, Rose, ShelfView, Some, arith, order, path_of, ℕ, ◌≡◌, ◌≤◌, ◌⊎◌}
+use Rattle.rw_top.proofs.Common.{AcceptsAll, Asks, BadInputs, BadModel, BadPolicy, Call, Change, Command, File, HoldsTooLong, IfSome, InputRefusal, IsHonest, IsSome, List, LongFile, ModelRefusal, None, Option, Promise, RefusesInputs, RefusesModel, RefusesPolicy, Rose, ShelfView, Some, arith, order, path_of, ℕ, ◌≡◌, ◌≤◌, ◌⊎◌}
 use Rattle.rw_top.specs.Told.{AreTold}
 use Rattle.rw_top.specs.declared.refusal.File.TheVariants.{Model}
 use Rattle.rw_top.specs.Policy.{BadCode, RulesRefusal, BadRules, BadBlocks}
@@ -33,9 +33,9 @@ module _ (call : Call) (status : ℕ) (command : Command) where
       → RefusesPolicy command call.shelf.before.holds (BadBlocks why) → AreTold command call.shelf 1 → (status ≡ 9) ⊎ (status ≡ 5)
   of_code why promise asks found good = promise.due command asks (BadPolicy (BadBlocks why)) found (honest 1 good)
 
-  pub of_inputs : (fault : InputFault) → Promise call status → Asks call.words command
-      → RefusesInputs command call.shelf.before.holds fault → AreTold command call.shelf 2 → (status ≡ 8) ⊎ (status ≡ 5)
-  of_inputs fault promise asks found good = promise.due command asks (BadInputs fault) found (honest 2 good)
+  pub of_inputs : (why : InputRefusal) → Promise call status → Asks call.words command
+      → RefusesInputs command call.shelf.before.holds why → AreTold command call.shelf 2 → (status ≡ 8) ⊎ (status ≡ 5)
+  of_inputs why promise asks found good = promise.due command asks (BadInputs why) found (honest 2 good)
 
   pub of_long : (file : File) → Promise call status → Asks call.words command
       → HoldsTooLong command call.shelf.before.holds file → AreTold command call.shelf (order file) → (status ≡ 10) ⊎ (status ≡ 5)

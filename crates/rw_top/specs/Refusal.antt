@@ -10,8 +10,7 @@ use Rattle.rw_model_toml.specs.Fault.{refusal_of}
 use Rattle.rw_model_toml.specs.Model.{model_of}
 use Rattle.rw_model_toml.specs.Refusal.{ModelRefusal}
 use Rattle.rw_inputs.specs.Reading.{Refuses}
-use Rattle.rw_inputs.specs.declared.fault.InputFault.{InputFault}
-use Rattle.rw_inputs.specs.declared.fault.InputFault.TheVariants.{Refused}
+use Rattle.rw_inputs.specs.Refusal.{InputRefusal, refused_at}
 use Rattle.rpl_parse.specs.Parsing.{refusal_of as refusal_of_grammar}
 use Rattle.rpl_types.specs.Judged.{refusal}
 use Rattle.rpl_code.specs.Answers.{refusal_of as refusal_of_code}
@@ -45,7 +44,7 @@ reason_of (Grammar fault) = option_map (λ why. BadPolicy (BadRules (BadGrammar 
 reason_of (Types kind declaration node) = Some (BadPolicy (BadRules (BadNode (refusal kind declaration node))))
 reason_of (Code fault) = option_map (λ why. BadPolicy (BadBlocks (Unread why))) (refusal_of_code fault)
 reason_of (Block kind block place) = Some (BadPolicy (BadBlocks (Misfit (block_refusal kind block place))))
-reason_of (Inputs kind row column) = Some (BadInputs (Refused kind row column))
+reason_of (Inputs kind row column) = Some (BadInputs (refused_at kind row column))
 reason_of (TooLong file) = Some (LongFile file)
 reason_of why = None
 
@@ -101,7 +100,7 @@ IsModelRefusal text why =
 -- why the bytes of an inputs file give no inputs for the basin
 abbrev pub IsInputRefusal : Draft → List ℕ → Refusal → Type 0
 IsInputRefusal basin text why =
-    (why ≡ NoMemory) ⊎ ((bad : InputFault) × (reason_of why ≡ Some (BadInputs bad)) × Refuses basin text bad)
+    (why ≡ NoMemory) ⊎ ((bad : InputRefusal) × (reason_of why ≡ Some (BadInputs bad)) × Refuses basin text bad)
 
 -- why the bytes of a policy's file, which are read as code or as a ruleset, give no policy for the basin
 abbrev pub IsPolicyRefusal : Bool → Draft → List ℕ → Refusal → Type 0

@@ -9,7 +9,7 @@ ghost use Rattle.rw_run.specs.declared.fault.RunFault.{RunFault};
 ghost use Rattle.rw_run.specs.declared.run.RunEnd.TheVariants.{Settled, Fault};
 ghost use Rattle.rw_model.specs.Basin.{IsBasin};
 ghost use Rattle.rw_model.specs.Draft.{Draft};
-ghost use Rattle.rw_inputs.specs.declared.fault.InputFault.{InputFault};
+ghost use Rattle.rw_inputs.specs.Refusal.{InputRefusal};
 ghost use Rattle.rw_inputs.specs.Inputs.{Inputs, value_at};
 ghost use Rattle.rw_inputs.specs.Reading.{Reads, Refuses};
 ghost use Rattle.rw_run.specs.declared.run.RunEnd.{RunEnd};
@@ -43,8 +43,8 @@ pub fn one_inputs()
     ensures values { (basin : Draft) (text : List ℕ) (inputs others : Inputs)
         → Reads basin text inputs → Reads basin text others
         → (slot step : ℕ) → value_at inputs slot step ≡ value_at others slot step }
-    ensures either { (basin : Draft) (text : List ℕ) (inputs : Inputs) (fault : InputFault)
-        → Reads basin text inputs → ¬ Refuses basin text fault }
+    ensures either { (basin : Draft) (text : List ℕ) (inputs : Inputs) (why : InputRefusal)
+        → Reads basin text inputs → ¬ Refuses basin text why }
 {}
 
 /// A basin, a policy and inputs have one run, which has one end and one text, and all that counts of inputs are their values.
@@ -112,7 +112,7 @@ pub fn statuses()
     ensures code { (call : Call) → Promise call 9 → AskFor call.words (λ command. (why : BadCode)
         × RefusesPolicy command call.shelf.before.holds (BadBlocks why)) }
     ensures inputs { (call : Call) → Promise call 8 → AskFor call.words
-        (λ command. (fault : InputFault) × RefusesInputs command call.shelf.before.holds fault) }
+        (λ command. (why : InputRefusal) × RefusesInputs command call.shelf.before.holds why) }
     ensures too_long { (call : Call) → Promise call 10
         → AskFor call.words (λ command. (file : File) × FindsTooLong command call.shelf file) }
     ensures untouched { (call : Call) (status : ℕ) → Promise call status → 2 ≤ status → status ≢ 4
@@ -138,9 +138,9 @@ pub fn dues()
         → RefusesPolicy command call.shelf.before.holds (BadBlocks why)
         → AreTold command call.shelf 1
         → (status ≡ 9) ⊎ (status ≡ 5) }
-    ensures inputs { (call : Call) (status : ℕ) (command : Command) (fault : InputFault)
+    ensures inputs { (call : Call) (status : ℕ) (command : Command) (why : InputRefusal)
         → Promise call status → Asks call.words command
-        → RefusesInputs command call.shelf.before.holds fault
+        → RefusesInputs command call.shelf.before.holds why
         → AreTold command call.shelf 2
         → (status ≡ 8) ⊎ (status ≡ 5) }
     ensures long { (call : Call) (status : ℕ) (command : Command) (file : File)
