@@ -57,3 +57,13 @@ pub record Stands (basin : Draft) (policy : Policy) (inputs : Inputs) (engine : 
   pub leads : Leads basin policy (placed [] (givens basin inputs)) events log
   pub shows : Shows basin engine log
   pub rest : standing log ≡ rests step
+
+-- all timesteps were passed, or as many as memory was there for: it comes to the run of the inputs that the engine began with
+pub record RunsAll (basin : Draft) (policy : Accepted) (engine : Engine) (before after : ℕ) (result : Result Run NoMemory) : Type 0 where
+  pub comes : (inputs : Inputs) → Shows basin engine (placed [] (givens basin inputs)) → IfOk result (ComesTo basin (policy_in basin policy) inputs)
+  pub opened_steps : (inputs : Inputs) → Shows basin engine (placed [] (givens basin inputs))
+      → IfOk result (λ run. after ≡ before + opened_by run.end run.closed)
+  pub closed_steps : IfOk result (λ run. run.closed ≤ basin.control.stamps.count)
+  pub kept : IsSome engine.trace → IfOk result (λ run. IsSome run.trace)
+  pub rises : before ≤ after
+  pub few : after ≤ before + basin.control.stamps.count

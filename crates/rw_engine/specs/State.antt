@@ -7,7 +7,9 @@ use Rattle.rw_run.specs.Log.{Cells, Event, Log, opened}
 use Rattle.rw_model.specs.Turn.{is_data}
 use Rattle.rw_run.specs.Waiting.{waiting}
 use Rattle.rw_run.specs.Next.{next, dispatches, firings, first_due}
-use Rattle.rw_run.specs.Runs.{Leads, standing, inside}
+use Rattle.rw_run.specs.Runs.{Leads, placed, standing, inside}
+use Rattle.rw_inputs.specs.Inputs.{Inputs}
+use Rattle.rw_inputs.specs.Givens.{givens}
 use Rattle.rw_agenda.specs.Agenda.{IsIndexed}
 use Rattle.rpl_verify.specs.Verified.{Accepted}
 use Rattle.rw_rules.specs.Rules.{ShowsLooks, policy_in}
@@ -130,6 +132,11 @@ pub record Does (basin : Draft) (policy : Accepted) (step : ℕ) (old new : Stat
   pub wants : IfErr result (λ fault. IsSome old.trace)
 
 -- ---- what opening and passing a timestep do
+
+-- the inputs are placed, and no timestep is opened
+pub record Begins (basin : Draft) (policy : Accepted) (inputs : Inputs) (state : State) : Type 0 where
+  pub made : IsStateOf basin policy state
+  pub shows : Shows basin (seen state) (placed [] (givens basin inputs))
 
 -- nothing is noted yet of what can be taken back
 pub record IsFresh (basin : Draft) (policy : Accepted) (state : State) : Type 0 where

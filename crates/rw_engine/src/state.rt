@@ -5,14 +5,12 @@ ghost use Rattle.rw_inputs.specs.Inputs.{IsInputsOf};
 ghost use Rattle.rw_run.specs.Log.{Log, fault};
 ghost use Rattle.rpl_verify.specs.Verified.{Accepted, verified};
 ghost use Rattle.rw_rules.specs.Firing.{IsRuleTurn};
-ghost use Rattle.rw_run.specs.Runs.{placed};
 ghost use Rattle.rw_run.specs.RunOf.{IsRunOf};
 ghost use Rattle.rw_model.specs.Turn.{IsStep, IsTurn};
 ghost use Rattle.rw_engine.specs.Counts.{count_of};
-ghost use Rattle.rw_inputs.specs.Givens.{givens};
 ghost use Rattle.rw_engine.specs.Passing.{RunsStep};
 ghost use Rattle.rw_engine.specs.Shows.{IsEngineOf, Shows};
-ghost use Rattle.rw_engine.specs.State.{seen, Does, HasPassed, HoldsBefore, HoldsDue, HoldsWithin, IsFresh, IsOpened, IsStateOf, IsWithinStep, OnlyTells, end_by, ended_by};
+ghost use Rattle.rw_engine.specs.State.{seen, Begins, Does, HasPassed, HoldsBefore, HoldsDue, HoldsWithin, IsFresh, IsOpened, IsStateOf, IsWithinStep, OnlyTells, end_by, ended_by};
 
 use crate::counts::Counts;
 use crate::placing::place;
@@ -58,9 +56,7 @@ impl State {
         requires fits { verified basin.now policy.now.blocks ≡ Ok policy.now }
         requires inputs { IsInputsOf basin.now inputs.now }
         requires fresh { IfSome trace (λ lines. lines ≡ []) }
-        ensures made { IfOk result (IsStateOf basin.now policy.now) }
-        ensures shows { IfOk result
-            (λ state. Shows basin.now (seen state) (placed [] (givens basin.now inputs.now))) }
+        ensures begun { IfOk result (Begins basin.now policy.now inputs.now) }
         ensures trace { IfOk result (λ state. state.trace ≡ trace) }
     {
         let mut series = Series::sized(alloc, basin)?;

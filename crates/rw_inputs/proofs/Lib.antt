@@ -10,3 +10,5 @@ pub mod Refusing
 pub mod Edited
 pub mod Setting
 pub mod Batches
+pub mod Meeting
+pub mod Flat

@@ -52,6 +52,26 @@ read_edit basin slot span value = do
   value ← read_change basin slot value
   Ok (record { slot = kept_slot basin slot; first = span.first; last = span.last; value = value })
 
+-- the fields of a record of four
+abbrev pub four_fields : Fields → Option (List ℕ × List ℕ × List ℕ × List ℕ)
+four_fields (a ∷ b ∷ c ∷ d ∷ []) = Some (a, b, c, d)
+four_fields fields = None
+
+-- the edit, if nothing is wrong with it by itself
+abbrev pub said : Result Edit Wrong → List Edit
+said (Ok edit) = edit ∷ []
+said (Err wrong) = []
+
+-- the edit that a row of four fields says
+abbrev pub said_by : Draft → Option (List ℕ × List ℕ × List ℕ × List ℕ) → List Edit
+said_by basin None = []
+said_by basin (Some fields) = said (read_edit basin fields.1 fields.2 fields.3)
+
+-- what rows say, whatever their batches, those left out with which something is wrong by themselves
+abbrev pub edits_said : Draft → List Fields → List Edit
+edits_said basin [] = []
+edits_said basin (fields ∷ rows) = said_by basin (four_fields fields) ++ edits_said basin rows
+
 -- ---- behind the rows before it
 
 -- both name one cell: each begins no later than the other ends
@@ -82,11 +102,6 @@ wrong_among row batches number edit =
 -- the batches with the edit, if nothing is wrong with it behind others
 abbrev pub admit : ℕ → List Batch → ℕ → Edit → Result (List Batch) Wrong
 admit row batches number edit = unless_refused (wrong_among row batches number edit) (with_edit batches number edit)
-
--- the fields of a record of four
-abbrev pub four_fields : Fields → Option (List ℕ × List ℕ × List ℕ × List ℕ)
-four_fields (a ∷ b ∷ c ∷ d ∷ []) = Some (a, b, c, d)
-four_fields fields = None
 
 -- the batches with one row more
 abbrev pub batches_with : Draft → ℕ → List Batch → Option (List ℕ × List ℕ × List ℕ × List ℕ) → Result (List Batch) Wrong

@@ -1,5 +1,5 @@
 -- Edits: what values inputs give after batches of edits.
-use Rattle.std.specs.Prelude.{ℕ, ◌==◌, ◌≤◌, nat_le, ℤ, Bool, ◌&&◌, if◌then◌else◌, List, [], ◌∷◌, Option, IfSome}
+use Rattle.std.specs.Prelude.{ℕ, ◌==◌, ◌≤◌, nat_le, ℤ, Bool, ◌&&◌, if◌then◌else◌, List, [], ◌∷◌, ◌++◌, Option, IfSome}
 use Rattle.std.specs.List.{All}
 use Rattle.rw_model.specs.Draft.{Draft, IsSlot}
 use Rattle.rw_inputs.specs.declared.edit.Edit.{Edit}
@@ -20,6 +20,11 @@ edit_of slot first last value = record { slot = slot; first = first; last = last
 -- the edit names a slot at a timestep
 abbrev pub names : Edit → ℕ → ℕ → Bool
 names edit slot step = slot == edit.slot && (nat_le edit.first step && nat_le step edit.last)
+
+-- the edits of all batches, in the order of their rows
+abbrev pub edits_in : List Batch → List Edit
+edits_in [] = []
+edits_in (batch ∷ batches) = batch ++ edits_in batches
 
 -- values after an edit: what it says where it names a cell, and elsewhere what was there
 abbrev pub after_edit : Edit → Values → Values

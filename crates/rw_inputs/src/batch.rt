@@ -54,7 +54,7 @@ fn meets_one(edit: &Edit, edits: &[Edit]) -> bool
 
 impl Batch {
     /// No edits.
-    pub fn none(alloc: Global) -> Batch
+    pub(crate) fn none(alloc: Global) -> Batch
         ensures { result ≡ [] }
     {
         Batch {
@@ -63,21 +63,21 @@ impl Batch {
     }
 
     /// The edits, one after another.
-    pub fn edits(&self) -> &[Edit]
+    pub(crate) fn edits(&self) -> &[Edit]
         ensures { result.now ≡ self.now }
     {
         self.edits.as_slice()
     }
 
     /// Whether the edit names a cell that one of the batch names.
-    pub fn has_named(&self, edit: &Edit) -> bool
+    pub(crate) fn has_named(&self, edit: &Edit) -> bool
         ensures { result ≡ list_any (meets edit.now) self.now }
     {
         meets_one(edit, self.edits.as_slice())
     }
 
     /// Takes one more edit.
-    pub fn push(&mut self, edit: &Edit) -> Result<(), NoMemory>
+    pub(crate) fn push(&mut self, edit: &Edit) -> Result<(), NoMemory>
         ensures { OnOk result (self.new ≡ self.old ++ edit.now ∷ []) }
     {
         self.edits

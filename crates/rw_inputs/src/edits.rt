@@ -125,8 +125,8 @@ fn take_fields(
 ) -> Result<(), InputFault>
     requires { length batches.old.items ≤ BATCHES_MAX }
     ensures taken { Answers InputFault.NoMemory refusal_of (λ _. batches.new.items) result
-        (at_row number (batches_with basin.now number batches.old.items
-        (Some (fields.entry.0.now, fields.entry.1.now, fields.entry.2.now, fields.entry.3.now))) Ok) }
+        (at_row number (batches_with basin.now number batches.old.items (Some
+        (fields.entry.0.now, fields.entry.1.now, fields.entry.2.now, fields.entry.3.now))) Ok) }
     ensures made { OnOk result (All (IsBatch basin.now) batches.old.items
         → All (IsBatch basin.now) batches.new.items) }
     ensures few { OnOk result (length batches.new.items ≤ BATCHES_MAX) }

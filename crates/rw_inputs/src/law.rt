@@ -1,18 +1,18 @@
 //! What the definitions of this crate come to in plain words. Each law is the `ensures` of a function that does
 //! nothing.
-ghost use Rattle.std.specs.Prelude.{◌≡◌, ◌++◌, ◌∷◌, [], ℕ, pos, false, IsTrue, IsFalse, List, Option, None, Some, Ok, Err, codes};
+ghost use Rattle.std.specs.Prelude.{◌≡◌, ◌≤◌, ◌+◌, ◌++◌, ◌∷◌, [], ℕ, pos, false, length, IsTrue, IsFalse, List, Option, None, Some, Ok, Err, codes};
 ghost use Rattle.std.specs.List.{list_any};
 ghost use Rattle.rw_model.specs.Draft.{Draft};
 ghost use Rattle.rw_inputs.specs.declared.edit.Edit.{Edit};
 ghost use Rattle.rw_inputs.specs.declared.fault.InputKind.TheVariants as InputKind;
 ghost use Rattle.rw_inputs.specs.declared.wrong.Part.TheVariants as Part;
-ghost use Rattle.rw_inputs.specs.EditRows.{admit, edit_header, read_batch, read_batches};
-ghost use Rattle.rw_inputs.specs.Edits.{Batch, Values, after_batch, after_batches, after_edit, edit_of, names};
+ghost use Rattle.rw_inputs.specs.EditRows.{admit, edit_header, edits_said, meets, more_batches, read_batch, read_batches};
+ghost use Rattle.rw_inputs.specs.Edits.{Batch, Values, after_batch, after_batches, after_edit, edit_of, edits_in, names};
 ghost use Rattle.rw_inputs.specs.Inputs.{Inputs, value_at};
 ghost use Rattle.rw_inputs.specs.Reading.{Reads, Refuses};
 ghost use Rattle.rw_inputs.specs.Records.{Fields, AreRows, records_of};
 ghost use Rattle.rw_inputs.specs.Refusal.{InputRefusal, refused_at};
-ghost use Rattle.rw_inputs.specs.Row.{wrong};
+ghost use Rattle.rw_inputs.specs.Row.{slot_of_text, wrong};
 
 /// The records of a text are those that `csv` states for it, and it states no others.
 pub fn text_records()
@@ -51,6 +51,37 @@ pub fn edited_values()
     ensures order { (earlier later : List Batch) (values : Values)
         → after_batches (earlier ++ later) values
         ≡ after_batches later (after_batches earlier values) }
+{}
+
+/// Edits meet exactly where both name a cell: each names the timesteps from its first to its last of one slot.
+#[tactic(auto, using(crate::proofs::Meeting::named_by_both, crate::proofs::Meeting::both_name))]
+pub fn edits_that_meet()
+    ensures shared { (edit other : Edit) (slot step : ℕ) → IsTrue (names edit slot step)
+        → IsTrue (names other slot step) → IsTrue (meets edit other) }
+    ensures common { (edit other : Edit) → edit.first ≤ edit.last → other.first ≤ other.last
+        → IsTrue (meets edit other) → (step : ℕ)
+        × IsTrue (names edit edit.slot step) × IsTrue (names other edit.slot step) }
+{}
+
+/// Rows are read one after another: a refusal stands whatever rows come behind, and rows that are read leave their batches
+/// to those behind them.
+#[tactic(auto, using(crate::proofs::Edited::refused_still, crate::proofs::Edited::read_on))]
+pub fn rows_in_order()
+    ensures refused { (basin : Draft) (rows later : List Fields) (row : ℕ) (batches : List Batch)
+        (why : InputRefusal) → more_batches basin row batches rows ≡ Err why
+        → more_batches basin row batches (rows ++ later) ≡ Err why }
+    ensures read { (basin : Draft) (rows later : List Fields) (row : ℕ) (batches all : List Batch)
+        → more_batches basin row batches rows ≡ Ok all
+        → more_batches basin row batches (rows ++ later)
+        ≡ more_batches basin (row + length rows) all later }
+{}
+
+/// Each row that is read is one edit, at the end of the batches so far: none is lost, and none is added.
+#[tactic(auto, using(crate::proofs::Flat::all_edits))]
+pub fn every_row_counts()
+    ensures { (basin : Draft) (rows : List Fields) (batches : List Batch)
+        → more_batches basin 2 [] rows ≡ Ok batches
+        → edits_in batches ≡ edits_said basin rows }
 {}
 
 /// Worked edits of a slot 3: 130 at timestep 2, then nothing at 1 to 3, then 7 at 3, in one batch and in three.
@@ -100,7 +131,7 @@ pub fn worked_admissions()
 {}
 
 /// Worked texts, as records, for any basin: a header alone gives no batches. Else the first row is refused for its number of
-/// fields, its batch, and a slot that has no dot, in this order.
+/// fields, its batch, and a slot that the model hasn't, in this order.
 pub fn worked_texts()
     ensures header { (basin : Draft) → read_batches basin (edit_header ∷ []) ≡ Ok [] }
     ensures nothing { (basin : Draft) → read_batches basin []
@@ -114,7 +145,8 @@ pub fn worked_texts()
     ensures order { (basin : Draft) (slot step value : List ℕ) (rows : List Fields)
         → read_batches basin (edit_header ∷ (codes "2" ∷ slot ∷ step ∷ value ∷ []) ∷ rows)
         ≡ Err (refused_at InputKind.BatchOrder 2 1) }
-    ensures slot { (basin : Draft) (step value : List ℕ) (rows : List Fields)
-        → read_batches basin (edit_header ∷ (codes "1" ∷ codes "Dam" ∷ step ∷ value ∷ []) ∷ rows)
+    ensures slot { (basin : Draft) (slot step value : List ℕ) (rows : List Fields)
+        → slot_of_text basin slot ≡ None
+        → read_batches basin (edit_header ∷ (codes "1" ∷ slot ∷ step ∷ value ∷ []) ∷ rows)
         ≡ Err (refused_at InputKind.UnknownSlot 2 2) }
 {}

@@ -2,6 +2,7 @@ pub mod Call
 pub mod Command
 pub mod Policy
 pub mod Reading
+pub mod Told
 pub mod Reason
 pub mod RunText
 pub mod Budgets

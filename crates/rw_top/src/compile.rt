@@ -25,11 +25,7 @@ fn ruleset_text(alloc: Global, typed: &Typed, basin: &Basin) -> Result<Vec<u8>, 
 }
 
 /// The text of the code of a policy that is accepted for the basin.
-pub(crate) fn code_text(
-    alloc: Global,
-    policy: &Policy,
-    basin: &Basin,
-) -> Result<Vec<u8>, NoMemory>
+pub(crate) fn code_text(alloc: Global, policy: &Policy, basin: &Basin) -> Result<Vec<u8>, NoMemory>
     requires { IsFit basin.now policy.now }
     ensures { IfOk result (λ text. text.items ≡ spelt (code_of (policy_of policy.now))) }
 {

@@ -78,7 +78,12 @@ fn judge_for(
     ensures { MatchResult result (IsMadeOf (reads_code (command_of command.now) text.now) basin.now text.now)
         (IsPolicyRefusal (reads_code (command_of command.now) text.now) basin.now text.now) }
 {
-    judge_policy(alloc, basin, text, command.job.takes_code() && is_code(text))
+    judge_policy(
+        alloc,
+        basin,
+        text,
+        command.job.takes_code() && is_code(text),
+    )
 }
 
 // Reads and judges the policy, where the command names one, for the basin of its model.

@@ -1,10 +1,12 @@
 // What the texts of files are.
 ghost use Rattle.std.specs.Prelude.{◌≡◌, ◌≤◌, Ok, Err, MatchResult, IfOk, length, false, true};
 ghost use Rattle.std.specs.Option.{ForSome};
-ghost use Rattle.rpl_code.specs.Answers.{Answers as AnswersCode};
+ghost use Rattle.rw_base.specs.Answers.{IsWhy as IsWhyOf};
+ghost use Rattle.rpl_code.specs.declared.fault.CodeFault.TheVariants as CodeFault;
+ghost use Rattle.rpl_code.specs.Answers.{refusal_of as refusal_of_code};
 ghost use Rattle.rpl_code.specs.Reading.{read};
-ghost use Rattle.rpl_parse.specs.Declarations.{IsReading, IsRuleset, spelt};
-ghost use Rattle.rpl_parse.specs.Parsing.{Answers as Parses};
+ghost use Rattle.rpl_parse.specs.Declarations.{IsReading, IsRuleset};
+ghost use Rattle.rpl_parse.specs.Parsing.{AnswersReading};
 ghost use Rattle.rpl_tree.specs.Seen.{rules_of};
 ghost use Rattle.rpl_types.specs.Refused.{refusal_of};
 ghost use Rattle.rpl_verify.specs.Verified.{refusal_of as refusal_of_verify};
@@ -68,7 +70,7 @@ pub(crate) fn is_code(text: &[u8]) -> bool
 }
 
 fn refusal_of_grammar(_text: &[u8], fault: ParseFault) -> Refusal
-    requires { Parses (Err fault) _text.now }
+    requires { AnswersReading _text.now (Err fault) }
     ensures { (basin : Draft) → IsPolicyRefusal false basin _text.now result }
 {
     match fault {
@@ -79,7 +81,7 @@ fn refusal_of_grammar(_text: &[u8], fault: ParseFault) -> Refusal
 
 fn parse_rules(alloc: Global, text: &[u8]) -> Result<ParsedRules, Refusal>
     requires { length text.now ≤ 16_777_216 }
-    ensures read { MatchResult result (λ rules. IsReading text.now (spelt (rules_of rules)))
+    ensures read { MatchResult result (λ rules. IsReading text.now (Ok (rules_of rules)))
         (λ why. (basin : Draft) → IsPolicyRefusal false basin text.now why) }
     ensures ruleset { IfOk result (λ rules. IsRuleset rules) }
 {
@@ -120,7 +122,7 @@ fn judge_rules(alloc: Global, basin: &Basin, text: &[u8]) -> Result<Typed, Refus
 }
 
 fn refusal_of_code(_text: &[u8], fault: CodeFault) -> Refusal
-    requires { AnswersCode (read _text.now) (Err fault) }
+    requires { IsWhyOf CodeFault.NoMemory refusal_of_code (read _text.now) fault }
     ensures { (basin : Draft) → IsPolicyRefusal true basin _text.now result }
 {
     match fault {

@@ -52,6 +52,7 @@ pub(crate) fn text_without_rules<L: Ledger>(
     ensures { IfOk result (λ pair. IsRunText basin.now no_rules inputs.now pair.1 pair.0.items) }
 {
     same_runs();
-    let none = Verified::none(alloc);
-    text_by_code(alloc, basin, methods, &none, predefs, inputs, steps)
+    let empty = Verified::none(alloc);
+    let written = text_by_code(alloc, basin, methods, &empty, predefs, inputs, steps)?;
+    Ok(written)
 }
