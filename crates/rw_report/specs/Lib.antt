@@ -4,3 +4,4 @@ pub mod Lines
 pub mod Outcome
 pub mod Whole
 pub mod Why
+pub mod Worked

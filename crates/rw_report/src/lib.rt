@@ -8,6 +8,7 @@
 mod cell;
 mod flags;
 mod heading;
+pub mod law;
 mod lines;
 mod names;
 mod numbers;
