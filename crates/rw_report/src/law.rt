@@ -1,13 +1,37 @@
-//! Texts that are worked out by hand come out of the definitions. Each law is the `ensures` of a function that does nothing.
-ghost use Rattle.std.specs.Prelude.{◌≡◌, [], ◌∷◌, codes, None, Some};
+//! What the texts of a run come to by its events, and texts that are worked out by hand. Each law is the `ensures` of a
+//! function that does nothing.
+ghost use Rattle.std.specs.Prelude.{◌≡◌, ℕ, Bool, false, IsSome, IsTrue, List, Option, [], ◌∷◌, codes, None, Some};
+ghost use Rattle.rw_base.specs.declared.number.Cell.{Cell};
+ghost use Rattle.rw_base.specs.declared.number.StepNo.{StepNo};
+ghost use Rattle.rw_model.specs.Draft.{Draft};
 ghost use Rattle.rw_model.specs.declared.control.AgendaOrder.TheVariants.{HighFirst};
+ghost use Rattle.rw_inputs.specs.Inputs.{Inputs};
+ghost use Rattle.rw_run.specs.declared.run.Run.{Run};
 ghost use Rattle.rw_run.specs.Frame.{log_after};
-ghost use Rattle.rw_run.specs.Log.{cells_of};
+ghost use Rattle.rw_run.specs.Log.{Log, cells_of};
+ghost use Rattle.rw_run.specs.RunOf.{IsRunOf};
 ghost use Rattle.rw_run.specs.Worked.{across_run, ahead_run, basin_of, faulty_run, five, given_run, linked_basin, outranked_run, raised_run};
+ghost use Rattle.rw_report.specs.Section.{section_of, values_in};
 ghost use Rattle.rw_report.specs.Flags.{flag_table};
 ghost use Rattle.rw_report.specs.Lines.{trace_words};
-ghost use Rattle.rw_report.specs.Whole.{reran_words};
+ghost use Rattle.rw_report.specs.Outcome.{Outcome, outcome_by, outcome_of};
+ghost use Rattle.rw_report.specs.Whole.{reran_words, whole_of};
+ghost use Rattle.rw_report.specs.Why.{why_of};
 ghost use Rattle.rw_report.specs.Worked.{asked, five_given, no_inputs, solved_twice, traced};
+
+/// The texts of a run are those of its events, where its trace is kept if it is asked for; and a section of which nothing
+/// more is asked is the heading and the table.
+#[tactic(auto, using(crate::proofs::Runs::same_reason, crate::proofs::Runs::plain_section))]
+pub fn texts_of_runs()
+    ensures whole { (basin : Draft) (batch : ℕ) (log : Log) (run : Run) (reran : Option (List StepNo)) (flags trace : Bool)
+        → IsRunOf basin log run → (IsTrue trace → IsSome run.trace)
+        → whole_of basin batch (outcome_of run) reran flags trace ≡ whole_of basin batch (outcome_by basin log) reran flags trace }
+    ensures why { (basin : Draft) (inputs : Inputs) (log : Log) (run : Run) (cell : Cell)
+        → IsRunOf basin log run → IsSome run.trace
+        → why_of basin inputs (outcome_of run) cell ≡ why_of basin inputs (outcome_by basin log) cell }
+    ensures plain { (basin : Draft) (batch : ℕ) (run : Outcome)
+        → whole_of basin batch run None false false ≡ section_of basin batch run.end run.closed (values_in run.cells) }
+{}
 
 /// Traces: rules that fire again, a put that was dropped and so has no line, a fault in place of the event, objects.
 pub fn worked_traces()
