@@ -299,6 +299,7 @@ OTHER_REFUSALS = {
 }
 FAULTS = {
     "conflict": "More was given than goes together.",
-    "out of range": "An object comes to a value that the slot can't have.",
-    "limit": "An object was dispatched as often as `object_limit` allows, and would have been again.",
+    "out of range": "An object comes to a value that the slot can't have, or a rule to a number out of range.",
+    "limit": "An object was dispatched, or a rule fired, as often as the model allows, and would have been again.",
+    "division by zero": "A rule divided by 0.",
 }

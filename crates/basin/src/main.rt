@@ -1,9 +1,10 @@
-//! The program `basin`: hands the words, the files, the standard streams and the methods of all kinds to `basin_main`, and
-//! ends with its status.
+//! The program `basin`: hands the words, the files, the standard streams, the methods of all kinds and the functions that rules
+//! call by name to `basin_main`, and ends with its status.
 #![tactic(auto)]
 
 ghost use Rattle.std.specs.Prelude.{◌≡◌, ◌<◌};
 
+use rpl_predef::{Predef, Predefs, absolute, clamped, greatest, least, rounded_down, sign};
 use rw_base::NoMemory;
 use rw_io::{FileShelf, Shelf, Sink, StdSink};
 use rw_method::{Catalogue, Method};
@@ -32,8 +33,8 @@ fn words(rt: &HostRuntime) -> Result<Vec<String>, NoMemory> {
     Ok(words)
 }
 
-// The status of a call that has the methods of all kinds, in the order of their numbers. Were they in another order, they
-// would be missing like memory: each run of the program shows that they aren't.
+// The status of a call that has the methods of all kinds, and all predefined functions, each in the order of their numbers.
+// Were they in another order, they would be missing like memory: each run of the program shows that they aren't.
 fn status<S: Shelf, K: Sink, E: Sink, L: Ledger>(
     alloc: Global,
     words: &[String],
@@ -53,7 +54,17 @@ fn status<S: Shelf, K: Sink, E: Sink, L: Ledger>(
     let Ok(methods) = Catalogue::of(methods) else {
         return Err(NoMemory);
     };
-    Ok(basin_main(alloc, words, shelf, out, err, &methods, steps))
+    let mut functions = Vec::new(alloc);
+    functions.push(Predef::of(1, least))?;
+    functions.push(Predef::of(2, greatest))?;
+    functions.push(Predef::of(3, absolute))?;
+    functions.push(Predef::of(4, clamped))?;
+    functions.push(Predef::of(5, rounded_down))?;
+    functions.push(Predef::of(6, sign))?;
+    let Ok(predefs) = Predefs::of(functions) else {
+        return Err(NoMemory);
+    };
+    Ok(basin_main(alloc, words, shelf, out, err, &methods, &predefs, steps))
 }
 
 fn run<L: Ledger>(rt: HostRuntime, blank: Blank) -> ExitCode

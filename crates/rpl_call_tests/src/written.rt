@@ -1,16 +1,15 @@
 //! A firing with two puts to one slot, of which the later one is written.
 ghost use Rattle.std.specs.Prelude.{◌≡◌, Ok};
 ghost use Rattle.rpl_verify.specs.Verified.{verified};
-ghost use Rattle.rw_firing.specs.Firing.{IsRuleTurn};
+ghost use Rattle.rw_rules.specs.Firing.{IsRuleTurn};
 
 use crate::firings::accepted;
 use rpl_machine::Machine;
 use rpl_predef::Predefs;
 use rpl_verify::Verified;
 use rw_base::{RuleNo, StepNo};
-use rw_firing::{fire, reads};
 use rw_model::Basin;
-use rw_rules::Rules;
+use rw_rules::{Rules, fire, reads};
 use rw_run::Write;
 use rw_series::{FireEnd, Series};
 use rw_writes::Writes;

@@ -1,18 +1,24 @@
-//! C, where two inflows meet, and G, a gage below it. Slots 1 to 3 are those of C, 4 and 5 those of G.
-ghost use Rattle.std.specs.Prelude.{map};
+//! C, where two inflows meet, and G, a gage below it. Slots 1 to 3 are those of C, 4 and 5 those of G. And a dam, whose slots 1 to 3
+//! are inflow, outflow and storage.
+ghost use Rattle.std.specs.Prelude.{◌≡◌, ◌<◌, ◌≤◌, Ok, length, map};
+ghost use Rattle.rpl_verify.specs.Verified.{verified};
 ghost use Rattle.rw_method.specs.Catalogue.{AreInOrder};
 
-use crate::shared::{basin, none_is_wrong};
-use rw_base::{Cell, ObjectNo, Qty, SlotNo, StepNo};
+use crate::shared::{basin, content, none_is_wrong};
+use rpl_code::read_code;
+use rpl_predef::{Predef, Predefs, absolute, clamped, greatest, least, rounded_down, sign};
+use rpl_verify::{Verified, verify};
+use rw_base::{Blank, Cell, Ledger, ObjectNo, RuleNo, SlotNo, StepNo, Steps};
 use rw_engine::{Run, RunEnd, RunFault, TraceEvent, run_all};
 use rw_inputs::read_inputs;
 use rw_method::{Catalogue, Method};
-use rw_model::{Basin, Content, Writer};
+use rw_model::{Basin, Writer};
 use rw_reservoir::ReservoirMethod;
 use rw_series::Series;
 use rw_stream::{BifurcationMethod, ConfluenceMethod, GageMethod, ReachMethod};
 use rw_users::{CanalMethod, WaterUserMethod};
 use std::alloc::{AllocError, Global};
+use std::marker::Brand;
 use std::process::Abort;
 use std::test::Fail;
 
@@ -36,18 +42,51 @@ kind = "gage"
 slots = ["C.Outflow", "G.GageInflow"]
 "#;
 
-fn run_in(rt: &impl Abort, alloc: Global, basin: &Basin, methods: &Catalogue, text: &str) -> Run
-    requires { AreInOrder (map (λ b. code (b.vtable, b.value)) methods.now.methods.items) }
+fn run_in<L: Ledger>(
+    rt: &impl Abort,
+    alloc: Global,
+    basin: &Basin,
+    methods: &Catalogue,
+    policy: &Verified,
+    predefs: &Predefs,
+    steps: &mut Steps<L>,
+    text: &str,
+) -> Run
+    requires fits { verified basin.now policy.now.blocks ≡ Ok policy.now }
+    requires order { AreInOrder (map (λ b. code (b.vtable, b.value)) methods.now.methods.items) }
 {
     let inputs = read_inputs(alloc, basin, text.as_bytes()).expect(rt, "inputs");
-    run_all(alloc, basin, methods, &inputs).expect(rt, "memory")
+    run_all(alloc, basin, methods, policy, predefs, &inputs, steps).expect(rt, "memory")
 }
 
-fn run(rt: &impl Abort, alloc: Global, methods: &Catalogue, text: &str) -> Run
+// The run without rules.
+fn run<L: Ledger>(
+    rt: &impl Abort,
+    alloc: Global,
+    methods: &Catalogue,
+    predefs: &Predefs,
+    steps: &mut Steps<L>,
+    text: &str,
+) -> Run
     requires { AreInOrder (map (λ b. code (b.vtable, b.value)) methods.now.methods.items) }
 {
     let basin = basin(rt, alloc, MODEL);
-    run_in(rt, alloc, &basin, methods, text)
+    let none = Verified::none(alloc);
+    run_in(rt, alloc, &basin, methods, &none, predefs, steps, text)
+}
+
+// The code that a text is read as, which is accepted.
+fn accepted(rt: &impl Abort, alloc: Global, basin: &Basin, text: &str) -> Verified
+    requires { length text.now ≤ 16_777_216 }
+    ensures { verified basin.now result.blocks ≡ Ok result }
+{
+    let Ok(code) = read_code(alloc, text.as_bytes()) else {
+        panic!(rt; "no code")
+    };
+    match verify(alloc, code, basin) {
+        Ok(policy) => policy,
+        Err(_) => panic!(rt; "refused"),
+    }
 }
 
 fn value_at(series: &Series, slot: u16, step: u16) -> Option<i64> {
@@ -61,17 +100,18 @@ fn value_at(series: &Series, slot: u16, step: u16) -> Option<i64> {
     }
 }
 
-// The line of a value that an object put on the first day.
-fn written(rt: &impl Abort, slot: u16, value: i64, object: ObjectNo) -> TraceEvent {
+// The line of a value that was put on the first day.
+fn put(rt: &impl Abort, slot: u16, value: i64, number: u16, writer: Writer) -> TraceEvent {
     TraceEvent::Written {
         slot: SlotNo(slot),
         step: StepNo(1),
-        content: Content {
-            value: Qty::of(value).expect(rt, "a quantity"),
-            number: 0,
-            writer: Writer::Object(object),
-        },
+        content: content(rt, value, number, writer),
     }
+}
+
+// The same, of what an object solved from inputs.
+fn written(rt: &impl Abort, slot: u16, value: i64, object: ObjectNo) -> TraceEvent {
+    put(rt, slot, value, 0, Writer::Object(object))
 }
 
 fn first_wrong_line(run: &Run, lines: &[TraceEvent]) -> Option<usize> {
@@ -124,11 +164,87 @@ fn ends_in_conflict(run: &Run) -> bool {
         && value_at(&run.series, 3, 3).is_none()
 }
 
-fn check(rt: &impl Abort, alloc: Global, methods: &Catalogue)
+// A dam on one day, into which 100 flow. Rule 2 lets 50 out, and the dam comes to hold 1050. Then rule 1 holds it at 1020, and
+// the dam lets 80 out.
+const DAM: &str = r#"
+format = 1
+[run]
+start = "2020-01-01T00:00"
+step = "24h"
+steps = 1
+[[object]]
+name = "Dam"
+kind = "reservoir"
+initial_storage = 1000
+"#;
+
+const CAP_AND_BASE: &str =
+    "CODE 1\nRULE\nLOCALS -\nslot Dam.Storage\nnow\nread\nnum 1020\ncall Min\nput Dam.Storage 0\nEND\nRULE\nLOCALS -\nnum 50\nput Dam.Outflow 0\nEND\n";
+
+const INFLOW: &str = "slot,step,value\nDam.Inflow,1,100\n";
+
+fn fire(rule: u16, count: u64) -> TraceEvent {
+    TraceEvent::Fire {
+        rule: RuleNo(rule),
+        done: true,
+        count,
+    }
+}
+
+fn check_dam(rt: &impl Abort, run: &Run) {
+    let (dam, cap, base) = (
+        ObjectNo(1),
+        Writer::Rule(RuleNo(1)),
+        Writer::Rule(RuleNo(2)),
+    );
+    let lines = [
+        TraceEvent::Opened(StepNo(1)),
+        TraceEvent::Idle(dam),
+        fire(2, 2),
+        put(rt, 2, 50, 2, base),
+        TraceEvent::Solve(dam),
+        put(rt, 3, 1050, 2, Writer::Object(dam)),
+        fire(1, 6),
+        put(rt, 3, 1020, 1, cap),
+        TraceEvent::Solve(dam),
+        put(rt, 2, 80, 1, Writer::Object(dam)),
+        fire(1, 6),
+        TraceEvent::Closed(StepNo(1)),
+    ];
+    none_is_wrong(rt, first_wrong_line(run, &lines));
+    assert!(rt; run.end == RunEnd::Settled && run.closed == 1 && run.trace.len() == 12);
+}
+
+fn run_dam<L: Ledger>(
+    rt: &impl Abort,
+    alloc: Global,
+    methods: &Catalogue,
+    predefs: &Predefs,
+    steps: &mut Steps<L>,
+) -> Run
     requires { AreInOrder (map (λ b. code (b.vtable, b.value)) methods.now.methods.items) }
 {
-    check_lines(rt, &run(rt, alloc, methods, MEETING));
-    assert!(rt; ends_in_conflict(&run(rt, alloc, methods, MEASURED)));
+    let basin = basin(rt, alloc, DAM);
+    let policy = accepted(rt, alloc, &basin, CAP_AND_BASE);
+    run_in(rt, alloc, &basin, methods, &policy, predefs, steps, INFLOW)
+}
+
+fn check<L: Ledger>(
+    rt: &impl Abort,
+    alloc: Global,
+    blank: Blank,
+    methods: &Catalogue,
+    predefs: &Predefs,
+)
+    requires name { blank.name ≡ L.name }
+    requires parts { blank.parts ≡ L.parts }
+    requires some { 0 < blank.parts }
+    requires order { AreInOrder (map (λ b. code (b.vtable, b.value)) methods.now.methods.items) }
+{
+    let mut steps = Steps::<L>::of(blank);
+    check_lines(rt, &run(rt, alloc, methods, predefs, &mut steps, MEETING));
+    assert!(rt; ends_in_conflict(&run(rt, alloc, methods, predefs, &mut steps, MEASURED)));
+    check_dam(rt, &run_dam(rt, alloc, methods, predefs, &mut steps));
 }
 
 // The method of the kind with this number.
@@ -155,6 +271,16 @@ fn all_methods(alloc: Global) -> Result<Vec<Box<dyn Method>>, AllocError> {
 #[test]
 fn runs_come_to_what_they_should(rt: HostRuntime) -> Result<(), Fail> {
     let methods = Catalogue::of(all_methods(rt.alloc())?).expect(&rt, "a catalogue");
-    check(&rt, rt.alloc(), &methods);
+    let mut functions = Vec::new(rt.alloc());
+    functions.push(Predef::of(1, least))?;
+    functions.push(Predef::of(2, greatest))?;
+    functions.push(Predef::of(3, absolute))?;
+    functions.push(Predef::of(4, clamped))?;
+    functions.push(Predef::of(5, rounded_down))?;
+    functions.push(Predef::of(6, sign))?;
+    let Ok(predefs) = Predefs::of(functions) else {
+        return Err(Fail::from("no predefined functions"));
+    };
+    check::<Brand>(&rt, rt.alloc(), Blank::new(1), &methods, &predefs);
     Ok(())
 }

@@ -1,6 +1,6 @@
 -- What an object puts, it can put.
 use Rattle.rw_dispatch.proofs.Common.{ArePuts, CanPut, IsSome, Kind, List, None, Option, Put, Some, View, and_parts, ap, arith, bounds_at, int_le, ints, is_between, option_map, refl, slice_index_or, sym, true, unwrap_or, ℕ, ℤ, ◌&&◌, ◌<◌, ◌∙◌, ◌≡◌}
-use Rattle.rw_model.proofs.Common.{IsKind, Bounds, all_quantities, slot_in, Object, object_at, slot_in_place, Draft, IsObject, IsBetween}
+use Rattle.rw_model.proofs.Common.{IsKind, Bounds, all_quantities, slot_in, Object, object_at, Draft, IsObject, IsBetween}
 use Rattle.rw_base.proofs.Common.{All-nil}
 use Rattle.rw_dispatch.specs.Answer.{asked_in}
 use Rattle.rw_method.specs.declared.solved.Solved.{Solved}
@@ -21,9 +21,6 @@ pub there : {X : Type 0} (found : Option X) → IsSome found → (x : X) × (fou
 there None some = absurd (cc)
 there (Some x) some = (x, refl)
 
-some_slot : (found : Option ℕ) (number : ℕ) → found ≡ Some number → IsSome found
-some_slot found number is = rw is refl
-
 between : (seen bounds : Bounds) (value : ℤ) → seen ≡ bounds → (is_between seen value && is_between all_quantities value) ≡ true → IsBetween bounds value
 between seen bounds value same inside =
     let parts = and_parts (int_le seen.0 value) (int_le value seen.1) (and_parts (is_between seen value) (is_between all_quantities value) inside).0 in
@@ -38,7 +35,7 @@ CanPut-fitting basin cells object step kind put own is fitting =
     let at = has_slot basin.objects object put.place kind slot.0 own.first is slot.1 in
     record {
       few = fitting.near;
-      slot = some_slot (slot_in_place basin.objects object put.place) at.0 at.1;
+      slot = rw at.1 refl;
       between = between (bounds_at (view_of basin cells object step) put.place) (bounds_in_place basin object put.place) put.value
           (bounds_at-view basin cells object step put.place fitting.near) fitting.bounded;
     }

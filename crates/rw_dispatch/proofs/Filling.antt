@@ -1,14 +1,11 @@
 -- A list that is filled place by place.
-use Rattle.rw_base.proofs.Common.{◌≡◌, ◌<◌, ◌≤◌, ◌+◌, ℕ, List, [], ◌∷◌, ◌++◌, append-nil, drop, drop_all, drop_more, map, set, length, sym, ap, ap₂, ◌∙◌, arith, append_assoc, get_or-map-range_with_len, range_with_len, set-append_seam, slice_index_or, map-range_with_len_more, length-map-range_with_len, IfSome, None, Option, Some}
+use Rattle.rw_base.proofs.Common.{◌≡◌, ◌<◌, ◌+◌, ℕ, List, [], ◌∷◌, ◌++◌, drop, drop_more, map, set, length, sym, ap, ap₂, ◌∙◌, arith, append_assoc, get_or-map-range_with_len, range_with_len, set-append_seam, slice_index_or, map-range_with_len_more, length-map-range_with_len, IfSome, None, Option, Some}
 use Rattle.rw_model.specs.Draft.{IsSlot}
 use Rattle.rw_model.proofs.Common.{Object, known_in_place, slot_in_place}
 
 -- the first places are filled, the others are as before
 abbrev pub filled : {X : Type 0} → (ℕ → X) → List X → ℕ → List X
 filled f before count = map f (range_with_len 0 count) ++ drop count before
-
-set_at : {X : Type 0} (xs ys : List X) (y v : X) (k : ℕ) → length xs ≡ k → set (xs ++ y ∷ ys) k v ≡ xs ++ v ∷ ys
-set_at xs ys y v k at = ap (λ n. set (xs ++ y ∷ ys) n v) (sym at) ∙ set-append_seam xs y ys v
 
 -- one more is filled
 pub filled-more : {X : Type 0} (f : ℕ → X) (before : List X) (count : ℕ) (now : List X) (v : X) → count < length before → now ≡ filled f before count
@@ -17,19 +14,11 @@ filled-more f before count now v near is same =
     let done = map f (range_with_len 0 count) in
     let rest = drop (count + 1) before in
     let from : 0 + count ≡ count = omega arith in
-    ap (λ xs. set xs count v) (is ∙ ap (λ xs. done ++ xs) (drop_more before count v near))
-    ∙ set_at done rest _ v count (length-map-range_with_len f 0 count)
+    ap₂ (λ xs n. set xs n v) (is ∙ ap (λ xs. done ++ xs) (drop_more before count v near)) (sym (length-map-range_with_len f 0 count))
+    ∙ set-append_seam done _ rest v
     ∙ ap (λ x. done ++ x ∷ rest) same
     ∙ sym (append_assoc done (f count ∷ []) rest)
     ∙ ap (λ xs. xs ++ rest) (sym (map-range_with_len_more f 0 count count from))
-
--- all are
-pub filled-all : {X : Type 0} (f : ℕ → X) (before : List X) (count places : ℕ) (now : List X) → length before ≡ places → count ≡ places
-    → now ≡ filled f before count → now ≡ map f (range_with_len 0 places)
-filled-all f before count places now long at is =
-    is ∙ ap (λ n. map f (range_with_len 0 n) ++ drop n before) at
-    ∙ ap (λ xs. map f (range_with_len 0 places) ++ xs) (drop_all places before (omega (arith, long)))
-    ∙ append-nil (map f (range_with_len 0 places))
 
 -- ---- the numbers of an object's slots
 

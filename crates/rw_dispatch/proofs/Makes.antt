@@ -1,6 +1,7 @@
 -- Puts are made one after another.
-use Rattle.rw_dispatch.proofs.Common.{AreBounded, Bool, CanPut, Cell, Content, List, None, Option, Put, Series, Sets, Some, [], ap, arith, drop, drop-cons, false, held, if◌then◌else◌, is_shared, length, option_map, option_or, pos, refl, slice_index_or, subst, suc, sym, true, unwrap_or, ℕ, ◌+◌, ◌<◌, ◌∙◌, ◌∷◌, ◌≡◌}
+use Rattle.rw_dispatch.proofs.Common.{AreBounded, Bool, CanPut, Cell, Content, List, None, Option, Put, Series, Sets, Some, [], ap, drop, false, held, if◌then◌else◌, is_shared, length, option_map, option_or, pos, refl, slice_index_or, subst, sym, true, unwrap_or, ℕ, ◌+◌, ◌<◌, ◌∙◌, ◌∷◌, ◌≡◌}
 use Rattle.rw_model.proofs.Common.{slot_in_place, Draft, IsBetween, bounds_in}
+use Rattle.std.proofs.lemmas.List.{drop_more}
 use Rattle.rw_series.proofs.Bounds.{bounds-shared}
 use Rattle.rw_base.proofs.Common.{All, All-cons, All-head, All-nil, All-tail}
 use Rattle.rw_model.proofs.Common.{known_in_place}
@@ -38,8 +39,7 @@ made_one basin first before after all left rest put is sets putting cell =
 pub next-put : {A : Type 0} (items puts : List A) (place : ℕ) (put : A) → items ≡ puts → place < length items → put ≡ slice_index_or items place put
     → drop place puts ≡ put ∷ drop (place + 1) puts
 next-put items puts place put same near is =
-    let next : suc place ≡ place + 1 = omega arith in
-    rw (← same) (drop-cons items place put near ∙ ap (λ first. first ∷ drop (suc place) items) (sym is) ∙ ap (λ k. put ∷ drop k items) next)
+    rw (← same) (drop_more items place put near ∙ ap (λ first. first ∷ drop (place + 1) items) (sym is))
 
 -- ---- what is put is within bounds
 

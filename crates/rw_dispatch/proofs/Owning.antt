@@ -3,8 +3,9 @@ use Rattle.rw_dispatch.proofs.Common.{Bool, List, SlotNo, [], ap, ap₂, arith, 
 use Rattle.rw_model.proofs.Common.{numbers_of, Draft, group_of, owner_of}
 use Rattle.rw_run.specs.Log.{Asked}
 use Rattle.rw_run.specs.Waiting.{is_at, is_owner, slots_at}
-use Rattle.rw_base.proofs.Common.{nat_tests, append_assoc, list_any-append, ◌++◌, if◌then◌else◌}
+use Rattle.rw_base.proofs.Common.{nat_tests, list_any-append, ◌++◌, if◌then◌else◌}
 use Rattle.std.proofs.Math.ListN.{length-replicate, length-set, replicate}
+use Rattle.std.proofs.Math.Bool.{or_assoc, or_comm}
 use Rattle.std.proofs.lemmas.List.{take_more}
 use Rattle.rw_dispatch.specs.Owners.{HasReached, has_mark}
 use Rattle.rw_dispatch.specs.declared.owners.Reached.{Reached}
@@ -52,17 +53,8 @@ none-reached reached is = record {
   behind = λ object far. refl;
 }
 
-or_turned : (a b : Bool) → (a || b) ≡ (b || a)
-or_turned true true = refl
-or_turned true false = refl
-or_turned false true = refl
-or_turned false false = refl
-
 or_moved : (a b c : Bool) → (a || (b || c)) ≡ ((b || a) || c)
-or_moved true true c = refl
-or_moved true false c = refl
-or_moved false true c = refl
-or_moved false false c = refl
+or_moved a b c = sym (or_assoc a b c) ∙ ap (λ both. both || c) (or_comm a b)
 
 any_numbers : (test : ℕ → Bool) (slots : List SlotNo) → list_any test (numbers_of slots) ≡ list_any (λ (s : SlotNo). test s.0) slots
 any_numbers test [] = refl
@@ -99,7 +91,7 @@ pub slot-more : (basin : Draft) (slots : List SlotNo) (k : ℕ) (d : SlotNo) (re
     → HasReached (is_owner basin (numbers_of (take (k + 1) slots))) reached
 slot-more basin slots k d reached near = alike _ _ reached
     (λ object.
-    or_turned (is_at basin object (slice_index_or slots k d).0) (is_owner basin (numbers_of (take k slots)) object)
+    or_comm (is_at basin object (slice_index_or slots k d).0) (is_owner basin (numbers_of (take k slots)) object)
     ∙ any_more (is_at basin object) slots k d near)
 
 slots_at-append : (step : ℕ) (first last : List Asked) → slots_at step (first ++ last) ≡ slots_at step first ++ slots_at step last
@@ -131,7 +123,7 @@ written-more basin step writes k write reached near is = alike _ _ reached
     let new = slots_at step (write ∷ []) in
     let old = slots_at step (take k writes) in
     list_any-append test new old
-    ∙ or_turned (list_any test new) (list_any test old)
+    ∙ or_comm (list_any test new) (list_any test old)
     ∙ sym (list_any-append test old new)
     ∙ ap (list_any test) (sym (slots_at-append step (take k writes) (write ∷ []))
     ∙ ap (slots_at step) (ap (λ w. take k writes ++ w ∷ []) is ∙ sym (take_more writes k write near))))

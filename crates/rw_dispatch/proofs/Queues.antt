@@ -104,13 +104,6 @@ pub woken-later : (b : Draft) (but : Option ℕ) (p : ℕ → Bool) (old slots :
     → is_woken b but (old ++ filter p (numbers n)) slots a ≡ is_woken b but old slots a
 woken-later b but p old slots a n l = rw (any-later p old a n l) refl
 
-woken_free : (d e r o t : Bool) → t ≡ not d && (not e && (not r && o)) → t ≡ true → r ≡ false
-woken_free d e r o t h k = grind (arith, nat_tests)
-
--- an object that is woken doesn't wait yet
-pub woken-free : (b : Draft) (but : Option ℕ) (queue slots : List ℕ) (a : ℕ) (t : Bool) → t ≡ is_woken b but queue slots a → t ≡ true → times a queue ≡ 0
-woken-free b but queue slots a t h k = free a queue (woken_free (is_data b a) (is_but but a) (list_any (λ x. a == x) queue) (is_owner b slots a) t h k)
-
 unowned_test : (d e r o : Bool) → o ≡ false → (not d && (not e && (not r && o))) ≡ false
 unowned_test d e r o h = grind (arith, h)
 

@@ -1,5 +1,5 @@
 -- Waking the objects that are reached.
-use Rattle.rw_dispatch.proofs.Common.{Bool, List, Option, [], append-nil, arith, false, filter, nat_lt, nat_tests, refl, sym, true, ℕ, ◌++◌, ◌≡◌, ◌≤◌, ◌<◌}
+use Rattle.rw_dispatch.proofs.Common.{Bool, List, Option, append-nil, arith, false, filter, nat_lt, nat_tests, refl, sym, true, ℕ, ◌++◌, ◌≡◌, ◌≤◌, ◌<◌}
 use Rattle.rw_model.specs.Draft.{Draft}
 use Rattle.rw_run.specs.Waiting.{is_owner, is_woken, numbers}
 use Rattle.rw_dispatch.specs.Owners.{HasReached}

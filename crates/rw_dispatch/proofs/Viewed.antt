@@ -1,5 +1,5 @@
 -- What an object sees is a view of its kind.
-use Rattle.rw_dispatch.proofs.Common.{AreBounded, Bool, Content, IsBounded, IsViewOf, Kind, List, None, Option, Some, View, [], ap, arith, bounds_at, false, get_or-map-range_with_len, if◌then◌else◌, known, known_value, length, map, nat_tests, option_and_then, option_map, pos, refl, slice_get, slice_index_or, subst, suc, sym, take, true, unwrap_or, zero, ℕ, ℤ, ◌&&◌, ◌+◌, ◌-◌, ◌<◌, ◌==◌, ◌∙◌, ◌∷◌, ◌≡◌, ◌≤ℤ◌, ◌≤◌}
+use Rattle.rw_dispatch.proofs.Common.{AreBounded, Bool, Content, IsBounded, IsViewOf, Kind, List, None, Option, Some, View, [], and_parts, ap, arith, bounds_at, eqb-true, false, get_or-map-range_with_len, if◌then◌else◌, known, known_value, length, map, nat_tests, option_and_then, option_map, pos, refl, slice_get, slice_index_or, subst, suc, sym, take, true, unwrap_or, zero, ℕ, ℤ, ◌&&◌, ◌+◌, ◌-◌, ◌<◌, ◌==◌, ◌∙◌, ◌∷◌, ◌≡◌, ◌≤ℤ◌, ◌≤◌}
 use Rattle.rw_model.proofs.Common.{place_of, IsKind, Slot, Bounds, IsInside, slots_of, slot_in, Object, Placed, placed_from, slots_from, all_slots, object_at, slot_at, slot_in_place, first_from, is_in_place, Draft, IsObject, IsBetween, bounds_in, IsBasin, numbered-known, StandsAt-stored, first_from-all_slots, IsOfOwner-is_in_place, known_in_place, bounds_in-within}
 use Rattle.rw_run.proofs.Common.{Cells, cell_at, content_in, bounds_in_place, past_value, places, view_of}
 
@@ -31,9 +31,6 @@ of_kind : (found : Option Object) (kind : Kind) (place : ℕ) → option_map (λ
 of_kind None kind place is = absurd (cc)
 of_kind (Some object) kind place is = let same : object.kind ≡ kind = cc in ap (λ k. slot_in k place) same
 
-both_same : (a b c d : ℕ) → (a == b && c == d) ≡ true → (a ≡ b) × (c ≡ d)
-both_same a b c d same = (grind (arith, nat_tests), grind (arith, nat_tests))
-
 -- the slot of this number is the kind's in the place
 pub record StandsIn (objects : List Object) (kind : Kind) (place number : ℕ) : Type 0 where
   pub placed : Placed
@@ -44,33 +41,28 @@ pub stands_in : (objects : List Object) (owner place number : ℕ) (kind : Kind)
     → slot_in_place objects owner place ≡ Some number → StandsIn objects kind place number
 stands_in objects owner place number kind is at =
     let found = found_at 1 number (is_in_place owner place) (all_slots objects) at in
-    let same = both_same found.placed.owner owner found.placed.place place found.passes in
+    let same = and_parts (found.placed.owner == owner) (found.placed.place == place) found.passes in
     let stands = StandsAt-stored objects (number - 1) (place_of found.placed) (ap (option_map place_of) found.found) in
     record {
       placed = found.placed;
       found = numbered-known (all_slots objects) number found.after ∙ found.found;
       slot = sym (of_kind (object_at objects owner) kind place is)
-          ∙ ap (λ p. option_and_then (λ (object : Object). slot_in object.kind p) (object_at objects owner)) (sym same.1)
-          ∙ ap (λ o. option_and_then (λ (object : Object). slot_in object.kind found.placed.place) (object_at objects o)) (sym same.0)
+          ∙ ap (λ p. option_and_then (λ (object : Object). slot_in object.kind p) (object_at objects owner)) (sym (eqb-true _ _ same.1))
+          ∙ ap (λ o. option_and_then (λ (object : Object). slot_in object.kind found.placed.place) (object_at objects o)) (sym (eqb-true _ _ same.0))
           ∙ stands.slot
           ∙ ap (option_map (λ (placed : Placed). placed.slot)) found.found;
     }
-
-test_here : (owner place at : ℕ) → at ≡ place → (owner == owner && place == at) ≡ true
-test_here owner place at same = grind (arith, nat_tests)
-
-test_there : (owner place at : ℕ) → place < at → (owner == owner && place == at) ≡ false
-test_there owner place at below = grind (arith, nat_tests)
 
 has_place : (owner start n j at : ℕ) (slots : List (Option Slot)) (slot : Slot) → at ≡ start + j → slice_index_or slots j None ≡ Some slot
     → (k : ℕ) × (first_from n (is_in_place owner at) (placed_from owner start slots) ≡ Some k)
 has_place owner start n j at [] slot place found = absurd (cc)
 has_place owner start n zero at (None ∷ slots) slot place found = absurd (cc)
-has_place owner start n zero at (Some first ∷ slots) slot place found = (n, rw (test_here owner start at (omega (arith, place))) refl)
+has_place owner start n zero at (Some first ∷ slots) slot place found =
+    let here : (owner == owner && start == at) ≡ true = grind (arith, nat_tests) in (n, rw here refl)
 has_place owner start n (suc j) at (None ∷ slots) slot place found = has_place owner (start + 1) n j at slots slot (omega (arith, place)) found
 has_place owner start n (suc j) at (Some first ∷ slots) slot place found =
     let later = has_place owner (start + 1) (n + 1) j at slots slot (omega (arith, place)) found in
-    (later.0, rw (test_there owner start at (omega (arith, place))) later.1)
+    let there : (owner == owner && start == at) ≡ false = grind (arith, nat_tests) in (later.0, rw there later.1)
 
 -- an object has the slots of its kind
 pub has_slot : (objects : List Object) (owner place : ℕ) (kind : Kind) (slot : Slot) → 1 ≤ owner → option_map (λ (object : Object). object.kind) (object_at objects owner) ≡ Some kind

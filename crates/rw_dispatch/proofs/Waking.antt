@@ -7,17 +7,15 @@ use Rattle.rw_run.specs.Log.{Asked, Event, last_put, written_by}
 use Rattle.rw_run.specs.Waiting.{is_woken, queued_after, slots_at, woken}
 use Rattle.rw_dispatch.specs.Answer.{Tells, event_of, written_in}
 use Rattle.rw_dispatch.specs.declared.dispatched.Dispatched.{Dispatched}
-use Rattle.rw_dispatch.specs.declared.dispatched.Dispatched.TheVariants.{Idle, Solved, Conflict, OutOfRange}
+use Rattle.rw_dispatch.specs.declared.dispatched.Dispatched.TheVariants.{Solved}
 use Rattle.rw_dispatch.specs.Stage.{Leaves, Stage}
 use Rattle.rw_dispatch.proofs.Queues.{none_left, woken-unowned}
 
 -- what the event of an answer writes
 of_answer : (basin : Draft) (looked : List Look) (object step : ℕ) (answer : Dispatched)
     → asked_for basin object step (written_in answer) ≡ written_by (event_of basin looked object step answer)
-of_answer basin looked object step Idle = refl
 of_answer basin looked object step (Solved asked written) = refl
-of_answer basin looked object step (Conflict slot held solves) = refl
-of_answer basin looked object step (OutOfRange slot value) = refl
+of_answer basin looked object step answer = refl
 
 pub written_of : (basin : Draft) (looked : List Look) (object step : ℕ) (event : Event) (answer : Dispatched) → Tells basin looked object step event answer
     → asked_for basin object step (written_in answer) ≡ written_by event
@@ -32,10 +30,8 @@ none_woken basin but queue =
 queue_after : (basin : Draft) (looked : List Look) (object step : ℕ) (answer : Dispatched) (queue : List ℕ)
     → queued_after basin (event_of basin looked object step answer) queue
     ≡ queue ++ woken basin (Some object) queue (slots_at step (written_by (event_of basin looked object step answer)))
-queue_after basin looked object step Idle queue = none_woken basin (Some object) queue
 queue_after basin looked object step (Solved asked written) queue = refl
-queue_after basin looked object step (Conflict slot held solves) queue = none_woken basin (Some object) queue
-queue_after basin looked object step (OutOfRange slot value) queue = none_woken basin (Some object) queue
+queue_after basin looked object step answer queue = none_woken basin (Some object) queue
 
 -- what an answer's event writes is made, and wakes those that it reaches
 pub leaves_written : (basin : Draft) (looked : List Look) (object step : ℕ) (event : Event) (answer : Dispatched) (writes : List Asked) (old new : Stage)

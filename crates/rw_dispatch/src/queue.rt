@@ -149,6 +149,7 @@ impl Queue {
     }
 
     // Whether an object is woken that is reached: it doesn't wait yet, has a method, and isn't left out.
+    #[tactic(auto, using(crate::proofs::Queues::free))]
     fn is_free(&self, basin: &Basin, but: Option<ObjectNo>, object: u16) -> bool
         requires made { IsQueueOf basin.now self.now }
         requires known { IsObject basin.now.objects object }

@@ -7,7 +7,7 @@ use Rattle.rw_dispatch.specs.Writes.{AreWrites}
 use Rattle.rw_base.specs.declared.memory.NoMemory.{NoMemory}
 use Rattle.rw_run.specs.Log.{Cells, Log}
 use Rattle.rw_rules.specs.Rules.{IsRulesOf, Rules, WrittenOn}
-use Rattle.rw_firing.specs.Firing.{most_looks}
+use Rattle.rw_rules.specs.Firing.{most_looks}
 use Rattle.rw_engine.proofs.Common.{Asked, Event, last_put, option_or, refl, slice_index_or, undone_of, written_by}
 use Rattle.std.specs.Prelude.{Result, Err, IsErrAnd}
 use Rattle.rw_engine.specs.State.{Does, IsStill}

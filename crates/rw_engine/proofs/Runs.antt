@@ -1,5 +1,9 @@
 -- A run, timestep by timestep.
 use Rattle.rw_engine.proofs.Common.{ComesTo, Draft, Engine, Inputs, IsBefore, IsOver, IsRunOf, Log, Passes, RunFault, Shows, Stands, [], ap, arith, givens, Policy, placed, refl, rests, standing, subst, sym, ℕ, ◌++◌, ◌+◌, ◌<◌, ◌∙◌, ◌∷◌, ◌≡◌}
+use Rattle.std.specs.Prelude.{Err, IsErrAnd, Ok, Result, ◌≤◌}
+use Rattle.rw_base.specs.declared.memory.NoMemory.{NoMemory}
+use Rattle.rpl_verify.specs.Verified.{Accepted}
+use Rattle.rw_engine.specs.Passing.{RunsAll}
 use Rattle.rw_run.specs.declared.run.Run.{Run}
 use Rattle.rw_engine.specs.declared.step_end.StepEnd.TheVariants.{Closed as IsClosed, Fault as IsFault}
 use Rattle.rw_run.specs.declared.run.RunEnd.{RunEnd}
@@ -82,4 +86,17 @@ without_rules basin inputs run comes = record {
   whole = same_runs basin (policy_in basin (record { blocks = []; budgets = []; resolved = [] })) no_rules (givens basin inputs) comes.log
       (record { rules = refl; same = λ rule step values is. absurd (omega (arith, is.first, is.last)) }) comes.whole;
   is = comes.is;
+}
+
+-- memory wants for the rest of a run
+pub unrun : (basin : Draft) (policy : Accepted) (engine : Engine) (before after : ℕ) (result : Result Run NoMemory) (why : NoMemory)
+    → IsErrAnd result (λ fault. fault ≡ why) → before ≤ after → after ≤ before + basin.control.stamps.count → RunsAll basin policy engine before after result
+unrun basin policy engine before after (Ok run) why is rises few = absurd is
+unrun basin policy engine before after (Err fault) why is rises few = record {
+  comes = λ inputs shows. tt;
+  opened_steps = λ inputs shows. tt;
+  closed_steps = tt;
+  kept = λ kept. tt;
+  rises = rises;
+  few = few;
 }

@@ -4,8 +4,12 @@ use Rattle.rw_run.specs.declared.trace.TraceEvent.{TraceEvent}
 use Rattle.rw_run.specs.Trace.{told}
 use Rattle.rpl_verify.specs.Verified.{Accepted}
 use Rattle.rw_rules.specs.Rules.{ShowsLooks, policy_in}
+use Rattle.std.specs.Prelude.{Result, Ok, Err, IsErrAnd, IsSome}
+use Rattle.rw_base.specs.declared.memory.NoMemory.{NoMemory}
+use Rattle.rw_engine.specs.Passing.{steps_of}
+use Rattle.rw_engine.specs.State.{HasPassed, IsRevocable, IsStateOf, Keeps}
 use Rattle.rw_engine.specs.declared.step_end.StepEnd.{StepEnd}
-use Rattle.rw_engine.proofs.Traces.{shown_more, told_more}
+use Rattle.rw_engine.proofs.Traces.{kept_on, shown_more, told_more}
 
 pub leads_more : (basin : Draft) (policy : Policy) (old : Log) (events : List Event) (event : Event) (new : Log) → Leads basin policy old events new
     → follows basin policy new ≡ Some event → Leads basin policy old (events ++ event ∷ []) (event ∷ new)
@@ -82,3 +86,30 @@ grows_more x y z one other = (one.0 ++ other.0, other.1 ∙ ap (λ t. told t oth
 pub still_more : (one other last : State) → IsStill one other → IsStill other last → IsStill one last
 still_more one other last before after =
     record { closed_steps = after.closed_steps ∙ before.closed_steps; end = after.end ∙ before.end }
+
+-- what was done can be taken back, and then what an event did
+pub revocable_more : (basin : Draft) (policy : Accepted) (first old new : State) → IsRevocable basin first old → Keeps basin policy old new → IsRevocable basin first new
+revocable_more basin policy first old new before keeps = record {
+  cells = keeps.within.undo;
+  undo = λ kept. keeps.undo (kept_on first.trace old.trace before.grows kept) _ (before.undo kept);
+  grows = grows_more first.trace old.trace new.trace before.grows keeps.grows;
+}
+
+-- memory wants within the timestep
+pub unpassed : (basin : Draft) (policy : Accepted) (step : ℕ) (old new : State) (result : Result StepEnd NoMemory) (why : NoMemory)
+    → IsErrAnd result (λ fault. fault ≡ why) → IsStateOf basin policy new → IsRevocable basin old new → IsStill old new → IsSome old.trace
+    → HasPassed basin policy step old new result
+unpassed basin policy step old new (Ok end) why is made revocable still kept = absurd is
+unpassed basin policy step old new (Err fault) why is made revocable still kept = record {
+  made = made;
+  revocable = revocable;
+  still = still;
+  passes = λ log shows before. tt;
+  closed_steps = tt;
+  wants = kept;
+}
+
+-- no timestep is counted where memory wants
+pub none_counted : (result : Result StepEnd NoMemory) (why : NoMemory) → IsErrAnd result (λ fault. fault ≡ why) → steps_of result ≡ 0
+none_counted (Ok end) why is = absurd is
+none_counted (Err fault) why is = refl

@@ -1,16 +1,19 @@
 -- A timestep, from its opening to its end, and a run.
-use Rattle.std.specs.Prelude.{◌≡◌, ℕ, List, [], ◌∷◌}
+use Rattle.std.specs.Prelude.{◌≡◌, ◌≤◌, ℕ, ◌+◌, List, [], ◌∷◌, IfErr, IfOk, IsSome, Result, Ok, Err}
+use Rattle.rw_base.specs.declared.memory.NoMemory.{NoMemory}
 use Rattle.rw_model.specs.Draft.{Draft}
 use Rattle.rw_run.specs.Log.{Event, Log}
 use Rattle.rw_run.specs.Next.{Policy}
 use Rattle.rw_run.specs.Runs.{Leads, IsRun, placed, standing, rests, inside}
-use Rattle.rw_run.specs.RunOf.{IsRunOf}
+use Rattle.rw_run.specs.RunOf.{IsRunOf, opened_by}
 use Rattle.rw_run.specs.declared.run.Run.{Run}
 use Rattle.rw_inputs.specs.Inputs.{Inputs}
 use Rattle.rw_inputs.specs.Givens.{givens}
 use Rattle.rw_engine.specs.Engine.{Engine}
 use Rattle.rw_engine.specs.declared.step_end.StepEnd.{StepEnd}
-use Rattle.rw_engine.specs.Shows.{Shows, EndsBy}
+use Rattle.rpl_verify.specs.Verified.{Accepted}
+use Rattle.rw_rules.specs.Rules.{policy_in}
+use Rattle.rw_engine.specs.Shows.{IsBefore, IsEngineOf, Shows, EndsBy, closed_by}
 
 -- the events of the timestep follow, up to its closing or to the fault, and the engine shows them
 pub record Passes (basin : Draft) (policy : Policy) (log : Log) (end : StepEnd) (engine : Engine) (step : ℕ) : Type 0 where
@@ -21,6 +24,25 @@ pub record Passes (basin : Draft) (policy : Policy) (log : Log) (end : StepEnd) 
   pub within : standing before ≡ inside step
   pub ends : EndsBy end step last
   pub shows : Shows basin engine (last ∷ before)
+
+-- a call passes the timestep after the last closed one. After want of memory the engine shows what it showed before
+pub record RunsStep (basin : Draft) (policy : Accepted) (step : ℕ) (old new : Engine) (result : Result StepEnd NoMemory) : Type 0 where
+  pub made : IsEngineOf basin policy new
+  pub passes : (log : Log) → Shows basin old log → IsBefore basin step log → IfOk result (λ end. Passes basin (policy_in basin policy) log end new step)
+  pub before : (log : Log) → Shows basin old log → IfErr result (λ fault. Shows basin new log)
+  pub kept : IsSome old.trace → IsSome new.trace
+  pub closed_steps : IfOk result (λ end. new.closed ≡ closed_by end step old.closed)
+
+-- how many timesteps a call counts
+abbrev pub steps_of : Result StepEnd NoMemory → ℕ
+steps_of (Ok end) = 1
+steps_of (Err fault) = 0
+
+-- the timesteps that a run opened were counted, and at most all where memory was wanting
+pub record CountsSteps (basin : Draft) (before after : ℕ) (result : Result Run NoMemory) : Type 0 where
+  pub opened_steps : IfOk result (λ run. after ≡ before + opened_by run.end run.closed)
+  pub rises : before ≤ after
+  pub few : after ≤ before + basin.control.stamps.count
 
 -- the run comes to what the whole run of the inputs does
 pub record ComesTo (basin : Draft) (policy : Policy) (inputs : Inputs) (run : Run) : Type 0 where
@@ -35,3 +57,13 @@ pub record Stands (basin : Draft) (policy : Policy) (inputs : Inputs) (engine : 
   pub leads : Leads basin policy (placed [] (givens basin inputs)) events log
   pub shows : Shows basin engine log
   pub rest : standing log ≡ rests step
+
+-- all timesteps were passed, or as many as memory was there for: it comes to the run of the inputs that the engine began with
+pub record RunsAll (basin : Draft) (policy : Accepted) (engine : Engine) (before after : ℕ) (result : Result Run NoMemory) : Type 0 where
+  pub comes : (inputs : Inputs) → Shows basin engine (placed [] (givens basin inputs)) → IfOk result (ComesTo basin (policy_in basin policy) inputs)
+  pub opened_steps : (inputs : Inputs) → Shows basin engine (placed [] (givens basin inputs))
+      → IfOk result (λ run. after ≡ before + opened_by run.end run.closed)
+  pub closed_steps : IfOk result (λ run. run.closed ≤ basin.control.stamps.count)
+  pub kept : IsSome engine.trace → IfOk result (λ run. IsSome run.trace)
+  pub rises : before ≤ after
+  pub few : after ≤ before + basin.control.stamps.count

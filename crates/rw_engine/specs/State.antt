@@ -1,20 +1,23 @@
 -- The state of an engine, and what it has within a timestep.
-use Rattle.std.specs.Prelude.{◌≡◌, ℕ, ◌<◌, false, List, ◌∷◌, ◌+◌, ◌≤◌, length, All, Option, Some, None, IsSome, Result, Ok, Err, IfOk, IfErr}
+use Rattle.std.specs.Prelude.{◌≡◌, ℕ, ◌<◌, false, List, [], ◌∷◌, ◌+◌, ◌≤◌, length, All, Option, Some, None, IsSome, Result, Ok, Err, IfOk, IfErr}
 use Rattle.rw_base.specs.declared.memory.NoMemory.{NoMemory}
 use Rattle.rw_model.specs.Draft.{Draft, IsObject}
 use Rattle.rw_series.specs.Series.{held}
-use Rattle.rw_run.specs.Log.{Cells, Event, Log}
+use Rattle.rw_run.specs.Log.{Cells, Event, Log, opened}
 use Rattle.rw_model.specs.Turn.{is_data}
 use Rattle.rw_run.specs.Waiting.{waiting}
 use Rattle.rw_run.specs.Next.{next, dispatches, firings, first_due}
-use Rattle.rw_run.specs.Runs.{Leads, standing, inside}
+use Rattle.rw_run.specs.Runs.{Leads, placed, standing, inside}
+use Rattle.rw_inputs.specs.Inputs.{Inputs}
+use Rattle.rw_inputs.specs.Givens.{givens}
 use Rattle.rw_agenda.specs.Agenda.{IsIndexed}
 use Rattle.rpl_verify.specs.Verified.{Accepted}
 use Rattle.rw_rules.specs.Rules.{ShowsLooks, policy_in}
 use Rattle.rw_engine.specs.Counts.{count_of, room}
 use Rattle.rw_engine.specs.Engine.{Engine}
 use Rattle.rw_engine.specs.Lines.{Grows}
-use Rattle.rw_engine.specs.Shows.{IsEngineOf, Shows, EndsBy, closed_by}
+use Rattle.rw_engine.specs.Passing.{Passes}
+use Rattle.rw_engine.specs.Shows.{IsBefore, IsEngineOf, Shows, EndsBy, closed_by}
 use Rattle.rw_engine.specs.Undone.{AreCells, CanUndo}
 use Rattle.rw_engine.specs.declared.state.State.{State}
 use Rattle.rw_engine.specs.declared.step_end.StepEnd.{StepEnd}
@@ -126,6 +129,33 @@ pub record Does (basin : Draft) (policy : Accepted) (step : ℕ) (old new : Stat
   pub on_the_way : IsOnTheWay basin step result old new
   pub goes : (log : Log) → given log → IfOk result (λ end. Goes basin policy end new step log)
   -- memory wants only where a trace is kept
+  pub wants : IfErr result (λ fault. IsSome old.trace)
+
+-- ---- what opening and passing a timestep do
+
+-- the inputs are placed, and no timestep is opened
+pub record Begins (basin : Draft) (policy : Accepted) (inputs : Inputs) (state : State) : Type 0 where
+  pub made : IsStateOf basin policy state
+  pub shows : Shows basin (seen state) (placed [] (givens basin inputs))
+
+-- nothing is noted yet of what can be taken back
+pub record IsFresh (basin : Draft) (policy : Accepted) (state : State) : Type 0 where
+  pub made : IsStateOf basin policy state
+  pub cleared : state.undo.items ≡ []
+
+-- the timestep is opened
+pub record IsOpened (basin : Draft) (policy : Accepted) (step : ℕ) (old new : State) : Type 0 where
+  pub within : IsWithinStep basin policy new
+  pub holds : (log : Log) → Shows basin (seen old) log → IsBefore basin step log → HoldsWithin basin policy new step new.queue.waiting (opened step ∷ log)
+
+-- the timestep was passed to its end, or memory wants within it and it can be taken back
+pub record HasPassed (basin : Draft) (policy : Accepted) (step : ℕ) (old new : State) (result : Result StepEnd NoMemory) : Type 0 where
+  pub made : IsStateOf basin policy new
+  pub revocable : IsRevocable basin old new
+  pub still : IfErr result (λ fault. IsStill old new)
+  pub passes : (log : Log) → Shows basin (seen old) log → IsBefore basin step log
+      → IfOk result (λ end. Passes basin (policy_in basin policy) log end (seen new) step)
+  pub closed_steps : IfOk result (λ end. new.closed ≡ closed_by end step old.closed)
   pub wants : IfErr result (λ fault. IsSome old.trace)
 
 -- ---- what is given of a log, for the event that follows it

@@ -1,4 +1,4 @@
-ghost use Rattle.std.specs.Prelude.{◌≤◌, ◌+◌, [], map, IfOk, IfErr, ◌≡◌, IsSome, Ok};
+ghost use Rattle.std.specs.Prelude.{◌≤◌, ◌+◌, [], map, IfOk, ◌≡◌, IsSome, Ok};
 ghost use Rattle.rw_model.specs.Draft.{Draft};
 ghost use Rattle.rw_method.specs.Catalogue.{AreInOrder};
 ghost use Rattle.rw_inputs.specs.Inputs.{IsInputsOf};
@@ -7,10 +7,9 @@ ghost use Rattle.rw_run.specs.Log.{Log};
 ghost use Rattle.rw_run.specs.Runs.{placed};
 ghost use Rattle.rw_run.specs.RunOf.{IsRunOf};
 ghost use Rattle.rw_model.specs.Turn.{IsStep};
-ghost use Rattle.rw_rules.specs.Rules.{policy_in};
 ghost use Rattle.rw_inputs.specs.Givens.{givens};
-ghost use Rattle.rw_engine.specs.Shows.{IsEngineOf, Shows, IsBefore, closed_by};
-ghost use Rattle.rw_engine.specs.Passing.{Passes};
+ghost use Rattle.rw_engine.specs.Shows.{IsEngineOf, Shows};
+ghost use Rattle.rw_engine.specs.Passing.{RunsStep, steps_of};
 
 use crate::setup::RunSetup;
 use crate::state::State;
@@ -84,7 +83,7 @@ impl Engine {
     }
 
     /// Passes the timestep after the last closed one: it is opened, event follows event, and it is closed or ends by a
-    /// fault. After want of memory the engine shows the log that it showed before.
+    /// fault, and is counted in `steps`. After want of memory it isn't, and the engine shows the log that it showed before.
     pub fn run_step<L: Ledger>(
         &mut self,
         basin: &Basin,
@@ -97,17 +96,8 @@ impl Engine {
         requires made { IsEngineOf basin.now policy.now self.old }
         requires order { AreInOrder (map (λ b. code (b.vtable, b.value)) methods.now.methods.items) }
         requires step { IsStep basin.now step.0 }
-        ensures made { IsEngineOf basin.now policy.now self.new }
-        ensures passes { (log : Log) → Shows basin.now self.old log → IsBefore basin.now step.0 log
-            → IfOk result (λ end. Passes basin.now
-            (policy_in basin.now policy.now) log end self.new step.0) }
-        ensures before { (log : Log) → Shows basin.now self.old log
-            → IfErr result (λ _. Shows basin.now self.new log) }
-        ensures kept { IsSome self.old.trace → IsSome self.new.trace }
-        ensures closed { IfOk result
-            (λ end. self.new.closed ≡ closed_by end step.0 self.old.closed) }
-        ensures counted { IfOk result (λ _. steps.new ≡ steps.old + 1) }
-        ensures uncounted { IfErr result (λ _. steps.new ≡ steps.old) }
+        ensures runs { RunsStep basin.now policy.now step.0 self.old self.new result }
+        ensures counted { steps.new ≡ steps.old + steps_of result }
     {
         let setup = RunSetup {
             basin,

@@ -11,6 +11,7 @@ ghost use Rattle.rw_engine.specs.Passing.{ComesTo};
 #[tactic(auto, using(crate::proofs::Runs::without_rules))]
 pub fn without_rules()
     ensures { (basin : Draft) (inputs : Inputs) (run : Run)
-        → ComesTo basin (policy_in basin (record { blocks = []; budgets = []; resolved = [] })) inputs run
+        → ComesTo basin (policy_in basin (record { blocks = []; budgets = []; resolved = [] }))
+        inputs run
         → ComesTo basin no_rules inputs run }
 {}

@@ -1,13 +1,10 @@
-ghost use Rattle.std.specs.Prelude.{◌≡◌, ◌≤◌, ◌+◌, map, IfOk, [], IsSome, Ok};
+ghost use Rattle.std.specs.Prelude.{◌≡◌, ◌≤◌, map, IfOk, IsSome, Ok};
 ghost use Rattle.rw_method.specs.Catalogue.{AreInOrder};
-ghost use Rattle.rw_inputs.specs.Inputs.{Inputs as Given, IsInputsOf};
+ghost use Rattle.rw_inputs.specs.Inputs.{IsInputsOf};
 ghost use Rattle.rpl_verify.specs.Verified.{verified};
-ghost use Rattle.rw_run.specs.Runs.{placed};
-ghost use Rattle.rw_run.specs.RunOf.{opened_by};
 ghost use Rattle.rw_rules.specs.Rules.{policy_in};
-ghost use Rattle.rw_engine.specs.Passing.{ComesTo};
-ghost use Rattle.rw_inputs.specs.Givens.{givens};
-ghost use Rattle.rw_engine.specs.Shows.{IsEngineOf, Shows};
+ghost use Rattle.rw_engine.specs.Passing.{ComesTo, CountsSteps, RunsAll};
+ghost use Rattle.rw_engine.specs.Shows.{IsEngineOf};
 
 use crate::engine::Engine;
 use crate::setup::RunSetup;
@@ -29,18 +26,9 @@ fn pass_all<L: Ledger>(
 ) -> Result<Run, NoMemory>
     requires made { IsEngineOf setup.now.basin.now setup.now.policy.now engine }
     requires begun { engine.closed ≡ 0 }
-    requires order { AreInOrder (map (λ b. code (b.vtable, b.value)) setup.now.methods.now.methods.items) }
-    ensures run { (inputs : Given)
-        → Shows setup.now.basin.now engine (placed [] (givens setup.now.basin.now inputs))
-        → IfOk result (ComesTo setup.now.basin.now
-        (policy_in setup.now.basin.now setup.now.policy.now) inputs) }
-    ensures counted { (inputs : Given)
-        → Shows setup.now.basin.now engine (placed [] (givens setup.now.basin.now inputs))
-        → IfOk result (λ run. steps.new ≡ steps.old + opened_by run.end run.closed) }
-    ensures closed { IfOk result (λ run. run.closed ≤ setup.now.basin.now.control.stamps.count) }
-    ensures kept { IsSome engine.trace → IfOk result (λ run. IsSome run.trace) }
-    ensures few { (steps.old ≤ steps.new)
-        × (steps.new ≤ steps.old + setup.now.basin.now.control.stamps.count) }
+    requires order { AreInOrder
+        (map (λ b. code (b.vtable, b.value)) setup.now.methods.now.methods.items) }
+    ensures { RunsAll setup.now.basin.now setup.now.policy.now engine steps.old steps.new result }
 {
     for before in 0..setup.basin.control().stamps.count() {
         let end = engine.run_step(
@@ -76,9 +64,7 @@ pub fn run_all<L: Ledger>(
     ensures run { IfOk result (ComesTo basin.now (policy_in basin.now policy.now) inputs.now) }
     ensures closed { IfOk result (λ run. run.closed ≤ basin.now.control.stamps.count) }
     ensures kept { IfOk result (λ run. IsSome run.trace) }
-    ensures counted { IfOk result
-        (λ run. steps.new ≡ steps.old + opened_by run.end run.closed) }
-    ensures few { (steps.old ≤ steps.new) × (steps.new ≤ steps.old + basin.now.control.stamps.count) }
+    ensures counted { CountsSteps basin.now steps.old steps.new result }
 {
     let engine = Engine::for_run(alloc, basin, policy, inputs)?;
     let setup = RunSetup {
@@ -105,9 +91,7 @@ pub fn run_without_trace<L: Ledger>(
     requires inputs { IsInputsOf basin.now inputs.now }
     ensures run { IfOk result (ComesTo basin.now (policy_in basin.now policy.now) inputs.now) }
     ensures closed { IfOk result (λ run. run.closed ≤ basin.now.control.stamps.count) }
-    ensures counted { IfOk result
-        (λ run. steps.new ≡ steps.old + opened_by run.end run.closed) }
-    ensures few { (steps.old ≤ steps.new) × (steps.new ≤ steps.old + basin.now.control.stamps.count) }
+    ensures counted { CountsSteps basin.now steps.old steps.new result }
 {
     let engine = Engine::without_trace(alloc, basin, policy, inputs)?;
     let setup = RunSetup {

@@ -2,18 +2,15 @@ ghost use Rattle.std.specs.Prelude.{◌≡◌, ◌<◌, ◌∷◌, [], ℕ, List
 ghost use Rattle.rw_model.specs.Draft.{Draft};
 ghost use Rattle.rw_method.specs.Catalogue.{AreInOrder};
 ghost use Rattle.rw_inputs.specs.Inputs.{IsInputsOf};
-ghost use Rattle.rw_run.specs.Log.{Log, fault, opened};
+ghost use Rattle.rw_run.specs.Log.{Log, fault};
 ghost use Rattle.rpl_verify.specs.Verified.{Accepted, verified};
-ghost use Rattle.rw_firing.specs.Firing.{IsRuleTurn};
-ghost use Rattle.rw_run.specs.Runs.{placed};
+ghost use Rattle.rw_rules.specs.Firing.{IsRuleTurn};
 ghost use Rattle.rw_run.specs.RunOf.{IsRunOf};
 ghost use Rattle.rw_model.specs.Turn.{IsStep, IsTurn};
 ghost use Rattle.rw_engine.specs.Counts.{count_of};
-ghost use Rattle.rw_inputs.specs.Givens.{givens};
-ghost use Rattle.rw_rules.specs.Rules.{policy_in};
-ghost use Rattle.rw_engine.specs.Passing.{Passes};
-ghost use Rattle.rw_engine.specs.Shows.{IsEngineOf, Shows, IsBefore, closed_by};
-ghost use Rattle.rw_engine.specs.State.{seen, IsRevocable, Does, HoldsBefore, HoldsDue, HoldsWithin, IsStateOf, IsStill, IsWithinStep, OnlyTells, end_by, ended_by};
+ghost use Rattle.rw_engine.specs.Passing.{RunsStep};
+ghost use Rattle.rw_engine.specs.Shows.{IsEngineOf, Shows};
+ghost use Rattle.rw_engine.specs.State.{seen, Begins, Does, HasPassed, HoldsBefore, HoldsDue, HoldsWithin, IsFresh, IsOpened, IsStateOf, IsWithinStep, OnlyTells, end_by, ended_by};
 
 use crate::counts::Counts;
 use crate::placing::place;
@@ -59,9 +56,7 @@ impl State {
         requires fits { verified basin.now policy.now.blocks ≡ Ok policy.now }
         requires inputs { IsInputsOf basin.now inputs.now }
         requires fresh { IfSome trace (λ lines. lines ≡ []) }
-        ensures made { IfOk result (IsStateOf basin.now policy.now) }
-        ensures shows { IfOk result
-            (λ state. Shows basin.now (seen state) (placed [] (givens basin.now inputs.now))) }
+        ensures begun { IfOk result (Begins basin.now policy.now inputs.now) }
         ensures trace { IfOk result (λ state. state.trace ≡ trace) }
     {
         let mut series = Series::sized(alloc, basin)?;
@@ -86,15 +81,11 @@ impl State {
 
     // Opens a timestep.
     fn open(&mut self, setup: &RunSetup, step: StepNo) -> Result<(), NoMemory>
-        requires made { IsStateOf setup.now.basin.now setup.now.policy.now self.old }
-        requires cleared { self.old.undo.items ≡ [] }
+        requires fresh { IsFresh setup.now.basin.now setup.now.policy.now self.old }
         ensures made { IsStateOf setup.now.basin.now setup.now.policy.now self.new }
-        ensures within { IfOk result
-            (λ _. IsWithinStep setup.now.basin.now setup.now.policy.now self.new) }
         ensures tells { OnlyTells self.old self.new }
-        ensures opened { IfOk result (λ _. (log : Log)
-            → Shows setup.now.basin.now (seen self.old) log → IsBefore setup.now.basin.now step.0 log
-            → HoldsWithin setup.now.basin.now setup.now.policy.now self.new step.0 self.new.queue.waiting (opened step.0 ∷ log)) }
+        ensures opened { IfOk result
+            (λ _. IsOpened setup.now.basin.now setup.now.policy.now step.0 self.old self.new) }
         ensures wants { IfErr result (λ _. IsSome self.old.trace) }
     {
         self.trace.push(TraceEvent::Opened(step))?;
@@ -126,8 +117,10 @@ impl State {
         why: RunFault,
     ) -> Result<Option<StepEnd>, NoMemory>
         requires within { IsWithinStep setup.now.basin.now setup.now.policy.now self.old }
-        ensures { (waits : List ℕ) → Does setup.now.basin.now setup.now.policy.now step.0 self.old self.new
-            (HoldsBefore setup.now.basin.now setup.now.policy.now self.old step.0 waits (fault why)) result }
+        ensures { (waits : List ℕ)
+            → Does setup.now.basin.now setup.now.policy.now step.0 self.old self.new
+            (HoldsBefore setup.now.basin.now setup.now.policy.now self.old step.0 waits
+            (fault why)) result }
     {
         self.trace.push(TraceEvent::Fault(why))?;
         self.end = RunEnd::Fault(why);
@@ -156,11 +149,14 @@ impl State {
         step: StepNo,
     ) -> Result<Option<StepEnd>, NoMemory>
         requires within { IsWithinStep setup.now.basin.now setup.now.policy.now self.old }
-        requires order { AreInOrder (map (λ b. code (b.vtable, b.value)) setup.now.methods.now.methods.items) }
+        requires order { AreInOrder
+            (map (λ b. code (b.vtable, b.value)) setup.now.methods.now.methods.items) }
         requires turn { IsTurn setup.now.basin.now object.0 step.0 }
-        requires below { count_of self.old.counts object.0 < setup.now.basin.now.control.object_limit }
+        requires below { count_of self.old.counts object.0
+            < setup.now.basin.now.control.object_limit }
         ensures { Does setup.now.basin.now setup.now.policy.now step.0 self.old self.new
-            (HoldsWithin setup.now.basin.now setup.now.policy.now self.old step.0 (object.0 ∷ self.old.queue.waiting)) result }
+            (HoldsWithin setup.now.basin.now setup.now.policy.now self.old step.0
+            (object.0 ∷ self.old.queue.waiting)) result }
     {
         self.counts.raise(object.0);
         let end = judge_dispatch(
@@ -189,10 +185,12 @@ impl State {
         step: StepNo,
     ) -> Result<Option<StepEnd>, NoMemory>
         requires within { IsWithinStep setup.now.basin.now setup.now.policy.now self.old }
-        requires order { AreInOrder (map (λ b. code (b.vtable, b.value)) setup.now.methods.now.methods.items) }
+        requires order { AreInOrder
+            (map (λ b. code (b.vtable, b.value)) setup.now.methods.now.methods.items) }
         requires turn { IsTurn setup.now.basin.now object.0 step.0 }
         ensures { Does setup.now.basin.now setup.now.policy.now step.0 self.old self.new
-            (HoldsWithin setup.now.basin.now setup.now.policy.now self.old step.0 (object.0 ∷ self.old.queue.waiting)) result }
+            (HoldsWithin setup.now.basin.now setup.now.policy.now self.old step.0
+            (object.0 ∷ self.old.queue.waiting)) result }
     {
         let count = self.counts.get(object.0);
         if setup.basin.control().object_limit <= count {
@@ -221,7 +219,8 @@ impl State {
         requires turn { IsRuleTurn setup.now.basin.now setup.now.policy.now rule.0 step.0 }
         requires below { count_of self.old.firings rule.0 < setup.now.basin.now.control.rule_limit }
         ensures { Does setup.now.basin.now setup.now.policy.now step.0 self.old self.new
-            (HoldsDue setup.now.basin.now setup.now.policy.now self.old step.0 (Some rule.0)) result }
+            (HoldsDue setup.now.basin.now setup.now.policy.now self.old step.0
+            (Some rule.0)) result }
     {
         self.firings.raise(rule.0);
         let fired = self.rules.fire(
@@ -251,7 +250,8 @@ impl State {
         requires idle { self.old.queue.waiting ≡ [] }
         requires turn { IsRuleTurn setup.now.basin.now setup.now.policy.now rule.0 step.0 }
         ensures { Does setup.now.basin.now setup.now.policy.now step.0 self.old self.new
-            (HoldsDue setup.now.basin.now setup.now.policy.now self.old step.0 (Some rule.0)) result }
+            (HoldsDue setup.now.basin.now setup.now.policy.now self.old step.0
+            (Some rule.0)) result }
     {
         let count = self.firings.get(rule.0);
         if setup.basin.control().rule_limit <= count {
@@ -266,7 +266,8 @@ impl State {
         requires idle { self.old.queue.waiting ≡ [] }
         requires step { IsStep setup.now.basin.now step.0 }
         ensures { Does setup.now.basin.now setup.now.policy.now step.0 self.old self.new
-            (HoldsWithin setup.now.basin.now setup.now.policy.now self.old step.0 self.old.queue.waiting) result }
+            (HoldsWithin setup.now.basin.now setup.now.policy.now self.old step.0
+            self.old.queue.waiting) result }
     {
         match self.rules.due(&self.series) {
             Some(rule) => self.let_fire(setup, rule, step),
@@ -277,10 +278,12 @@ impl State {
     // The event that follows in the open timestep.
     fn event(&mut self, setup: &RunSetup, step: StepNo) -> Result<Option<StepEnd>, NoMemory>
         requires within { IsWithinStep setup.now.basin.now setup.now.policy.now self.old }
-        requires order { AreInOrder (map (λ b. code (b.vtable, b.value)) setup.now.methods.now.methods.items) }
+        requires order { AreInOrder
+            (map (λ b. code (b.vtable, b.value)) setup.now.methods.now.methods.items) }
         requires step { IsStep setup.now.basin.now step.0 }
         ensures { Does setup.now.basin.now setup.now.policy.now step.0 self.old self.new
-            (HoldsWithin setup.now.basin.now setup.now.policy.now self.old step.0 self.old.queue.waiting) result }
+            (HoldsWithin setup.now.basin.now setup.now.policy.now self.old step.0
+            self.old.queue.waiting) result }
     {
         match self.queue.next() {
             Some(object) => self.ask(setup, object, step),
@@ -290,20 +293,12 @@ impl State {
 
     // The events of a timestep, of which the first opens it.
     fn pass(&mut self, setup: &RunSetup, step: StepNo) -> Result<StepEnd, NoMemory>
-        requires made { IsStateOf setup.now.basin.now setup.now.policy.now self.old }
-        requires cleared { self.old.undo.items ≡ [] }
-        requires order { AreInOrder (map (λ b. code (b.vtable, b.value)) setup.now.methods.now.methods.items) }
+        requires fresh { IsFresh setup.now.basin.now setup.now.policy.now self.old }
+        requires order { AreInOrder
+            (map (λ b. code (b.vtable, b.value)) setup.now.methods.now.methods.items) }
         requires step { IsStep setup.now.basin.now step.0 }
-        ensures made { IsStateOf setup.now.basin.now setup.now.policy.now self.new }
-        ensures revocable { IsRevocable setup.now.basin.now self.old self.new }
-        ensures still { IfErr result (λ _. IsStill self.old self.new) }
-        ensures passes { (log : Log) → Shows setup.now.basin.now (seen self.old) log
-            → IsBefore setup.now.basin.now step.0 log
-            → IfOk result (λ end. Passes setup.now.basin.now
-            (policy_in setup.now.basin.now setup.now.policy.now) log end (seen self.new) step.0) }
-        ensures closed { IfOk result
-            (λ end. self.new.closed ≡ closed_by end step.0 self.old.closed) }
-        ensures wants { IfErr result (λ _. IsSome self.old.trace) }
+        ensures { HasPassed setup.now.basin.now setup.now.policy.now step.0
+            self.old self.new result }
     {
         self.open(setup, step)?;
         loop {
@@ -316,18 +311,12 @@ impl State {
     /// Passes a timestep, and takes back what was done in it where memory wants for the rest.
     pub(crate) fn run_step(&mut self, setup: &RunSetup, step: StepNo) -> Result<StepEnd, NoMemory>
         requires made { IsStateOf setup.now.basin.now setup.now.policy.now self.old }
-        requires order { AreInOrder (map (λ b. code (b.vtable, b.value)) setup.now.methods.now.methods.items) }
+        requires order { AreInOrder
+            (map (λ b. code (b.vtable, b.value)) setup.now.methods.now.methods.items) }
         requires step { IsStep setup.now.basin.now step.0 }
         ensures made { IsStateOf setup.now.basin.now setup.now.policy.now self.new }
-        ensures passes { (log : Log) → Shows setup.now.basin.now (seen self.old) log
-            → IsBefore setup.now.basin.now step.0 log
-            → IfOk result (λ end. Passes setup.now.basin.now
-            (policy_in setup.now.basin.now setup.now.policy.now) log end (seen self.new) step.0) }
-        ensures before { (log : Log) → Shows setup.now.basin.now (seen self.old) log
-            → IfErr result (λ _. Shows setup.now.basin.now (seen self.new) log) }
-        ensures kept { IsSome self.old.trace → IsSome self.new.trace }
-        ensures closed { IfOk result
-            (λ end. self.new.closed ≡ closed_by end step.0 self.old.closed) }
+        ensures runs { RunsStep setup.now.basin.now setup.now.policy.now step.0
+            (seen self.old) (seen self.new) result }
     {
         self.undo.clear();
         let mark = self.trace.len();
@@ -343,8 +332,8 @@ impl State {
 
     /// What the run came to.
     pub(crate) fn finish(self) -> Run
-        ensures run { (basin : Draft) (policy : Accepted) (log : Log) → IsEngineOf basin policy (seen self)
-            → Shows basin (seen self) log → IsRunOf basin log result }
+        ensures run { (basin : Draft) (policy : Accepted) (log : Log)
+            → IsEngineOf basin policy (seen self) → Shows basin (seen self) log → IsRunOf basin log result }
         ensures closed { result.closed ≡ self.closed }
         ensures trace { result.trace ≡ self.trace }
     {

@@ -1,7 +1,7 @@
 -- Columns of values, one of which is set.
-use Rattle.rw_base.proofs.Common.{◌≡◌, ◌≢◌, ℕ, ◌<◌, ◌==◌, ◌&&◌, Bool, true, false, if◌then◌else◌, List, [], length, Some, refl, ap, subst, sym, ◌∙◌, arith, ℤ, nat_le, slice_set, nat_tests, get_or-set_same, get_or-set_other}
+use Rattle.rw_base.proofs.Common.{◌≡◌, ◌≢◌, ℕ, ◌<◌, ◌==◌, ◌&&◌, Bool, true, false, if◌then◌else◌, List, [], length, Option, refl, ap, subst, sym, ◌∙◌, arith, ℤ, nat_le, slice_set, nat_tests, get_or-set_same, get_or-set_other}
 use Rattle.rw_inputs.specs.Inputs.{column_of}
-use Rattle.rw_inputs.specs.Column.{Column, HasMore, IsColumn, value_in}
+use Rattle.rw_inputs.specs.Column.{Column, IsColumn, IsSet, value_in}
 
 module _ (columns : List Column) (slot : ℕ) (column : Column) (near : slot < length columns) where
   set_here : (other : ℕ) → (other == slot) ≡ true → column_of (slice_set columns slot column) other ≡ column
@@ -14,21 +14,21 @@ module _ (columns : List Column) (slot : ℕ) (column : Column) (near : slot < l
       let away : other ≢ slot = λ at. absurd (grind (arith, nat_tests)) in
       get_or-set_other columns slot other column [] away
 
-  value_set : (first last : ℕ) (value : ℤ) → HasMore value first last (column_of columns slot) column → (other step : ℕ)
+  value_set : (first last : ℕ) (value : Option ℤ) → IsSet value first last (column_of columns slot) column → (other step : ℕ)
       → (same : Bool) → (other == slot) ≡ same
       → value_in (column_of (slice_set columns slot column) other) step
-      ≡ (if same && (nat_le first step && nat_le step last) then Some value else value_in (column_of columns other) step)
+      ≡ (if same && (nat_le first step && nat_le step last) then value else value_in (column_of columns other) step)
   value_set first last value more other step true same =
       let at : other ≡ slot = grind (arith, nat_tests) in
       ap (λ column. value_in column step) (set_here other same)
       ∙ more step
-      ∙ ap (λ s. if nat_le first step && nat_le step last then Some value else value_in (column_of columns s) step) (sym at)
+      ∙ ap (λ s. if nat_le first step && nat_le step last then value else value_in (column_of columns s) step) (sym at)
   value_set first last value more other step false apart = ap (λ column. value_in column step) (set_there other apart)
 
   -- the other columns stay
-  pub set-more : (first last : ℕ) (value : ℤ) → HasMore value first last (column_of columns slot) column → (other step : ℕ)
+  pub set-more : (first last : ℕ) (value : Option ℤ) → IsSet value first last (column_of columns slot) column → (other step : ℕ)
       → value_in (column_of (slice_set columns slot column) other) step
-      ≡ (if other == slot && (nat_le first step && nat_le step last) then Some value else value_in (column_of columns other) step)
+      ≡ (if other == slot && (nat_le first step && nat_le step last) then value else value_in (column_of columns other) step)
   set-more first last value more other step = value_set first last value more other step (other == slot) refl
 
   column_set : (steps : ℕ) → IsColumn steps column → ((other : ℕ) → IsColumn steps (column_of columns other)) → (other : ℕ)

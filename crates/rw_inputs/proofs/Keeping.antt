@@ -119,7 +119,7 @@ module _ (basin : Draft) (given : Given) (old new : Inputs) (column : Column) (m
   value-more : (slot step : ℕ) → value_at new slot step ≡ (if gives basin given slot step then Some given.value else value_at old slot step)
   value-more slot step =
       ap (λ columns. value_in (column_of columns slot) step) set
-      ∙ set-more old.columns (kept_slot basin given.slot) column near given.first given.last given.value more slot step
+      ∙ set-more old.columns (kept_slot basin given.slot) column near given.first given.last (Some given.value) more slot step
 
   made-more : IsColumn basin.control.stamps.count column → IsInputsOf basin new
   made-more whole = record {

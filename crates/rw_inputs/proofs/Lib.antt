@@ -6,3 +6,9 @@ pub mod Keeping
 pub mod Digits
 pub mod Rows
 pub mod Groups
+pub mod Refusing
+pub mod Edited
+pub mod Setting
+pub mod Batches
+pub mod Meeting
+pub mod Flat

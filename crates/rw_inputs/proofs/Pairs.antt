@@ -1,6 +1,6 @@
 -- Values, of which those are kept that are given.
 use Rattle.rw_base.proofs.Common.{◌≡◌, ◌≢◌, ℕ, zero, suc, ◌+◌, ◌==◌, ◌<◌, ◌≤◌, ◌&&◌, Bool, true, false, if◌then◌else◌, List, [], ◌∷◌, length, Some, None, inl, inr, refl, sym, ap, ◌∙◌, arith, ℤ, nat_le, slice_index_or, slice_set, nat_tests, get_or-set_same, get_or-set_other, get_or_past, dec_lt}
-use Rattle.rw_inputs.specs.Column.{Column, HasMore, HasPlaces, IsColumn, IsPaired, given_values, value_in}
+use Rattle.rw_inputs.specs.Column.{Column, HasPlaces, IsColumn, IsPaired, IsSet, given_values, value_in}
 
 -- what is kept at a timestep is what stands in its place, where that is given
 pub not-given : (given : List Bool) (values : List ℤ) (step : ℕ) → slice_index_or given step false ≡ false → value_in (given_values given values) step ≡ None
@@ -27,37 +27,37 @@ length-given [] values same = same
 length-given (g ∷ given) [] same = absurd (omega (arith, same))
 length-given (g ∷ given) (v ∷ values) same = let rest : length given ≡ length values = omega (arith, same) in ap suc (length-given given values rest)
 
--- a value is given in its place
-pub set-given : (given : List Bool) (values : List ℤ) (step : ℕ) (value : ℤ) → length given ≡ length values
-    → given_values (slice_set given step true) (slice_set values step value) ≡ slice_set (given_values given values) step (Some value)
-set-given [] values step value same = refl
-set-given (g ∷ given) [] step value same = absurd (omega (arith, same))
-set-given (g ∷ given) (v ∷ values) zero value same = refl
-set-given (g ∷ given) (v ∷ values) (suc step) value same =
+-- a value is given in its place, or is no longer given
+pub set-given : (given : List Bool) (values : List ℤ) (step : ℕ) (kept : Bool) (value : ℤ) → length given ≡ length values
+    → given_values (slice_set given step kept) (slice_set values step value) ≡ slice_set (given_values given values) step (if kept then Some value else None)
+set-given [] values step kept value same = refl
+set-given (g ∷ given) [] step kept value same = absurd (omega (arith, same))
+set-given (g ∷ given) (v ∷ values) zero kept value same = refl
+set-given (g ∷ given) (v ∷ values) (suc step) kept value same =
     let rest : length given ≡ length values = omega (arith, same) in
-    ap (λ column. (if g then Some v else None) ∷ column) (set-given given values step value rest)
+    ap (λ column. (if g then Some v else None) ∷ column) (set-given given values step kept value rest)
 
--- a value is given at one more timestep
-pub more-given : (given : List Bool) (values : List ℤ) (old : Column) (first before : ℕ) (value : ℤ) → length given ≡ length values
-    → first ≤ before + 1 → before + 1 < length values → HasMore value first before old (given_values given values)
-    → HasMore value first (before + 1) old (given_values (slice_set given (before + 1) true) (slice_set values (before + 1) value))
-more-given given values old first before value same from near more step =
-    ap (λ column. value_in column step) (set-given given values (before + 1) value same) ∙ at_step (step == before + 1) refl
+-- a value is given at one more timestep, or is no longer given there
+pub more-given : (given : List Bool) (values : List ℤ) (old : Column) (first before : ℕ) (kept : Bool) (value : ℤ) → length given ≡ length values
+    → first ≤ before + 1 → before + 1 < length values → IsSet (if kept then Some value else None) first before old (given_values given values)
+    → IsSet (if kept then Some value else None) first (before + 1) old (given_values (slice_set given (before + 1) kept) (slice_set values (before + 1) value))
+more-given given values old first before kept value same from near more step =
+    ap (λ column. value_in column step) (set-given given values (before + 1) kept value same) ∙ at_step (step == before + 1) refl
   where
     at_step : (here : Bool) → (step == before + 1) ≡ here
-        → value_in (slice_set (given_values given values) (before + 1) (Some value)) step
-        ≡ (if nat_le first step && nat_le step (before + 1) then Some value else value_in old step)
+        → value_in (slice_set (given_values given values) (before + 1) (if kept then Some value else None)) step
+        ≡ (if nat_le first step && nat_le step (before + 1) then (if kept then Some value else None) else value_in old step)
     at_step true here =
         let at : step ≡ before + 1 = grind (arith, nat_tests) in
         let within : (nat_le first step && nat_le step (before + 1)) ≡ true = grind (arith, nat_tests) in
         let size = length-given given values same in
-        rw within (ap (value_in (slice_set (given_values given values) (before + 1) (Some value))) at ∙ get_or-set_same (given_values given values) (before + 1) (Some value) None (omega (arith, size)))
+        rw within (ap (value_in (slice_set (given_values given values) (before + 1) (if kept then Some value else None))) at ∙ get_or-set_same (given_values given values) (before + 1) (if kept then Some value else None) None (omega (arith, size)))
     at_step false there =
         let apart : step ≢ before + 1 = λ at. absurd (grind (arith, nat_tests)) in
         let tests : nat_le step (before + 1) ≡ nat_le step before = grind (arith, nat_tests) in
-        get_or-set_other (given_values given values) (before + 1) step (Some value) None apart
+        get_or-set_other (given_values given values) (before + 1) step (if kept then Some value else None) None apart
         ∙ more step
-        ∙ ap (λ last. if nat_le first step && last then Some value else value_in old step) (sym tests)
+        ∙ ap (λ last. if nat_le first step && last then (if kept then Some value else None) else value_in old step) (sym tests)
 
 -- ---- places
 
@@ -79,3 +79,22 @@ has-places steps given values some (inr same) (inl none) =
 has-places steps given values some (inr same) (inr whole) =
     let size = length-given given values same in
     record { each_given = omega (arith, size, same, whole); each_value = omega (arith, size, whole) }
+
+-- where there are no places yet, nothing has to be taken away
+none_there : (step : ℕ) (within : Bool) (column : Column) → column ≡ [] → value_in column step ≡ (if within then None else value_in column step)
+none_there step true column none = ap (λ column. value_in column step) none
+none_there step false column none = refl
+
+pub cleared : (steps first last : ℕ) (given : List Bool) (values : List ℤ) → IsPaired given values → IsColumn steps (given_values given values)
+    → length given ≤ steps → IsSet None first last (given_values given values) (given_values given values)
+cleared steps first last given values paired (inl none) few step = none_there step (nat_le first step && nat_le step last) (given_values given values) none
+cleared steps first last given values (inl none) (inr whole) few step =
+    none_there step (nat_le first step && nat_le step last) (given_values given values) (ap (λ given. given_values given values) none)
+cleared steps first last given values (inr same) (inr whole) few step =
+    let size = length-given given values same in
+    absurd (omega (arith, size, same, whole, few))
+
+-- each timestep still has its place
+pub whole-given : (steps : ℕ) (given : List Bool) (values : List ℤ) → length given ≡ steps + 1 → length values ≡ steps + 1
+    → IsColumn steps (given_values given values)
+whole-given steps given values size other = let same : length given ≡ length values = omega (arith, size, other) in inr (length-given given values same ∙ other)

@@ -4,6 +4,7 @@ use Rattle.csv.specs.Records.{field_at}
 use Rattle.rw_model.specs.Draft.{Draft}
 use Rattle.rw_inputs.specs.declared.given.Given.{Given}
 use Rattle.rw_inputs.specs.Row.{three_fields, read_row}
+use Rattle.rw_inputs.specs.EditRows.{four_fields}
 use Rattle.rw_inputs.specs.Inputs.{Inputs, Keeps}
 use Rattle.rw_inputs.specs.Records.{Fields}
 use Rattle.rw_inputs.specs.Reading.{good, givens, shares_cell, wrong_behind}
@@ -25,6 +26,27 @@ three-by_place (a ∷ []) = refl
 three-by_place (a ∷ b ∷ []) = refl
 three-by_place (a ∷ b ∷ c ∷ []) = refl
 three-by_place (a ∷ b ∷ c ∷ d ∷ fields) = refl
+
+-- ---- four fields
+
+-- the five fields that show whether there are four
+abbrev pub four_from : Option (List ℕ) → Option (List ℕ) → Option (List ℕ) → Option (List ℕ) → Option (List ℕ) → Option (List ℕ × List ℕ × List ℕ × List ℕ)
+four_from (Some a) (Some b) (Some c) (Some d) None = Some (a, b, c, d)
+four_from (Some a) (Some b) (Some c) (Some d) (Some e) = None
+four_from (Some a) (Some b) (Some c) None e = None
+four_from (Some a) (Some b) None d e = None
+four_from (Some a) None c d e = None
+four_from None b c d e = None
+
+pub four-by_place : (fields : Fields)
+    → four_fields fields ≡ four_from (field_at fields 0) (field_at fields 1) (field_at fields 2) (field_at fields 3) (field_at fields 4)
+unfolding field_at
+four-by_place [] = refl
+four-by_place (a ∷ []) = refl
+four-by_place (a ∷ b ∷ []) = refl
+four-by_place (a ∷ b ∷ c ∷ []) = refl
+four-by_place (a ∷ b ∷ c ∷ d ∷ []) = refl
+four-by_place (a ∷ b ∷ c ∷ d ∷ e ∷ fields) = refl
 
 -- ---- what rows give
 

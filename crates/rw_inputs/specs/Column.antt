@@ -28,6 +28,11 @@ value_in column step = slice_index_or column step None
 abbrev pub IsColumn : ℕ → Column → Type 0
 IsColumn steps column = (column ≡ []) ⊎ (length column ≡ steps + 1)
 
+-- values, and which of them are given, that make a column of so many timesteps
+pub record IsKept (steps : ℕ) (given : List Bool) (values : List ℤ) : Type 0 where
+  pub paired : IsPaired given values
+  pub column : IsColumn steps (given_values given values)
+
 -- nothing is kept from one timestep to another
 abbrev pub IsFree : Column → ℕ → ℕ → Type 0
 IsFree column first last = (step : ℕ) → first ≤ step → step ≤ last → value_in column step ≡ None
@@ -39,7 +44,11 @@ pub record IsTaken (column : Column) (first last : ℕ) : Type 0 where
   pub to : step ≤ last
   pub taken : value_in column step ≢ None
 
--- the value is kept from one timestep to another, and else what was kept before
+-- a value, or none, is kept from one timestep to another, and else what was kept before
+abbrev pub IsSet : Option ℤ → ℕ → ℕ → Column → Column → Type 0
+IsSet value first last old new =
+    (step : ℕ) → value_in new step ≡ (if nat_le first step && nat_le step last then value else value_in old step)
+
+-- the value is kept there
 abbrev pub HasMore : ℤ → ℕ → ℕ → Column → Column → Type 0
-HasMore value first last old new =
-    (step : ℕ) → value_in new step ≡ (if nat_le first step && nat_le step last then Some value else value_in old step)
+HasMore value first last old new = IsSet (Some value) first last old new

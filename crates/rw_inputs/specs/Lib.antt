@@ -5,5 +5,8 @@ pub mod Column
 pub mod Inputs
 pub mod Givens
 pub mod Sound
+pub mod Refusal
 pub mod Reading
 pub mod Taking
+pub mod Edits
+pub mod EditRows

@@ -1,15 +1,17 @@
--- What the records of a text of inputs come to: what its rows give, or the first refusal.
-use Rattle.std.specs.Prelude.{◌≡◌, ◌⊎◌, ℕ, ◌+◌, ◌==◌, nat_le, max, min, Bool, false, ◌&&◌, if◌then◌else◌, List, [], ◌∷◌, ◌++◌, Option, Some, None, Result, Ok, Err, bytes_eq, codes}
+-- What a text of inputs is read as: what its rows give, or the first refusal.
+use Rattle.std.specs.Prelude.{◌≡◌, ℕ, ◌+◌, ◌==◌, nat_le, max, min, ℤ, Bool, false, ◌&&◌, if◌then◌else◌, List, [], ◌∷◌, ◌++◌, Option, Some, None, Result, Ok, Err, bytes_eq, codes}
 use Rattle.std.specs.List.{list_any}
 use Rattle.rw_model.specs.Draft.{Draft}
 use Rattle.rw_inputs.specs.declared.fault.InputKind.TheVariants.{Header, Twice}
-use Rattle.rw_inputs.specs.declared.fault.InputFault.{InputFault}
-use Rattle.rw_inputs.specs.declared.fault.InputFault.TheVariants.{Refused, NoMemory}
+use Rattle.rw_inputs.specs.declared.wrong.Part.{Part}
+use Rattle.rw_inputs.specs.declared.wrong.Part.TheVariants.{Row, Batch, Slot, Step, Value}
 use Rattle.rw_inputs.specs.declared.wrong.Wrong.{Wrong}
 use Rattle.rw_inputs.specs.declared.given.Given.{Given}
-use Rattle.rw_inputs.specs.Records.{Fields, AreRows}
+use Rattle.rw_base.specs.Answers.{unless_refused}
+use Rattle.rw_inputs.specs.Refusal.{InputRefusal, refused_at}
+use Rattle.rw_inputs.specs.Records.{Fields, records_of}
 use Rattle.rw_inputs.specs.Row.{three_fields, read_row}
-use Rattle.rw_inputs.specs.Inputs.{Inputs, kept_slot, Keeps}
+use Rattle.rw_inputs.specs.Inputs.{Inputs, IsInputsOf, given_at, kept_slot, value_at}
 
 -- what is in a row, if nothing is wrong with it by itself
 abbrev pub good : Result Given Wrong → List Given
@@ -30,15 +32,23 @@ shares_cell basin given other =
 abbrev pub wrong_behind : Draft → List Fields → Result Given Wrong → Option Wrong
 wrong_behind basin before (Err wrong) = Some wrong
 wrong_behind basin before (Ok given) =
-    if list_any (shares_cell basin given) (givens basin before) then Some (record { kind = Twice; column = 0 }) else None
+    if list_any (shares_cell basin given) (givens basin before) then Some (record { kind = Twice; part = Row }) else None
+
+-- in which column a part of a row stands. Column 0 is the whole row; a row of inputs has no batch
+abbrev pub column : Part → ℕ
+column Row = 0
+column Batch = 0
+column Slot = 1
+column Step = 2
+column Value = 3
 
 -- the refusal of a row of this number, if it is refused, or else the one that stands behind it
-abbrev pub refused_or : ℕ → Option Wrong → Option InputFault → Option InputFault
+abbrev pub refused_or : ℕ → Option Wrong → Option InputRefusal → Option InputRefusal
 refused_or number None later = later
-refused_or number (Some wrong) later = Some (Refused wrong.kind number wrong.column)
+refused_or number (Some wrong) later = Some (refused_at wrong.kind number (column wrong.part))
 
 -- the first refusal of rows that stand behind others, where their numbers count from the one that is given
-abbrev pub first_refusal : Draft → ℕ → List Fields → List Fields → Option InputFault
+abbrev pub first_refusal : Draft → ℕ → List Fields → List Fields → Option InputRefusal
 first_refusal basin number before [] = None
 first_refusal basin number before (row ∷ rows) =
     refused_or number (wrong_behind basin before (read_row basin row)) (first_refusal basin (number + 1) (before ++ row ∷ []) rows)
@@ -52,31 +62,29 @@ names_columns (Some fields) =
 abbrev pub is_header : Fields → Bool
 is_header fields = names_columns (three_fields fields)
 
-abbrev pub given_or : List Given → Option InputFault → Result (List Given) InputFault
-given_or rows None = Ok rows
-given_or rows (Some fault) = Err fault
+-- what the rows behind the header give, or the first refusal
+abbrev pub read_rows : Draft → List Fields → Result (List Given) InputRefusal
+read_rows basin rows = unless_refused (first_refusal basin 2 [] rows) (givens basin rows)
 
 -- what the records give, or the first refusal. The header is row 1
-abbrev pub read_records : Draft → List Fields → Result (List Given) InputFault
-read_records basin [] = Err (Refused Header 1 0)
-read_records basin (header ∷ rows) =
-    if is_header header then given_or (givens basin rows) (first_refusal basin 2 [] rows) else Err (Refused Header 1 0)
+abbrev pub read_records : Draft → List Fields → Result (List Given) InputRefusal
+read_records basin [] = Err (refused_at Header 1 0)
+read_records basin (header ∷ rows) = if is_header header then read_rows basin rows else Err (refused_at Header 1 0)
 
--- an answer is what the records come to, or want of memory
-abbrev pub Answers : Draft → Result Inputs InputFault → Result (List Given) InputFault → Type 0
-Answers basin (Ok inputs) read = (rows : List Given) × (read ≡ Ok rows) × Keeps basin rows inputs
-Answers basin (Err fault) read = (fault ≡ NoMemory) ⊎ (read ≡ Err fault)
+-- a value or none for each slot at each timestep, by what rows give
+abbrev pub values_of : Draft → Result (List Given) InputRefusal → Result (ℕ → ℕ → Option ℤ) InputRefusal
+values_of basin (Ok rows) = Ok (given_at basin rows)
+values_of basin (Err refusal) = Err refusal
 
--- the text reads as inputs, which keep what its rows give
+-- the values that a text gives, or why it is refused
+abbrev pub inputs_of : Draft → List ℕ → Result (ℕ → ℕ → Option ℤ) InputRefusal
+inputs_of basin text = values_of basin (read_records basin (records_of text))
+
+-- the text reads as inputs, which are made for the basin
 pub record Reads (basin : Draft) (text : List ℕ) (inputs : Inputs) : Type 0 where
-  pub records : List Fields
-  pub are : AreRows text records
-  pub rows : List Given
-  pub read : read_records basin records ≡ Ok rows
-  pub kept : Keeps basin rows inputs
+  pub made : IsInputsOf basin inputs
+  pub values : inputs_of basin text ≡ Ok (value_at inputs)
 
 -- the text is refused for its first fault
-pub record Refuses (basin : Draft) (text : List ℕ) (fault : InputFault) : Type 0 where
-  pub records : List Fields
-  pub are : AreRows text records
-  pub read : read_records basin records ≡ Err fault
+abbrev pub Refuses : Draft → List ℕ → InputRefusal → Type 0
+Refuses basin text refusal = inputs_of basin text ≡ Err refusal

@@ -11,7 +11,7 @@ use Rattle.csv.specs.declared.reader.Trim.TheVariants as trim
 abbrev pub Fields : Type 0
 Fields = List (List ℕ)
 
--- the records of a text, behind its byte order mark if it has one
+-- what `csv` states for the records of a text, behind its byte order mark if it has one
 abbrev pub AreRows : List ℕ → List Fields → Type 0
 AreRows text records = AreRecords default_config st.StartRecord (strip_bom text) records
 
@@ -19,6 +19,10 @@ AreRows text records = AreRecords default_config st.StartRecord (strip_bom text)
 abbrev pub records_in : State → Option (List ℕ) → List Fields
 records_in state None = []
 records_in state (Some text) = records_from default_config (suc (length text)) state text
+
+-- the records of a text, behind its byte order mark if it has one
+abbrev pub records_of : List ℕ → List Fields
+records_of text = records_in st.StartRecord (Some (strip_bom text))
 
 -- the records that a reader has left, which are none once it has failed
 abbrev pub records_left : Reader (Bor (List ℕ)) → List Fields

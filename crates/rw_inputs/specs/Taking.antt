@@ -1,8 +1,9 @@
 -- What is done with a row: inputs keep what it gives, or it is refused.
-use Rattle.std.specs.Prelude.{◌≡◌, ℕ, true, false, List, [], ◌∷◌, ◌++◌, Option, Some, None}
+use Rattle.std.specs.Prelude.{◌≡◌, ℕ, true, false, List, [], ◌∷◌, ◌++◌, Option, None}
 use Rattle.std.specs.List.{list_any}
 use Rattle.rw_model.specs.Draft.{Draft}
 use Rattle.rw_inputs.specs.declared.fault.InputFault.{InputFault}
+use Rattle.rw_inputs.specs.Refusal.{InputRefusal, Tells}
 use Rattle.rw_inputs.specs.declared.given.Given.{Given}
 use Rattle.rw_inputs.specs.Records.{Fields}
 use Rattle.rw_inputs.specs.Row.{read_row}
@@ -23,7 +24,7 @@ abbrev pub TakesRow : Draft → Fields → Inputs → Inputs → Type 0
 TakesRow basin row old new = (before : List Fields) → Keeps basin (givens basin before) old
     → (wrong_behind basin before (read_row basin row) ≡ None) × Keeps basin (givens basin (before ++ row ∷ [])) new
 
--- behind them the row of this number is refused, whatever comes later
+-- the fault tells why the row of this number is refused behind them, whatever comes later
 abbrev pub RefusesRow : Draft → ℕ → Fields → Inputs → InputFault → Type 0
 RefusesRow basin number row inputs fault = (before : List Fields) → Keeps basin (givens basin before) inputs
-    → (later : Option InputFault) → refused_or number (wrong_behind basin before (read_row basin row)) later ≡ Some fault
+    → (later : Option InputRefusal) → Tells fault (refused_or number (wrong_behind basin before (read_row basin row)) later)

@@ -1,6 +1,7 @@
-ghost use Rattle.std.specs.Prelude.{◌≡◌, ◌⊎◌, ℕ, ◌+◌, ◌≤◌, ◌<◌, [], true, false, Ok, None, OnOk, OnErr, MatchBool, length, slice_index_or};
-ghost use Rattle.rw_inputs.specs.Column.{HasMore, HasPlaces, IsColumn, IsFree, IsPaired, IsTaken, given_values, value_in};
+ghost use Rattle.std.specs.Prelude.{◌≡◌, ◌⊎◌, ℕ, ◌+◌, ◌≤◌, ◌<◌, [], true, false, Ok, Some, None, IfOk, OnOk, OnErr, MatchBool, if◌then◌else◌, length, slice_index_or};
+ghost use Rattle.rw_inputs.specs.Column.{HasMore, HasPlaces, IsColumn, IsFree, IsKept, IsPaired, IsSet, IsTaken, given_values, value_in};
 
+use crate::edit::Edit;
 use crate::given::Given;
 use rw_base::{NoMemory, Qty};
 use std::alloc::Global;
@@ -106,19 +107,75 @@ fn widen(
     }
 }
 
-// Keeps a value from one timestep to another.
-fn keep(values: &mut [Qty], given: &mut [bool], first: u16, last: u16, value: Qty)
+// Keeps a value from one timestep to another, or nothing.
+fn keep(values: &mut [Qty], given: &mut [bool], first: u16, last: u16, kept: bool, value: Qty)
     requires first { 1 ≤ first }
     requires order { first ≤ last }
     requires last { last < length values.old }
     requires paired { length given.old ≡ length values.old }
-    ensures { HasMore value first last (given_values given.old values.old)
-        (given_values given.new values.new) }
+    ensures { IsSet (if kept then Some value else None) first last
+        (given_values given.old values.old) (given_values given.new values.new) }
 {
     for before in first - 1..last {
         values[usize::from(before) + 1] = value;
-        given[usize::from(before) + 1] = true;
+        given[usize::from(before) + 1] = kept;
     }
+}
+
+// Keeps a value from one timestep to another, of so many in all.
+fn give(
+    values: &mut Vec<Qty>,
+    given: &mut Vec<bool>,
+    steps: u16,
+    first: u16,
+    last: u16,
+    value: Qty,
+) -> Result<(), NoMemory>
+    requires kept { IsKept steps given.old.items values.old.items }
+    requires first { 1 ≤ first }
+    requires order { first ≤ last }
+    requires last { last ≤ steps }
+    ensures kept { IsKept steps given.new.items values.new.items }
+    ensures given { OnOk result (IsSet (Some value) first last
+        (given_values given.old.items values.old.items)
+        (given_values given.new.items values.new.items)) }
+    ensures unchanged { OnErr result (given_values given.new.items values.new.items
+        ≡ given_values given.old.items values.old.items) }
+{
+    widen(values, given, steps, value)?;
+    keep(
+        values.as_mut_slice(),
+        given.as_mut_slice(),
+        first,
+        last,
+        true,
+        value,
+    );
+    Ok(())
+}
+
+// Keeps nothing from one timestep to another, of so many in all.
+fn clear(values: &mut Vec<Qty>, given: &mut Vec<bool>, steps: u16, first: u16, last: u16)
+    requires kept { IsKept steps given.old.items values.old.items }
+    requires first { 1 ≤ first }
+    requires order { first ≤ last }
+    requires last { last ≤ steps }
+    ensures kept { IsKept steps given.new.items values.new.items }
+    ensures cleared { IsSet None first last (given_values given.old.items values.old.items)
+        (given_values given.new.items values.new.items) }
+{
+    if given.len() <= usize::from(steps) {
+        return;
+    }
+    let value = values[usize::from(first)];
+    keep(
+        values.as_mut_slice(),
+        given.as_mut_slice(),
+        first,
+        last,
+        false,
+        value,
+    );
 }
 
 impl Column {
@@ -160,14 +217,57 @@ impl Column {
         ) {
             return Ok(false);
         }
-        widen(&mut self.values, &mut self.given, steps, row.value)?;
-        keep(
-            self.values.as_mut_slice(),
-            self.given.as_mut_slice(),
+        give(
+            &mut self.values,
+            &mut self.given,
+            steps,
             row.first,
             row.last,
             row.value,
-        );
+        )?;
         Ok(true)
+    }
+
+    /// Sets what an edit says at its timesteps, of so many in all.
+    pub fn set(&mut self, steps: u16, edit: &Edit) -> Result<(), NoMemory>
+        requires column { IsColumn steps self.old }
+        requires first { 1 ≤ edit.now.first }
+        requires order { edit.now.first ≤ edit.now.last }
+        requires last { edit.now.last ≤ steps }
+        ensures column { IsColumn steps self.new }
+        ensures set { OnOk result (IsSet edit.now.value edit.now.first edit.now.last
+            self.old self.new) }
+        ensures unchanged { OnErr result (self.new ≡ self.old) }
+    {
+        match edit.value {
+            Some(value) => give(
+                &mut self.values,
+                &mut self.given,
+                steps,
+                edit.first,
+                edit.last,
+                value,
+            ),
+            None => {
+                clear(
+                    &mut self.values,
+                    &mut self.given,
+                    steps,
+                    edit.first,
+                    edit.last,
+                );
+                Ok(())
+            }
+        }
+    }
+
+    /// The same column again.
+    pub fn copy(&self, alloc: Global) -> Result<Column, NoMemory>
+        ensures { IfOk result (λ copy. copy ≡ self.now) }
+    {
+        Ok(Column {
+            values: self.values.as_slice().to_vec(alloc)?,
+            given: self.given.as_slice().to_vec(alloc)?,
+        })
     }
 }

@@ -1,10 +1,12 @@
-ghost use Rattle.std.specs.Prelude.{◌≡◌, ◌⊎◌, [], ℕ, true, false, Ok, IfOk, length};
+ghost use Rattle.std.specs.Prelude.{◌≡◌, ◌⊎◌, [], ℕ, true, false, Ok, IfOk, OnErr, OnOk, length};
 ghost use Rattle.rw_inputs.specs.Inputs.{column_of, value_at, kept_slot, IsInputsOf, Keeps};
 ghost use Rattle.rw_model.specs.Draft.{IsSlot};
 ghost use Rattle.rw_inputs.specs.Sound.{IsGiven};
+ghost use Rattle.rw_inputs.specs.Edits.{IsEdit, after_edit};
 ghost use Rattle.rw_inputs.specs.Taking.{TakesGiven, IsTwice};
 
 use crate::column::Column;
+use crate::edit::Edit;
 use crate::given::Given;
 use rw_base::{Cell, NoMemory, Qty, SlotNo};
 use rw_model::Basin;
@@ -26,8 +28,8 @@ impl Model for Inputs {
     ghost view = { λ i. record { columns = i.columns.items } };
 }
 
-// The least of the slots that carry one value with the slot.
-fn kept_slot(basin: &Basin, slot: u16) -> u16
+/// The least of the slots that carry one value with the slot.
+pub fn kept_slot(basin: &Basin, slot: u16) -> u16
     requires { IsSlot basin.now.objects slot }
     ensures least { result ≡ kept_slot basin.now slot }
     ensures known { IsSlot basin.now.objects result }
@@ -50,12 +52,31 @@ fn no_columns(alloc: Global, count: usize) -> Result<Vec<Column>, NoMemory>
     Ok(columns)
 }
 
+// The same columns again.
+fn copies(alloc: Global, columns: &[Column]) -> Result<Vec<Column>, NoMemory>
+    ensures { IfOk result (λ copies. copies.items ≡ columns.now) }
+{
+    let mut copies = Vec::with_capacity(alloc, columns.len())?;
+    for column in columns {
+        copies.push(column.copy(alloc)?)?;
+    }
+    Ok(copies)
+}
+
 impl Inputs {
     /// No value for any cell of the basin.
     pub(crate) fn none(alloc: Global, basin: &Basin) -> Result<Inputs, NoMemory>
         ensures { IfOk result (Keeps basin.now []) }
     {
         let columns = no_columns(alloc, usize::from(basin.slot_count()) + 1)?;
+        Ok(Inputs { columns })
+    }
+
+    /// The same inputs again.
+    pub(crate) fn copy(&self, alloc: Global) -> Result<Inputs, NoMemory>
+        ensures { IfOk result (λ copy. copy ≡ self.now) }
+    {
+        let columns = copies(alloc, self.columns.as_slice())?;
         Ok(Inputs { columns })
     }
 
@@ -83,5 +104,18 @@ impl Inputs {
         let slot = kept_slot(basin, given.slot);
         let steps = basin.control().stamps.count();
         self.columns[usize::from(slot)].take(steps, given)
+    }
+
+    /// Sets what an edit says. After want of memory the inputs keep what they kept.
+    pub(crate) fn set(&mut self, basin: &Basin, edit: &Edit) -> Result<(), NoMemory>
+        requires made { IsInputsOf basin.now self.old }
+        requires edit { IsEdit basin.now edit.now }
+        ensures made { IsInputsOf basin.now self.new }
+        ensures values { OnOk result (value_at self.new
+            ≡ after_edit edit.now (value_at self.old)) }
+        ensures unchanged { OnErr result (self.new ≡ self.old) }
+    {
+        let steps = basin.control().stamps.count();
+        self.columns[usize::from(edit.slot)].set(steps, edit)
     }
 }

@@ -2,13 +2,22 @@
 //! timestep or a range of timesteps, and a value, and answers what they give or the first refusal with its row and column;
 //! what that is, `specs/Reading.antt` says of the records that `csv` states for the text. `Inputs::value` answers what is
 //! kept at a cell: slots that carry one value have one cell at a timestep, that of the least of them.
+//!
+//! Edits of inputs: `read_edits` reads a text of rows, each in a batch, that set values or take them away, and answers the
+//! batches or the first refusal (`specs/EditRows.antt`). `apply` makes inputs of inputs and a batch (`specs/Edits.antt`).
 #![tactic(auto)]
 
+mod batch;
+mod change;
 mod column;
+mod edit;
+mod edit_row;
+mod edits;
 mod fault;
 mod given;
 mod inputs;
 pub mod law;
+mod limits;
 mod number;
 mod reading;
 mod records;
@@ -16,6 +25,9 @@ mod row;
 mod span;
 mod wrong;
 
+pub use batch::Batch;
+pub use change::apply;
+pub use edits::read_edits;
 pub use fault::{InputFault, InputKind};
 pub use inputs::Inputs;
 pub use reading::read_inputs;

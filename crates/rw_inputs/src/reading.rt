@@ -1,25 +1,27 @@
-ghost use Rattle.std.specs.Prelude.{◌≡◌, ◌⊎◌, [], ◌∷◌, true, None, Some, IfOk, IfErr, OnOk, Err};
+ghost use Rattle.std.specs.Prelude.{◌≡◌, [], ◌∷◌, true, None, IfOk, IfErr, OnOk};
+ghost use Rattle.rw_base.specs.Answers.{Answers, IsWhy};
 ghost use Rattle.csv.specs.Records.{fields_of};
 ghost use Rattle.rw_inputs.specs.declared.fault.InputFault.TheVariants as InputFault;
 ghost use Rattle.rw_inputs.specs.declared.fault.InputKind.TheVariants as InputKind;
 ghost use Rattle.rw_model.specs.Draft.{Draft};
 ghost use Rattle.rw_inputs.specs.Records.{Fields};
-ghost use Rattle.rw_inputs.specs.Inputs.{IsInputsOf, Keeps};
-ghost use Rattle.rw_inputs.specs.Reading.{givens, first_refusal, is_header, read_records, Reads, Refuses, Answers};
+ghost use Rattle.rw_inputs.specs.Inputs.{IsInputsOf, Keeps, value_at};
+ghost use Rattle.rw_inputs.specs.Reading.{column, givens, first_refusal, inputs_of, is_header, read_records, values_of};
+ghost use Rattle.rw_inputs.specs.Refusal.{refusal_of, Tells};
 ghost use Rattle.rw_inputs.specs.Taking.{TakesRow, RefusesRow};
 
 use crate::inputs::Inputs;
 use crate::records::Records;
 use crate::row::{read_row, three_fields};
-use crate::wrong::Wrong;
+use crate::wrong::{Part, Wrong};
 use crate::{InputFault, InputKind};
 use csv::ByteRecord;
 use rw_base::NoMemory;
 use rw_model::Basin;
 use std::alloc::Global;
 
-// The fault of a text whose first row doesn't name the columns.
-fn no_header() -> InputFault
+/// The fault of a text whose first row doesn't name the columns.
+pub fn no_header() -> InputFault
     ensures { result ≡ InputFault.Refused InputKind.Header 1 0 }
 {
     InputFault::Refused {
@@ -40,14 +42,26 @@ fn is_header(row: &ByteRecord) -> bool
     }
 }
 
+// In which column a part of a row stands.
+fn column(part: Part) -> u8
+    ensures { result ≡ column part }
+{
+    match part {
+        Part::Row | Part::Batch => 0,
+        Part::Slot => 1,
+        Part::Step => 2,
+        Part::Value => 3,
+    }
+}
+
 // The refusal of the row of a number.
 fn refused(number: u32, wrong: Wrong) -> InputFault
-    ensures { result ≡ InputFault.Refused wrong.kind number wrong.column }
+    ensures { result ≡ InputFault.Refused wrong.kind number (column wrong.part) }
 {
     InputFault::Refused {
         kind: wrong.kind,
         row: number,
-        column: wrong.column,
+        column: column(wrong.part),
     }
 }
 
@@ -61,8 +75,7 @@ fn take_row(
     requires { IsInputsOf basin.now inputs.old }
     ensures made { IsInputsOf basin.now inputs.new }
     ensures taken { OnOk result (TakesRow basin.now (fields_of row.now) inputs.old inputs.new) }
-    ensures refused { IfErr result (λ fault. (fault ≡ InputFault.NoMemory)
-        ⊎ RefusesRow basin.now number (fields_of row.now) inputs.old fault) }
+    ensures refused { IfErr result (RefusesRow basin.now number (fields_of row.now) inputs.old) }
 {
     let given = match read_row(basin, row) {
         Ok(given) => given,
@@ -74,7 +87,7 @@ fn take_row(
             number,
             Wrong {
                 kind: InputKind::Twice,
-                column: 0,
+                part: Part::Row,
             },
         )),
         Err(NoMemory) => Err(InputFault::NoMemory),
@@ -91,8 +104,7 @@ fn take_rows(
     requires { Keeps basin.now [] inputs.old }
     ensures taken { OnOk result (first_refusal basin.now 2 [] rows.old ≡ None) }
     ensures kept { OnOk result (Keeps basin.now (givens basin.now rows.old) inputs.new) }
-    ensures refused { IfErr result (λ fault. (fault ≡ InputFault.NoMemory)
-        ⊎ (first_refusal basin.now 2 [] rows.old ≡ Some fault)) }
+    ensures refused { IfErr result (λ fault. Tells fault (first_refusal basin.now 2 [] rows.old)) }
 {
     let mut row = ByteRecord::new(alloc);
     for number in 2..u32::MAX {
@@ -110,8 +122,8 @@ fn take_rows(
 fn read_header(alloc: Global, records: &mut Records<'_>) -> Result<(), InputFault>
     ensures named { OnOk result ((header : Fields) × (records.old ≡ header ∷ records.new)
         × (is_header header ≡ true)) }
-    ensures refused { IfErr result (λ fault. (fault ≡ InputFault.NoMemory)
-        ⊎ ((basin : Draft) → read_records basin records.old ≡ Err fault)) }
+    ensures refused { IfErr result (λ fault. (basin : Draft) → IsWhy InputFault.NoMemory refusal_of
+        (read_records basin records.old) fault) }
 {
     let mut row = ByteRecord::new(alloc);
     match records.read(&mut row) {
@@ -131,7 +143,9 @@ fn read_records(
     basin: &Basin,
     records: &mut Records<'_>,
 ) -> Result<Inputs, InputFault>
-    ensures { Answers basin.now result (read_records basin.now records.old) }
+    ensures answers { Answers InputFault.NoMemory refusal_of value_at result
+        (values_of basin.now (read_records basin.now records.old)) }
+    ensures made { IfOk result (IsInputsOf basin.now) }
 {
     read_header(alloc, records)?;
     let Ok(mut inputs) = Inputs::none(alloc, basin) else {
@@ -149,10 +163,9 @@ fn read_records(
 /// `NotANumber` or `OutOfBounds`; `Twice` where an earlier row gives a value to one of its cells, or to one of a slot that
 /// carries one value with its slot. `NoMemory` says nothing of the text.
 pub fn read_inputs(alloc: Global, basin: &Basin, text: &[u8]) -> Result<Inputs, InputFault>
-    ensures read { IfOk result (Reads basin.now text.now) }
+    ensures answers { Answers InputFault.NoMemory refusal_of value_at result
+        (inputs_of basin.now text.now) }
     ensures made { IfOk result (IsInputsOf basin.now) }
-    ensures refused { IfErr result (λ fault. (fault ≡ InputFault.NoMemory)
-        ⊎ Refuses basin.now text.now fault) }
 {
     let mut records = Records::of(alloc, text);
     read_records(alloc, basin, &mut records)

@@ -1,6 +1,6 @@
 ghost use Rattle.std.specs.Prelude.{◌≡◌, [], ◌∷◌, true, false, Ok};
 ghost use Rattle.csv.specs.Records.{fields_of};
-ghost use Rattle.rw_inputs.specs.Records.{AreRows};
+ghost use Rattle.rw_inputs.specs.Records.{records_of};
 
 use csv::{ByteRecord, Reader, ReaderBuilder};
 use rw_base::NoMemory;
@@ -28,7 +28,7 @@ impl<'a> Records<'a> {
     /// All records of a text, behind its byte order mark if it has one. They may have any numbers of fields, and the first
     /// one is like the others.
     pub fn of(alloc: Global, text: &'a [u8]) -> Records<'a>
-        ensures { AreRows text.now result }
+        ensures { result ≡ records_of text.now }
     {
         Records {
             reader: ReaderBuilder::new()

@@ -13,15 +13,16 @@ use crate::InputKind;
 use crate::given::Given;
 use crate::number::{position_of, read_number, read_signed};
 use crate::span::Span;
-use crate::wrong::Wrong;
+use crate::wrong::{Part, Wrong};
 use csv::ByteRecord;
 use rw_base::{Qty, SlotNo};
 use rw_model::Basin;
 
-fn wrong(kind: InputKind, column: u8) -> Wrong
-    ensures { result ≡ record { kind = kind; column = column } }
+/// What is wrong, with a part of a row.
+pub fn wrong(kind: InputKind, part: Part) -> Wrong
+    ensures { result ≡ record { kind = kind; part = part } }
 {
-    Wrong { kind, column }
+    Wrong { kind, part }
 }
 
 // The text that the bytes are, if they are UTF-8.
@@ -55,18 +56,18 @@ fn slot_of_text(basin: &Basin, text: &[u8]) -> Option<SlotNo>
     slot_of_names(basin, &text[..dot], &text[dot + 1..])
 }
 
-// A slot of the model that inputs can set.
-fn read_slot(basin: &Basin, text: &[u8]) -> Result<u16, Wrong>
+/// A slot of the model that inputs can set.
+pub fn read_slot(basin: &Basin, text: &[u8]) -> Result<u16, Wrong>
     ensures read { result ≡ read_slot basin.now text.now }
     ensures known { IfOk result (IsSlot basin.now.objects) }
 {
     let Some(slot) = slot_of_text(basin, text) else {
-        return Err(wrong(InputKind::UnknownSlot, 1));
+        return Err(wrong(InputKind::UnknownSlot, Part::Slot));
     };
     if basin.settable(slot) {
         Ok(slot.0)
     } else {
-        Err(wrong(InputKind::NotSettable, 1))
+        Err(wrong(InputKind::NotSettable, Part::Slot))
     }
 }
 
@@ -89,12 +90,12 @@ fn span_in(text: &[u8]) -> Option<(u64, u64)>
     }
 }
 
-// A timestep of the run, or a range of timesteps of the run.
-fn read_span(basin: &Basin, text: &[u8]) -> Result<Span, Wrong>
+/// A timestep of the run, or a range of timesteps of the run.
+pub fn read_span(basin: &Basin, text: &[u8]) -> Result<Span, Wrong>
     ensures { result ≡ read_span basin.now text.now }
 {
     let Some((first, last)) = span_in(text) else {
-        return Err(wrong(InputKind::NotANumber, 2));
+        return Err(wrong(InputKind::NotANumber, Part::Step));
     };
     if 1 <= first && first <= last && last <= u64::from(basin.control().stamps.count()) {
         Ok(Span {
@@ -102,7 +103,7 @@ fn read_span(basin: &Basin, text: &[u8]) -> Result<Span, Wrong>
             last: last as u16,
         })
     } else {
-        Err(wrong(InputKind::StepOutside, 2))
+        Err(wrong(InputKind::StepOutside, Part::Step))
     }
 }
 
@@ -120,19 +121,19 @@ fn within_bounds(bounds: (i64, i64), value: i64) -> Option<Qty>
     }
 }
 
-// A value that the slot can have.
-fn read_value(basin: &Basin, slot: u16, text: &[u8]) -> Result<Qty, Wrong>
+/// A value that the slot can have.
+pub fn read_value(basin: &Basin, slot: u16, text: &[u8]) -> Result<Qty, Wrong>
     requires { IsSlot basin.now.objects slot }
     ensures read { result ≡ read_value basin.now slot text.now }
     ensures within { IfOk result
         (IsBetween (bounds_in basin.now.objects basin.now.links basin.now.bounds slot)) }
 {
     let Some(value) = read_signed(text) else {
-        return Err(wrong(InputKind::NotANumber, 3));
+        return Err(wrong(InputKind::NotANumber, Part::Value));
     };
     match within_bounds(basin.bounds(SlotNo(slot)), value) {
         Some(value) => Ok(value),
-        None => Err(wrong(InputKind::OutOfBounds, 3)),
+        None => Err(wrong(InputKind::OutOfBounds, Part::Value)),
     }
 }
 
@@ -179,6 +180,6 @@ pub fn read_row(basin: &Basin, row: &ByteRecord) -> Result<Given, Wrong>
 {
     match three_fields(row) {
         Some((slot, span, value)) => read_fields(basin, slot, span, value),
-        None => Err(wrong(InputKind::Ragged, 0)),
+        None => Err(wrong(InputKind::Ragged, Part::Row)),
     }
 }

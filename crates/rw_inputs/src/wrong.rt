@@ -1,10 +1,25 @@
 use crate::InputKind;
 
-/// What is wrong with a row, and in which column.
+/// A part of a row.
+#[derive(Clone, Copy)]
+pub enum Part {
+    /// The row as a whole.
+    Row,
+    /// The number of its batch.
+    Batch,
+    /// The slot.
+    Slot,
+    /// The timesteps.
+    Step,
+    /// The value.
+    Value,
+}
+
+/// What is wrong with a row, and with which part of it.
 #[derive(Clone, Copy)]
 pub struct Wrong {
     /// What is wrong.
     pub kind: InputKind,
-    /// In which column, counted from 1; 0 is the whole row.
-    pub column: u8,
+    /// With what.
+    pub part: Part,
 }

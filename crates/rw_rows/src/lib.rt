@@ -20,6 +20,8 @@ mod pools;
 #[cfg(test)]
 mod reservoirs;
 #[cfg(test)]
+mod rules;
+#[cfg(test)]
 mod runs;
 #[cfg(test)]
 mod statuses;

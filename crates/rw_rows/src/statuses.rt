@@ -5,6 +5,7 @@ ghost use Rattle.rw_method.specs.Catalogue.{AreInOrder};
 use crate::kinds::{ALL, methods};
 use crate::runs::none_is_wrong;
 use crate::statuses::Text::{Any, Front, Whole};
+use rpl_predef::{Predef, Predefs, absolute, clamped, greatest, least, rounded_down, sign};
 use rw_base::NoMemory;
 use rw_io::{MemShelf, MemSink};
 use rw_method::Catalogue;
@@ -135,6 +136,7 @@ fn call_counted<L: Ledger>(
     words: &[String],
     ends: &mut Ends,
     methods: &Catalogue,
+    predefs: &Predefs,
 ) -> u8
     requires name { blank.name ≡ L.name }
     requires parts { blank.parts ≡ L.parts }
@@ -149,15 +151,26 @@ fn call_counted<L: Ledger>(
         &mut ends.out,
         &mut ends.err,
         methods,
+        predefs,
         &mut steps,
     )
 }
 
 fn call(alloc: Global, words: &[String], ends: &mut Ends) -> Result<u8, NoMemory> {
-    match Catalogue::of(methods(alloc, ALL)?) {
-        Ok(catalogue) => Ok(call_counted::<Brand>(alloc, Blank::new(1), words, ends, &catalogue)),
-        Err(_) => Err(NoMemory),
-    }
+    let Ok(catalogue) = Catalogue::of(methods(alloc, ALL)?) else {
+        return Err(NoMemory);
+    };
+    let mut functions = Vec::new(alloc);
+    functions.push(Predef::of(1, least))?;
+    functions.push(Predef::of(2, greatest))?;
+    functions.push(Predef::of(3, absolute))?;
+    functions.push(Predef::of(4, clamped))?;
+    functions.push(Predef::of(5, rounded_down))?;
+    functions.push(Predef::of(6, sign))?;
+    let Ok(predefs) = Predefs::of(functions) else {
+        return Err(NoMemory);
+    };
+    Ok(call_counted::<Brand>(alloc, Blank::new(1), words, ends, &catalogue, &predefs))
 }
 
 // Whether the call answers and writes what is wanted.
@@ -183,6 +196,19 @@ fn is_met(
     want: Simulation<'_>,
 ) -> Result<bool, NoMemory> {
     let mut ends = ends_of(alloc, files(alloc, want.model, want.inputs)?, failing)?;
+    comes_to(alloc, words, &mut ends, want)
+}
+
+/// Whether `run` by this policy comes to what is wanted.
+pub(crate) fn runs_by(
+    alloc: Global,
+    words: &[&str],
+    policy: &[u8],
+    want: Simulation<'_>,
+) -> Result<bool, NoMemory> {
+    let mut files = files(alloc, want.model, want.inputs)?;
+    files.push(file(alloc, "p.rpl", policy)?)?;
+    let mut ends = ends_of(alloc, files, Failing::Nothing)?;
     comes_to(alloc, words, &mut ends, want)
 }
 

@@ -1,3 +1,4 @@
+mod Fires
 mod Due
 mod Made
 mod Kept

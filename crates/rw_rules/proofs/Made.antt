@@ -5,7 +5,7 @@ use Rattle.rw_series.specs.declared.look.Look.{Look}
 use Rattle.rw_run.specs.Log.{Asked}
 use Rattle.rw_agenda.specs.Agenda.{Agenda, Entry, IsListed, after_firing, forgotten, looked_by, room_of, unfired}
 use Rattle.rpl_verify.specs.Verified.{Accepted}
-use Rattle.rw_firing.specs.Firing.{AreReads, most_looks}
+use Rattle.rw_rules.specs.Firing.{AreReads, most_looks}
 use Rattle.rw_rules.specs.Rules.{IsRulesOf}
 
 none_looked : (entries : List Entry) (place : ℕ) → (slice_index_or (map forgotten entries) place (unfired 0)).looked ≡ None

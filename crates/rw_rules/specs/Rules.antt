@@ -10,7 +10,7 @@ use Rattle.rpl_code.specs.declared.block.BlockHead.TheVariants.{Rule}
 use Rattle.rpl_policy.specs.Policy.{policy_of_code}
 use Rattle.rpl_verify.specs.Fits.{count_alike}
 use Rattle.rpl_verify.specs.Verified.{Accepted}
-use Rattle.rw_firing.specs.Firing.{firing_in, most_looks}
+use Rattle.rw_rules.specs.Firing.{firing_in, most_looks}
 use Rattle.rw_rules.specs.declared.rule_fired.RuleFired.{RuleFired}
 
 -- the agenda, and the puts of the last firing that are to be written

@@ -1,16 +1,19 @@
 -- Causes as the code comes to them, step by step.
-use Rattle.rw_top.proofs.Common.{BadInputs, BadModel, BadPolicy, Cause, Change, Checked, Command, Declared, Err, FILE_MAX, File, FileCause, Holds, IsErrOf, IsPolicyRefusal, IsReading, IsSomeAnd, IsTooLong, List, LongFile, MatchResult, ModelRefusal, None, NoneFell, Ok, Option, Reaches, ReadsPolicy, Reason, Refusal, Result, Rose, ShelfView, SinkView, Some, WasFound, ap, arith, change, checked, false, inr, option_map, path_of, reason_of, refl, refusal_after, refusal_of_code, refusal_of_grammar, spelt, status_by, status_of, subst, sym, true, with_types, ℕ, ◌<◌, ◌∙◌, ◌≡◌}
-use Rattle.rw_inputs.specs.declared.fault.InputFault.TheVariants.{Refused}
+use Rattle.rw_top.proofs.Common.{BadInputs, BadModel, BadPolicy, Cause, Change, Checked, Command, Declared, Err, FILE_MAX, File, FileCause, Holds, IsErrOf, IsPolicyRefusal, IsReading, IsSomeAnd, IsTooLong, List, LongFile, MatchResult, None, NoneFell, Ok, Option, Reaches, ReadsPolicy, Reason, Refusal, Result, Rose, ShelfView, SinkView, Some, WasFound, ap, arith, change, checked, false, inr, option_map, path_of, reason_of, refl, refusal_after, status_by, status_of, subst, sym, true, with_types, ℕ, ◌<◌, ◌∙◌, ◌≡◌}
+use Rattle.rw_inputs.specs.Refusal.{refused_at}
 use Rattle.rw_io.specs.declared.whole_file.ReadEnd.{ReadEnd}
 use Rattle.rw_io.specs.declared.whole_file.ReadEnd.TheVariants.{ReadFault, TooLong as EndTooLong, NoMemory as EndNoMemory}
 use Rattle.rw_model.specs.Draft.{Draft}
 use Rattle.rw_model_toml.specs.Fault.{refusal_of}
 use Rattle.rpl_parse.specs.declared.fault.ParseFault.{ParseFault}
 use Rattle.rpl_parse.specs.declared.fault.ParseFault.TheVariants as P
-use Rattle.rpl_parse.specs.Parsing.{Answers as Parses}
+use Rattle.rpl_parse.specs.Declarations.{bad_declaration, bad_token, too_many}
+use Rattle.rpl_parse.specs.Parsing.{AnswersReading, refusal_of as refusal_of_grammar}
+use Rattle.rpl_parse.proofs.Answering.{tells_due}
 use Rattle.rpl_types.specs.Judged.{Refusal as NodeRefusal, judged, refusal}
-use Rattle.rpl_code.specs.Answers.{Answers as AnswersCode}
-use Rattle.rpl_code.specs.Reading.{bad_line, truncated, read}
+use Rattle.rw_base.specs.Answers.{IsWhy}
+use Rattle.rpl_code.specs.Answers.{refusal_of as refusal_of_code}
+use Rattle.rpl_code.specs.Reading.{read}
 use Rattle.rpl_code.specs.declared.fault.CodeFault.{CodeFault}
 use Rattle.rpl_code.specs.declared.fault.CodeFault.TheVariants as C
 use Rattle.rpl_code.specs.declared.block.Block.{Block}
@@ -20,11 +23,13 @@ use Rattle.rpl_verify.specs.Fits.{Refusal as BlockRefusal, refusal as block_refu
 use Rattle.rpl_verify.specs.Resolved.{resolved_code}
 use Rattle.rpl_verify.specs.Verified.{Accepted, verified, with_budgets}
 use Rattle.rpl_types.specs.Nodes.{Types as NodeTypes}
-use Rattle.rw_top.specs.Policy.{Unread, Misfit, Policy, BadRules, BadBlocks, BadToken, BadDeclaration, TooMany, BadNode, IsCodeOf, IsRulesetOf, RefusesNode}
+use Rattle.rw_top.specs.Policy.{Unread, Misfit, Policy, BadRules, BadBlocks, BadGrammar, BadNode, IsRulesetOf, RefusesNode}
+use Rattle.rw_top.specs.Ready.{IsMadeOf}
+use Rattle.rw_top.specs.declared.policy.Policy.TheVariants as Held
 use Rattle.rw_top.specs.declared.refusal.Refusal.TheVariants.{CannotRead, CannotWrite, NoMemory, Model, Grammar, Types, Code, Block as BlockAt, Inputs, TooLong}
 
 -- a fault that doesn't tell nothing tells why
-pub tells_why : (told : Option ModelRefusal) → ¬ (told ≡ None) → (why : ModelRefusal) × (told ≡ Some why)
+pub tells_why : {R : Type 0} (told : Option R) → ¬ (told ≡ None) → (why : R) × (told ≡ Some why)
 tells_why None tells = absurd (tells refl)
 tells_why (Some why) tells = (why, refl)
 
@@ -36,13 +41,13 @@ told_by wrap status same (Some bad) reason tells = let is : wrap bad ≡ reason 
 
 pub told_status : (why : Refusal) (reason : Reason) → reason_of why ≡ Some reason → status_of why ≡ status_by reason
 told_status (Model fault) reason tells = told_by (λ bad. BadModel bad) 6 (λ bad. refl) (refusal_of fault) reason tells
-told_status (Grammar fault) reason tells = told_by (λ bad. BadPolicy (BadRules bad)) 7 (λ bad. refl) (refusal_of_grammar fault) reason tells
+told_status (Grammar fault) reason tells = told_by (λ bad. BadPolicy (BadRules (BadGrammar bad))) 7 (λ bad. refl) (refusal_of_grammar fault) reason tells
 told_status (Types kind declaration node) reason tells =
     let same : BadPolicy (BadRules (BadNode (refusal kind declaration node))) ≡ reason = cc in ap status_by same
 told_status (Code fault) reason tells = told_by (λ bad. BadPolicy (BadBlocks (Unread bad))) 9 (λ bad. refl) (refusal_of_code fault) reason tells
 told_status (BlockAt kind block place) reason tells =
     let same : BadPolicy (BadBlocks (Misfit (block_refusal kind block place))) ≡ reason = cc in ap status_by same
-told_status (Inputs kind row column) reason tells = let same : BadInputs (Refused kind row column) ≡ reason = cc in ap status_by same
+told_status (Inputs kind row column) reason tells = let same : BadInputs (refused_at kind row column) ≡ reason = cc in ap status_by same
 told_status (TooLong file) reason tells = let same : LongFile file ≡ reason = cc in ap status_by same
 told_status why reason tells = absurd cc
 
@@ -72,25 +77,26 @@ read_cause command shelf file path EndNoMemory result is named reached fault lon
 
 -- why a text is no ruleset
 pub grammar_refusal : (basin : Draft) (text : List ℕ) (fault : ParseFault) → ¬ (fault ≡ P.NoMemory)
-    → Parses (Err fault) text → IsPolicyRefusal false basin text (Grammar fault)
-grammar_refusal basin text (P.BadToken line) some is = inr (BadRules (BadToken line), refl, (refl, is))
-grammar_refusal basin text (P.BadDeclaration declaration line) some is = inr (BadRules (BadDeclaration declaration line), refl, (refl, is))
-grammar_refusal basin text (P.TooMany declaration) some is = inr (BadRules (TooMany declaration), refl, (refl, is))
+    → AnswersReading text (Err fault) → IsPolicyRefusal false basin text (Grammar fault)
+grammar_refusal basin text (P.BadToken line) some is = inr (BadRules (BadGrammar (bad_token line)), refl, (refl, tells_due text _ is))
+grammar_refusal basin text (P.BadDeclaration declaration line) some is =
+    inr (BadRules (BadGrammar (bad_declaration declaration line)), refl, (refl, tells_due text _ is))
+grammar_refusal basin text (P.TooMany declaration) some is = inr (BadRules (BadGrammar (too_many declaration)), refl, (refl, tells_due text _ is))
 grammar_refusal basin text P.NoMemory some is = absurd (some refl)
 
 -- or no code
 pub code_refusal : (basin : Draft) (text : List ℕ) (fault : CodeFault) → ¬ (fault ≡ C.NoMemory)
-    → AnswersCode (read text) (Err fault) → IsPolicyRefusal true basin text (Code fault)
-code_refusal basin text (C.BadLine line) some is = inr (BadBlocks (Unread (bad_line line)), refl, (refl, is))
-code_refusal basin text C.Truncated some is = inr (BadBlocks (Unread truncated), refl, (refl, is))
-code_refusal basin text C.NoMemory some is = absurd (some refl)
+    → IsWhy C.NoMemory refusal_of_code (read text) fault → IsPolicyRefusal true basin text (Code fault)
+code_refusal basin text fault some is =
+    let told = tells_why (refusal_of_code fault) (λ none. some (is.1 none)) in
+    inr (BadBlocks (Unread told.0), ap (option_map (λ bad. BadPolicy (BadBlocks (Unread bad)))) told.1, (refl, is.0 told.0 told.1))
 
 -- and why a ruleset is refused
 judged_err : (rules : List Declared) (result : Result (List NodeTypes) NodeRefusal) (why : NodeRefusal) → with_types rules result ≡ Err why → result ≡ Err why
 judged_err rules (Ok types) why is = absurd cc
 judged_err rules (Err refused) why is = cc
 
-pub refused_rules : (basin : Draft) (text : List ℕ) (rules : List Declared) (why : NodeRefusal) → IsReading text (spelt rules)
+pub refused_rules : (basin : Draft) (text : List ℕ) (rules : List Declared) (why : NodeRefusal) → IsReading text (Ok rules)
     → checked basin rules ≡ Err why → RefusesNode basin text why
 refused_rules basin text rules why spells is = record { rules = rules; spells = spells; refused = judged_err rules (judged basin rules) why is }
 
@@ -103,12 +109,12 @@ judged_ok : (rules : List Declared) (result : Result (List NodeTypes) NodeRefusa
 judged_ok rules (Ok types) all is = let same : rules_with rules types ≡ all = cc in (ap (λ (c : Checked). c.rules) same, ap (λ (c : Checked). Ok c.types) same)
 judged_ok rules (Err refused) all is = absurd cc
 
-pub accepted_rules : (basin : Draft) (text : List ℕ) (rules : List Declared) (all : Checked) → IsReading text (spelt rules)
+pub accepted_rules : (basin : Draft) (text : List ℕ) (rules : List Declared) (all : Checked) → IsReading text (Ok rules)
     → checked basin rules ≡ Ok all → IsRulesetOf basin text all.rules
 accepted_rules basin text rules all spells is =
     let same = judged_ok rules (judged basin rules) all is in
     record {
-      spells = subst (λ rs. IsReading text (spelt rs)) same.0 spells;
+      spells = subst (λ rs. IsReading text (Ok rs)) same.0 spells;
       types = all.types;
       typed = subst (λ rs. judged basin rs ≡ Ok all.types) same.0 same.1;
     }
@@ -130,10 +136,13 @@ refused_code basin blocks (Ok budgets) why is = absurd cc
 refused_code basin blocks (Err refused) why is = cc
 
 pub its_code : (basin : Draft) (text : List ℕ) (blocks : List Block) (code : Accepted) → read text ≡ Ok blocks
-    → verified basin blocks ≡ Ok code → IsCodeOf basin text code.blocks code.budgets
+    → verified basin blocks ≡ Ok code → IsMadeOf true basin text (Held.Code code)
 its_code basin text blocks code spells is =
     let same = accepted_code basin blocks (ruling basin blocks) code is in
-    record { spells = spells ∙ ap (λ bs. Ok bs) same.0; accepted = ap (ruling basin) (sym same.0) ∙ same.1 }
+    record {
+      is = (refl, record { spells = spells ∙ ap (λ bs. Ok bs) same.0; accepted = ap (ruling basin) (sym same.0) ∙ same.1 });
+      fits = ap (verified basin) (sym same.0) ∙ is;
+    }
 
 -- faults that are counted from earlier on
 rose_since : (first later now : ShelfView) (o : Option (List ℕ)) → NoneFell first.faults later.faults

@@ -31,22 +31,22 @@ got [] k lt = absurd (omega (arith, lt))
 got (x ∷ xs) zero lt = (x, refl)
 got (x ∷ xs) (suc k) lt = got xs k (omega (arith, lt))
 
-block_of : (blocks : List Block) (r : ℕ) → 1 ≤ r → r ≤ count_alike Rule blocks → (b : ℕ) × (rule_from 1 blocks r ≡ Some b)
+block_of : (blocks : List Block) (number : ℕ) → 1 ≤ number → number ≤ count_alike Rule blocks → (b : ℕ) × (rule_from 1 blocks number ≡ Some b)
 block_of blocks zero low high = absurd (omega (arith, low))
 block_of blocks (suc r) low high =
     let many = length-rules 1 blocks in
     let there = got (rules_from 1 blocks) r (omega (arith, many, high)) in
     (there.0, rule_is 1 blocks r ∙ there.1)
 
-pub each : (as_code : Bool) (basin : Draft) (text : List ℕ) (policy : Policy) (r : ℕ)
-    → IsPolicyOf as_code basin text policy → 1 ≤ r → r ≤ rules_in policy → IsSome (budget_in policy r)
-each as_code basin text (Ruleset rules) r is low high = is_there (budget_of rules) _ (is_declared rules r low high)
-each as_code basin text (Code blocks budgets) r is low high =
-    let block = block_of blocks r low high in
-    let within = its_block blocks r block.0 block.1 in
+pub each : (as_code : Bool) (basin : Draft) (text : List ℕ) (policy : Policy) (number : ℕ)
+    → IsPolicyOf as_code basin text policy → 1 ≤ number → number ≤ rules_in policy → IsSome (budget_in policy number)
+each as_code basin text (Ruleset rules) number is low high = is_there (budget_of rules) _ (is_declared rules number low high)
+each as_code basin text (Code blocks budgets) number is low high =
+    let block = block_of blocks number low high in
+    let within = its_block blocks number block.0 block.1 in
     let many = budget_each basin blocks budgets is.1.accepted in
     let there = got budgets (block.0 - 1) (omega (arith, within.0, within.1, many)) in
-    let is_its : budget_in (Code blocks budgets) r ≡ Some there.0 =
+    let is_its : budget_in (Code blocks budgets) number ≡ Some there.0 =
     ap (option_and_then (numbered budgets)) block.1 ∙ numbered-known budgets block.0 within.0 ∙ there.1 in
     subst IsSome (sym is_its) refl
 

@@ -1,19 +1,21 @@
 -- Words ask for one command.
 use Rattle.rw_top.proofs.Common.{Asks, Command, IsSome, IsSomeAnd, Job, List, None, Option, Some, [], ap, codes, drop, if◌then◌else◌, name_of, refl, slice_index_or, subst, sym, words_of, ℕ, ◌∙◌, ◌≡◌}
 use Rattle.rw_base.proofs.Common.{bytes_eq}
-use Rattle.rw_top.specs.declared.command.Job.TheVariants.{Simulate, Check, Compile}
+use Rattle.rw_top.specs.declared.command.Job.TheVariants.{Simulate, Check, Compile, Run}
 
 -- the job that a word asks for
 abbrev job_named : List ℕ → Option Job
 job_named word =
     if bytes_eq word (codes "simulate") then Some Simulate else
     if bytes_eq word (codes "check") then Some Check else
-    if bytes_eq word (codes "compile") then Some Compile else None
+    if bytes_eq word (codes "compile") then Some Compile else
+    if bytes_eq word (codes "run") then Some Run else None
 
 named : (job : Job) → job_named (name_of job) ≡ Some job
 named Simulate = refl
 named Check = refl
 named Compile = refl
+named Run = refl
 
 pub one_job : (a b : Job) → name_of a ≡ name_of b → a ≡ b
 one_job a b same = let both : Some a ≡ Some b = sym (named a) ∙ ap job_named same ∙ named b in cc

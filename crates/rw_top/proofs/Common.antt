@@ -1,10 +1,10 @@
 -- The names that proofs cite, passed on from one place. Declares nothing.
-pub use Rattle.rpl_parse.specs.Declarations.{IsReading, bad_declaration, bad_token, spelt, too_many}
+pub use Rattle.rpl_parse.specs.Declarations.{IsReading}
 pub use Rattle.rpl_tree.specs.Tree.{Declared, function, rule}
 pub use Rattle.rpl_types.specs.Checked.{Checked, checked, declaration_from, declaration_of_rule, with_types}
 pub use Rattle.rw_base.proofs.Common.{Bool, Err, IfOk, IfSome, IsSome, IsSomeAnd, List, MatchBool, MatchResult, None, Ok, Option, Result, Some, [], ap, ap₂, arith, cases_lt, codes, common_steps, false, get_or, if◌then◌else◌, inl, inr, length, nat_tests, option_map, refl, rules, slice_index_or, string_bytes, subst, suc, sym, take_all, true, zero, ℕ, ℤ, ◌++◌, ◌+◌, ◌-◌, ◌<◌, ◌==◌, ◌↔◌, ◌∙◌, ◌∷◌, ◌≡◌, ◌≢◌, ◌≤◌, ◌⊎◌}
-pub use Rattle.rw_inputs.specs.Reading.{Reads, Refuses, read_records}
-pub use Rattle.rw_inputs.specs.declared.fault.InputFault.{InputFault}
+pub use Rattle.rw_inputs.specs.Reading.{Reads, Refuses}
+pub use Rattle.rw_inputs.specs.Refusal.{InputRefusal}
 pub use Rattle.rw_io.proofs.KnownLemmas.{GrowsBy-trans, PrefixGrew-left, PrefixGrew-right}
 pub use Rattle.rw_io.specs.Causes.{NoneFell, Rose}
 pub use Rattle.rw_io.specs.Known.{GrowsBy, PrefixGrew}
@@ -23,7 +23,7 @@ pub use Rattle.rw_top.specs.Command.{AskFor, AskNothing, Asks, Command, IsPath, 
 pub use Rattle.rw_top.specs.Promise.{Promise, RefusedCommand, RefusedWords, WasRefused, Wrote, WroteCheck, WroteCode, WroteRun}
 pub use Rattle.rw_top.specs.Reading.{Accepts, AcceptsAll, AreRead, Files, HoldsTooLong, IsHonest, IsHonestOfAll, IsHonestUpTo, IsTextAt, IsTooLong, Reaches, ReadsInputs, ReadsModel, ReadsPolicy, RefusesInputs, RefusesModel, RefusesPolicy, SaysAt, WasRead, reads_code}
 pub use Rattle.rw_top.specs.Reason.{BadInputs, BadModel, BadPolicy, IsFound, IsHonestFor, LongFile, Reason, file_of, policy_status, status_by}
-pub use Rattle.rw_top.specs.Refusal.{Cause, EndsWith, FailsToRead, FileCause, FindsTooLong, IsPolicyRefusal, WasFound, reason_of, refusal_after, refusal_of_code, refusal_of_grammar, status_of}
+pub use Rattle.rw_top.specs.Refusal.{Cause, EndsWith, FailsToRead, FileCause, FindsTooLong, IsPolicyRefusal, WasFound, reason_of, refusal_after, status_of}
 pub use Rattle.rw_top.specs.RunText.{IsRunText, text_of}
 pub use Rattle.rw_top.specs.Seen.{files_seen, policy_of}
 pub use Rattle.rw_top.specs.Written.{HasText, IsTextOf, Tells, WritesAll, WritesFront, status_of_end}

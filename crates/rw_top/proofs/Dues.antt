@@ -1,8 +1,10 @@
 -- What has to be refused of a call that keeps its promise, in terms of what its shelf tells.
-use Rattle.rw_top.proofs.Common.{AcceptsAll, Asks, BadInputs, BadModel, BadPolicy, Call, Change, Command, File, HoldsTooLong, IfSome, InputFault, IsHonest, IsSome, List, LongFile, ModelRefusal, None, Option, Promise, RefusesInputs, RefusesModel, RefusesPolicy, Rose, ShelfView, Some, order, path_of, ℕ, ◌≡◌, ◌≤◌, ◌⊎◌}
+use Rattle.rw_top.proofs.Common.{AcceptsAll, Asks, BadInputs, BadModel, BadPolicy, Call, Change, Command, File, HoldsTooLong, IfSome, InputRefusal, IsHonest, IsSome, List, LongFile, ModelRefusal, None, Option, Promise, RefusesInputs, RefusesModel, RefusesPolicy, Rose, ShelfView, Some, arith, order, path_of, ℕ, ◌≡◌, ◌≤◌, ◌⊎◌}
+use Rattle.rw_top.specs.Told.{AreTold}
+use Rattle.rw_top.specs.declared.refusal.File.TheVariants.{Model}
 use Rattle.rw_top.specs.Policy.{BadCode, RulesRefusal, BadRules, BadBlocks}
 
--- the path is told, and had no fault
+-- a path that is told and had no fault
 abbrev IsGood : Change ShelfView → List ℕ → Type 0
 IsGood shelf path = IsSome (shelf.before.holds path) × ¬ Rose (shelf.before.faults path) (shelf.after.faults path)
 
@@ -10,37 +12,38 @@ honest_at : (shelf : Change ShelfView) (o : Option (List ℕ)) → IfSome o (IsG
 honest_at shelf None good = tt
 honest_at shelf (Some path) good = record { told = good.0; stands = good.1 }
 
-module _ (call : Call) (status : ℕ) (command : Command) where
-  -- each file that is read up to that place is good
-  abbrev AreGood : ℕ → Type 0
-  AreGood place = (file : File) → order file ≤ place → IfSome (path_of command file) (IsGood call.shelf)
+-- the last file is the third
+at_most_2 : (file : File) → order file ≤ 2
+at_most_2 Model = omega arith
+at_most_2 file = omega arith
 
-  honest : (place : ℕ) → AreGood place → (file : File) → order file ≤ place → IfSome (path_of command file) (IsHonest call.shelf)
-  honest place good file least = honest_at call.shelf (path_of command file) (good file least)
+module _ (call : Call) (status : ℕ) (command : Command) where
+  honest : (upto : ℕ) → AreTold command call.shelf upto → (file : File) → order file ≤ upto → IfSome (path_of command file) (IsHonest call.shelf)
+  honest upto told file least = honest_at call.shelf (path_of command file) (told file least)
 
   pub of_model : (why : ModelRefusal) → Promise call status → Asks call.words command
-      → RefusesModel command call.shelf.before.holds why → AreGood 0 → (status ≡ 6) ⊎ (status ≡ 5)
+      → RefusesModel command call.shelf.before.holds why → AreTold command call.shelf 0 → (status ≡ 6) ⊎ (status ≡ 5)
   of_model why promise asks found good = promise.due command asks (BadModel why) found (honest 0 good)
 
   pub of_rules : (why : RulesRefusal) → Promise call status → Asks call.words command
-      → RefusesPolicy command call.shelf.before.holds (BadRules why) → AreGood 1 → (status ≡ 7) ⊎ (status ≡ 5)
+      → RefusesPolicy command call.shelf.before.holds (BadRules why) → AreTold command call.shelf 1 → (status ≡ 7) ⊎ (status ≡ 5)
   of_rules why promise asks found good = promise.due command asks (BadPolicy (BadRules why)) found (honest 1 good)
 
   pub of_code : (why : BadCode) → Promise call status → Asks call.words command
-      → RefusesPolicy command call.shelf.before.holds (BadBlocks why) → AreGood 1 → (status ≡ 9) ⊎ (status ≡ 5)
+      → RefusesPolicy command call.shelf.before.holds (BadBlocks why) → AreTold command call.shelf 1 → (status ≡ 9) ⊎ (status ≡ 5)
   of_code why promise asks found good = promise.due command asks (BadPolicy (BadBlocks why)) found (honest 1 good)
 
-  pub of_inputs : (fault : InputFault) → Promise call status → Asks call.words command
-      → RefusesInputs command call.shelf.before.holds fault → AreGood 2 → (status ≡ 8) ⊎ (status ≡ 5)
-  of_inputs fault promise asks found good = promise.due command asks (BadInputs fault) found (honest 2 good)
+  pub of_inputs : (why : InputRefusal) → Promise call status → Asks call.words command
+      → RefusesInputs command call.shelf.before.holds why → AreTold command call.shelf 2 → (status ≡ 8) ⊎ (status ≡ 5)
+  of_inputs why promise asks found good = promise.due command asks (BadInputs why) found (honest 2 good)
 
   pub of_long : (file : File) → Promise call status → Asks call.words command
-      → HoldsTooLong command call.shelf.before.holds file → AreGood (order file) → (status ≡ 10) ⊎ (status ≡ 5)
+      → HoldsTooLong command call.shelf.before.holds file → AreTold command call.shelf (order file) → (status ≡ 10) ⊎ (status ≡ 5)
   of_long file promise asks found good = promise.due command asks (LongFile file) found (honest (order file) good)
 
   pub of_none : Promise call status → Asks call.words command → AcceptsAll command call.shelf.before.holds
-      → ((file : File) → IfSome (path_of command file) (IsGood call.shelf)) → ¬ Rose call.out.before.faults call.out.after.faults
+      → AreTold command call.shelf 2 → ¬ Rose call.out.before.faults call.out.after.faults
       → (status ≤ 1) ⊎ (status ≡ 5)
   of_none promise asks accepted good calm =
       promise.complete command asks accepted
-      (record { honest = λ file. honest_at call.shelf (path_of command file) (good file); stands = calm })
+      (record { honest = λ file. honest 2 good file (at_most_2 file); stands = calm })

@@ -1,6 +1,6 @@
 -- What is found of a file is one thing, where the shelf tells what its path holds: the file is accepted, or refused with
 -- one status, or too long.
-use Rattle.rw_top.proofs.Common.{Accepts, AcceptsAll, AreRead, BadInputs, BadModel, BadPolicy, Command, Err, FILE_MAX, File, Files, Holds, HoldsTooLong, IfSome, InputFault, IsFound, IsSome, IsSomeAnd, IsTextAt, IsTooLong, List, LongFile, ModelRefusal, Names, None, Ok, Option, Reaches, ReadsInputs, ReadsModel, ReadsPolicy, Reason, Refuses, RefusesInputs, RefusesModel, RefusesPolicy, SaysAt, Some, WasRead, ap, arith, cases_lt, file_of, inl, inr, length, model_of, order, path_of, policy_status, reads_code, refl, status_by, subst, sym, ℕ, ◌<◌, ◌∙◌, ◌≡◌, ◌≤◌, ◌⊎◌}
+use Rattle.rw_top.proofs.Common.{Accepts, AcceptsAll, AreRead, BadInputs, BadModel, BadPolicy, Command, Err, FILE_MAX, File, Files, Holds, HoldsTooLong, IfSome, InputRefusal, IsFound, IsSome, IsSomeAnd, IsTextAt, IsTooLong, List, LongFile, ModelRefusal, Names, None, Ok, Option, Reaches, ReadsInputs, ReadsModel, ReadsPolicy, Reason, Refuses, RefusesInputs, RefusesModel, RefusesPolicy, SaysAt, Some, WasRead, ap, arith, cases_lt, file_of, inl, inr, length, model_of, order, path_of, policy_status, reads_code, refl, status_by, subst, sym, ℕ, ◌<◌, ◌∙◌, ◌≡◌, ◌≤◌, ◌⊎◌}
 use Rattle.rw_model.specs.Draft.{Draft}
 use Rattle.rw_inputs.specs.Inputs.{Inputs as Given}
 use Rattle.rw_top.specs.Policy.{Policy as Rules, PolicyRefusal, RefusesText}
@@ -70,7 +70,7 @@ module _ (command : Command) (holds : Holds) where
       cc
 
   -- inputs that are refused aren't read
-  inputs_clash : (why : InputFault) (b : Draft) (i : Given)
+  inputs_clash : (why : InputRefusal) (b : Draft) (i : Given)
       → IsTold command holds Model → IsTold command holds Inputs
       → RefusesInputs command holds why → ReadsInputs command holds b i → ⊥
   inputs_clash why b i model inputs r h =
@@ -94,7 +94,7 @@ module _ (command : Command) (holds : Holds) where
   abbrev IsBad : File → ℕ → Type 0
   IsBad Model status = (status ≡ 6) × ((why : ModelRefusal) × RefusesModel command holds why)
   IsBad Policy status = (why : PolicyRefusal) × (status ≡ policy_status why) × RefusesPolicy command holds why
-  IsBad Inputs status = (status ≡ 8) × ((why : InputFault) × RefusesInputs command holds why)
+  IsBad Inputs status = (status ≡ 8) × ((why : InputRefusal) × RefusesInputs command holds why)
 
   accepted_text : (file : File) → Accepts command holds file
       → (text : List ℕ) × WasRead command holds file text

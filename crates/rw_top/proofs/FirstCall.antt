@@ -3,6 +3,7 @@ use Rattle.rw_top.proofs.Common.{Call, Command, Fault, GrowsBy, IfOk, IsFirstTex
 use Rattle.rw_plain_reservoir.specs.FirstForm.{FirstModel, IsFirstForm, IsFirstFlows}
 use Rattle.rw_inputs.specs.Inputs.{Inputs as Given}
 use Rattle.rw_model.proofs.Common.{IsBasin, Draft}
+use Rattle.rw_run.specs.Next.{no_rules}
 use Rattle.rw_top.specs.FirstCall.{IsFirstCall}
 use Rattle.rw_top.specs.declared.command.Job.TheVariants.{Simulate}
 use Rattle.rw_top.specs.declared.refusal.File.TheVariants.{Inputs}
@@ -20,7 +21,7 @@ its_text : (call : Call) (model : FirstModel) (inflows outflows : List ℤ)
     (first : IsFirstCall call model inflows outflows) (end : RunEnd) (text : List ℕ) (basin : Draft) (inputs : Option Given)
     → SaysAt (simulates first.model_path first.inputs_path) Inputs inputs
     (ReadsInputs (simulates first.model_path first.inputs_path) call.shelf.before.holds basin)
-    → IsSomeAnd inputs (λ given. IsRunText basin given end text) → IsRunText first.basin first.inputs end text
+    → IsSomeAnd inputs (λ given. IsRunText basin no_rules given end text) → IsRunText first.basin no_rules first.inputs end text
 its_text call model inflows outflows first end text basin None says is = absurd is
 its_text call model inflows outflows first end text basin (Some inputs) says is =
     let command : Command = simulates first.model_path first.inputs_path in
@@ -29,12 +30,12 @@ its_text call model inflows outflows first end text basin (Some inputs) says is 
     let bytes = same_text command holds Inputs says.text first.read.text first.told_inputs says.read first.read.read in
     let reads : Reads first.basin first.read.text inputs =
     subst (λ t. Reads first.basin t inputs) bytes (subst (λ d. Reads d says.text inputs) same says.are) in
-    of_values inputs first.inputs (same_values first.basin first.read.text inputs first.inputs reads first.read.are) first.basin end text
-    (subst (λ d. IsRunText d inputs end text) same is)
+    of_values inputs first.inputs (same_values first.basin first.read.text inputs first.inputs reads first.read.are) first.basin no_rules end text
+    (subst (λ d. IsRunText d no_rules inputs end text) same is)
 
 pub first_call : ((basin : Draft) (model : FirstModel) (inputs : Given) (inflows outflows : List ℤ)
     → IsBasin basin → IsFirstForm basin model → IsFirstFlows inputs model.run.count inflows outflows
-    → (end : RunEnd) (text : List ℕ) → IsRunText basin inputs end text
+    → (end : RunEnd) (text : List ℕ) → IsRunText basin no_rules inputs end text
     → (fault : Option ℤ) × IsFirstText model inflows outflows fault text × ((fault ≡ None) ↔ (end ≡ Settled)))
     → ((bytes : List ℕ) → IfOk (model_of bytes) IsBasin)
     → (call : Call) (status : ℕ) (model : FirstModel) (inflows outflows : List ℤ)

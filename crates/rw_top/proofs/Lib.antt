@@ -14,3 +14,4 @@ pub mod BudgetLemmas
 pub mod CheckedPolicies
 pub mod FirstCall
 pub mod FilesRead
+pub mod RulesText

@@ -1,47 +1,37 @@
 -- What is read of a text is one thing.
-use Rattle.rw_top.proofs.Common.{Bool, Declared, Err, InputFault, IsReading, List, Ok, Reads, Refuses, ap, bad_declaration, bad_token, false, policy_status, read_records, refl, spelt, sym, too_many, true, ℕ, ◌∙◌, ◌≡◌}
+use Rattle.std.specs.Prelude.{ℤ, Option}
+use Rattle.rw_top.proofs.Common.{Bool, Declared, Err, InputRefusal, IsReading, List, Ok, Reads, Refuses, ap, false, policy_status, refl, sym, true, ℕ, ◌∙◌, ◌≡◌}
 use Rattle.rpl_parse.proofs.CutFacts.{one_reading_holds}
 use Rattle.rpl_types.specs.Judged.{judged}
-use Rattle.rw_inputs.proofs.Same.{one_list}
 use Rattle.rw_model.specs.Draft.{Draft}
-use Rattle.rw_inputs.specs.Inputs.{Inputs, value_at, given_at}
+use Rattle.rw_inputs.specs.Inputs.{Inputs, value_at}
 use Rattle.rpl_code.specs.declared.block.Block.{Block}
 use Rattle.rpl_tree.specs.Budget.{Budget}
 use Rattle.rpl_verify.specs.Budget.{ruling}
-use Rattle.rw_top.specs.Policy.{BadCode, Unread, Misfit, Policy, Ruleset, Code, PolicyRefusal, BadRules, BadBlocks, RulesRefusal, BadToken, BadDeclaration, TooMany, BadNode, IsCodeOf, IsPolicyOf, IsRulesetOf, RefusesCode, RefusesRules, RefusesText}
+use Rattle.rw_top.specs.Policy.{BadCode, Unread, Misfit, Policy, Ruleset, Code, PolicyRefusal, BadRules, BadBlocks, RulesRefusal, BadGrammar, BadNode, IsCodeOf, IsPolicyOf, IsRulesetOf, RefusesCode, RefusesRules, RefusesText}
 
 -- inputs that are refused aren't read
-pub refuses_clash : (basin : Draft) (text : List ℕ) (inputs : Inputs) (fault : InputFault)
-    → Reads basin text inputs → Refuses basin text fault → ⊥
-refuses_clash basin text inputs fault h k =
-    let same = one_list _ _ _ h.records k.records h.are k.are in
-    let both : Ok h.rows ≡ Err fault = sym h.read ∙ ap (read_records basin) same ∙ k.read in
-    cc
+pub refuses_clash : (basin : Draft) (text : List ℕ) (inputs : Inputs) (why : InputRefusal)
+    → Reads basin text inputs → Refuses basin text why → ⊥
+refuses_clash basin text inputs why h k = let read = h.values in cc
 
 -- and what is read is one thing: the same value for each cell
 pub same_values : (basin : Draft) (text : List ℕ) (inputs others : Inputs) → Reads basin text inputs
     → Reads basin text others → (slot step : ℕ) → value_at inputs slot step ≡ value_at others slot step
 same_values basin text inputs others h k slot step =
-    let same = one_list _ _ _ h.records k.records h.are k.are in
-    let both : Ok h.rows ≡ Ok k.rows = sym h.read ∙ ap (read_records basin) same ∙ k.read in
-    let rows : h.rows ≡ k.rows = cc in
-    h.kept.values slot step ∙ ap (λ rs. given_at basin rs slot step) rows ∙ sym (k.kept.values slot step)
+    let both : Ok (value_at inputs) ≡ Ok (value_at others) = sym h.values ∙ k.values in
+    let same : value_at inputs ≡ value_at others = cc in
+    ap (λ (value : ℕ → ℕ → Option ℤ). value slot step) same
 
 -- a text spells one ruleset
-one_ruleset : (text : List ℕ) (rules others : List Declared) → IsReading text (spelt rules) → IsReading text (spelt others) → rules ≡ others
+one_ruleset : (text : List ℕ) (rules others : List Declared) → IsReading text (Ok rules) → IsReading text (Ok others) → rules ≡ others
 one_ruleset text rules others h k =
-    let same : spelt rules ≡ spelt others = one_reading_holds text (spelt rules) (spelt others) h k in cc
+    let same = one_reading_holds text (Ok rules) (Ok others) h k in cc
 
 -- rules that are refused aren't accepted
 rules_clash : (basin : Draft) (text : List ℕ) (rules : List Declared) (why : RulesRefusal)
     → IsRulesetOf basin text rules → RefusesRules basin text why → ⊥
-rules_clash basin text rules (BadToken line) h k =
-    let same : spelt rules ≡ bad_token line = one_reading_holds text (spelt rules) (bad_token line) h.spells k in cc
-rules_clash basin text rules (BadDeclaration declaration line) h k =
-    let same : spelt rules ≡ bad_declaration declaration line =
-    one_reading_holds text (spelt rules) (bad_declaration declaration line) h.spells k in cc
-rules_clash basin text rules (TooMany declaration) h k =
-    let same : spelt rules ≡ too_many declaration = one_reading_holds text (spelt rules) (too_many declaration) h.spells k in cc
+rules_clash basin text rules (BadGrammar why) h k = let same = one_reading_holds text (Ok rules) (Err why) h.spells k in cc
 rules_clash basin text rules (BadNode why) h k =
     let same = one_ruleset text rules k.rules h.spells k.spells in
     let both : Ok h.types ≡ Err why = sym h.typed ∙ ap (judged basin) same ∙ k.refused in cc

@@ -1,6 +1,6 @@
 -- A call that wrote its run, or was refused, keeps the promise.
 use Rattle.rw_top.proofs.Common.{Asks, Call, Cause, Command, Fault, Files, IsTextOf, Job, List, None, Promise, Refusal, RefusedCommand, RefusedWords, RunEnd, Settled, Some, WasRefused, WritesAll, Wrote, arith, inl, inr, status_of, status_of_end, ℕ, ◌∙◌, ◌≡◌, ◌≤◌}
-use Rattle.rw_top.specs.declared.command.Job.TheVariants.{Simulate, Check, Compile}
+use Rattle.rw_top.specs.declared.command.Job.TheVariants.{Simulate, Check, Compile, Run}
 use Rattle.rw_top.specs.declared.refusal.Refusal.TheVariants.{Words}
 use Rattle.rw_top.proofs.CommandLemmas.{of_command}
 use Rattle.rw_top.proofs.DueLemmas.{complete, due, none_due}
@@ -13,6 +13,7 @@ status_at_most_1 : (job : Job) (files : Files) (status : ℕ) (text : List ℕ) 
 status_at_most_1 Simulate files status text is = let most = at_most_1 is.0 in omega (arith, most, is.1)
 status_at_most_1 Check files status text is = omega (arith, is.0)
 status_at_most_1 Compile files status text is = omega (arith, is.0)
+status_at_most_1 Run files status text is = let most = at_most_1 is.0 in omega (arith, most, is.1)
 
 at_least_2 : (why : Refusal) → 2 ≤ status_of why
 at_least_2 Words = omega arith

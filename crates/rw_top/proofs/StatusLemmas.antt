@@ -1,24 +1,27 @@
 -- What each status says of a call that keeps its promise.
-use Rattle.rw_top.proofs.Common.{AskFor, AskNothing, Asks, BadInputs, BadModel, BadPolicy, AreRead, Call, Command, FailsToRead, Fault, File, Files, FindsTooLong, GrowsBy, Holds, InputFault, IsRunText, IsSomeAnd, IsTextOf, Job, None, Option, ReadsInputs, ReadsPolicy, SaysAt, Some, List, LongFile, ModelRefusal, Promise, Reason, Refusal, RefusedCommand, RefusesInputs, RefusesModel, RefusesPolicy, Rose, RunEnd, Settled, WasFound, WasRefused, WritesFront, WroteCheck, WroteCode, WroteRun, ap, arith, false, inl, inr, reads_code, refl, status_by, status_of, status_of_end, subst, takes_code, true, ℕ, ◌∙◌, ◌≡◌, ◌≢◌, ◌≤◌, ◌⊎◌}
+use Rattle.rw_top.proofs.Common.{AskFor, AskNothing, Asks, BadInputs, BadModel, BadPolicy, AreRead, Call, Command, FailsToRead, Fault, File, Files, FindsTooLong, GrowsBy, Holds, InputRefusal, IsRunText, IsSomeAnd, IsTextOf, Job, None, Option, ReadsInputs, ReadsPolicy, SaysAt, Some, List, LongFile, ModelRefusal, Promise, Reason, Refusal, RefusedCommand, RefusesInputs, RefusesModel, RefusesPolicy, Rose, RunEnd, Settled, WasFound, WasRefused, WritesFront, WroteCheck, WroteCode, WroteRun, ap, arith, false, inl, inr, reads_code, refl, status_by, status_of, status_of_end, subst, takes_code, true, ℕ, ◌∙◌, ◌≡◌, ◌≢◌, ◌≤◌, ◌⊎◌}
+use Rattle.rw_run.specs.Next.{no_rules}
 use Rattle.rw_run.specs.declared.fault.RunFault.{RunFault}
+use Rattle.rw_top.specs.Promise.{WroteRules}
+use Rattle.rw_top.specs.RunText.{IsRulesText}
 use Rattle.rw_base.proofs.Common.{◌&&◌}
 use Rattle.rw_inputs.specs.Inputs.{Inputs as Given}
 use Rattle.rpl_code.specs.Spelling.{spelt}
 use Rattle.rw_top.specs.Budgets.{check_text}
 use Rattle.rw_top.specs.Policy.{BadCode, RulesRefusal, BadRules, BadBlocks, Policy as Rules, Ruleset, Code, code_of, is_code}
-use Rattle.rw_top.specs.declared.command.Job.TheVariants.{Simulate, Check, Compile}
+use Rattle.rw_top.specs.declared.command.Job.TheVariants.{Simulate, Check, Compile, Run}
 use Rattle.rw_top.specs.declared.refusal.File.TheVariants.{Policy as PolicyFile, Inputs as InputsFile}
 use Rattle.rw_top.specs.declared.refusal.Refusal.TheVariants.{Words, CannotRead, CannotWrite, NoMemory}
 use Rattle.rw_top.proofs.CauseLemmas.{told_status}
 use Rattle.rw_top.proofs.OneReading.{one_kind}
 
-settles : (call : Call) (end : RunEnd) → 0 ≡ status_of_end end → WroteRun call end → WroteRun call Settled
-settles call Settled is wrote = wrote
-settles call (Fault why) is wrote = absurd (omega (arith, is))
+settles : (P : RunEnd → Type 0) (end : RunEnd) → 0 ≡ status_of_end end → P end → P Settled
+settles P Settled is wrote = wrote
+settles P (Fault why) is wrote = absurd (omega (arith, is))
 
-faults : (call : Call) (end : RunEnd) → 1 ≡ status_of_end end → WroteRun call end → (why : RunFault) × WroteRun call (Fault why)
-faults call Settled is wrote = absurd (omega (arith, is))
-faults call (Fault why) is wrote = (why, wrote)
+faults : (P : RunEnd → Type 0) (end : RunEnd) → 1 ≡ status_of_end end → P end → (why : RunFault) × P (Fault why)
+faults P Settled is wrote = absurd (omega (arith, is))
+faults P (Fault why) is wrote = (why, wrote)
 
 module _ (call : Call) (command : Command) (asked : Asks call.words command) (files : Files)
     (read : AreRead command call.shelf.before.holds files) (text : List ℕ)
@@ -27,10 +30,29 @@ module _ (call : Call) (command : Command) (asked : Asks call.words command) (fi
   holds = call.shelf.before.holds
 
   wrote_run : (end : RunEnd) (inputs : Option Given) → SaysAt command InputsFile inputs (ReadsInputs command holds files.basin)
-      → IsSomeAnd inputs (λ given. IsRunText files.basin given end text) → WroteRun call end
+      → IsSomeAnd inputs (λ given. IsRunText files.basin no_rules given end text) → WroteRun call end
   wrote_run end None says is = absurd is
   wrote_run end (Some inputs) says is =
       record { command = command; asked = asked; basin = files.basin; inputs = inputs; read = says; text = text; is = is; grew = grew }
+
+  wrote_rules : (end : RunEnd) (policy : Option Rules) (inputs : Option Given)
+      → SaysAt command PolicyFile policy (ReadsPolicy command holds files.basin)
+      → SaysAt command InputsFile inputs (ReadsInputs command holds files.basin)
+      → IsSomeAnd policy (λ rules. IsSomeAnd inputs (λ given. IsRulesText files.basin rules given end text)) → WroteRules call end
+  wrote_rules end None inputs rules says is = absurd is
+  wrote_rules end (Some policy) None rules says is = absurd is
+  wrote_rules end (Some policy) (Some inputs) rules says is = record {
+    command = command;
+    asked = asked;
+    basin = files.basin;
+    policy = policy;
+    rules = rules;
+    inputs = inputs;
+    read = says;
+    text = text;
+    is = is;
+    grew = grew;
+  }
 
   abbrev Grew : List ℕ → Type 0
   Grew written = GrowsBy call.out.before.contents call.out.after.contents written
@@ -51,23 +73,29 @@ module _ (call : Call) (command : Command) (asked : Asks call.words command) (fi
       let as_code : reads_code command says.text ≡ true = says.is.0 in
       absurd (one_kind _ as_code (ap (λ j. takes_code j && is_code says.text) job))
 
-  settled_by : (job : Job) → command.job ≡ job → IsTextOf job files 0 text → WroteRun call Settled ⊎ WroteCheck call ⊎ WroteCode call
-  settled_by Simulate job is = inl (settles call is.0 is.1 (wrote_run is.0 files.inputs read.inputs is.2))
-  settled_by Check job is = inr (inl (wrote_check files.policy read.policy is.1))
-  settled_by Compile job is = inr (inr (wrote_code job files.policy read.policy is.1))
+  settled_by : (job : Job) → command.job ≡ job → IsTextOf job files 0 text → WroteRun call Settled ⊎ WroteRules call Settled ⊎ WroteCheck call ⊎ WroteCode call
+  settled_by Simulate job is = inl (settles (WroteRun call) is.0 is.1 (wrote_run is.0 files.inputs read.inputs is.2))
+  settled_by Check job is = inr (inr (inl (wrote_check files.policy read.policy is.1)))
+  settled_by Compile job is = inr (inr (inr (wrote_code job files.policy read.policy is.1)))
+  settled_by Run job is =
+      inr (inl (settles (WroteRules call) is.0 is.1 (wrote_rules is.0 files.policy files.inputs read.policy read.inputs is.2)))
 
-  faulted_by : (job : Job) → IsTextOf job files 1 text → (why : RunFault) × WroteRun call (Fault why)
-  faulted_by Simulate is = faults call is.0 is.1 (wrote_run is.0 files.inputs read.inputs is.2)
+  abbrev WroteFault : RunEnd → Type 0
+  WroteFault end = WroteRun call end ⊎ WroteRules call end
+
+  faulted_by : (job : Job) → IsTextOf job files 1 text → (why : RunFault) × (WroteRun call (Fault why) ⊎ WroteRules call (Fault why))
+  faulted_by Simulate is = faults WroteFault is.0 is.1 (inl (wrote_run is.0 files.inputs read.inputs is.2))
+  faulted_by Run is = faults WroteFault is.0 is.1 (inr (wrote_rules is.0 files.policy files.inputs read.policy read.inputs is.2))
   faulted_by Check is = absurd (omega (arith, is.0))
   faulted_by Compile is = absurd (omega (arith, is.0))
 
-pub settled : (call : Call) → Promise call 0 → WroteRun call Settled ⊎ WroteCheck call ⊎ WroteCode call
+pub settled : (call : Call) → Promise call 0 → WroteRun call Settled ⊎ WroteRules call Settled ⊎ WroteCheck call ⊎ WroteCode call
 settled call promise =
     let wrote = promise.done (omega arith) in
     let is = wrote.text.is in
     settled_by call wrote.command wrote.asked is.files is.read wrote.text.text wrote.text.grew wrote.command.job refl is.is
 
-pub faulted : (call : Call) → Promise call 1 → (why : RunFault) × WroteRun call (Fault why)
+pub faulted : (call : Call) → Promise call 1 → (why : RunFault) × (WroteRun call (Fault why) ⊎ WroteRules call (Fault why))
 faulted call promise =
     let wrote = promise.done (omega arith) in
     let is = wrote.text.is in
@@ -150,7 +178,7 @@ module _ (call : Call) where
   bad_code command reason is found = absurd (omega (arith, is))
 
   bad_inputs : (command : Command) (reason : Reason) → 8 ≡ status_by reason → WasFound command call.shelf reason
-      → (fault : InputFault) × RefusesInputs command call.shelf.before.holds fault
+      → (why : InputRefusal) × RefusesInputs command call.shelf.before.holds why
   bad_inputs command (BadInputs fault) is found = (fault, found)
   bad_inputs command (BadPolicy (BadRules why)) is found = absurd (omega (arith, is))
   bad_inputs command (BadPolicy (BadBlocks why)) is found = absurd (omega (arith, is))
@@ -172,7 +200,7 @@ module _ (call : Call) where
   pub code : Promise call 9 → AskFor call.words (λ command. (why : BadCode) × RefusesPolicy command call.shelf.before.holds (BadBlocks why))
   code promise = let there = reason_of_status 9 (omega arith) promise in (there.0, there.1, bad_code there.0 there.2.0 there.2.1 there.2.2)
 
-  pub inputs : Promise call 8 → AskFor call.words (λ command. (fault : InputFault) × RefusesInputs command call.shelf.before.holds fault)
+  pub inputs : Promise call 8 → AskFor call.words (λ command. (why : InputRefusal) × RefusesInputs command call.shelf.before.holds why)
   inputs promise = let there = reason_of_status 8 (omega arith) promise in (there.0, there.1, bad_inputs there.0 there.2.0 there.2.1 there.2.2)
 
   pub too_long : Promise call 10 → AskFor call.words (λ command. (file : File) × FindsTooLong command call.shelf file)

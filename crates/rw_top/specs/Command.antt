@@ -4,7 +4,7 @@ use Rattle.std.specs.declared.alloc.Global.{Global}
 use Rattle.rw_top.specs.declared.refusal.File.{File}
 use Rattle.rw_top.specs.declared.refusal.File.TheVariants.{Model, Policy, Inputs}
 use Rattle.rw_top.specs.declared.command.Job.{Job}
-use Rattle.rw_top.specs.declared.command.Job.TheVariants.{Simulate, Check, Compile}
+use Rattle.rw_top.specs.declared.command.Job.TheVariants.{Simulate, Check, Compile, Run}
 use Rattle.rw_top.specs.declared.command.Command.{Command as Named}
 
 -- the words, as bytes
@@ -18,18 +18,21 @@ abbrev pub name_of : Job → List ℕ
 name_of Simulate = codes "simulate"
 name_of Check = codes "check"
 name_of Compile = codes "compile"
+name_of Run = codes "run"
 
 -- the files that it reads, in the order in which the words name them
 abbrev pub files_of : Job → List File
 files_of Simulate = Model ∷ Inputs ∷ []
 files_of Check = Model ∷ Policy ∷ []
 files_of Compile = Model ∷ Policy ∷ []
+files_of Run = Model ∷ Policy ∷ Inputs ∷ []
 
 -- its policy may be code. What is compiled is always read as a ruleset
 abbrev pub takes_code : Job → Bool
 takes_code Simulate = true
 takes_code Check = true
 takes_code Compile = false
+takes_code Run = true
 
 -- ---- files
 

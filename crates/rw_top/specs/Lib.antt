@@ -2,11 +2,12 @@ pub mod Call
 pub mod Command
 pub mod Policy
 pub mod Reading
+pub mod Told
 pub mod Reason
 pub mod RunText
-pub mod Ready
 pub mod Budgets
 pub mod Seen
+pub mod Ready
 pub mod Written
 pub mod Refusal
 pub mod Lines

@@ -10,7 +10,7 @@ use Rattle.rw_model.specs.declared.fault.BuildFault.TheVariants.{DuplicateName, 
 use Rattle.rw_model_toml.specs.declared.fault.ModelFault.{ModelFault}
 use Rattle.rw_model_toml.specs.declared.fault.ModelFault.TheVariants.{NotToml, Missing, WrongKind, UnknownKey, UnknownKind, Build, Table, Calendar, NoMemory as NoMemoryForModel}
 use Rattle.rw_inputs.specs.declared.fault.InputKind.{InputKind}
-use Rattle.rw_inputs.specs.declared.fault.InputKind.TheVariants.{Header, UnknownSlot, NotSettable, NotANumber, OutOfBounds, StepOutside, Twice, Ragged}
+use Rattle.rw_inputs.specs.declared.fault.InputKind.TheVariants.{Header, UnknownSlot, NotSettable, NotANumber, OutOfBounds, StepOutside, Twice, Ragged, BatchOrder, TooMany as TooManyEdits}
 use Rattle.rpl_parse.specs.declared.fault.ParseFault.{ParseFault}
 use Rattle.rpl_parse.specs.declared.fault.ParseFault.TheVariants.{BadToken, BadDeclaration, TooMany as TooManyDeclarations, NoMemory as NoMemoryToParse}
 use Rattle.rpl_types.specs.declared.type_kind.TypeKind.{TypeKind}
@@ -61,6 +61,8 @@ input_words OutOfBounds = codes "out of bounds"
 input_words StepOutside = codes "step outside"
 input_words Twice = codes "twice"
 input_words Ragged = codes "ragged"
+input_words BatchOrder = codes "batch order"
+input_words TooManyEdits = codes "too many"
 
 -- with a node of a ruleset
 abbrev pub type_words : TypeKind → List ℕ

@@ -4,6 +4,7 @@ use Rattle.rw_io.specs.Causes.{Rose}
 use Rattle.rw_io.specs.Known.{GrowsBy}
 use Rattle.rw_inputs.specs.Inputs.{Inputs as Given}
 use Rattle.rw_model.specs.Draft.{Draft}
+use Rattle.rw_run.specs.Next.{no_rules}
 use Rattle.rw_run.specs.declared.run.RunEnd.{RunEnd}
 use Rattle.rpl_tree.specs.Tree.{Declared}
 use Rattle.rpl_code.specs.Spelling.{spelt}
@@ -16,7 +17,7 @@ use Rattle.rw_top.specs.Reason.{Reason, IsFound, IsHonestFor, status_by}
 use Rattle.rw_top.specs.Lines.{line_of, words_line}
 use Rattle.rw_top.specs.Reading.{AcceptsAll, IsHonestOfAll, ReadsInputs, ReadsPolicy}
 use Rattle.rw_top.specs.Refusal.{Cause, EndsWith, status_of}
-use Rattle.rw_top.specs.RunText.{IsRunText}
+use Rattle.rw_top.specs.RunText.{IsRulesText, IsRunText}
 use Rattle.rw_top.specs.Written.{Tells, WritesAll}
 use Rattle.rw_top.specs.declared.refusal.Refusal.{Refusal}
 use Rattle.rw_top.specs.declared.refusal.Refusal.TheVariants.{Words}
@@ -72,7 +73,7 @@ pub record Promise (call : Call) (status : ℕ) : Type 0 where
 
 -- ---- what a call wrote, by its job
 
--- a run that ends so, and its text
+-- a run without rules that ends so, and its text
 pub record WroteRun (call : Call) (end : RunEnd) : Type 0 where
   pub command : Command
   pub asked : Asks call.words command
@@ -80,7 +81,20 @@ pub record WroteRun (call : Call) (end : RunEnd) : Type 0 where
   pub inputs : Given
   pub read : ReadsInputs command call.shelf.before.holds basin inputs
   pub text : List ℕ
-  pub is : IsRunText basin inputs end text
+  pub is : IsRunText basin no_rules inputs end text
+  pub grew : GrowsBy call.out.before.contents call.out.after.contents text
+
+-- a run by a policy that is accepted, which ends so, and its text
+pub record WroteRules (call : Call) (end : RunEnd) : Type 0 where
+  pub command : Command
+  pub asked : Asks call.words command
+  pub basin : Draft
+  pub policy : Rules
+  pub rules : ReadsPolicy command call.shelf.before.holds basin policy
+  pub inputs : Given
+  pub read : ReadsInputs command call.shelf.before.holds basin inputs
+  pub text : List ℕ
+  pub is : IsRulesText basin policy inputs end text
   pub grew : GrowsBy call.out.before.contents call.out.after.contents text
 
 -- the budgets of a policy that is accepted

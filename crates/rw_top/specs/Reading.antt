@@ -5,7 +5,7 @@ use Rattle.rw_io.specs.declared.whole_file.TheConstants.{FILE_MAX}
 use Rattle.rw_model.specs.Draft.{Draft}
 use Rattle.rw_model_toml.specs.Model.{model_of}
 use Rattle.rw_model_toml.specs.Refusal.{ModelRefusal}
-use Rattle.rw_inputs.specs.declared.fault.InputFault.{InputFault}
+use Rattle.rw_inputs.specs.Refusal.{InputRefusal}
 use Rattle.rw_inputs.specs.Inputs.{Inputs as Given}
 use Rattle.rw_inputs.specs.Reading.{Reads, Refuses}
 use Rattle.rw_io.specs.Outside.{Change, Holds, ShelfView}
@@ -103,7 +103,7 @@ pub record RefusesPolicy (command : Command) (holds : Holds) (why : PolicyRefusa
   pub is : RefusesText (reads_code command text) basin text why
 
 -- the command names a model, inputs are reached, and are refused for this
-pub record RefusesInputs (command : Command) (holds : Holds) (why : InputFault) : Type 0 where
+pub record RefusesInputs (command : Command) (holds : Holds) (why : InputRefusal) : Type 0 where
   pub basin : Draft
   pub model : ReadsModel command holds basin
   pub reached : Reaches command holds Inputs

@@ -1,6 +1,6 @@
 -- Reasons on which a command has to be refused, in the definitions' own terms.
 use Rattle.std.specs.Prelude.{ℕ}
-use Rattle.rw_inputs.specs.declared.fault.InputFault.{InputFault}
+use Rattle.rw_inputs.specs.Refusal.{InputRefusal}
 use Rattle.rw_model_toml.specs.Refusal.{ModelRefusal}
 use Rattle.rw_io.specs.Outside.{Change, Holds, ShelfView}
 use Rattle.rw_top.specs.Command.{Command}
@@ -13,7 +13,7 @@ use Rattle.rw_top.specs.declared.refusal.File.TheVariants.{Model, Policy, Inputs
 pub data Reason : Type 0 where
   BadModel : ModelRefusal → Reason
   BadPolicy : PolicyRefusal → Reason
-  BadInputs : InputFault → Reason
+  BadInputs : InputRefusal → Reason
   LongFile : File → Reason
 
 -- the status of a call whose policy is refused for this
@@ -25,21 +25,21 @@ policy_status (BadBlocks why) = 9
 abbrev pub status_by : Reason → ℕ
 status_by (BadModel why) = 6
 status_by (BadPolicy why) = policy_status why
-status_by (BadInputs fault) = 8
+status_by (BadInputs why) = 8
 status_by (LongFile file) = 10
 
 -- the file of which it is found
 abbrev pub file_of : Reason → File
 file_of (BadModel why) = Model
 file_of (BadPolicy why) = Policy
-file_of (BadInputs fault) = Inputs
+file_of (BadInputs why) = Inputs
 file_of (LongFile file) = file
 
 -- it is found, of a command and what the shelf holds
 abbrev pub IsFound : Command → Holds → Reason → Type 0
 IsFound command holds (BadModel why) = RefusesModel command holds why
 IsFound command holds (BadPolicy why) = RefusesPolicy command holds why
-IsFound command holds (BadInputs fault) = RefusesInputs command holds fault
+IsFound command holds (BadInputs why) = RefusesInputs command holds why
 IsFound command holds (LongFile file) = HoldsTooLong command holds file
 
 -- the shelf is honest of each file that is read up to there

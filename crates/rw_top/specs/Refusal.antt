@@ -10,17 +10,13 @@ use Rattle.rw_model_toml.specs.Fault.{refusal_of}
 use Rattle.rw_model_toml.specs.Model.{model_of}
 use Rattle.rw_model_toml.specs.Refusal.{ModelRefusal}
 use Rattle.rw_inputs.specs.Reading.{Refuses}
-use Rattle.rw_inputs.specs.declared.fault.InputFault.{InputFault}
-use Rattle.rw_inputs.specs.declared.fault.InputFault.TheVariants.{Refused}
-use Rattle.rpl_parse.specs.declared.fault.ParseFault.{ParseFault}
-use Rattle.rpl_parse.specs.declared.fault.ParseFault.TheVariants as P
+use Rattle.rw_inputs.specs.Refusal.{InputRefusal, refused_at}
+use Rattle.rpl_parse.specs.Parsing.{refusal_of as refusal_of_grammar}
 use Rattle.rpl_types.specs.Judged.{refusal}
-use Rattle.rpl_code.specs.Reading.{CodeRefusal, bad_line, truncated}
-use Rattle.rpl_code.specs.declared.fault.CodeFault.{CodeFault}
-use Rattle.rpl_code.specs.declared.fault.CodeFault.TheVariants as C
+use Rattle.rpl_code.specs.Answers.{refusal_of as refusal_of_code}
 use Rattle.rpl_verify.specs.Fits.{refusal as block_refusal}
 use Rattle.rw_top.specs.Command.{Command, path_of}
-use Rattle.rw_top.specs.Policy.{Unread, Misfit, PolicyRefusal, BadRules, BadBlocks, RefusesText, RulesRefusal, BadToken, BadDeclaration, TooMany, BadNode}
+use Rattle.rw_top.specs.Policy.{Unread, Misfit, PolicyRefusal, BadRules, BadBlocks, RefusesText, BadGrammar, BadNode}
 use Rattle.rw_top.specs.Reason.{Reason, BadModel, BadPolicy, BadInputs, LongFile, IsFound}
 use Rattle.rw_top.specs.Reading.{HoldsTooLong, Reaches}
 use Rattle.rw_top.specs.Written.{WritesFront}
@@ -41,27 +37,14 @@ status_of (Block kind block place) = 9
 status_of (Inputs kind row column) = 8
 status_of (TooLong file) = 10
 
--- why a text is no ruleset. Want of memory tells nothing of it
-abbrev pub refusal_of_grammar : ParseFault → Option RulesRefusal
-refusal_of_grammar (P.BadToken line) = Some (BadToken line)
-refusal_of_grammar (P.BadDeclaration declaration line) = Some (BadDeclaration declaration line)
-refusal_of_grammar (P.TooMany declaration) = Some (TooMany declaration)
-refusal_of_grammar P.NoMemory = None
-
--- why a text is no code. Want of memory tells nothing of it
-abbrev pub refusal_of_code : CodeFault → Option CodeRefusal
-refusal_of_code (C.BadLine line) = Some (bad_line line)
-refusal_of_code C.Truncated = Some truncated
-refusal_of_code C.NoMemory = None
-
 -- the reason that a refusal tells, if it tells one
 abbrev pub reason_of : Refusal → Option Reason
 reason_of (Model fault) = option_map (λ why. BadModel why) (refusal_of fault)
-reason_of (Grammar fault) = option_map (λ why. BadPolicy (BadRules why)) (refusal_of_grammar fault)
+reason_of (Grammar fault) = option_map (λ why. BadPolicy (BadRules (BadGrammar why))) (refusal_of_grammar fault)
 reason_of (Types kind declaration node) = Some (BadPolicy (BadRules (BadNode (refusal kind declaration node))))
 reason_of (Code fault) = option_map (λ why. BadPolicy (BadBlocks (Unread why))) (refusal_of_code fault)
 reason_of (Block kind block place) = Some (BadPolicy (BadBlocks (Misfit (block_refusal kind block place))))
-reason_of (Inputs kind row column) = Some (BadInputs (Refused kind row column))
+reason_of (Inputs kind row column) = Some (BadInputs (refused_at kind row column))
 reason_of (TooLong file) = Some (LongFile file)
 reason_of why = None
 
@@ -117,7 +100,7 @@ IsModelRefusal text why =
 -- why the bytes of an inputs file give no inputs for the basin
 abbrev pub IsInputRefusal : Draft → List ℕ → Refusal → Type 0
 IsInputRefusal basin text why =
-    (why ≡ NoMemory) ⊎ ((bad : InputFault) × (reason_of why ≡ Some (BadInputs bad)) × Refuses basin text bad)
+    (why ≡ NoMemory) ⊎ ((bad : InputRefusal) × (reason_of why ≡ Some (BadInputs bad)) × Refuses basin text bad)
 
 -- why the bytes of a policy's file, which are read as code or as a ruleset, give no policy for the basin
 abbrev pub IsPolicyRefusal : Bool → Draft → List ℕ → Refusal → Type 0

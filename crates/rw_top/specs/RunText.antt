@@ -2,21 +2,44 @@
 use Rattle.std.specs.Prelude.{◌≡◌, ℕ, List}
 use Rattle.rw_model.specs.Draft.{Draft}
 use Rattle.rw_inputs.specs.Inputs.{Inputs}
+use Rattle.rw_inputs.specs.Givens.{givens}
 use Rattle.rw_run.specs.declared.run.RunEnd.{RunEnd}
 use Rattle.rw_run.specs.Log.{Log, cells_of}
-use Rattle.rw_run.specs.Next.{no_rules}
+use Rattle.rw_run.specs.Next.{Policy}
 use Rattle.rw_run.specs.Runs.{IsRun}
 use Rattle.rw_run.specs.RunOf.{end_of, last_closed}
 use Rattle.rw_report.specs.Section.{section_of, values_in}
-use Rattle.rw_inputs.specs.Givens.{givens}
+use Rattle.rpl_tree.specs.Budget.{Budget}
+use Rattle.rpl_verify.specs.Budget.{AreAccepted}
+use Rattle.rpl_policy.specs.Firings.{AreVerified}
+use Rattle.rpl_policy.specs.Policy.{policy_of_code, policy_of_rules}
+use Rattle.rw_top.specs.Policy.{Policy as Rules, Ruleset, Code, code_of}
 
 -- the section of a log, before any batch of edits
 abbrev pub text_of : Draft → Log → List ℕ
 text_of basin log = section_of basin 0 (end_of log) (last_closed log) (values_in (cells_of basin log))
 
--- the text of the run of a basin from its inputs, without rules, and how the run ends
-pub record IsRunText (basin : Draft) (inputs : Inputs) (end : RunEnd) (text : List ℕ) : Type 0 where
+-- the text of the run of a basin by a policy, from its inputs, and how the run ends
+pub record IsRunText (basin : Draft) (policy : Policy) (inputs : Inputs) (end : RunEnd) (text : List ℕ) : Type 0 where
   pub log : Log
-  pub run : IsRun basin no_rules (givens basin inputs) log
+  pub run : IsRun basin policy (givens basin inputs) log
   pub end_is : end ≡ end_of log
   pub text_is : text ≡ text_of basin log
+
+-- ---- by the policy of a file
+
+-- its policy in a run: what its rules mean, or what its code does
+abbrev pub policy_in_run : Draft → Rules → Policy
+policy_in_run basin (Ruleset rules) = policy_of_rules basin rules
+policy_in_run basin (Code blocks budgets) = policy_of_code basin blocks
+
+-- its code is accepted, and each firing in the log is the machine's on that code, never stuck and within its budget
+pub record IsVerifiedRun (basin : Draft) (policy : Rules) (log : Log) : Type 0 where
+  pub budgets : List Budget
+  pub accepted : AreAccepted basin (code_of policy) budgets
+  pub firings : AreVerified basin (code_of policy) budgets log
+
+-- the text of the run by it, in which each firing is verified
+pub record IsRulesText (basin : Draft) (policy : Rules) (inputs : Inputs) (end : RunEnd) (text : List ℕ) : Type 0 where
+  pub run_text : IsRunText basin (policy_in_run basin policy) inputs end text
+  pub verified : IsVerifiedRun basin policy run_text.log

@@ -10,6 +10,7 @@ pub(crate) enum Job {
     Simulate,
     Check,
     Compile,
+    Run,
 }
 
 impl Job {
@@ -24,6 +25,8 @@ impl Job {
             Some(Job::Check)
         } else if word == "compile" {
             Some(Job::Compile)
+        } else if word == "run" {
+            Some(Job::Run)
         } else {
             None
         }
@@ -35,6 +38,7 @@ impl Job {
     {
         match self {
             Job::Simulate | Job::Check | Job::Compile => 2,
+            Job::Run => 3,
         }
     }
 
@@ -44,8 +48,9 @@ impl Job {
     {
         match (self, file) {
             (_, File::Model) => Some(0),
-            (Job::Check | Job::Compile, File::Policy) => Some(1),
+            (Job::Check | Job::Compile | Job::Run, File::Policy) => Some(1),
             (Job::Simulate, File::Inputs) => Some(1),
+            (Job::Run, File::Inputs) => Some(2),
             _ => None,
         }
     }
@@ -55,7 +60,7 @@ impl Job {
         ensures { result ≡ takes_code self }
     {
         match self {
-            Job::Simulate | Job::Check => true,
+            Job::Simulate | Job::Check | Job::Run => true,
             Job::Compile => false,
         }
     }

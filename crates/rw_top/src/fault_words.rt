@@ -59,6 +59,8 @@ pub(crate) fn input_words(kind: InputKind) -> &'static str
         InputKind::StepOutside => "step outside",
         InputKind::Twice => "twice",
         InputKind::Ragged => "ragged",
+        InputKind::BatchOrder => "batch order",
+        InputKind::TooMany => "too many",
     }
 }
 

@@ -1,12 +1,12 @@
 // The files of a command, read and judged, each before the next.
-ghost use Rattle.std.specs.Prelude.{◌≡◌, ℕ, ◌≤◌, List, MatchResult, IfOk, Some, length};
+ghost use Rattle.std.specs.Prelude.{◌≡◌, ℕ, ◌≤◌, List, MatchResult, IfOk, IfSome, Some, length};
 ghost use Rattle.rw_io.specs.Causes.{NoneFell};
 ghost use Rattle.rw_io.specs.Outside.{change};
 ghost use Rattle.rw_top.specs.Command.{command_of, path_of};
-ghost use Rattle.rw_top.specs.Policy.{IsPolicyOf};
-ghost use Rattle.rw_top.specs.Reading.{AreRead, Reaches, ReadsInputs, ReadsModel, ReadsPolicy, SaysAt, WasRead, reads_code};
+ghost use Rattle.rw_top.specs.Reading.{AreRead, Reaches, ReadsInputs, ReadsModel, SaysAt, WasRead, reads_code};
 ghost use Rattle.rw_top.specs.Refusal.{FileCause, IsPolicyRefusal};
-ghost use Rattle.rw_top.specs.Seen.{files_seen, policy_of};
+ghost use Rattle.rw_top.specs.Ready.{IsFit, IsMadeOf, IsReadAs};
+ghost use Rattle.rw_top.specs.Seen.{files_seen};
 ghost use Rattle.rw_top.specs.declared.refusal.File.TheVariants as F;
 
 use crate::command::Command;
@@ -76,8 +76,7 @@ fn judge_for(
 ) -> Result<Policy, Refusal>
     requires { length text.now ≤ 16_777_216 }
     ensures { MatchResult result
-        (λ policy. IsPolicyOf (reads_code (command_of command.now) text.now)
-        basin.now text.now (policy_of policy))
+        (IsMadeOf (reads_code (command_of command.now) text.now) basin.now text.now)
         (IsPolicyRefusal (reads_code (command_of command.now) text.now) basin.now text.now) }
 {
     judge_policy(
@@ -97,8 +96,7 @@ fn read_policy<S: Shelf>(
 ) -> Result<Option<Policy>, Refusal>
     requires model { ReadsModel (command_of command.now) (S.seen shelf.old).holds basin.now }
     ensures read { MatchResult result (λ found. SaysAt (command_of command.now) F.Policy found
-        (λ policy. ReadsPolicy (command_of command.now) (S.seen shelf.old).holds
-        basin.now (policy_of policy)))
+        (IsReadAs (command_of command.now) (S.seen shelf.old).holds basin.now))
         (FileCause (command_of command.now) (change (S.seen shelf.old) (S.seen shelf.new))) }
     ensures held { (p : List ℕ) → (S.seen shelf.new).holds p ≡ (S.seen shelf.old).holds p }
     ensures later { NoneFell (S.seen shelf.old).faults (S.seen shelf.new).faults }
@@ -150,8 +148,7 @@ fn read_behind<S: Shelf>(
 ) -> Result<(Option<Policy>, Option<Inputs>), Refusal>
     requires model { ReadsModel (command_of command.now) (S.seen shelf.old).holds basin.now }
     ensures read { MatchResult result (λ found. SaysAt (command_of command.now) F.Policy found.0
-        (λ policy. ReadsPolicy (command_of command.now) (S.seen shelf.old).holds
-        basin.now (policy_of policy))
+        (IsReadAs (command_of command.now) (S.seen shelf.old).holds basin.now)
         × SaysAt (command_of command.now) F.Inputs found.1
         (ReadsInputs (command_of command.now) (S.seen shelf.old).holds basin.now))
         (FileCause (command_of command.now) (change (S.seen shelf.old) (S.seen shelf.new))) }
@@ -167,8 +164,7 @@ fn read_behind<S: Shelf>(
     }
 }
 
-/// Reads and judges the files of the command, each before the next: its model, its policy and its inputs, where it names
-/// them.
+/// Reads and judges the files of the command: its model, its policy and its inputs, in this order, where it names them.
 pub(crate) fn read_files<S: Shelf>(
     alloc: Global,
     command: &Command<'_>,
@@ -177,6 +173,7 @@ pub(crate) fn read_files<S: Shelf>(
     ensures read { MatchResult result
         (λ files. AreRead (command_of command.now) (S.seen shelf.old).holds (files_seen files))
         (FileCause (command_of command.now) (change (S.seen shelf.old) (S.seen shelf.new))) }
+    ensures fits { IfOk result (λ files. IfSome files.policy (IsFit files.basin)) }
     ensures held { (p : List ℕ) → (S.seen shelf.new).holds p ≡ (S.seen shelf.old).holds p }
 {
     let basin = match read_basin(alloc, command, shelf) {

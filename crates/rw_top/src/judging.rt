@@ -1,10 +1,12 @@
 // What the texts of files are.
 ghost use Rattle.std.specs.Prelude.{◌≡◌, ◌≤◌, Ok, Err, MatchResult, IfOk, length, false, true};
 ghost use Rattle.std.specs.Option.{ForSome};
-ghost use Rattle.rpl_code.specs.Answers.{Answers as AnswersCode};
+ghost use Rattle.rw_base.specs.Answers.{IsWhy as IsWhyOf};
+ghost use Rattle.rpl_code.specs.declared.fault.CodeFault.TheVariants as CodeFault;
+ghost use Rattle.rpl_code.specs.Answers.{refusal_of as refusal_of_code};
 ghost use Rattle.rpl_code.specs.Reading.{read};
-ghost use Rattle.rpl_parse.specs.Declarations.{IsReading, IsRuleset, spelt};
-ghost use Rattle.rpl_parse.specs.Parsing.{Answers as Parses};
+ghost use Rattle.rpl_parse.specs.Declarations.{IsReading, IsRuleset};
+ghost use Rattle.rpl_parse.specs.Parsing.{AnswersReading};
 ghost use Rattle.rpl_tree.specs.Seen.{rules_of};
 ghost use Rattle.rpl_types.specs.Refused.{refusal_of};
 ghost use Rattle.rpl_verify.specs.Verified.{refusal_of as refusal_of_verify};
@@ -12,9 +14,10 @@ ghost use Rattle.rw_inputs.specs.Reading.{Reads};
 ghost use Rattle.rw_model.specs.Draft.{Draft};
 ghost use Rattle.rw_model_toml.specs.Fault.{IsWhy};
 ghost use Rattle.rw_model_toml.specs.Model.{model_of};
-ghost use Rattle.rw_top.specs.Policy.{IsCodeOf, IsPolicyOf, IsRulesetOf, RefusesBlock, RefusesNode, is_code};
+ghost use Rattle.rw_top.specs.Policy.{RefusesBlock, RefusesNode, is_code};
+ghost use Rattle.rw_top.specs.Ready.{IsMadeOf};
+ghost use Rattle.rw_top.specs.declared.policy.Policy.TheVariants as Held;
 ghost use Rattle.rw_top.specs.Refusal.{IsInputRefusal, IsModelRefusal, IsPolicyRefusal};
-ghost use Rattle.rw_top.specs.Seen.{policy_of};
 
 use crate::Refusal;
 use crate::policy::Policy;
@@ -67,7 +70,7 @@ pub(crate) fn is_code(text: &[u8]) -> bool
 }
 
 fn refusal_of_grammar(_text: &[u8], fault: ParseFault) -> Refusal
-    requires { Parses (Err fault) _text.now }
+    requires { AnswersReading _text.now (Err fault) }
     ensures { (basin : Draft) → IsPolicyRefusal false basin _text.now result }
 {
     match fault {
@@ -78,7 +81,7 @@ fn refusal_of_grammar(_text: &[u8], fault: ParseFault) -> Refusal
 
 fn parse_rules(alloc: Global, text: &[u8]) -> Result<ParsedRules, Refusal>
     requires { length text.now ≤ 16_777_216 }
-    ensures read { MatchResult result (λ rules. IsReading text.now (spelt (rules_of rules)))
+    ensures read { MatchResult result (λ rules. IsReading text.now (Ok (rules_of rules)))
         (λ why. (basin : Draft) → IsPolicyRefusal false basin text.now why) }
     ensures ruleset { IfOk result (λ rules. IsRuleset rules) }
 {
@@ -105,7 +108,7 @@ fn refusal_of_types(_basin: &Basin, _text: &[u8], fault: TypeFault) -> Refusal
 // The ruleset of a text, for the basin.
 fn judge_rules(alloc: Global, basin: &Basin, text: &[u8]) -> Result<Typed, Refusal>
     requires { length text.now ≤ 16_777_216 }
-    ensures { MatchResult result (λ typed. IsRulesetOf basin.now text.now (rules_of typed.rules))
+    ensures { MatchResult result (λ typed. IsMadeOf false basin.now text.now (Held.Ruleset typed))
         (IsPolicyRefusal false basin.now text.now) }
 {
     let rules = match parse_rules(alloc, text) {
@@ -119,7 +122,7 @@ fn judge_rules(alloc: Global, basin: &Basin, text: &[u8]) -> Result<Typed, Refus
 }
 
 fn refusal_of_code(_text: &[u8], fault: CodeFault) -> Refusal
-    requires { AnswersCode (read _text.now) (Err fault) }
+    requires { IsWhyOf CodeFault.NoMemory refusal_of_code (read _text.now) fault }
     ensures { (basin : Draft) → IsPolicyRefusal true basin _text.now result }
 {
     match fault {
@@ -151,7 +154,7 @@ fn refusal_of_block(_basin: &Basin, _text: &[u8], fault: VerifyFault) -> Refusal
 
 fn judge_code(alloc: Global, basin: &Basin, text: &[u8]) -> Result<Verified, Refusal>
     requires { length text.now ≤ 16_777_216 }
-    ensures { MatchResult result (λ code. IsCodeOf basin.now text.now code.blocks code.budgets)
+    ensures { MatchResult result (λ code. IsMadeOf true basin.now text.now (Held.Code code))
         (IsPolicyRefusal true basin.now text.now) }
 {
     let code = match read_blocks(alloc, text) {
@@ -172,8 +175,7 @@ pub(crate) fn judge_policy(
     as_code: bool,
 ) -> Result<Policy, Refusal>
     requires { length text.now ≤ 16_777_216 }
-    ensures { MatchResult result
-        (λ policy. IsPolicyOf as_code basin.now text.now (policy_of policy))
+    ensures { MatchResult result (IsMadeOf as_code basin.now text.now)
         (IsPolicyRefusal as_code basin.now text.now) }
 {
     if as_code {

@@ -1,14 +1,15 @@
 //! What the definitions of this crate speak of is one thing. Each law is the `ensures` of a function that does nothing.
-ghost use Rattle.std.specs.Prelude.{◌≡◌, ◌≢◌, ◌≤◌, ◌↔◌, ◌⊎◌, ℕ, ℤ, Bool, List, Option, None, IfSome, IsSome};
+ghost use Rattle.std.specs.Prelude.{◌≡◌, ◌≢◌, ◌≤◌, ◌↔◌, ◌⊎◌, ℕ, ℤ, Bool, List, Option, None, IsSome};
 ghost use Rattle.rw_plain_reservoir.specs.FirstForm.{FirstModel, IsFirstForm, IsFirstFlows};
 ghost use Rattle.rw_plain_reservoir.specs.Table.{IsFirstText};
 ghost use Rattle.rw_io.specs.Causes.{Rose};
 ghost use Rattle.rw_io.specs.Known.{GrowsBy};
+ghost use Rattle.rw_run.specs.Next.{Policy as RunPolicy, no_rules};
 ghost use Rattle.rw_run.specs.declared.fault.RunFault.{RunFault};
 ghost use Rattle.rw_run.specs.declared.run.RunEnd.TheVariants.{Settled, Fault};
 ghost use Rattle.rw_model.specs.Basin.{IsBasin};
 ghost use Rattle.rw_model.specs.Draft.{Draft};
-ghost use Rattle.rw_inputs.specs.declared.fault.InputFault.{InputFault};
+ghost use Rattle.rw_inputs.specs.Refusal.{InputRefusal};
 ghost use Rattle.rw_inputs.specs.Inputs.{Inputs, value_at};
 ghost use Rattle.rw_inputs.specs.Reading.{Reads, Refuses};
 ghost use Rattle.rw_run.specs.declared.run.RunEnd.{RunEnd};
@@ -21,12 +22,13 @@ ghost use Rattle.rpl_compile.specs.Budgets.{budgets_of};
 ghost use Rattle.rpl_compile.specs.Translate.{translate};
 ghost use Rattle.rw_top.specs.Budgets.{budget_in, check_text, rules_in};
 ghost use Rattle.rw_top.specs.Call.{Call};
-ghost use Rattle.rw_top.specs.Command.{AskFor, AskNothing, Asks, Command, order, path_of, simulates};
+ghost use Rattle.rw_top.specs.Command.{AskFor, AskNothing, Asks, Command, order, simulates};
 ghost use Rattle.rw_top.specs.FirstCall.{IsFirstCall};
 ghost use Rattle.rw_top.specs.Policy.{BadCode, RulesRefusal, BadRules, BadBlocks, Policy, Ruleset, Code, IsPolicyOf};
-ghost use Rattle.rw_top.specs.Promise.{Promise, WroteCheck, WroteCode, WroteRun};
+ghost use Rattle.rw_top.specs.Promise.{Promise, WroteCheck, WroteCode, WroteRules, WroteRun};
 ghost use Rattle.rw_top.specs.Reading.{AcceptsAll, HoldsTooLong, ReadsInputs, RefusesInputs, RefusesModel, RefusesPolicy};
 ghost use Rattle.rw_top.specs.Refusal.{FailsToRead, FindsTooLong};
+ghost use Rattle.rw_top.specs.Told.{AreTold};
 ghost use Rattle.rw_top.specs.Written.{WritesFront};
 ghost use Rattle.rw_top.specs.RunText.{IsRunText};
 ghost use Rattle.rw_top.specs.declared.refusal.File.{File};
@@ -41,15 +43,16 @@ pub fn one_inputs()
     ensures values { (basin : Draft) (text : List ℕ) (inputs others : Inputs)
         → Reads basin text inputs → Reads basin text others
         → (slot step : ℕ) → value_at inputs slot step ≡ value_at others slot step }
-    ensures either { (basin : Draft) (text : List ℕ) (inputs : Inputs) (fault : InputFault)
-        → Reads basin text inputs → ¬ Refuses basin text fault }
+    ensures either { (basin : Draft) (text : List ℕ) (inputs : Inputs) (why : InputRefusal)
+        → Reads basin text inputs → ¬ Refuses basin text why }
 {}
 
-/// A basin and its inputs have one run, which has one end and one text, and all that counts of inputs are their values.
+/// A basin, a policy and inputs have one run, which has one end and one text, and all that counts of inputs are their values.
 pub fn one_text()
-    ensures { (basin : Draft) (inputs others : Inputs) (end other : RunEnd) (text more : List ℕ)
+    ensures { (basin : Draft) (policy : RunPolicy) (inputs others : Inputs)
+        (end other : RunEnd) (text more : List ℕ)
         → ((slot step : ℕ) → value_at inputs slot step ≡ value_at others slot step)
-        → IsRunText basin inputs end text → IsRunText basin others other more
+        → IsRunText basin policy inputs end text → IsRunText basin policy others other more
         → (end ≡ other) × (text ≡ more) }
 {
     one_run();
@@ -61,7 +64,7 @@ pub fn first_form()
     ensures { (basin : Draft) (model : FirstModel) (inputs : Inputs) (inflows outflows : List ℤ)
         → IsBasin basin → IsFirstForm basin model
         → IsFirstFlows inputs model.run.count inflows outflows
-        → (end : RunEnd) (text : List ℕ) → IsRunText basin inputs end text
+        → (end : RunEnd) (text : List ℕ) → IsRunText basin no_rules inputs end text
         → (fault : Option ℤ) × IsFirstText model inflows outflows fault text
         × ((fault ≡ None) ↔ (end ≡ Settled)) }
 {
@@ -91,9 +94,9 @@ pub fn first_call()
 /// What each status says of a call that keeps its promise. 5 says nothing: want of memory may always come.
 pub fn statuses()
     ensures settled { (call : Call) → Promise call 0
-        → WroteRun call Settled ⊎ WroteCheck call ⊎ WroteCode call }
+        → WroteRun call Settled ⊎ WroteRules call Settled ⊎ WroteCheck call ⊎ WroteCode call }
     ensures faulted { (call : Call) → Promise call 1
-        → (why : RunFault) × WroteRun call (Fault why) }
+        → (why : RunFault) × (WroteRun call (Fault why) ⊎ WroteRules call (Fault why)) }
     ensures words { (call : Call) → Promise call 2 → AskNothing call.words }
     ensures read_fault { (call : Call) → Promise call 3
         → AskFor call.words (λ command. (file : File) × FailsToRead command call.shelf file) }
@@ -109,59 +112,46 @@ pub fn statuses()
     ensures code { (call : Call) → Promise call 9 → AskFor call.words (λ command. (why : BadCode)
         × RefusesPolicy command call.shelf.before.holds (BadBlocks why)) }
     ensures inputs { (call : Call) → Promise call 8 → AskFor call.words
-        (λ command. (fault : InputFault) × RefusesInputs command call.shelf.before.holds fault) }
+        (λ command. (why : InputRefusal) × RefusesInputs command call.shelf.before.holds why) }
     ensures too_long { (call : Call) → Promise call 10
         → AskFor call.words (λ command. (file : File) × FindsTooLong command call.shelf file) }
     ensures untouched { (call : Call) (status : ℕ) → Promise call status → 2 ≤ status → status ≢ 4
         → call.out.after.contents ≡ call.out.before.contents }
 {}
 
-/// What has to be refused of a command is, with its status, unless memory was wanting: where the shelf tells the files up
-/// to the one that is refused, and had no fault of them. Where each file is accepted, and the output had no fault either,
-/// only memory can be wanting.
+/// What has to be refused of a command is, with its status, unless memory was wanting: where the shelf tells the files up to the one
+/// that is refused, and had no fault of them. Where each file is accepted, and the output had no fault either, only memory can be
+/// wanting.
 pub fn dues()
     ensures model { (call : Call) (status : ℕ) (command : Command) (why : ModelRefusal)
         → Promise call status → Asks call.words command
         → RefusesModel command call.shelf.before.holds why
-        → ((file : File) → order file ≤ 0 → IfSome (path_of command file) (λ path.
-        IsSome (call.shelf.before.holds path)
-        × ¬ Rose (call.shelf.before.faults path) (call.shelf.after.faults path)))
+        → AreTold command call.shelf 0
         → (status ≡ 6) ⊎ (status ≡ 5) }
     ensures rules { (call : Call) (status : ℕ) (command : Command) (why : RulesRefusal)
         → Promise call status → Asks call.words command
         → RefusesPolicy command call.shelf.before.holds (BadRules why)
-        → ((file : File) → order file ≤ 1 → IfSome (path_of command file) (λ path.
-        IsSome (call.shelf.before.holds path)
-        × ¬ Rose (call.shelf.before.faults path) (call.shelf.after.faults path)))
+        → AreTold command call.shelf 1
         → (status ≡ 7) ⊎ (status ≡ 5) }
     ensures code { (call : Call) (status : ℕ) (command : Command) (why : BadCode)
         → Promise call status → Asks call.words command
         → RefusesPolicy command call.shelf.before.holds (BadBlocks why)
-        → ((file : File) → order file ≤ 1 → IfSome (path_of command file) (λ path.
-        IsSome (call.shelf.before.holds path)
-        × ¬ Rose (call.shelf.before.faults path) (call.shelf.after.faults path)))
+        → AreTold command call.shelf 1
         → (status ≡ 9) ⊎ (status ≡ 5) }
-    ensures inputs { (call : Call) (status : ℕ) (command : Command) (fault : InputFault)
+    ensures inputs { (call : Call) (status : ℕ) (command : Command) (why : InputRefusal)
         → Promise call status → Asks call.words command
-        → RefusesInputs command call.shelf.before.holds fault
-        → ((file : File) → order file ≤ 2 → IfSome (path_of command file) (λ path.
-        IsSome (call.shelf.before.holds path)
-        × ¬ Rose (call.shelf.before.faults path) (call.shelf.after.faults path)))
+        → RefusesInputs command call.shelf.before.holds why
+        → AreTold command call.shelf 2
         → (status ≡ 8) ⊎ (status ≡ 5) }
     ensures long { (call : Call) (status : ℕ) (command : Command) (file : File)
         → Promise call status → Asks call.words command
         → HoldsTooLong command call.shelf.before.holds file
-        → ((it : File) → order it ≤ order file → IfSome (path_of command it) (λ path.
-        IsSome (call.shelf.before.holds path)
-        × ¬ Rose (call.shelf.before.faults path) (call.shelf.after.faults path)))
+        → AreTold command call.shelf (order file)
         → (status ≡ 10) ⊎ (status ≡ 5) }
     ensures none { (call : Call) (status : ℕ) (command : Command)
         → Promise call status → Asks call.words command
         → AcceptsAll command call.shelf.before.holds
-        → ((file : File) → IfSome (path_of command file) (λ path.
-        IsSome (call.shelf.before.holds path)
-        × ¬ Rose (call.shelf.before.faults path) (call.shelf.after.faults path)))
-        → ¬ Rose call.out.before.faults call.out.after.faults
+        → AreTold command call.shelf 2 → ¬ Rose call.out.before.faults call.out.after.faults
         → (status ≤ 1) ⊎ (status ≡ 5) }
 {}
 

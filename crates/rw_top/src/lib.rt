@@ -1,5 +1,6 @@
-//! The top call: the words, the files that they name, and the text of the command: the table of a run, the budgets of a
-//! policy, or the code of a ruleset. With status 0 or 1 it has written exactly the text that the definitions give for these files; every other
+//! The top call: the words, the files that they name, and the text of the command: the table of a run, without rules or by those
+//! of a policy, the budgets of a policy, or the code of a ruleset. With status 0 or 1 it has written exactly the text that the
+//! definitions give for these files, and of a run by a policy each firing is one of verified code, within its budget. Every other
 //! status has its cause, and one line that says so.
 #![tactic(auto)]
 
@@ -13,6 +14,7 @@ pub mod law;
 mod perform;
 mod policy;
 mod refusal;
+mod run;
 mod simulate;
 mod tell;
 mod top;

@@ -13,8 +13,10 @@ use crate::check::budgets;
 use crate::command::{Command, Job};
 use crate::compile::code_text;
 use crate::files::{Files, read_files};
-use crate::simulate::run_text;
-use rw_base::NoMemory;
+use crate::run::text_by_policy;
+use crate::simulate::text_without_rules;
+use rpl_predef::Predefs;
+use rw_base::{Ledger, NoMemory, Steps};
 use rw_engine::RunEnd;
 use rw_io::{Shelf, Sink, WriteFault, write_all};
 use rw_method::Catalogue;
@@ -30,22 +32,28 @@ fn status_of_run(end: &RunEnd) -> u8
     }
 }
 
-// The table of the run of the files, and the status with which it is written.
-fn simulate(alloc: Global, files: &Files, methods: &Catalogue) -> Result<(Vec<u8>, u8), NoMemory>
+// The table of the run of the files without rules, and the status with which it is written.
+fn simulate<L: Ledger>(
+    alloc: Global,
+    files: &Files,
+    methods: &Catalogue,
+    predefs: &Predefs,
+    steps: &mut Steps<L>,
+) -> Result<(Vec<u8>, u8), NoMemory>
     requires order { AreInOrder (map (λ b. code (b.vtable, b.value)) methods.now.methods.items) }
-    requires ready { AreReady J.Simulate (files_seen files.now) }
+    requires ready { AreReady J.Simulate files.now }
     ensures { IfOk result (λ pair. IsTextOf J.Simulate (files_seen files.now) pair.1 pair.0.items) }
 {
     let Some(inputs) = &files.inputs else {
         unreachable!();
     };
-    let (text, end) = run_text(alloc, &files.basin, inputs, methods)?;
+    let (text, end) = text_without_rules(alloc, &files.basin, methods, predefs, inputs, steps)?;
     Ok((text, status_of_run(&end)))
 }
 
 // The budgets of the policy of the files, and the status with which they are written.
 fn check(alloc: Global, files: &Files) -> Result<(Vec<u8>, u8), NoMemory>
-    requires ready { AreReady J.Check (files_seen files.now) }
+    requires ready { AreReady J.Check files.now }
     ensures { IfOk result (λ pair. IsTextOf J.Check (files_seen files.now) pair.1 pair.0.items) }
 {
     let Some(policy) = &files.policy else {
@@ -56,7 +64,7 @@ fn check(alloc: Global, files: &Files) -> Result<(Vec<u8>, u8), NoMemory>
 
 // The code of the policy of the files, and the status with which it is written.
 fn compile(alloc: Global, files: &Files) -> Result<(Vec<u8>, u8), NoMemory>
-    requires ready { AreReady J.Compile (files_seen files.now) }
+    requires ready { AreReady J.Compile files.now }
     ensures { IfOk result (λ pair. IsTextOf J.Compile (files_seen files.now) pair.1 pair.0.items) }
 {
     let Some(policy) = &files.policy else {
@@ -65,30 +73,57 @@ fn compile(alloc: Global, files: &Files) -> Result<(Vec<u8>, u8), NoMemory>
     Ok((code_text(alloc, policy, &files.basin)?, 0))
 }
 
+// The table of the run of the files by their policy, and the status with which it is written.
+fn run<L: Ledger>(
+    alloc: Global,
+    files: &Files,
+    methods: &Catalogue,
+    predefs: &Predefs,
+    steps: &mut Steps<L>,
+) -> Result<(Vec<u8>, u8), NoMemory>
+    requires order { AreInOrder (map (λ b. code (b.vtable, b.value)) methods.now.methods.items) }
+    requires ready { AreReady J.Run files.now }
+    ensures { IfOk result (λ pair. IsTextOf J.Run (files_seen files.now) pair.1 pair.0.items) }
+{
+    let Some(policy) = &files.policy else {
+        unreachable!();
+    };
+    let Some(inputs) = &files.inputs else {
+        unreachable!();
+    };
+    let (text, end) = text_by_policy(alloc, &files.basin, methods, policy, predefs, inputs, steps)?;
+    Ok((text, status_of_run(&end)))
+}
+
 // The text of a job by what its files say, and the status with which it is written.
-fn text_by(
+fn text_by<L: Ledger>(
     alloc: Global,
     job: Job,
     files: &Files,
     methods: &Catalogue,
+    predefs: &Predefs,
+    steps: &mut Steps<L>,
 ) -> Result<(Vec<u8>, u8), NoMemory>
     requires order { AreInOrder (map (λ b. code (b.vtable, b.value)) methods.now.methods.items) }
-    requires ready { AreReady job (files_seen files.now) }
+    requires ready { AreReady job files.now }
     ensures { IfOk result (λ pair. IsTextOf job (files_seen files.now) pair.1 pair.0.items) }
 {
     match job {
-        Job::Simulate => simulate(alloc, files, methods),
+        Job::Simulate => simulate(alloc, files, methods, predefs, steps),
         Job::Check => check(alloc, files),
         Job::Compile => compile(alloc, files),
+        Job::Run => run(alloc, files, methods, predefs, steps),
     }
 }
 
 // The text of the command, and the status with which it is written.
-fn text_of<S: Shelf>(
+fn text_of<S: Shelf, L: Ledger>(
     alloc: Global,
     command: &Command<'_>,
     shelf: &mut S,
     methods: &Catalogue,
+    predefs: &Predefs,
+    steps: &mut Steps<L>,
 ) -> Result<(Vec<u8>, u8), Refusal>
     requires order { AreInOrder (map (λ b. code (b.vtable, b.value)) methods.now.methods.items) }
     ensures text { MatchResult result (λ pair. HasText (command_of command.now)
@@ -100,19 +135,21 @@ fn text_of<S: Shelf>(
         Ok(files) => files,
         Err(refusal) => return Err(refusal),
     };
-    match text_by(alloc, command.job, &files, methods) {
+    match text_by(alloc, command.job, &files, methods, predefs, steps) {
         Ok(pair) => Ok(pair),
         Err(NoMemory) => Err(Refusal::NoMemory),
     }
 }
 
 /// Writes the text that the command asks for, and answers the status of that.
-pub(crate) fn perform<S: Shelf, K: Sink>(
+pub(crate) fn perform<S: Shelf, K: Sink, L: Ledger>(
     alloc: Global,
     command: &Command<'_>,
     shelf: &mut S,
     out: &mut K,
     methods: &Catalogue,
+    predefs: &Predefs,
+    steps: &mut Steps<L>,
 ) -> Result<u8, Refusal>
     requires order { AreInOrder (map (λ b. code (b.vtable, b.value)) methods.now.methods.items) }
     ensures wrote { IfOk result (WritesAll (command_of command.now) (S.seen shelf.old).holds
@@ -121,7 +158,7 @@ pub(crate) fn perform<S: Shelf, K: Sink>(
         (change (S.seen shelf.old) (S.seen shelf.new)) (change (K.seen out.old) (K.seen out.new))) }
     ensures held { (p : List ℕ) → (S.seen shelf.new).holds p ≡ (S.seen shelf.old).holds p }
 {
-    let (text, status) = match text_of(alloc, command, shelf, methods) {
+    let (text, status) = match text_of(alloc, command, shelf, methods, predefs, steps) {
         Ok(pair) => pair,
         Err(refusal) => return Err(refusal),
     };

@@ -10,6 +10,7 @@ use crate::Refusal;
 use crate::command::read_words;
 use crate::perform::perform;
 use crate::tell::{tell, tell_memory, tell_words};
+use rpl_predef::Predefs;
 use rw_base::{Ledger, Steps};
 use rw_io::{Shelf, Sink};
 use rw_method::Catalogue;
@@ -23,7 +24,8 @@ use std::alloc::Global;
 /// status is 0 where the run settled and 1 where it ended in a fault. `check MODEL POLICY` reads both files, judges the
 /// ruleset, or the code where the policy's first line is `CODE 1`, with the basin, and writes what a firing of each rule
 /// comes to at most. The status is 0. `compile MODEL RULES` reads both files, judges the ruleset with the basin, and writes
-/// the text of its code. The status is 0.
+/// the text of its code. The status is 0. `run MODEL POLICY INPUTS` reads the three files, runs the basin as `simulate` does,
+/// and lets the rules of the policy fire, by the functions that they call. Its statuses 0 and 1 are those of `simulate`.
 ///
 /// With each other status one line on `err` says why: 2 the words, 3 a file that can't be read, 4 an output that can't be
 /// written, 5 want of memory, 6 the model, 7 the ruleset, 8 the inputs, 9 the code, 10 a file of more than 16,777,216
@@ -35,7 +37,8 @@ pub fn basin_main<S: Shelf, K: Sink, E: Sink, L: Ledger>(
     out: &mut K,
     err: &mut E,
     methods: &Catalogue,
-    _steps: &mut Steps<L>,
+    predefs: &Predefs,
+    steps: &mut Steps<L>,
 ) -> u8
     requires order { AreInOrder (map (λ b. code (b.vtable, b.value)) methods.now.methods.items) }
     ensures { Promise (record {
@@ -49,7 +52,7 @@ pub fn basin_main<S: Shelf, K: Sink, E: Sink, L: Ledger>(
         tell_words(err);
         return Refusal::Words.status();
     };
-    match perform(alloc, &command, shelf, out, methods) {
+    match perform(alloc, &command, shelf, out, methods, predefs, steps) {
         Ok(status) => status,
         Err(refusal) => {
             tell(err, &command, &refusal);

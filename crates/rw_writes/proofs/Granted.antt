@@ -18,11 +18,15 @@ one_asked basin rule step put rest true first can passes writes =
     (record { cell = record { slot = can.slot; first = omega (arith, first); last = grind (arith, nat_tests, passes) }; within = can.within }) writes
 one_asked basin rule step put rest false first can passes writes = writes
 
-pub asks_write : (basin : Draft) (rule step : ℕ) (puts : List RulePut) → 1 ≤ step → All (CanAsk basin) puts → AreWrites basin (asked_of_rule basin rule step puts)
-asks_write basin rule step [] first can = All-nil (CanWrite basin)
-asks_write basin rule step (put ∷ puts) first can =
+all_asked : (basin : Draft) (rule step : ℕ) (puts : List RulePut) → 1 ≤ step → All (CanAsk basin) puts → AreWrites basin (asked_of_rule basin rule step puts)
+all_asked basin rule step [] first can = All-nil (CanWrite basin)
+all_asked basin rule step (put ∷ puts) first can =
     one_asked basin rule step put (asked_of_rule basin rule step puts) (nat_le (step + put.ahead) basin.control.stamps.count) first
-    (All-head (CanAsk basin) put puts can) refl (asks_write basin rule step puts first (All-tail (CanAsk basin) put puts can))
+    (All-head (CanAsk basin) put puts can) refl (all_asked basin rule step puts first (All-tail (CanAsk basin) put puts can))
+
+pub asks_write : (basin : Draft) (rule step : ℕ) (puts : List RulePut) (writes : List Asked) → writes ≡ asked_of_rule basin rule step puts → 1 ≤ step
+    → All (CanAsk basin) puts → AreWrites basin writes
+asks_write basin rule step puts writes are first can = rw are (all_asked basin rule step puts first can)
 
 -- ---- what of that is written
 

@@ -1,3 +1,2 @@
-mod Lists
 mod Granted
 mod Marking

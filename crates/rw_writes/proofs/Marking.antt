@@ -1,5 +1,6 @@
 -- Rules are marked put by put.
-use Rattle.rw_base.proofs.Common.{◌≡◌, ◌∙◌, ℕ, ◌+◌, ◌<◌, ◌||◌, Bool, true, false, List, [], ◌∷◌, ◌++◌, Some, ap, get_or, length, list_any, list_any-append, refl, sym, take}
+use Rattle.rw_base.proofs.Common.{◌≡◌, ◌∙◌, ℕ, ◌+◌, ◌<◌, ◌||◌, Bool, false, List, [], ◌∷◌, ◌++◌, Some, ap, ap₂, get_or, length, list_any, list_any-append, refl, sym, take}
+use Rattle.std.proofs.lemmas.Bool.{or_parts}
 use Rattle.std.proofs.lemmas.List.{take_more}
 use Rattle.rw_model.proofs.Common.{Draft}
 use Rattle.rw_series.specs.Series.{is_shared}
@@ -9,24 +10,15 @@ use Rattle.rw_run.specs.Log.{Asked}
 use Rattle.rw_agenda.specs.Agenda.{Agenda, Entry, MarksThose, looked_by}
 use Rattle.rw_writes.specs.Writes.{MarksAll}
 
-neither : (a b : Bool) → (a || b) ≡ false → (a ≡ false) × (b ≡ false)
-neither true b is = absurd (cc is)
-neither false b is = (refl, is)
-
-none_of_both : (a b : Bool) → a ≡ false → b ≡ false → (a || b) ≡ false
-none_of_both a b h g = ap (λ x. x || b) h ∙ g
-
 -- what the first puts don't touch, and the next one doesn't, none of them touches
 untouched : (basin : Draft) (puts : List Asked) (put : Asked) (looks : List Look) → is_touched basin puts looks ≡ false → is_touched basin (put ∷ []) looks ≡ false
     → is_touched basin (puts ++ put ∷ []) looks ≡ false
 untouched basin puts put [] h g = refl
 untouched basin puts put (look ∷ looks) h g =
     let test : Asked → Bool = λ other. is_shared basin other.cell look.cell in
-    let first = neither (list_any test puts) (is_touched basin puts looks) h in
-    let next = neither (list_any test (put ∷ [])) (is_touched basin (put ∷ []) looks) g in
-    none_of_both (list_any test (puts ++ put ∷ [])) (is_touched basin (puts ++ put ∷ []) looks)
-    (list_any-append test puts (put ∷ []) ∙ none_of_both (list_any test puts) (list_any test (put ∷ [])) first.0 next.0)
-    (untouched basin puts put looks first.1 next.1)
+    let first = or_parts (list_any test puts) (is_touched basin puts looks) h in
+    let next = or_parts (list_any test (put ∷ [])) (is_touched basin (put ∷ []) looks) g in
+    ap₂ (λ x y. x || y) (list_any-append test puts (put ∷ []) ∙ ap₂ (λ x y. x || y) first.0 next.0) (untouched basin puts put looks first.1 next.1)
 
 still : (old new : Agenda) (rule : ℕ) (looks : List Look) → new.rules ≡ old.rules → looked_by new rule ≡ Some looks → looked_by old rule ≡ Some looks
 still old new rule looks same is = sym (ap (λ (entries : List Entry). looked_by (record { order = old.order; rules = entries; marks = old.marks }) rule) same) ∙ is

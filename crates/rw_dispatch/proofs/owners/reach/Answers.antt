@@ -1,4 +1,4 @@
-use Rattle.rw_base.proofs.Common.{arith, rules, ap, ◌∙◌, ◌-◌}
+use Rattle.rw_base.proofs.Common.{rules}
 use Rattle.rw_dispatch.proofs.Owning.{reached-more}
 use Rattle.rw_dispatch.proofs.owners.reach.Goals as goal
 

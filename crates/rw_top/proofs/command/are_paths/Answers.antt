@@ -1,4 +1,4 @@
-use Rattle.rw_top.proofs.Common.{All, IsPath, arith, subst, sym, take_all, texts_of}
+use Rattle.rw_top.proofs.Common.{All, IsPath, arith, string_bytes, subst, sym, take_all, texts_of}
 use Rattle.rw_top.proofs.WordsLemmas.{no_path, paths_more}
 use Rattle.rw_top.proofs.command.are_paths.Goals as goal
 

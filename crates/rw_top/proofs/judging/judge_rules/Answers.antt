@@ -1,3 +1,5 @@
+use Rattle.rw_top.proofs.Common.{refl, subst, sym}
+use Rattle.rw_base.proofs.Common.{IsOk}
 use Rattle.rw_top.proofs.CauseLemmas.{accepted_rules, refused_rules}
 use Rattle.rw_top.proofs.judging.judge_rules.Goals as goal
 
@@ -8,4 +10,6 @@ pub returns-in-Err : goal.returns-in-Err
 returns-in-Err c = c.in-Err.ensures.read c.args.basin.now
 
 pub returns-in-Ok-check : goal.returns-in-Ok-check
-returns-in-Ok-check c = accepted_rules _ _ _ _ c.in-Ok.ensures.read c.in-Ok-check.ensures.answers
+returns-in-Ok-check c =
+    let is = accepted_rules c.args.basin.now c.args.text.now _ _ c.in-Ok.ensures.read c.in-Ok-check.ensures.answers in
+    record { is = (refl, is); fits = subst IsOk (sym is.typed) refl }

@@ -1,7 +1,7 @@
-use Rattle.rw_base.proofs.Common.{ap, arith, sym, ◌++◌, ◌∙◌, ◌∷◌}
+use Rattle.rw_base.proofs.Common.{ap, arith, refl, sym, ◌++◌, ◌∙◌, ◌∷◌}
 use Rattle.rw_series.specs.Series.{held}
 use Rattle.rw_writes.specs.Writes.{written_of}
-use Rattle.rw_writes.proofs.Lists.{next_one}
+use Rattle.rw_dispatch.proofs.Makes.{next-put}
 use Rattle.rw_writes.proofs.passed.keep_written.Goals as goal
 
 pub loop-place-preserved : goal.loop-place-preserved
@@ -12,6 +12,6 @@ loop-place-preserved c = record {
       ∙ c.keep_one.ensures.kept
       ∙ ap (λ later. c.loop-place.written.items ++ written_of c.args.basin.now (held c.args.series.now) (c.index-asked-place.result ∷ later)) c.behind.ensures
       ∙ ap (λ asked. c.loop-place.written.items ++ written_of c.args.basin.now (held c.args.series.now) asked)
-      (sym (next_one c.args.asked.now c.loop-place.place c.index-asked-place.result c.loop-place-test.true c.index-asked-place.is))
+      (sym (next-put c.args.asked.now c.args.asked.now c.loop-place.place c.index-asked-place.result refl c.loop-place-test.true c.index-asked-place.is))
       ∙ c.loop-place.invariant.kept;
 }

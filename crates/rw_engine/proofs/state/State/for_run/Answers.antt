@@ -1,4 +1,4 @@
-use Rattle.rw_engine.proofs.Common.{[], givens, refl, sym, ◌∙◌}
+use Rattle.rw_engine.proofs.Common.{[], givens, refl, rules, sym, ◌∙◌}
 use Rattle.rw_run.proofs.Placed.{trace-placed, closed-placed, end-placed}
 use Rattle.rw_engine.proofs.Traces.{shows_nothing}
 use Rattle.rw_engine.proofs.state.State.for_run.Goals as goal
@@ -9,11 +9,14 @@ place-requires-clause-made c = record {
   bounded = λ cell content known is. let none = sym (c.in_ok-series.ensures.unknown cell) ∙ is in absurd (cc);
 }
 
-pub returns-clause-shows : goal.returns-clause-shows
-returns-clause-shows c =
+pub returns-clause-begun : goal.returns-clause-begun
+returns-clause-begun c =
     let given = givens c.args.basin.now c.args.inputs.now in record {
-      cells = c.place.ensures.placed [] c.in_ok-series.ensures.unknown;
-      trace = shows_nothing c.args.trace _ (trace-placed [] given) c.requires.fresh;
-      closed_steps = sym (closed-placed [] given);
-      end = sym (end-placed [] given refl);
+      made = search rules;
+      shows = record {
+        cells = c.place.ensures.placed [] c.in_ok-series.ensures.unknown;
+        trace = shows_nothing c.args.trace _ (trace-placed [] given) c.requires.fresh;
+        closed_steps = sym (closed-placed [] given);
+        end = sym (end-placed [] given refl);
+      };
     }

@@ -7,27 +7,27 @@ use Rattle.rw_engine.proofs.state.State.open.Goals as goal
 pub returns-clause-made : goal.returns-clause-made
 returns-clause-made g c = record {
   engine = record {
-    valid = c.requires.made.engine.valid;
-    fits = c.requires.made.engine.fits;
+    valid = c.requires.fresh.made.engine.valid;
+    fits = c.requires.fresh.made.engine.fits;
     objects = c.begin_step.ensures.made;
-    rules = c.begin_step-2.ensures.made c.args.setup.now.basin.now c.args.setup.now.policy.now c.requires.made.engine.rules;
-    series = c.requires.made.engine.series;
-    closed_steps = c.requires.made.engine.closed_steps;
+    rules = c.begin_step-2.ensures.made c.args.setup.now.basin.now c.args.setup.now.policy.now c.requires.fresh.made.engine.rules;
+    series = c.requires.fresh.made.engine.series;
+    closed_steps = c.requires.fresh.made.engine.closed_steps;
   };
-  counts = c.clear.ensures.many ∙ c.requires.made.counts;
-  firings = c.clear-2.ensures.many ∙ c.requires.made.firings ∙ c.requires.made.engine.rules.many
-      ∙ sym (c.begin_step-2.ensures.made c.args.setup.now.basin.now c.args.setup.now.policy.now c.requires.made.engine.rules).many;
-}
-
-pub returns-clause-within : goal.returns-clause-within
-returns-clause-within g c = record {
-  made = returns-clause-made g c;
-  ready = subst (AreReady c.args.setup.now.basin.now) (sym c.begin_step.ensures.all) (all_waiting-ready c.args.setup.now.basin.now);
-  undo = subst (AreCells c.args.setup.now.basin.now) (sym c.requires.cleared) (All-nil _);
-  indexed = c.begin_step-2.ensures.indexed _;
+  counts = c.clear.ensures.many ∙ c.requires.fresh.made.counts;
+  firings = c.clear-2.ensures.many ∙ c.requires.fresh.made.firings ∙ c.requires.fresh.made.engine.rules.many
+      ∙ sym (c.begin_step-2.ensures.made c.args.setup.now.basin.now c.args.setup.now.policy.now c.requires.fresh.made.engine.rules).many;
 }
 
 pub returns-clause-opened : goal.returns-clause-opened
-returns-clause-opened g c = λ log shows before.
-    opens_step c.args.setup.now.basin.now c.args.setup.now.policy.now c.args.self.now _ c.args.step.0 log shows refl c.begin_step.ensures.all
-    c.clear.ensures.zero c.clear-2.ensures.zero (c.begin_step-2.ensures.fresh c.args.setup.now.policy.now log c.args.step.0) (search rules) refl (shows.end ∙ settled_at_rest log before.last before.rest)
+returns-clause-opened g c = record {
+  within = record {
+    made = returns-clause-made g c;
+    ready = subst (AreReady c.args.setup.now.basin.now) (sym c.begin_step.ensures.all) (all_waiting-ready c.args.setup.now.basin.now);
+    undo = subst (AreCells c.args.setup.now.basin.now) (sym c.requires.fresh.cleared) (All-nil _);
+    indexed = c.begin_step-2.ensures.indexed _;
+  };
+  holds = λ log shows before. opens_step c.args.setup.now.basin.now c.args.setup.now.policy.now c.args.self.now _ c.args.step.0 log shows refl c.begin_step.ensures.all
+      c.clear.ensures.zero c.clear-2.ensures.zero (c.begin_step-2.ensures.fresh c.args.setup.now.policy.now log c.args.step.0) (search rules) refl
+      (shows.end ∙ settled_at_rest log before.last before.rest);
+}

@@ -4,17 +4,12 @@ use Rattle.rw_dispatch.specs.Writes.{AreWrites, CanWrite}
 use Rattle.rw_writes.proofs.Granted.{all_written, asks_write}
 use Rattle.rw_writes.proofs.writes.Writes.judge.Goals as goal
 
-asked_write : (c : goal.After-as_slice) → AreWrites c.args.basin.now c.as_slice.result.now
-asked_write c =
-    subst (AreWrites c.args.basin.now) (sym (c.as_slice.ensures.value ∙ c.ask_all.ensures.asked))
-    (asks_write c.args.basin.now c.args.r.0 c.args.t.0 c.args.puts.now c.requires.step.first c.requires.can)
-
 pub keep_written-requires-clause-can : goal.keep_written-requires-clause-can
-keep_written-requires-clause-can c = asked_write c
+keep_written-requires-clause-can c =
+    asks_write c.args.basin.now c.args.r.0 c.args.t.0 c.args.puts.now _ (c.as_slice.ensures.value ∙ c.ask_all.ensures.asked) c.requires.step.first c.requires.can
 
 pub returns-clause-can : goal.returns-clause-can
 returns-clause-can c =
     subst (AreWrites c.args.basin.now) (sym c.keep_written.ensures.kept)
     (all_written c.args.basin.now (held c.args.series.now) (CanWrite c.args.basin.now) c.as_slice.result.now
-    (subst (AreWrites c.args.basin.now) (sym (c.as_slice.ensures.value ∙ c.ask_all.ensures.asked))
-    (asks_write c.args.basin.now c.args.r.0 c.args.t.0 c.args.puts.now c.requires.step.first c.requires.can)))
+    (asks_write c.args.basin.now c.args.r.0 c.args.t.0 c.args.puts.now _ (c.as_slice.ensures.value ∙ c.ask_all.ensures.asked) c.requires.step.first c.requires.can))

@@ -1,0 +1,14 @@
+use rw_base::Qty;
+
+/// What a row of edits sets: a value, or nothing, for a slot at each of some timesteps.
+#[derive(Clone, Copy)]
+pub struct Edit {
+    /// The number of the slot at which the values are kept.
+    pub slot: u16,
+    /// The first timestep.
+    pub first: u16,
+    /// The last timestep.
+    pub last: u16,
+    /// The value; `None` takes away what is given.
+    pub value: Option<Qty>,
+}

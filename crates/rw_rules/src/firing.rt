@@ -1,0 +1,44 @@
+ghost use Rattle.std.specs.Prelude.{◌≡◌, ◌≤◌, Some, length};
+ghost use Rattle.rw_run.specs.Dispatch.{looks_at};
+ghost use Rattle.rw_run.specs.Log.{written_by};
+ghost use Rattle.rw_series.specs.Series.{held};
+ghost use Rattle.rw_dispatch.specs.Writes.{AreWrites};
+ghost use Rattle.rpl_machine.specs.Fired.{cells_of};
+ghost use Rattle.rw_rules.specs.Firing.{IsRuleTurn, event_of, firing_in, most_looks};
+
+use rpl_machine::{Fired, Machine};
+use rpl_predef::Predefs;
+use rpl_verify::Verified;
+use rpl_verify::law::{accepted_code, answered_code_is_safe};
+use rw_base::{RuleNo, StepNo};
+use rw_model::Basin;
+use rw_series::Series;
+use rw_writes::Writes;
+
+/// Lets a rule of verified code fire at a timestep of the run. What is told is the event that the definition makes of the firing,
+/// by what the cells hold; `writes` has what that event writes, and nothing of it is made yet. At what it looked is told with
+/// what the cells hold, at no more cells than the budget of its block allows. It takes no memory.
+pub fn fire<'m>(
+    machine: &'m mut Machine,
+    writes: &mut Writes,
+    policy: &Verified,
+    predefs: &Predefs,
+    basin: &Basin,
+    series: &Series,
+    r: RuleNo,
+    t: StepNo,
+) -> Fired<'m>
+    requires turn { IsRuleTurn basin.now policy.now r.0 t.0 }
+    ensures event { firing_in basin.now policy.now (held series.now) r.0 t.0
+        ≡ Some (event_of basin.now (held series.now) r.0 t.0 result) }
+    ensures looked { looks_at (held series.now) (cells_of result.looked.now) ≡ result.looked.now }
+    ensures few { length result.looked.now ≤ most_looks policy.now r.0 }
+    ensures written { writes.new ≡ written_by (event_of basin.now (held series.now) r.0 t.0 result) }
+    ensures can { AreWrites basin.now writes.new }
+{
+    accepted_code();
+    answered_code_is_safe();
+    let fired = machine.fire(policy, predefs, basin, series, r, t);
+    writes.judge(basin, series, r, t, fired.puts);
+    fired
+}
