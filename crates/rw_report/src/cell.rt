@@ -19,7 +19,8 @@ use rw_series::is_shared;
 use std::alloc::Global;
 
 fn push_writer(text: &mut String, basin: &Basin, writer: Writer) -> Result<(), NoMemory>
-    ensures { OnOk result (string_bytes text.new ≡ string_bytes text.old ++ writer_words basin.now writer) }
+    ensures { OnOk result (string_bytes text.new
+        ≡ string_bytes text.old ++ writer_words basin.now writer) }
 {
     match writer {
         Writer::Input => text.push_str("input")?,
@@ -52,7 +53,8 @@ fn push_put(
     step: StepNo,
     content: Content,
 ) -> Result<(), NoMemory>
-    ensures { OnOk result (string_bytes text.new ≡ string_bytes text.old ++ put_words basin.now step.0 content) }
+    ensures { OnOk result (string_bytes text.new
+        ≡ string_bytes text.old ++ put_words basin.now step.0 content) }
 {
     push_writing(text, basin, step, content.writer)?;
     text.push_str(" ")?;
@@ -90,7 +92,8 @@ fn push_told(
     line: &TraceEvent,
 ) -> Result<(), NoMemory>
     requires slot { IsSlot basin.now.objects c.slot.0 }
-    ensures { OnOk result (string_bytes text.new ≡ string_bytes text.old ++ put_told basin.now c step.0 line.now) }
+    ensures { OnOk result (string_bytes text.new
+        ≡ string_bytes text.old ++ put_told basin.now c step.0 line.now) }
 {
     match line {
         TraceEvent::Written {
@@ -121,7 +124,8 @@ fn open_after(step: StepNo, line: &TraceEvent) -> StepNo
 // Appends all that the trace tells of the cell.
 fn push_puts(text: &mut String, basin: &Basin, c: Cell, trace: &Trace) -> Result<(), NoMemory>
     requires slot { IsSlot basin.now.objects c.slot.0 }
-    ensures { OnOk result (string_bytes text.new ≡ string_bytes text.old ++ puts_told basin.now c 0 (lines_in trace.now)) }
+    ensures { OnOk result (string_bytes text.new
+        ≡ string_bytes text.old ++ puts_told basin.now c 0 (lines_in trace.now)) }
 {
     let mut step = StepNo(0);
     for place in 0..trace.len() {
@@ -162,7 +166,8 @@ fn push_source(
     given: Option<Qty>,
 ) -> Result<(), NoMemory>
     requires slot { IsSlot basin.now.objects c.slot.0 }
-    ensures { OnOk result (string_bytes text.new ≡ string_bytes text.old ++ source_words basin.now c (lines_in trace.now) given) }
+    ensures { OnOk result (string_bytes text.new
+        ≡ string_bytes text.old ++ source_words basin.now c (lines_in trace.now) given) }
 {
     match given {
         Some(value) => push_given(text, value),
@@ -171,7 +176,8 @@ fn push_source(
 }
 
 fn push_given(text: &mut String, value: Qty) -> Result<(), NoMemory>
-    ensures { OnOk result (string_bytes text.new ≡ string_bytes text.old ++ (codes "given " ++ (signed_decimal value ++ codes "\n"))) }
+    ensures { OnOk result (string_bytes text.new
+        ≡ string_bytes text.old ++ (codes "given " ++ (signed_decimal value ++ codes "\n"))) }
 {
     text.push_str("given ")?;
     push_number(text, value.get())?;
@@ -180,7 +186,8 @@ fn push_given(text: &mut String, value: Qty) -> Result<(), NoMemory>
 }
 
 fn push_known(text: &mut String, content: Content) -> Result<(), NoMemory>
-    ensures { OnOk result (string_bytes text.new ≡ string_bytes text.old ++ (codes "holds " ++ (content_words content ++ codes "\n"))) }
+    ensures { OnOk result (string_bytes text.new
+        ≡ string_bytes text.old ++ (codes "holds " ++ (content_words content ++ codes "\n"))) }
 {
     text.push_str("holds ")?;
     push_content(text, content)?;
@@ -210,7 +217,8 @@ pub fn why(
     c: Cell,
 ) -> Result<Vec<u8>, NoMemory>
     requires slot { IsSlot basin.now.objects c.slot.0 }
-    ensures text { IfOk result (λ text. text.items ≡ why_of basin.now inputs.now (outcome_of run.now) c) }
+    ensures text { IfOk result (λ text. text.items
+        ≡ why_of basin.now inputs.now (outcome_of run.now) c) }
 {
     let mut text = String::new(alloc);
     push_source(&mut text, basin, c, &run.trace, given_to(basin, inputs, c))?;

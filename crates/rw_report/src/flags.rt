@@ -39,7 +39,8 @@ pub(crate) fn push_content(text: &mut String, content: Content) -> Result<(), No
 
 // Appends a comma and the flag of what a cell holds.
 fn push_held(text: &mut String, content: Option<Content>) -> Result<(), NoMemory>
-    ensures { OnOk result (string_bytes text.new ≡ string_bytes text.old ++ (codes "," ++ held_flag content)) }
+    ensures { OnOk result (string_bytes text.new
+        ≡ string_bytes text.old ++ (codes "," ++ held_flag content)) }
 {
     text.push_str(",")?;
     match content {
@@ -67,7 +68,8 @@ fn push_slots(
 
 // Appends the line of a timestep.
 fn push_row(text: &mut String, basin: &Basin, series: &Series, step: u16) -> Result<(), NoMemory>
-    ensures { OnOk result (string_bytes text.new ≡ string_bytes text.old ++ flag_row basin.now (held series.now) step) }
+    ensures { OnOk result (string_bytes text.new
+        ≡ string_bytes text.old ++ flag_row basin.now (held series.now) step) }
 {
     push_count(text, u64::from(step))?;
     push_slots(text, basin, series, StepNo(step))?;
@@ -77,7 +79,8 @@ fn push_row(text: &mut String, basin: &Basin, series: &Series, step: u16) -> Res
 
 // Appends the lines of the first timesteps, so many of them.
 fn push_rows(text: &mut String, basin: &Basin, series: &Series, closed: u16) -> Result<(), NoMemory>
-    ensures { OnOk result (string_bytes text.new ≡ string_bytes text.old ++ for_each (flag_row basin.now (held series.now)) closed) }
+    ensures { OnOk result (string_bytes text.new
+        ≡ string_bytes text.old ++ for_each (flag_row basin.now (held series.now)) closed) }
 {
     for before in 0..closed {
         push_row(text, basin, series, before + 1)?;
@@ -86,7 +89,8 @@ fn push_rows(text: &mut String, basin: &Basin, series: &Series, closed: u16) -> 
 }
 
 fn push_columns(text: &mut String, basin: &Basin) -> Result<(), NoMemory>
-    ensures { OnOk result (string_bytes text.new ≡ string_bytes text.old ++ flag_columns basin.now) }
+    ensures { OnOk result (string_bytes text.new
+        ≡ string_bytes text.old ++ flag_columns basin.now) }
 {
     text.push_str("step")?;
     push_names(text, basin)?;
@@ -101,7 +105,8 @@ pub(crate) fn push_flags(
     series: &Series,
     closed: u16,
 ) -> Result<(), NoMemory>
-    ensures { OnOk result (string_bytes text.new ≡ string_bytes text.old ++ flag_table basin.now (held series.now) closed) }
+    ensures { OnOk result (string_bytes text.new
+        ≡ string_bytes text.old ++ flag_table basin.now (held series.now) closed) }
 {
     text.push_str("# flags\n")?;
     push_columns(text, basin)?;

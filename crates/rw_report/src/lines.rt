@@ -26,7 +26,8 @@ pub(crate) fn line_at(trace: &Trace, place: usize) -> TraceEvent
 
 // Appends a word and a number.
 fn push_step(text: &mut String, word: &str, step: StepNo) -> Result<(), NoMemory>
-    ensures { OnOk result (string_bytes text.new ≡ string_bytes text.old ++ (word.now ++ decimal step.0)) }
+    ensures { OnOk result (string_bytes text.new
+        ≡ string_bytes text.old ++ (word.now ++ decimal step.0)) }
 {
     text.push_str(word)?;
     push_count(text, u64::from(step.0))
@@ -39,7 +40,8 @@ pub(crate) fn push_object(
     word: &str,
     object: ObjectNo,
 ) -> Result<(), NoMemory>
-    ensures { OnOk result (string_bytes text.new ≡ string_bytes text.old ++ (word.now ++ object_words basin.now object.0)) }
+    ensures { OnOk result (string_bytes text.new
+        ≡ string_bytes text.old ++ (word.now ++ object_words basin.now object.0)) }
 {
     text.push_str(word)?;
     text.push_str(object_words(basin, object))?;
@@ -48,7 +50,8 @@ pub(crate) fn push_object(
 
 /// Appends the word `rule` or another, and the number of a rule.
 pub(crate) fn push_rule(text: &mut String, word: &str, rule: RuleNo) -> Result<(), NoMemory>
-    ensures { OnOk result (string_bytes text.new ≡ string_bytes text.old ++ (word.now ++ decimal rule.0)) }
+    ensures { OnOk result (string_bytes text.new
+        ≡ string_bytes text.old ++ (word.now ++ decimal rule.0)) }
 {
     text.push_str(word)?;
     push_count(text, u64::from(rule.0))
@@ -86,7 +89,8 @@ fn push_written(
     step: StepNo,
     content: Content,
 ) -> Result<(), NoMemory>
-    ensures { OnOk result (string_bytes text.new ≡ string_bytes text.old ++ written_words basin.now slot.0 step.0 content) }
+    ensures { OnOk result (string_bytes text.new
+        ≡ string_bytes text.old ++ written_words basin.now slot.0 step.0 content) }
 {
     push_cell(text, basin, slot, step)?;
     text.push_str(" ")?;
@@ -94,7 +98,8 @@ fn push_written(
 }
 
 fn push_end(text: &mut String, basin: &Basin, fault: RunFault) -> Result<(), NoMemory>
-    ensures { OnOk result (string_bytes text.new ≡ string_bytes text.old ++ line_words basin.now (TraceEvent.Fault fault)) }
+    ensures { OnOk result (string_bytes text.new
+        ≡ string_bytes text.old ++ line_words basin.now (TraceEvent.Fault fault)) }
 {
     text.push_str("fault ")?;
     push_fault(text, basin, fault)
@@ -102,7 +107,8 @@ fn push_end(text: &mut String, basin: &Basin, fault: RunFault) -> Result<(), NoM
 
 // Appends a line of a trace, without its end.
 fn push_line(text: &mut String, basin: &Basin, line: TraceEvent) -> Result<(), NoMemory>
-    ensures { OnOk result (string_bytes text.new ≡ string_bytes text.old ++ line_words basin.now line) }
+    ensures { OnOk result (string_bytes text.new
+        ≡ string_bytes text.old ++ line_words basin.now line) }
 {
     match line {
         TraceEvent::Opened(step) => push_step(text, "open ", step),
@@ -120,7 +126,8 @@ fn push_line(text: &mut String, basin: &Basin, line: TraceEvent) -> Result<(), N
 }
 
 fn push_ended(text: &mut String, basin: &Basin, line: TraceEvent) -> Result<(), NoMemory>
-    ensures { OnOk result (string_bytes text.new ≡ string_bytes text.old ++ (line_words basin.now line ++ codes "\n")) }
+    ensures { OnOk result (string_bytes text.new
+        ≡ string_bytes text.old ++ (line_words basin.now line ++ codes "\n")) }
 {
     push_line(text, basin, line)?;
     text.push_str("\n")?;
@@ -128,7 +135,8 @@ fn push_ended(text: &mut String, basin: &Basin, line: TraceEvent) -> Result<(), 
 }
 
 fn push_lines(text: &mut String, basin: &Basin, trace: &Trace) -> Result<(), NoMemory>
-    ensures { OnOk result (string_bytes text.new ≡ string_bytes text.old ++ lines_words basin.now (lines_in trace.now)) }
+    ensures { OnOk result (string_bytes text.new
+        ≡ string_bytes text.old ++ lines_words basin.now (lines_in trace.now)) }
 {
     for place in 0..trace.len() {
         push_ended(text, basin, line_at(trace, place))?;
@@ -138,7 +146,8 @@ fn push_lines(text: &mut String, basin: &Basin, trace: &Trace) -> Result<(), NoM
 
 /// Appends the lines of a trace.
 pub(crate) fn push_trace(text: &mut String, basin: &Basin, trace: &Trace) -> Result<(), NoMemory>
-    ensures { OnOk result (string_bytes text.new ≡ string_bytes text.old ++ trace_words basin.now (lines_in trace.now)) }
+    ensures { OnOk result (string_bytes text.new
+        ≡ string_bytes text.old ++ trace_words basin.now (lines_in trace.now)) }
 {
     text.push_str("# trace\n")?;
     push_lines(text, basin, trace)

@@ -36,7 +36,8 @@ pub fn section(alloc: Global, basin: &Basin, batch: u32, run: &Run) -> Result<Ve
 
 // Appends a space and the number of a timestep.
 fn push_step(text: &mut String, step: StepNo) -> Result<(), NoMemory>
-    ensures { OnOk result (string_bytes text.new ≡ string_bytes text.old ++ (codes " " ++ decimal step.0)) }
+    ensures { OnOk result (string_bytes text.new
+        ≡ string_bytes text.old ++ (codes " " ++ decimal step.0)) }
 {
     text.push_str(" ")?;
     push_count(text, u64::from(step.0))
@@ -63,7 +64,8 @@ fn push_some(text: &mut String, steps: &[StepNo]) -> Result<(), NoMemory>
 }
 
 fn push_again(text: &mut String, steps: &[StepNo]) -> Result<(), NoMemory>
-    ensures { OnOk result (string_bytes text.new ≡ string_bytes text.old ++ (codes "# reran" ++ (some_words steps.now ++ codes "\n"))) }
+    ensures { OnOk result (string_bytes text.new
+        ≡ string_bytes text.old ++ (codes "# reran" ++ (some_words steps.now ++ codes "\n"))) }
 {
     text.push_str("# reran")?;
     push_some(text, steps)?;
@@ -73,7 +75,8 @@ fn push_again(text: &mut String, steps: &[StepNo]) -> Result<(), NoMemory>
 
 // Appends which timesteps were run again, where that is told.
 fn push_reran(text: &mut String, reran: Option<&[StepNo]>) -> Result<(), NoMemory>
-    ensures { OnOk result (string_bytes text.new ≡ string_bytes text.old ++ reran_words (option_map (λ steps. steps.now) reran.entry)) }
+    ensures { OnOk result (string_bytes text.new
+        ≡ string_bytes text.old ++ reran_words (option_map (λ steps. steps.now) reran.entry)) }
 {
     match reran {
         Some(steps) => push_again(text, steps),
@@ -97,7 +100,8 @@ fn push_top(
 
 fn push_table(alloc: Global, text: &mut String, basin: &Basin, run: &Run) -> Result<(), NoMemory>
     requires closed { run.now.closed ≤ basin.now.control.stamps.count }
-    ensures { OnOk result (string_bytes text.new ≡ string_bytes text.old ++ table_of basin.now (outcome_of run.now)) }
+    ensures { OnOk result (string_bytes text.new
+        ≡ string_bytes text.old ++ table_of basin.now (outcome_of run.now)) }
 {
     push_columns(text, basin)?;
     push_rows(alloc, text, basin, &run.series, run.closed)
@@ -140,7 +144,8 @@ pub fn whole_section(
 ) -> Result<Vec<u8>, NoMemory>
     requires closed { run.now.closed ≤ basin.now.control.stamps.count }
     ensures text { IfOk result (λ text. text.items
-        ≡ whole_of basin.now batch (outcome_of run.now) (option_map (λ steps. steps.now) reran.entry) flags trace) }
+        ≡ whole_of basin.now batch (outcome_of run.now)
+        (option_map (λ steps. steps.now) reran.entry) flags trace) }
 {
     let mut text = String::new(alloc);
     push_top(&mut text, basin, batch, &run.end, reran)?;
