@@ -1,0 +1,108 @@
+-- What a timestep that was closed holds stays so to the end of the run.
+use Rattle.rw_base.proofs.Common.{◌≡◌, ◌≤◌, ◌<◌, ◌+◌, ◌==◌, ℕ, ℤ, Bool, true, false, List, [], ◌∷◌, Some, None, refl, sym, ap, subst, ◌∙◌, arith, nat_tests, inl, inr, ◌⊎◌, if◌then◌else◌, option_or, All, same_Some, none-some}
+use Rattle.rw_base.specs.declared.number.Cell.{Cell}
+use Rattle.rw_model.specs.Draft.{Draft}
+use Rattle.rw_model.proofs.Common.{IsBasin}
+use Rattle.rw_series.specs.Fire.{Fire}
+use Rattle.rw_series.specs.declared.fire.FireEnd.{FireEnd}
+use Rattle.rw_series.specs.declared.fire.FireEnd.TheVariants.{Done, Unknown, ZeroDivisor as DividesByZero, OutOfRange as EndsOutside}
+use Rattle.rw_run.specs.Frame.{IsFault}
+use Rattle.rw_run.specs.Log.{Asked, Event, Log, cells_of, closed, fault, given, opened, value_in, written_by}
+use Rattle.rw_run.specs.Next.{Policy, ended}
+use Rattle.rw_run.specs.Policy.{CanAsk, IsPolicyOf}
+use Rattle.rw_run.specs.Runs.{IsRun, Leads, Standing, inside, over, placed, rests, standing}
+use Rattle.rw_run.specs.Step.{before_closing, is_closing}
+use Rattle.rw_laws.proofs.Agenda.{due_is_rule}
+use Rattle.rw_laws.proofs.Came.{Came, asks, came, closes, ends, fires, opens}
+use Rattle.rw_laws.proofs.Dispatches.{Asked_of, asked_of, idles, solves, stops, weaker_all}
+use Rattle.rw_laws.proofs.Settles.{later_all}
+use Rattle.rw_laws.proofs.Staying.{AreLater, earlier_stays}
+use Rattle.rw_laws.proofs.Told.{IsWriting}
+use Rattle.rw_laws.proofs.Writings.{IsRulePut, fired_writings}
+
+-- a log whose closed timesteps hold what they held when they were closed, all of them before where it stands
+abbrev IsAfter : ℕ → Standing → Type 0
+IsAfter step (rests at) = step ≤ at
+IsAfter step (inside at) = step < at
+IsAfter step over = Unit {0}
+
+record IsPast (basin : Draft) (log : Log) (step : ℕ) (before : Log) : Type 0 where
+  after : IsAfter step (standing log)
+  same : (cell : Cell) → cell.step.0 ≤ step → cells_of basin log cell ≡ cells_of basin before cell
+
+abbrev ArePast : Draft → Log → Type 0
+ArePast basin log = (step : ℕ) (before : Log) → before_closing step log ≡ Some before → IsPast basin log step before
+
+module _ (basin : Draft) (valid : IsBasin basin) (policy : Policy) (promise : IsPolicyOf basin policy) where
+  -- an event that is no closing, and writes to no earlier timestep
+  goes_on : (log : Log) (event : Event) (at : ℕ) → standing log ≡ inside at → (standing (event ∷ log) ≡ inside at) ⊎ (standing (event ∷ log) ≡ over)
+      → ((step : ℕ) → is_closing step event ≡ false) → AreLater at (written_by event) → ArePast basin log → ArePast basin (event ∷ log)
+  goes_on log event at stands next open_still later past step before is =
+      let was = past step before (sym (ap (λ (test : Bool). if test then Some log else before_closing step log) (open_still step)) ∙ is) in
+      let below : step < at = subst (IsAfter step) stands was.after in
+      record {
+        after = elim next [ inl still ↦ subst (IsAfter step) (sym still) below | inr ended_by ↦ subst (IsAfter step) (sym ended_by) tt ];
+        same = λ cell low.
+            ap (λ found. option_or found (cells_of basin log cell)) (earlier_stays basin at (written_by event) cell later (omega (arith, low, below))) ∙ was.same cell low;
+      }
+
+  ends_past : (log : Log) (event : Event) → IsFault event → ArePast basin log → ArePast basin (event ∷ log)
+  ends_past log (fault why) over_by past = λ step before is. let was = past step before is in record { after = tt; same = was.same }
+  ends_past log event over_by past = absurd over_by
+
+  fired_past : (log : Log) (step rule : ℕ) (fire : Fire) (end : FireEnd) → standing log ≡ inside step → 1 ≤ rule → All (CanAsk basin) fire.puts → ArePast basin log
+      → ArePast basin (ended basin (cells_of basin log) rule step fire end ∷ log)
+  fired_past log step rule fire DividesByZero stands first asked past = ends_past log (ended basin (cells_of basin log) rule step fire DividesByZero) tt past
+  fired_past log step rule fire (EndsOutside value) stands first asked past = ends_past log (ended basin (cells_of basin log) rule step fire (EndsOutside value)) tt past
+  fired_past log step rule fire Unknown stands first asked past =
+      goes_on log (ended basin (cells_of basin log) rule step fire Unknown) step stands (inl refl) (λ at. refl) tt past
+  fired_past log step rule fire Done stands first asked past =
+      goes_on log (ended basin (cells_of basin log) rule step fire Done) step stands (inl refl) (λ at. refl)
+      (weaker_all (λ put. IsWriting basin step (cells_of basin log) put × IsRulePut basin rule step put) (λ (put : Asked). step ≤ put.cell.step.0) (written_by (ended basin (cells_of basin log) rule step fire Done))
+      (λ put both. both.1.later) (fired_writings basin policy step rule step (cells_of basin log) fire Done first asked)) past
+
+  asked_past : (log : Log) (event : Event) (step object : ℕ) → standing log ≡ inside step → Asked_of basin (cells_of basin log) object step event → ArePast basin log → ArePast basin (event ∷ log)
+  asked_past log event step object stands (idles at) past = subst (λ e. ArePast basin (e ∷ log)) (sym at.is) (goes_on log _ step stands (inl refl) (λ t. refl) tt past)
+  asked_past log event step object stands (solves at) past =
+      subst (λ e. ArePast basin (e ∷ log)) (sym at.is) (goes_on log _ step stands (inl refl) (λ t. refl) (later_all basin valid policy promise (cells_of basin log) object step at.puts) past)
+  asked_past log event step object stands (stops why) past = ends_past log event why past
+
+  closed_past : (log : Log) (at : ℕ) → standing log ≡ inside at → ArePast basin log → ArePast basin (closed at ∷ log)
+  closed_past log at stands past step before is = by (at == step) refl is
+    where
+      by : (test : Bool) → (at == step) ≡ test → (if test then Some log else before_closing step log) ≡ Some before → IsPast basin (closed at ∷ log) step before
+      by true same is =
+          let one : step ≡ at = grind (arith, nat_tests, same) in
+          record { after = omega (arith, one); same = λ cell low. ap (λ l. cells_of basin l cell) (same_Some _ _ is) }
+      by false apart is =
+          let was = past step before is in
+          let below : step < at = subst (IsAfter step) stands was.after in record { after = omega (arith, below); same = was.same }
+
+  opened_past : (log : Log) (at : ℕ) → standing log ≡ rests at → ArePast basin log → ArePast basin (opened (at + 1) ∷ log)
+  opened_past log at stands past step before is =
+      let was = past step before is in
+      let below : step ≤ at = subst (IsAfter step) stands was.after in record { after = omega (arith, below); same = was.same }
+
+  next_past : (log : Log) (event : Event) → Came basin policy log event → ArePast basin log → ArePast basin (event ∷ log)
+  next_past log event (opens at) past = subst (λ e. ArePast basin (e ∷ log)) (sym at.is) (opened_past log at.step at.stands past)
+  next_past log event (closes at) past = subst (λ e. ArePast basin (e ∷ log)) (sym at.is) (closed_past log at.step at.stands past)
+  next_past log event (fires at) past =
+      let rule = due_is_rule basin policy (cells_of basin log) log at.rule at.due in
+      subst (λ e. ArePast basin (e ∷ log)) (sym at.is)
+      (fired_past log at.step at.rule at.fire at.fire.end at.stands rule.first (promise.asks at.rule at.step (value_in (cells_of basin log)) at.fire at.does) past)
+  next_past log event (asks at) past = asked_past log event at.step at.object at.stands (asked_of basin (cells_of basin log) at.object at.step event at.is) past
+  next_past log event (ends why) past = ends_past log event why past
+
+  lead_past : (old : Log) (events : List Event) (new : Log) → Leads basin policy old events new → ArePast basin old → ArePast basin new
+  lead_past old [] new leads past = subst (ArePast basin) (sym leads) past
+  lead_past old (event ∷ events) new leads past = lead_past (event ∷ old) events new leads.1 (next_past old event (came basin policy old event leads.0) past)
+
+  none_closed : (log : Log) (inputs : List (Cell × ℤ)) → ((step : ℕ) → before_closing step log ≡ None) → (step : ℕ) → before_closing step (placed log inputs) ≡ None
+  none_closed log [] none step = none step
+  none_closed log (input ∷ inputs) none step = none_closed (given input.0 input.1 ∷ log) inputs none step
+
+  -- a cell of a timestep that was closed, or of an earlier one, holds at the end what it held just before the closing
+  pub stays : (inputs : List (Cell × ℤ)) (log : Log) → IsRun basin policy inputs log → (step : ℕ) (before : Log) → before_closing step log ≡ Some before
+      → (cell : Cell) → cell.step.0 ≤ step → cells_of basin log cell ≡ cells_of basin before cell
+  stays inputs log run step before is =
+      (lead_past (placed [] inputs) run.events log run.leads (λ at early is. absurd (none-some early (sym (none_closed [] inputs (λ t. refl) at) ∙ is))) step before is).same

@@ -1,0 +1,41 @@
+-- What evaporates is what the table says, where the rows are a table and the rate isn't below 0.
+use Rattle.rw_base.proofs.Common.{◌≡◌, ◌&&◌, ℤ, pos, ◌-ℤ◌, ◌≤ℤ◌, Bool, true, false, List, Some, None, refl, sym, ap, ap₂, ◌∙◌, arith, ints, if◌then◌else◌, int_le, int_lt, int_max, cond_both, option_and_then, unwrap_or, unsigned_abs, and_parts, same_Some, none-some}
+use Rattle.rw_table.specs.Table.{IsTable, Row}
+use Rattle.rw_table.specs.Curve.{IsElevationInside, IsVolumeInside, elev_of, first_row, greatest_up_to, last_row, vol_of}
+use Rattle.rw_table.proofs.Elevation.{elev_held}
+use Rattle.rw_table.proofs.Volume.{has_volume_inside}
+use Rattle.rw_method.specs.Balance.{evaporation_from}
+use Rattle.rw_method.specs.Contents.{difference, evaporated}
+
+-- a volume that has an elevation is inside the table
+inside_by : (rows : List Row) (s e : ℤ) (test : Bool) → (int_le (first_row rows).1 s && int_le s (last_row rows).1) ≡ test
+    → (if test then greatest_up_to rows s (unsigned_abs (last_row rows).0) else None) ≡ Some e → IsVolumeInside rows s
+inside_by rows s e true is found =
+    let parts = and_parts (int_le (first_row rows).1 s) (int_le s (last_row rows).1) is in
+    record { from_first = grind (arith, ints, parts.0); to_last = grind (arith, ints, parts.1) }
+inside_by rows s e false is found = absurd (none-some e found)
+
+elevation_inside : (rows : List Row) (s e : ℤ) → IsTable rows → elev_of rows s ≡ Some e → IsElevationInside rows e
+elevation_inside rows s e table found =
+    let has = elev_held rows s table (inside_by rows s e (int_le (first_row rows).1 s && int_le s (last_row rows).1) refl found) in
+    let same : has.elevation ≡ e = same_Some _ _ (sym has.is ∙ found) in
+    let low = has.greatest.inside.from_first in let high = has.greatest.inside.to_last in
+    record { from_first = omega (arith, ints, same, low); to_last = omega (arith, ints, same, high) }
+
+sunk_inside : (rows : List Row) (e rate : ℤ) → IsElevationInside rows e → pos 0 ≤ℤ rate → IsElevationInside rows (int_max (e -ℤ rate) (first_row rows).0)
+sunk_inside rows e rate inside some =
+    let low = inside.from_first in let high = inside.to_last in
+    cond_both (int_lt (first_row rows).0 (e -ℤ rate)) (e -ℤ rate) (first_row rows).0 (λ z. IsElevationInside rows z)
+    (λ more. record { from_first = grind (arith, ints, more); to_last = omega (arith, ints, high, some) })
+    (λ less. record { from_first = omega (arith, ints); to_last = omega (arith, ints, low, high) })
+
+pub evaporates_as : (rows : List Row) (past rate amount e : ℤ) → IsTable rows → elev_of rows past ≡ Some e → pos 0 ≤ℤ rate → evaporation_from rows (Some past) (Some rate) ≡ Some amount
+    → evaporated rows past rate ≡ Some amount
+evaporates_as rows past rate amount e table found some is =
+    let inside = elevation_inside rows past e table found in
+    let v = has_volume_inside rows e table inside in
+    let w = has_volume_inside rows (int_max (e -ℤ rate) (first_row rows).0) table (sunk_inside rows e rate inside some) in
+    let lost : evaporated rows past rate ≡ Some (v.0 -ℤ w.0) =
+    ap (option_and_then (λ e. difference (vol_of rows e) (vol_of rows (int_max (e -ℤ rate) (first_row rows).0)))) found ∙ ap₂ (λ a b. difference a b) v.1 w.1 in
+    let same : v.0 -ℤ w.0 ≡ amount = same_Some _ _ (sym (ap (λ z. Some (unwrap_or z (pos 0))) lost) ∙ is) in
+    lost ∙ ap Some same

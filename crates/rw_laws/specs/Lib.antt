@@ -1,0 +1,7 @@
+pub mod Left
+pub mod Passing
+pub mod Links
+pub mod Priority
+pub mod Rules
+pub mod Balances
+pub mod Worked
