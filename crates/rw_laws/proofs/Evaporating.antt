@@ -1,10 +1,9 @@
--- What evaporates is what the table says, where the rows are a table and the rate isn't below 0.
-use Rattle.rw_base.proofs.Common.{◌≡◌, ◌&&◌, ℤ, pos, ◌-ℤ◌, ◌≤ℤ◌, Bool, true, false, List, Some, None, refl, sym, ap, ap₂, ◌∙◌, arith, ints, if◌then◌else◌, int_le, int_lt, int_max, cond_both, option_and_then, unwrap_or, unsigned_abs, and_parts, same_Some, none-some}
+-- A table gives what evaporates of a storage that has an elevation, at a rate that isn't below 0.
+use Rattle.rw_base.proofs.Common.{◌≡◌, ◌&&◌, ℤ, pos, ◌-ℤ◌, ◌≤ℤ◌, Bool, true, false, List, Some, None, refl, sym, ap, ap₂, ◌∙◌, arith, ints, if◌then◌else◌, int_le, int_lt, int_max, cond_both, option_and_then, unsigned_abs, and_parts, same_Some, none-some}
 use Rattle.rw_table.specs.Table.{IsTable, Row}
 use Rattle.rw_table.specs.Curve.{IsElevationInside, IsVolumeInside, elev_of, first_row, greatest_up_to, last_row, vol_of}
 use Rattle.rw_table.proofs.Elevation.{elev_held}
 use Rattle.rw_table.proofs.Volume.{has_volume_inside}
-use Rattle.rw_method.specs.Balance.{evaporation_from}
 use Rattle.rw_method.specs.Contents.{difference, evaporated}
 
 -- a volume that has an elevation is inside the table
@@ -29,13 +28,11 @@ sunk_inside rows e rate inside some =
     (λ more. record { from_first = grind (arith, ints, more); to_last = omega (arith, ints, high, some) })
     (λ less. record { from_first = omega (arith, ints); to_last = omega (arith, ints, low, high) })
 
-pub evaporates_as : (rows : List Row) (past rate amount e : ℤ) → IsTable rows → elev_of rows past ≡ Some e → pos 0 ≤ℤ rate → evaporation_from rows (Some past) (Some rate) ≡ Some amount
-    → evaporated rows past rate ≡ Some amount
-evaporates_as rows past rate amount e table found some is =
-    let inside = elevation_inside rows past e table found in
+pub table_gives : (rows : List Row) (storage rate e : ℤ) → IsTable rows → elev_of rows storage ≡ Some e → pos 0 ≤ℤ rate → (amount : ℤ) × (evaporated rows storage rate ≡ Some amount)
+table_gives rows storage rate e table found some =
+    let inside = elevation_inside rows storage e table found in
     let v = has_volume_inside rows e table inside in
-    let w = has_volume_inside rows (int_max (e -ℤ rate) (first_row rows).0) table (sunk_inside rows e rate inside some) in
-    let lost : evaporated rows past rate ≡ Some (v.0 -ℤ w.0) =
-    ap (option_and_then (λ e. difference (vol_of rows e) (vol_of rows (int_max (e -ℤ rate) (first_row rows).0)))) found ∙ ap₂ (λ a b. difference a b) v.1 w.1 in
-    let same : v.0 -ℤ w.0 ≡ amount = same_Some _ _ (sym (ap (λ z. Some (unwrap_or z (pos 0))) lost) ∙ is) in
-    lost ∙ ap Some same
+    let w = has_volume_inside rows (int_max (e -ℤ rate) (first_row rows).0) table (sunk_inside rows e rate inside some) in (
+      v.0 -ℤ w.0,
+      ap (option_and_then (λ e. difference (vol_of rows e) (vol_of rows (int_max (e -ℤ rate) (first_row rows).0)))) found ∙ ap₂ (λ a b. difference a b) v.1 w.1,
+    )

@@ -1,7 +1,6 @@
 -- What is left of the last firing of each rule, and that each would do the same again where the timestep is closed.
 use Rattle.rw_base.proofs.Common.{◌≡◌, ◌≢◌, ◌≤◌, ◌<◌, ◌==◌, ℕ, ℤ, Bool, true, false, not, ◌||◌, List, [], ◌∷◌, Option, Some, None, refl, sym, ap, subst, ◌∙◌, arith, nat_tests, inl, inr, ◌⊎◌, option_map, option_or, AllByRecursion, Decides-int_eq}
 use Rattle.rw_base.specs.declared.number.Cell.{Cell}
-use Rattle.rw_model.specs.declared.content.Content.{Content}
 use Rattle.rw_model.specs.declared.put.PutEnd.{PutEnd}
 use Rattle.rw_model.specs.declared.put.PutEnd.TheVariants.{Written, Kept, Denied}
 use Rattle.rw_model.specs.declared.writer.Writer.{Writer}
@@ -23,20 +22,6 @@ use Rattle.rw_laws.proofs.PutRules.{denied_known, end_code, kept_known}
 use Rattle.rw_laws.proofs.Told.{AreTold, IsTold, IsWriting, to_all}
 use Rattle.rw_laws.proofs.Writings.{IsRulePut}
 
--- the cell of a rule's put has a number up to the rule's, and the value that was put or one that another wrote
-pub record IsStanding (cells : Cells) (rule : ℕ) (put : Asked) : Type 0 where
-  pub content : Content
-  pub held : cells put.cell ≡ Some content
-  pub most : content.number ≤ rule
-  pub so : (content.value ≡ put.content.value) ⊎ (content.writer ≢ Rule (record { 0 = rule }))
-
-pub held_or : (cells : Cells) (rule : ℕ) (put : Asked) → IsStanding cells rule put → IsHeldOr cells rule put
-held_or cells rule put is = record {
-  content = is.content;
-  held = is.held;
-  so = elim is.so [ inl same ↦ inl same | inr other ↦ inr (is.most, other) ];
-}
-
 -- the last firing of a rule
 pub record IsLast (basin : Draft) (policy : Policy) (step : ℕ) (log : Log) (rule : ℕ) (firing : Firing) : Type 0 where
   pub fire : Fire
@@ -45,7 +30,7 @@ pub record IsLast (basin : Draft) (policy : Policy) (step : ℕ) (log : Log) (ru
   pub saw : firing.looked ≡ looks_at before fire.looked
   pub is : IsFiringOf basin rule step fire firing
   pub slots : AllByRecursion (IsAt basin) firing.asked
-  pub puts : AllByRecursion (IsStanding (cells_of basin log) rule) (last_ones basin firing.asked)
+  pub puts : AllByRecursion (IsHeldOr (cells_of basin log) rule) (last_ones basin firing.asked)
 
 abbrev pub FiredIn : Draft → Policy → ℕ → Log → Type 0
 FiredIn basin policy step log = (rule : ℕ) (firing : Firing) → last_firing log rule ≡ Some firing → IsLast basin policy step log rule firing
@@ -56,16 +41,16 @@ abbrev pub IsNotOf : Draft → ℕ → Cells → ℕ → Asked → Type 0
 IsNotOf basin latest cells rule put = IsWriting basin latest cells put × (put.content.writer ≢ Rule (record { 0 = rule }))
 
 pub stands_on : (basin : Draft) (latest : ℕ) (log : Log) (event : Event) (rule : ℕ) → AllByRecursion (IsNotOf basin latest (cells_of basin log) rule) (written_by event)
-    → (put : Asked) → IsStanding (cells_of basin log) rule put → IsStanding (cells_of basin (event ∷ log)) rule put
+    → (put : Asked) → IsHeldOr (cells_of basin log) rule put → IsHeldOr (cells_of basin (event ∷ log)) rule put
 stands_on basin latest log event rule all put is = elim (last_found basin (IsNotOf basin latest (cells_of basin log) rule) (written_by event) put.cell all) [
-  | inl none ↦ record { content = is.content; held = ap (λ found. option_or found (cells_of basin log put.cell)) none ∙ is.held; most = is.most; so = is.so }
+  | inl none ↦ record { content = is.content; held = ap (λ found. option_or found (cells_of basin log put.cell)) none ∙ is.held; number = is.number; so = is.so }
   | inr found ↦
       let falls : found.put.content.number ≤ is.content.number = found.passes.0.falls is.content (linked basin log found.put.cell put.cell found.passes.0.slot found.shared ∙ is.held) in
-      let most = is.most in
+      let most = is.number in
       record {
         content = found.put.content;
         held = ap (λ z. option_or z (cells_of basin log put.cell)) found.is;
-        most = omega (arith, falls, most);
+        number = omega (arith, falls, most);
         so = inr found.passes.1;
       }
 ]
@@ -80,7 +65,7 @@ fired_on basin policy latest step log event rule firing all is = record {
   saw = is.saw;
   is = is.is;
   slots = is.slots;
-  puts = weaker_all (IsStanding (cells_of basin log) rule) (IsStanding (cells_of basin (event ∷ log)) rule) (last_ones basin firing.asked) (stands_on basin latest log event rule all) is.puts;
+  puts = weaker_all (IsHeldOr (cells_of basin log) rule) (IsHeldOr (cells_of basin (event ∷ log)) rule) (last_ones basin firing.asked) (stands_on basin latest log event rule all) is.puts;
 }
 
 abbrev is_object : Writer → Bool
@@ -119,11 +104,11 @@ module _ (basin : Draft) (latest : ℕ) (log : Log) (rule step : ℕ) (told : Ar
   differs put end is some same = let no : end_code end ≡ 0 = ap end_code (sym is ∙ same) in omega (arith, no, some)
 
   stands_by : (put : Asked) → Among (last_ones basin asked) put → IsRulePut basin rule step put → (end : PutEnd) → end_in (cells_of basin log) put ≡ end
-      → IsStanding (cells_of basin (event ∷ log)) rule put
+      → IsHeldOr (cells_of basin (event ∷ log)) rule put
   stands_by put has is Written end = record {
     content = put.content;
     held = held_now put.cell ∙ ap (λ z. option_or z (cells_of basin log put.cell)) (last_written basin (cells_of basin log) asked put slots_of_all has end);
-    most = let number = is.number in omega (arith, number);
+    number = let number = is.number in omega (arith, number);
     so = inl refl;
   }
   stands_by put has is Kept end =
@@ -133,7 +118,7 @@ module _ (basin : Draft) (latest : ℕ) (log : Log) (rule step : ℕ) (told : Ar
       record {
         content = kept.0;
         held = held_now put.cell ∙ ap (λ z. option_or z (cells_of basin log put.cell)) (none_written basin (cells_of basin log) asked put slots_of_all has (differs put Kept end (omega arith))) ∙ kept.1.0;
-        most = omega (arith, less, number);
+        number = omega (arith, less, number);
         so = inl kept.1.1.0;
       }
   stands_by put has is (Denied shown) end =
@@ -143,11 +128,11 @@ module _ (basin : Draft) (latest : ℕ) (log : Log) (rule step : ℕ) (told : Ar
       record {
         content = held.0;
         held = held_now put.cell ∙ ap (λ z. option_or z (cells_of basin log put.cell)) (none_written basin (cells_of basin log) asked put slots_of_all has (differs put (Denied shown) end (omega arith))) ∙ held.1.0;
-        most = elim less [ inl none ↦ omega (arith, none) | inr below ↦ omega (arith, below) ];
+        number = elim less [ inl none ↦ omega (arith, none) | inr below ↦ omega (arith, below) ];
         so = inr (not_by latest rule held.0.number put.cell.step.0 held.0.writer (told put.cell held.0 held.1.0) less);
       }
 
-  each : (puts : List Asked) → AllByRecursion (λ put. Among (last_ones basin asked) put × IsRulePut basin rule step put) puts → AllByRecursion (IsStanding (cells_of basin (event ∷ log)) rule) puts
+  each : (puts : List Asked) → AllByRecursion (λ put. Among (last_ones basin asked) put × IsRulePut basin rule step put) puts → AllByRecursion (IsHeldOr (cells_of basin (event ∷ log)) rule) puts
   each [] all = tt
   each (put ∷ puts) all = (stands_by put all.0.0 all.0.1 (end_in (cells_of basin log) put) refl, each puts all.1)
 
@@ -160,7 +145,7 @@ module _ (basin : Draft) (latest : ℕ) (log : Log) (rule step : ℕ) (told : Ar
   at_member (first ∷ puts) put all (inl same) = subst (IsRulePut basin rule step) same all.0
   at_member (first ∷ puts) put all (inr later) = at_member puts put all.1 later
 
-  pub all_standing : AllByRecursion (IsStanding (cells_of basin (event ∷ log)) rule) (last_ones basin asked)
+  pub all_standing : AllByRecursion (IsHeldOr (cells_of basin (event ∷ log)) rule) (last_ones basin asked)
   all_standing =
       each (last_ones basin asked)
       (members (last_ones basin asked) (λ put. Among (last_ones basin asked) put × IsRulePut basin rule step put)
@@ -201,6 +186,5 @@ all_stand_by basin policy step log promise last_ones_stand none rule is = by (la
           fire = found.fire;
           again = promise.framed rule step (value_in found.before) (value_in (cells_of basin log)) found.fire found.does alike;
           is = found.is;
-          puts = to_all (IsHeldOr (cells_of basin log) rule) (last_ones basin firing.asked)
-              (weaker_all (IsStanding (cells_of basin log) rule) (IsHeldOr (cells_of basin log) rule) (last_ones basin firing.asked) (held_or (cells_of basin log) rule) found.puts);
+          puts = to_all (IsHeldOr (cells_of basin log) rule) (last_ones basin firing.asked) found.puts;
         }

@@ -1,6 +1,6 @@
 -- The reservoir: where a dispatch answers puts, the balance of what is held then is true, storage and elevation go together, and each
 -- derived slot holds what is derived.
-use Rattle.rw_base.proofs.Common.{◌≡◌, ◌≤◌, ℕ, ℤ, pos, ◌-ℤ◌, Bool, true, false, List, [], ◌∷◌, ◌++◌, Option, Some, None, refl, sym, ap, ap₂, subst, ◌∙◌, arith, ints, inl, inr, unwrap_or, Contains, same_Some, none-some}
+use Rattle.rw_base.proofs.Common.{◌≡◌, ◌≤◌, ℕ, ℤ, pos, ◌-ℤ◌, Bool, true, false, List, [], ◌∷◌, ◌++◌, Option, Some, None, refl, sym, ap, ap₂, subst, ◌∙◌, arith, ints, inl, inr, is_some, unwrap_or, Contains, same_Some, none-some}
 use Rattle.std.specs.Int.{int_min}
 use Rattle.rw_table.specs.Table.{Row}
 use Rattle.rw_model.specs.declared.kind.Kind.{Kind}
@@ -14,11 +14,10 @@ use Rattle.rw_method.specs.Contents.{difference}
 use Rattle.rw_method.specs.Puts.{evaporation_put, known_after, level_puts, release_puts, solved_put}
 use Rattle.rw_method.specs.Solve.{balanced_of}
 use Rattle.rw_method.specs.View.{given, known_value}
-use Rattle.rw_laws.specs.Balances.{IsBalanced, IsEvaporated, IsHeld, IsLevel, IsReleased}
+use Rattle.rw_laws.specs.Balances.{IsBalanced, IsHeld, IsLevel, IsLost, IsReleased}
 use Rattle.rw_laws.specs.Passing.{IsAfter}
 use Rattle.rw_laws.proofs.Answering.{Answered}
 use Rattle.rw_laws.proofs.Balancing.{after_value, both_there, same_sides}
-use Rattle.rw_laws.proofs.Evaporating.{evaporates_as}
 use Rattle.rw_laws.proofs.Leaving.{DispatchFacts}
 use Rattle.rw_laws.proofs.Netting.{net_zero, put_value, rest_value}
 use Rattle.rw_laws.proofs.OwnPuts.{Among}
@@ -69,13 +68,21 @@ module _ (initial_storage : ℤ) (table : Option (List Row)) (local_inflow diver
       (right_of ((solved_put (balanced_of kind old) ++ level_puts table (given old 2) (given old 3) (balanced_of kind old)) ++ evaporation_put evaporation (evaporation_of evaporation table old))
       (release_puts max_release (known_after old (balanced_of kind old) 1)) put has))
 
-  evaporated_held : (chosen : Bool) → evaporation ≡ chosen → (evaporates : ℤ) → evaporation_of evaporation table new ≡ Some evaporates → IsEvaporated chosen new evaporates
-  evaporated_held false choice evaporates amount = tt
-  evaporated_held true choice evaporates amount =
+  evaporated_held : (chosen : Bool) (found : Option (List Row)) → evaporation ≡ chosen → table ≡ found → (past evaporates : ℤ) → new.past ≡ Some past
+      → evaporation_of chosen found new ≡ Some evaporates → IsLost chosen found new past evaporates
+  evaporated_held false found choice at past evaporates past_is amount = tt
+  evaporated_held true None choice at past evaporates past_is amount = tt
+  evaporated_held true (Some rows) choice at past evaporates past_is amount =
       let same = same_evaporation evaporation table old new same_past (middle 7 (omega arith) (omega arith)) in
       let put : Put = record { place = 8; value = unwrap_or (evaporation_of evaporation table old) (pos 0); number = 0 } in
       let has : Among (evaporation_put evaporation (evaporation_of evaporation table old)) put = subst (λ c. Among (evaporation_put c (evaporation_of evaporation table old)) put) (sym choice) (inl refl) in
-      put_value old new puts after put (evaporates_there put has) ∙ ap (λ a. Some (unwrap_or a (pos 0))) (sym same ∙ amount)
+      let known : evaporation_of evaporation table new ≡ Some evaporates = ap₂ (λ c t. evaporation_of c t new) choice at ∙ amount in
+      record {
+        held = put_value old new puts after put (evaporates_there put has) ∙ ap (λ a. Some (unwrap_or a (pos 0))) (sym same ∙ known);
+        elevation = ap is_some (past_elevation initial_storage table local_inflow diversion return_flow evaporation max_release old puts sound is rows at choice past (sym same_past ∙ past_is)).1;
+        amount = λ rate lost rate_is lost_is.
+            same_Some _ _ (sym amount ∙ ap₂ (λ p r. evaporation_from rows p r) past_is rate_is ∙ ap (λ z. Some (unwrap_or z (pos 0))) lost_is);
+      }
 
   released_held : (most : Option ℤ) → max_release ≡ most → (outflow : ℤ) → IsHeld new 1 outflow → IsReleased most new outflow
   released_held None choice outflow held = tt
@@ -112,10 +119,6 @@ module _ (initial_storage : ℤ) (table : Option (List Row)) (local_inflow diver
       record {
         balance = omega (arith, ints, zero_sum, p, f, e, sum, less);
         level = level_is table refl stores held_storage;
-        evaporated = evaporated_held evaporation refl evaporates evaporates_is;
-        above = λ choice rows at table_is rate rate_is some.
-            let read = past_elevation initial_storage table local_inflow diversion return_flow evaporation max_release old puts sound is rows at choice past (sym same_past ∙ past_is) in
-            evaporates_as rows past rate evaporates read.0 table_is read.1 some
-            (sym (ap₂ (λ p r. evaporation_from rows p r) past_is rate_is) ∙ sym (ap₂ (λ c t. evaporation_of c t new) choice at) ∙ evaporates_is);
+        evaporated = evaporated_held evaporation table refl refl past evaporates past_is evaporates_is;
         released = released_held max_release refl outflow held_out;
       }

@@ -298,19 +298,19 @@ module _ (basin : Draft) (valid : IsBasin basin) (policy : Policy) (promise : Is
       by (Some place) at =
           let one : 0 ≡ 1 = counted ∙ ap (λ z. cond (is_some z) (times object (numbers (length basin.objects))) 0) at ∙ listed in absurd (omega (arith, one))
 
-  closes_balanced : (log : Log) (event : Event) → IsWithin Left basin policy log → (at : Closes basin policy log event) → SettledAt basin log (standing log) → AllBalanced basin at.step log
+  closes_balanced : (log : Log) (event : Event) → IsWithin Left basin policy log → (at : Closes basin policy log event) → SettledAt basin log (standing log) → AllBalanced basin at.step (cells_of basin log)
   closes_balanced log event within at settled object kind is =
       let here : SettledIn basin log at.step = subst (SettledAt basin log) at.stands settled in here object kind is (no_since log object kind is at.none_waits)
 
   abbrev AllClosed : Log → Type 0
-  AllClosed log = (step : ℕ) (before : Log) → before_closing step log ≡ Some before → AllBalanced basin step before
+  AllClosed log = (step : ℕ) (before : Log) → before_closing step log ≡ Some before → AllBalanced basin step (cells_of basin before)
 
   next_closed : (log : Log) (event : Event) → IsWithin Left basin policy log → SettledAt basin log (standing log) → Came basin policy log event → AllClosed log → AllClosed (event ∷ log)
   next_closed log event within settled comes all step before is = by (is_closing step event) refl is
     where
-      by : (test : Bool) → is_closing step event ≡ test → (if test then Some log else before_closing step log) ≡ Some before → AllBalanced basin step before
-      by true here is = subst (AllBalanced basin step) (same_Some _ _ is)
-          (closing_of Left left_kept basin valid policy promise (λ at log. SettledAt basin log (standing log) → AllBalanced basin at log) closes_balanced log event step within comes here settled)
+      by : (test : Bool) → is_closing step event ≡ test → (if test then Some log else before_closing step log) ≡ Some before → AllBalanced basin step (cells_of basin before)
+      by true here is = subst (λ l. AllBalanced basin step (cells_of basin l)) (same_Some _ _ is)
+          (closing_of Left left_kept basin valid policy promise (λ at log. SettledAt basin log (standing log) → AllBalanced basin at (cells_of basin log)) closes_balanced log event step within comes here settled)
       by false there is = all step before is
 
   lead_closed : (old : Log) (events : List Event) (new : Log) → Leads basin policy old events new → IsWithin Left basin policy old → SettledAt basin old (standing old) → AllClosed old → AllClosed new
@@ -328,7 +328,7 @@ module _ (basin : Draft) (valid : IsBasin basin) (policy : Policy) (promise : Is
   begin_closed log [] all = all
   begin_closed log (input ∷ inputs) all = begin_closed (given input.0 input.1 ∷ log) inputs all
 
-  pub balances : (inputs : List (Cell × ℤ)) (log : Log) → IsRun basin policy inputs log → (step : ℕ) (before : Log) → before_closing step log ≡ Some before → AllBalanced basin step before
+  pub balances : (inputs : List (Cell × ℤ)) (log : Log) → IsRun basin policy inputs log → (step : ℕ) (before : Log) → before_closing step log ≡ Some before → AllBalanced basin step (cells_of basin before)
   balances inputs log run =
       lead_closed (placed [] inputs) run.events log run.leads (begin_within Left left_kept basin valid policy promise inputs) (begin_settled [] inputs refl)
       (begin_closed [] inputs (λ step before is. absurd (none-some before is)))

@@ -10,7 +10,7 @@ use Rattle.rw_model.proofs.Common.{Object, object_at, slot_in_place, before_of}
 use Rattle.rw_series.specs.Series.{is_shared}
 use Rattle.rw_series.proofs.Sharing.{Shared-of}
 use Rattle.rw_run.specs.Dispatch.{Past, cell_at, content_in, past_at, past_in, past_of, past_value, places, value_of_past, view_of}
-use Rattle.rw_run.specs.Log.{Asked, Event, Log, cells_of, last_put, value_in, written_by}
+use Rattle.rw_run.specs.Log.{Asked, Cells, Event, Log, cells_of, last_put, value_in, written_by}
 use Rattle.rw_run.specs.Waiting.{is_at, is_put_at}
 use Rattle.rw_laws.proofs.Owned.{owner_in}
 
@@ -109,22 +109,36 @@ past_ago basin object past is = by_object (object_at basin.objects object) is
     by_object None is = absurd (none-some past is)
     by_object (Some found) is = by_kind found.kind (past_in found.kind) refl is
 
--- an earlier value stays
-pub past_stays : (basin : Draft) (log : Log) (event : Event) (object step : ℕ) → AreLater step (written_by event) → past_value basin (cells_of basin (event ∷ log)) object step ≡ past_value basin (cells_of basin log) object step
-past_stays basin log event object step later = by (past_of basin object) refl
+-- an earlier value is the same where all earlier cells are
+pub same_past : (basin : Draft) (one other : Cells) (object step : ℕ) → ((cell : Cell) → cell.step.0 < step → one cell ≡ other cell)
+    → past_value basin one object step ≡ past_value basin other object step
+same_past basin one other object step same = by (past_of basin object) refl
   where
     at : (past : Past) → 1 ≤ past.ago → (test : Bool) → nat_lt past.ago step ≡ test
-        → (if test then value_in (cells_of basin (event ∷ log)) (cell_at past.slot (step - past.ago)) else before_of basin.objects past.slot (pos step -ℤ pos past.ago))
-        ≡ (if test then value_in (cells_of basin log) (cell_at past.slot (step - past.ago)) else before_of basin.objects past.slot (pos step -ℤ pos past.ago))
-    at past some true inside =
-        ap (λ found. option_map (λ (content : Content). content.value) (option_or found (cells_of basin log (cell_at past.slot (step - past.ago)))))
-        (earlier_stays basin step (written_by event) (cell_at past.slot (step - past.ago)) later (grind (arith, nat_tests, inside, some)))
+        → (if test then value_in one (cell_at past.slot (step - past.ago)) else before_of basin.objects past.slot (pos step -ℤ pos past.ago))
+        ≡ (if test then value_in other (cell_at past.slot (step - past.ago)) else before_of basin.objects past.slot (pos step -ℤ pos past.ago))
+    at past some true inside = ap (option_map (λ (content : Content). content.value)) (same (cell_at past.slot (step - past.ago)) (grind (arith, nat_tests, inside, some)))
     at past some false outside = refl
 
-    by : (found : Option Past) → past_of basin object ≡ found
-        → option_and_then (value_of_past basin (cells_of basin (event ∷ log)) step) found ≡ option_and_then (value_of_past basin (cells_of basin log) step) found
+    by : (found : Option Past) → past_of basin object ≡ found → option_and_then (value_of_past basin one step) found ≡ option_and_then (value_of_past basin other step) found
     by None is = refl
     by (Some past) is = at past (past_ago basin object past is) (nat_lt past.ago step) refl
+
+-- so is what an object sees where those of the timestep are too
+pub same_view : (basin : Draft) (one other : Cells) (object step : ℕ) → ((cell : Cell) → cell.step.0 ≤ step → one cell ≡ other cell)
+    → view_of basin one object step ≡ view_of basin other object step
+same_view basin one other object step same =
+    ap₂ (λ now past. record (view_of basin other object step) { now = now; past = past })
+    (same_map (content_in basin one object step) (content_in basin other object step) places (λ place. by (slot_in_place basin.objects object place)))
+    (same_past basin one other object step (λ cell before. same cell (omega (arith, before))))
+  where
+    by : (found : Option ℕ) → option_and_then one (option_map (λ slot. cell_at slot step) found) ≡ option_and_then other (option_map (λ slot. cell_at slot step) found)
+    by None = refl
+    by (Some number) = same (cell_at number step) (omega arith)
+
+pub past_stays : (basin : Draft) (log : Log) (event : Event) (object step : ℕ) → AreLater step (written_by event) → past_value basin (cells_of basin (event ∷ log)) object step ≡ past_value basin (cells_of basin log) object step
+past_stays basin log event object step later = same_past basin (cells_of basin (event ∷ log)) (cells_of basin log) object step
+    (λ cell before. ap (λ found. option_or found (cells_of basin log cell)) (earlier_stays basin step (written_by event) cell later before))
 
 pub view_stays : (basin : Draft) (log : Log) (event : Event) (object step : ℕ) → is_put_at basin object step (written_by event) ≡ false → AreLater step (written_by event)
     → view_of basin (cells_of basin (event ∷ log)) object step ≡ view_of basin (cells_of basin log) object step

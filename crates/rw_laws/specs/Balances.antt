@@ -1,7 +1,7 @@
 -- The law of balance: what an object's slots hold where its terms are known.
-use Rattle.std.specs.Prelude.{◌≡◌, ◌⊎◌, ℕ, zero, suc, ℤ, pos, ◌+ℤ◌, ◌-ℤ◌, ◌≤ℤ◌, Bool, true, false, List, Option, Some, None, option_map}
+use Rattle.std.specs.Prelude.{◌≡◌, ◌⊎◌, ℕ, zero, suc, ℤ, ◌+ℤ◌, ◌-ℤ◌, Bool, true, List, Option, Some, None, IsSome, option_map}
 use Rattle.std.specs.Int.{int_min}
-use Rattle.rw_table.specs.Table.{IsTable, Row}
+use Rattle.rw_table.specs.Table.{Row}
 use Rattle.rw_table.specs.Curve.{elev_of, vol_of}
 use Rattle.rw_model.specs.declared.kind.Kind.{Kind}
 use Rattle.rw_model.specs.declared.kind.Kind.TheVariants.{DataObject, Gage, Confluence, Bifurcation, Reach, Reservoir, WaterUser, Canal}
@@ -15,7 +15,7 @@ use Rattle.rw_method.specs.Contents.{evaporated}
 use Rattle.rw_method.specs.Term.{per_mille}
 use Rattle.rw_method.specs.View.{known_value}
 use Rattle.rw_run.specs.Dispatch.{view_of}
-use Rattle.rw_run.specs.Log.{Log, cells_of}
+use Rattle.rw_run.specs.Log.{Cells}
 
 -- the slot in a place holds this value
 abbrev pub IsHeld : View → ℕ → ℤ → Type 0
@@ -32,15 +32,16 @@ IsLevel None view storage = Unit {0}
 IsLevel (Some rows) view storage =
     (elevation : ℤ) × ((IsHeld view POOL_ELEVATION elevation) × ((elev_of rows storage ≡ Some elevation) ⊎ (vol_of rows elevation ≡ Some storage)))
 
--- where evaporation is chosen, so much is held as evaporated
-abbrev pub IsEvaporated : Bool → View → ℤ → Type 0
-IsEvaporated false view evaporates = Unit {0}
-IsEvaporated true view evaporates = IsHeld view EVAPORATION evaporates
+-- so much is held as evaporated; the storage before has an elevation, and where the table gives what evaporates of it at the rate, it is that
+pub record IsEvaporated (rows : List Row) (view : View) (past evaporates : ℤ) : Type 0 where
+  pub held : IsHeld view EVAPORATION evaporates
+  pub elevation : IsSome (elev_of rows past)
+  pub amount : (rate amount : ℤ) → IsHeld view EVAPORATION_RATE rate → evaporated rows past rate ≡ Some amount → evaporates ≡ amount
 
-abbrev pub IsAbove : Bool → Option (List Row) → View → ℤ → ℤ → Type 0
-IsAbove evaporation table view past evaporates =
-    evaporation ≡ true → (rows : List Row) → table ≡ Some rows → IsTable rows → (rate : ℤ) → IsHeld view EVAPORATION_RATE rate → pos 0 ≤ℤ rate
-    → evaporated rows past rate ≡ Some evaporates
+-- where evaporation is chosen, for which there has to be a table
+abbrev pub IsLost : Bool → Option (List Row) → View → ℤ → ℤ → Type 0
+IsLost true (Some rows) view past evaporates = IsEvaporated rows view past evaporates
+IsLost evaporation table view past evaporates = Unit {0}
 
 -- where there is a greatest release, the outflow is released up to it, and the rest spilled
 abbrev pub IsReleased : Option ℤ → View → ℤ → Type 0
@@ -52,9 +53,7 @@ pub record IsStored (table : Option (List Row)) (evaporation : Bool) (max_releas
   -- Storage = Storage(t - 1) + Inflow + LocalInflow + ReturnFlow - Diversion - Evaporation - Outflow
   pub balance : storage ≡ past +ℤ inflow +ℤ side -ℤ evaporates -ℤ outflow
   pub level : IsLevel table view storage
-  pub evaporated : IsEvaporated evaporation view evaporates
-  -- which is what stands above the elevation that sinks by the rate, where the rows are a table and the rate isn't below 0
-  pub above : IsAbove evaporation table view past evaporates
+  pub evaporated : IsLost evaporation table view past evaporates
   pub released : IsReleased max_release view outflow
 
 -- where the solvable and fixed terms and the past value are known, with the storage in place of the contents, the balance is true, and each
@@ -91,8 +90,8 @@ IsBalanced (Canal seepage) view =
     (inflow outflow : ℤ) → IsHeld view INFLOW inflow → IsHeld view OUTFLOW outflow
     → (outflow ≡ inflow -ℤ per_mille inflow seepage) × IsHeld view SEEPAGE (inflow -ℤ outflow)
 
--- the slots of every object at the timestep, as they stand after a log
-abbrev pub AllBalanced : Draft → ℕ → Log → Type 0
-AllBalanced basin step log =
+-- the slots of every object at the timestep, where the cells hold this
+abbrev pub AllBalanced : Draft → ℕ → Cells → Type 0
+AllBalanced basin step cells =
     (object : ℕ) (kind : Kind) → option_map (λ found. found.kind) (object_at basin.objects object) ≡ Some kind
-    → IsBalanced kind (view_of basin (cells_of basin log) object step)
+    → IsBalanced kind (view_of basin cells object step)

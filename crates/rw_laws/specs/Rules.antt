@@ -25,11 +25,12 @@ pub record IsFiringOf (basin : Draft) (rule step : ℕ) (fire : Fire) (firing : 
   pub asked : firing.asked ≡ asked_of_rule basin rule step fire.puts
   pub count : firing.count ≡ fire.count
 
--- the cell of a rule's put holds the value that was put, or what another wrote with a number that is no greater
+-- the cell of a rule's put has a number that is no greater than the rule's, and holds the value that was put, or what another wrote
 pub record IsHeldOr (cells : Cells) (rule : ℕ) (put : Asked) : Type 0 where
   pub content : Content
   pub held : cells put.cell ≡ Some content
-  pub so : (content.value ≡ put.content.value) ⊎ ((content.number ≤ rule) × (content.writer ≢ Rule (record { 0 = rule })))
+  pub number : content.number ≤ rule
+  pub so : (content.value ≡ put.content.value) ⊎ (content.writer ≢ Rule (record { 0 = rule }))
 
 -- where a log stands within a timestep, the rule fired in it; it would do the same again; and so it is with each of its last puts that
 -- isn't put again by the same firing

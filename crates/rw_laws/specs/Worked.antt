@@ -14,8 +14,10 @@ use Rattle.rw_series.specs.Fire.{Fire}
 use Rattle.rw_series.specs.declared.fire.FireEnd.TheVariants.{Done, Unknown}
 use Rattle.rw_series.specs.declared.look.Look.{Look}
 use Rattle.rw_run.specs.Dispatch.{cell_at}
-use Rattle.rw_run.specs.Log.{Asked, Event, Log, fired, given, idle, opened, solved}
+use Rattle.rw_run.specs.Frame.{log_after}
+use Rattle.rw_run.specs.Log.{Asked, Cells, Event, Log, closed, fired, given, idle, opened, solved}
 use Rattle.rw_run.specs.Next.{Policy}
+use Rattle.rw_run.specs.Runs.{placed}
 
 -- one object over one day, from the last rule on
 abbrev pub alone : List ℕ → Kind → Draft
@@ -88,6 +90,9 @@ dam_events =
     solves (saw_dam (Some (pos 50)) (Some (pos 1020))) 2 (pos 80) 1 ∷
     fires 1 (saw 3 (Some (pos 1020)) ∷ []) (by_rule 1 3 (pos 1020) ∷ []) [] 6 ∷ []
 
+abbrev pub dam_log : Log
+dam_log = log_after dam_events (placed [] inflow)
+
 -- a log that is none of a run: 1 flows into a gage and 2 flow out
 abbrev pub gage : Draft
 gage = alone (codes "G") Gage
@@ -98,3 +103,15 @@ torn = given (cell_at 2 1) (pos 2) ∷ given (cell_at 1 1) (pos 1) ∷ []
 -- another: a rule of number 2 writes over what one of number 1 wrote
 abbrev pub weakened : Log
 weakened = fires 2 [] [] (by_rule 2 1 (pos 6) ∷ []) 0 ∷ fires 1 [] [] (by_rule 1 1 (pos 5) ∷ []) 0 ∷ []
+
+-- another: no rule fired
+abbrev pub started : Log
+started = opened 1 ∷ []
+
+-- another: 3 flow out of the gage after the timestep was closed
+abbrev pub changed_after : Log
+changed_after = solves [] 2 (pos 3) 0 ∷ closed 1 ∷ torn
+
+-- cells that no log of a basin leaves whose slots 1 and 2 are linked
+abbrev pub apart : Cells
+apart cell = if cell.slot.0 == 1 then Some (by_rule 1 1 (pos 5)).content else None
