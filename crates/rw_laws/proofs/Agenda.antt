@@ -1,14 +1,5 @@
 -- Which rules are on the agenda, and which of them are due.
-use Rattle.rw_base.proofs.Common.{◌≡◌, ◌<◌, ◌≤◌, ◌+◌, ◌==◌, ℕ, Bool, true, false, cond, List, [], ◌∷◌, Some, None, find, reverse, refl, sym, ap, subst, ◌∙◌, arith, nat_tests, reverse-append, same_Some, none-some}
-use Rattle.rw_model.specs.Draft.{Draft}
-use Rattle.rw_model.specs.declared.control.AgendaOrder.{AgendaOrder}
-use Rattle.rw_model.specs.declared.control.AgendaOrder.TheVariants.{HighFirst, LowFirst}
-use Rattle.rw_run.specs.Log.{Cells, Log}
-use Rattle.rw_run.specs.Times.{times}
-use Rattle.rw_run.specs.Waiting.{numbers}
-use Rattle.rw_run.specs.Next.{Policy, agenda_of, first_due, is_due}
-use Rattle.rw_run.specs.Policy.{IsRule}
-use Rattle.rw_run.proofs.Lists.{times-append, times-numbers}
+use Rattle.rw_laws.proofs.Common.{AgendaOrder, Bool, Cells, Draft, HighFirst, IsRule, List, Log, LowFirst, None, Policy, Some, [], agenda_of, ap, arith, cond, false, find, first_due, is_due, nat_tests, none-some, numbers, refl, reverse, reverse-append, same_Some, subst, sym, times, times-append, times-numbers, true, ℕ, ◌+◌, ◌<◌, ◌==◌, ◌∙◌, ◌∷◌, ◌≡◌, ◌≤◌}
 
 found_is : (p : ℕ → Bool) (x r : ℕ) (xs : List ℕ) (test : Bool) → p x ≡ test → (find p xs ≡ Some r → 0 < times r xs)
     → cond test (Some x) (find p xs) ≡ Some r → 0 < times r (x ∷ xs)

@@ -1,23 +1,5 @@
 -- What is known where a dispatch answers puts.
-use Rattle.rw_base.proofs.Common.{◌≡◌, ◌==◌, ◌&&◌, not, ℤ, Bool, true, false, List, map, Option, Some, None, is_some, refl, sym, ap, ap₂, subst, ◌∙◌, arith, inl, inr, ◌⊎◌, if◌then◌else◌, same_Some, none-some}
-use Rattle.rw_table.specs.Table.{Row}
-use Rattle.rw_model.specs.declared.kind.Kind.{Kind}
-use Rattle.rw_model.specs.declared.kind.Kind.TheVariants.{DataObject, Gage, Confluence, Bifurcation, Reach, Reservoir, WaterUser, Canal}
-use Rattle.rw_method.specs.declared.balanced.Balanced.{Balanced}
-use Rattle.rw_method.specs.declared.balanced.Balanced.TheVariants.{Conflicts, Holds, Idle, Solves}
-use Rattle.rw_method.specs.declared.basis.Basis.{Basis}
-use Rattle.rw_method.specs.declared.basis.Basis.TheVariants.{Nothing, Storage, Elevation}
-use Rattle.rw_method.specs.declared.given.Given.{Given}
-use Rattle.rw_method.specs.declared.put.Put.{Put}
-use Rattle.rw_method.specs.declared.solved.Solved.{Solved}
-use Rattle.rw_method.specs.declared.solved.Solved.TheVariants.{Idle as IdleAnswer, Puts, Conflict, OutOfRange}
-use Rattle.rw_method.specs.declared.view.View.{View}
-use Rattle.rw_method.specs.Balance.{balance_of}
-use Rattle.rw_method.specs.Contents.{agree, basis_of, can_hold, disagreement, fault_of_basis, volume_of}
-use Rattle.rw_method.specs.Puts.{puts_of}
-use Rattle.rw_method.specs.Settling.{settled}
-use Rattle.rw_method.specs.Solve.{AllFit, all_or_misfit, answer, balanced_of, fault_of_contents, fault_of_past, first_misfit, fits, or_else, solve_of}
-use Rattle.rw_method.specs.View.{given}
+use Rattle.rw_laws.proofs.Common.{AllFit, Balanced, Basis, Bifurcation, Bool, Canal, Conflict, Conflicts, Confluence, DataObject, Elevation, Gage, Given, Holds, Idle, IdleAnswer, Kind, List, None, Nothing, Option, OutOfRange, Put, Puts, Reach, Reservoir, Row, Solved, Solves, Some, Storage, View, WaterUser, agree, all_or_misfit, answer, ap, ap₂, arith, balance_of, balanced_of, basis_of, can_hold, disagreement, false, fault_of_basis, fault_of_contents, fault_of_past, first_misfit, fits, given, if◌then◌else◌, inl, inr, is_some, map, none-some, not, or_else, puts_of, refl, same_Some, settled, solve_of, subst, sym, true, volume_of, ℤ, ◌&&◌, ◌==◌, ◌∙◌, ◌≡◌, ◌⊎◌}
 use Rattle.rw_laws.proofs.Leaving.{Solving}
 use Rattle.rw_laws.proofs.Settled.{balanced_code}
 use Rattle.rw_laws.proofs.Terms.{shape_of, term_in, terms_are}

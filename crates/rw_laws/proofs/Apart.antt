@@ -1,11 +1,6 @@
 -- The slots of an object carry no value together.
-use Rattle.rw_base.proofs.Common.{◌≡◌, ◌≤◌, ◌+◌, ◌-◌, ◌==◌, ◌||◌, ℕ, suc, Bool, true, false, List, [], ◌∷◌, map, Some, refl, sym, ap, subst, ◌∙◌, arith, nat_tests, slice_get, AllByRecursion, inl, inr, ◌⊎◌, get_or_from_slice_get, slice_get_within, if◌then◌else◌}
-use Rattle.std.specs.List.{IsDistinct}
-use Rattle.std.proofs.lemmas.Map.Keys.{IsDistinct-head, IsDistinct-tail}
-use Rattle.rw_model.specs.Draft.{Draft}
-use Rattle.rw_model.specs.Basin.{IsBasin, IsLink}
-use Rattle.rw_model.specs.Links.{is_among, is_same_link, is_together, link_from, link_of, owner_of}
-use Rattle.rw_series.proofs.Sharing.{linked_alike}
+use Rattle.rw_laws.proofs.Common.{AllByRecursion, Bool, Draft, IsDistinct, IsDistinct-head, IsDistinct-tail, IsLink, List, Some, [], ap, arith, false, get_or_from_slice_get, if◌then◌else◌, inl, inr, is_among, is_same_link, is_together, link_from, link_of, linked_alike, map, nat_tests, owner_of, refl, slice_get, slice_get_within, subst, suc, sym, true, ℕ, ◌+◌, ◌-◌, ◌==◌, ◌||◌, ◌∙◌, ◌∷◌, ◌≡◌, ◌≤◌, ◌⊎◌}
+use Rattle.rw_model.specs.Basin.{IsBasin}
 
 -- ---- the link in which a slot is found
 

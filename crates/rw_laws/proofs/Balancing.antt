@@ -1,23 +1,6 @@
 -- Where a dispatch answers puts, the balance of what is held then is true, and each derived slot holds what is derived: every kind but the
 -- reservoir.
-use Rattle.rw_base.proofs.Common.{◌≡◌, ◌≢◌, ◌≤◌, ◌<◌, ◌+◌, ◌==◌, ℕ, zero, suc, ℤ, pos, ◌+ℤ◌, ◌-ℤ◌, Bool, true, false, List, [], ◌∷◌, ◌++◌, Option, Some, None, refl, sym, ap, ap₂, subst, ◌∙◌, arith, ints, nat_tests, inl, inr, if◌then◌else◌, option_map, AllByRecursion, Contains, same_Some, none-some}
-use Rattle.rw_model.specs.declared.content.Content.{Content}
-use Rattle.rw_model.specs.declared.kind.Kind.{Kind}
-use Rattle.rw_model.specs.declared.kind.Kind.TheVariants.{Gage, Confluence, Bifurcation, Reach, WaterUser, Canal}
-use Rattle.rw_model.specs.declared.kind.Supply.{Supply}
-use Rattle.rw_model.specs.declared.kind.Supply.TheVariants.{Request, Rule as ByRule}
-use Rattle.rw_model.proofs.Common.{IsKind}
-use Rattle.rw_method.specs.declared.balanced.Balanced.{Balanced}
-use Rattle.rw_method.specs.declared.balanced.Balanced.TheVariants.{Conflicts, Holds, Idle, Solves}
-use Rattle.rw_method.specs.declared.put.Put.{Put}
-use Rattle.rw_method.specs.declared.share.Share.TheVariants.{Brings, Takes, Conveys}
-use Rattle.rw_method.specs.declared.view.View.{View}
-use Rattle.rw_method.specs.Balance.{chosen, side_flows, sum_of}
-use Rattle.rw_method.specs.Contents.{difference}
-use Rattle.rw_method.specs.Puts.{held_by, known_after, seepage_put, solved_put, user_puts}
-use Rattle.rw_method.specs.Solve.{balanced_of}
-use Rattle.rw_method.specs.Term.{per_mille}
-use Rattle.rw_method.specs.View.{given, known, known_value}
+use Rattle.rw_laws.proofs.Common.{AllByRecursion, Balanced, Bifurcation, Bool, Brings, ByRule, Canal, Conflicts, Confluence, Contains, Content, Conveys, Gage, Holds, Idle, IsKind, Kind, List, None, Option, Put, Reach, Request, Solves, Some, Supply, Takes, View, WaterUser, [], ap, ap₂, arith, balanced_of, chosen, difference, false, given, held_by, if◌then◌else◌, inl, inr, ints, known, known_after, known_value, nat_tests, none-some, option_map, per_mille, pos, refl, same_Some, seepage_put, side_flows, solved_put, subst, suc, sum_of, sym, true, user_puts, zero, ℕ, ℤ, ◌++◌, ◌+ℤ◌, ◌+◌, ◌-ℤ◌, ◌<◌, ◌==◌, ◌∙◌, ◌∷◌, ◌≡◌, ◌≢◌, ◌≤◌}
 use Rattle.rw_laws.specs.Balances.{IsBalanced, IsHeld, IsUsed}
 use Rattle.rw_laws.specs.Passing.{IsAfter}
 use Rattle.rw_laws.proofs.Answering.{Answered}

@@ -1,14 +1,5 @@
 -- How an event came to follow a log.
-use Rattle.rw_base.proofs.Common.{◌≡◌, ◌+◌, ℕ, Bool, true, false, Option, Some, None, nat_le, nat_lt, refl, sym, if◌then◌else◌, option_map, same_Some, none-some}
-use Rattle.rw_model.specs.Draft.{Draft}
-use Rattle.rw_series.specs.Fire.{Fire}
-use Rattle.rw_run.specs.declared.fault.RunFault.TheVariants.{ObjectLimit, RuleLimit}
-use Rattle.rw_run.specs.Dispatch.{dispatched}
-use Rattle.rw_run.specs.Frame.{IsFault}
-use Rattle.rw_run.specs.Log.{Event, Log, cells_of, opened, closed, fault, value_in}
-use Rattle.rw_run.specs.Next.{Policy, after_objects, dispatches, ended, firing_of, firings, first_due, next_of}
-use Rattle.rw_run.specs.Runs.{Standing, follows_in, inside, over, rests, standing}
-use Rattle.rw_run.specs.Waiting.{first_waiting}
+use Rattle.rw_laws.proofs.Common.{Bool, Draft, Event, Fire, IsFault, Log, None, ObjectLimit, Option, Policy, RuleLimit, Some, Standing, after_objects, cells_of, closed, dispatched, dispatches, ended, false, fault, firing_of, firings, first_due, first_waiting, follows_in, if◌then◌else◌, inside, nat_le, nat_lt, next_of, none-some, opened, option_map, over, refl, rests, same_Some, standing, sym, true, value_in, ℕ, ◌+◌, ◌≡◌}
 
 pub record Opens (log : Log) (event : Event) : Type 0 where
   pub step : ℕ

@@ -1,19 +1,6 @@
 -- What a timestep that was closed holds stays so to the end of the run.
-use Rattle.rw_base.proofs.Common.{◌≡◌, ◌≢◌, ◌≤◌, ◌<◌, ◌+◌, ◌==◌, ℕ, ℤ, Bool, true, false, List, [], ◌∷◌, Some, None, refl, sym, ap, subst, ◌∙◌, arith, nat_tests, inl, inr, ◌⊎◌, if◌then◌else◌, option_or, All, same_Some, none-some}
-use Rattle.rw_base.specs.declared.number.Cell.{Cell}
-use Rattle.rw_model.specs.Draft.{Draft}
-use Rattle.rw_model.proofs.Common.{IsBasin}
-use Rattle.rw_series.specs.Fire.{Fire}
-use Rattle.rw_series.specs.declared.fire.FireEnd.{FireEnd}
-use Rattle.rw_series.specs.declared.fire.FireEnd.TheVariants.{Done, Unknown, ZeroDivisor as DividesByZero, OutOfRange as EndsOutside}
-use Rattle.rw_run.specs.Frame.{IsFault}
-use Rattle.rw_run.specs.Log.{Asked, Event, Log, cells_of, closed, fault, given, opened, value_in, written_by}
-use Rattle.rw_run.specs.Next.{Policy, ended}
-use Rattle.rw_run.specs.Policy.{CanAsk, IsPolicyOf}
-use Rattle.rw_run.specs.RunOf.{last_closed}
-use Rattle.rw_run.specs.Runs.{IsRun, Leads, Standing, inside, over, placed, rests, standing}
-use Rattle.rw_run.specs.Step.{before_closing, is_closing}
-use Rattle.rw_run.proofs.Placed.{closed-placed, standing-placed}
+use Rattle.rw_laws.proofs.Common.{All, Asked, Bool, CanAsk, Cell, DividesByZero, Done, Draft, EndsOutside, Event, Fire, FireEnd, IsBasin, IsFault, IsPolicyOf, IsRun, Leads, List, Log, None, Policy, Some, Standing, Unknown, [], ap, arith, before_closing, cells_of, closed, closed-placed, ended, false, fault, if◌then◌else◌, inl, inr, inside, is_closing, last_closed, nat_tests, none-some, opened, option_or, over, placed, refl, rests, same_Some, standing, standing-placed, subst, sym, true, value_in, written_by, ℕ, ℤ, ◌+◌, ◌<◌, ◌==◌, ◌∙◌, ◌∷◌, ◌≡◌, ◌≢◌, ◌≤◌, ◌⊎◌}
+use Rattle.rw_run.specs.Log.{given}
 use Rattle.rw_laws.proofs.Agenda.{due_is_rule}
 use Rattle.rw_laws.proofs.Came.{Came, asks, came, closes, ends, fires, opens}
 use Rattle.rw_laws.proofs.Dispatches.{Asked_of, asked_of, idles, solves, stops, weaker_all}

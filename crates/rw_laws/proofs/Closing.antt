@@ -1,21 +1,6 @@
 -- What holds where a timestep of a run is closed.
-use Rattle.rw_base.proofs.Common.{◌≡◌, ◌≤◌, ◌==◌, ℕ, ℤ, Bool, true, false, List, [], ◌∷◌, Some, refl, sym, ap, subst, ◌∙◌, arith, nat_tests, if◌then◌else◌, AllByRecursion, same_Some, none-some}
-use Rattle.rw_base.specs.declared.number.Cell.{Cell}
-use Rattle.rw_model.specs.declared.kind.Kind.{Kind}
-use Rattle.rw_model.specs.declared.writer.Writer.TheVariants.{Object as ByObject}
-use Rattle.rw_model.specs.Draft.{Draft}
-use Rattle.rw_model.proofs.Common.{IsBasin, IsKind}
-use Rattle.rw_method.specs.declared.view.View.{View}
-use Rattle.rw_series.specs.Fire.{Fire}
-use Rattle.rw_series.specs.declared.fire.FireEnd.{FireEnd}
-use Rattle.rw_series.specs.declared.fire.FireEnd.TheVariants.{Done, Unknown, ZeroDivisor as DividesByZero, OutOfRange as EndsOutside}
-use Rattle.rw_run.specs.Dispatch.{asked_for, dispatch_of, looks_at, looks_of, puts_written, view_of}
-use Rattle.rw_run.specs.Frame.{IsFault, cells_looked}
-use Rattle.rw_run.specs.Log.{Cells, Event, Firing, Log, cells_of, fault, fired, given, idle, value_in}
-use Rattle.rw_run.specs.Next.{Policy, asked_of_rule, ended, last_firing, last_ones}
-use Rattle.rw_run.specs.Policy.{IsPolicyOf}
-use Rattle.rw_run.specs.Runs.{IsRun, Leads, Standing, inside, over, placed, rests, standing}
-use Rattle.rw_run.specs.Step.{before_closing, is_closing}
+use Rattle.rw_laws.proofs.Common.{AllByRecursion, Bool, ByObject, Cell, Cells, DividesByZero, Done, Draft, EndsOutside, Event, Fire, FireEnd, Firing, IsBasin, IsFault, IsKind, IsPolicyOf, IsRun, Kind, Leads, List, Log, Policy, Some, Standing, Unknown, View, [], ap, arith, asked_for, asked_of_rule, before_closing, cells_looked, cells_of, dispatch_of, ended, false, fault, fired, idle, if◌then◌else◌, inside, is_closing, last_firing, last_ones, looks_at, looks_of, nat_tests, none-some, over, placed, puts_written, refl, rests, same_Some, standing, subst, sym, true, value_in, view_of, ℕ, ℤ, ◌==◌, ◌∙◌, ◌∷◌, ◌≡◌, ◌≤◌}
+use Rattle.rw_run.specs.Log.{given}
 use Rattle.rw_laws.specs.Rules.{AllStandBy, EndsAs}
 use Rattle.rw_laws.proofs.Agenda.{due_is_rule}
 use Rattle.rw_laws.proofs.Came.{Came, Closes, Fires, asks, came, closes, ends, fires, opens}

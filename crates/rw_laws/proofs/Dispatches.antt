@@ -1,17 +1,6 @@
 -- What a dispatch comes to: an object is idle, or it asks for puts of which none is denied, or the run ends by a fault.
-use Rattle.rw_base.proofs.Common.{◌≡◌, ℕ, Bool, true, false, cond, List, [], ◌∷◌, map, Option, Some, None, refl, sym, ap, subst, ◌∙◌, inl, inr, ◌⊎◌, option_map, unwrap_or, filter, AllByRecursion, none-some}
-use Rattle.rw_model.specs.declared.kind.Kind.{Kind}
-use Rattle.rw_model.specs.declared.put.PutEnd.{PutEnd}
-use Rattle.rw_model.specs.declared.put.PutEnd.TheVariants.{Written, Kept, Denied}
-use Rattle.rw_model.specs.Draft.{Draft}
-use Rattle.rw_model.proofs.Common.{Object, object_at}
-use Rattle.rw_method.specs.declared.put.Put.{Put}
-use Rattle.rw_method.specs.declared.solved.Solved.{Solved}
-use Rattle.rw_method.specs.declared.solved.Solved.TheVariants.{Idle, Puts, Conflict, OutOfRange}
-use Rattle.rw_method.specs.Solve.{solve_of}
-use Rattle.rw_run.specs.Dispatch.{answered, asked_for, denied_by, dispatch_of, dispatched, end_in, is_written, judged, looks_of, or_fault, puts_written, solved_by, view_of}
-use Rattle.rw_run.specs.Frame.{IsFault}
-use Rattle.rw_run.specs.Log.{Asked, Cells, Event, idle}
+use Rattle.rw_laws.proofs.Common.{AllByRecursion, Asked, Bool, Cells, Conflict, Denied, Draft, Event, IsFault, Kept, Kind, List, None, Object, Option, OutOfRange, Put, PutEnd, Puts, Solved, Some, Written, [], answered, ap, asked_for, cond, denied_by, dispatch_of, dispatched, end_in, false, filter, idle, inl, inr, is_written, judged, looks_of, map, none-some, object_at, option_map, or_fault, puts_written, refl, solve_of, solved_by, subst, sym, true, unwrap_or, view_of, ℕ, ◌∙◌, ◌∷◌, ◌≡◌, ◌⊎◌}
+use Rattle.rw_method.specs.declared.solved.Solved.TheVariants.{Idle}
 use Rattle.rw_laws.proofs.PutRules.{is_written_fact}
 
 -- a put isn't denied

@@ -1,10 +1,5 @@
 -- A table gives what evaporates of a storage that has an elevation, at a rate that isn't below 0.
-use Rattle.rw_base.proofs.Common.{◌≡◌, ◌&&◌, ℤ, pos, ◌-ℤ◌, ◌≤ℤ◌, Bool, true, false, List, Some, None, refl, sym, ap, ap₂, ◌∙◌, arith, ints, if◌then◌else◌, int_le, int_lt, int_max, cond_both, option_and_then, unsigned_abs, and_parts, same_Some, none-some}
-use Rattle.rw_table.specs.Table.{IsTable, Row}
-use Rattle.rw_table.specs.Curve.{IsElevationInside, IsVolumeInside, elev_of, first_row, greatest_up_to, last_row, vol_of}
-use Rattle.rw_table.proofs.Elevation.{elev_held}
-use Rattle.rw_table.proofs.Volume.{has_volume_inside}
-use Rattle.rw_method.specs.Contents.{difference, evaporated}
+use Rattle.rw_laws.proofs.Common.{Bool, IsElevationInside, IsTable, IsVolumeInside, List, None, Row, Some, and_parts, ap, ap₂, arith, cond_both, difference, elev_held, elev_of, evaporated, false, first_row, greatest_up_to, has_volume_inside, if◌then◌else◌, int_le, int_lt, int_max, ints, last_row, none-some, option_and_then, pos, refl, same_Some, sym, true, unsigned_abs, vol_of, ℤ, ◌&&◌, ◌-ℤ◌, ◌∙◌, ◌≡◌, ◌≤ℤ◌}
 
 -- a volume that has an elevation is inside the table
 inside_by : (rows : List Row) (s e : ℤ) (test : Bool) → (int_le (first_row rows).1 s && int_le s (last_row rows).1) ≡ test

@@ -1,17 +1,6 @@
 -- What is left of the last firing of each rule, and that each would do the same again where the timestep is closed.
-use Rattle.rw_base.proofs.Common.{◌≡◌, ◌≢◌, ◌≤◌, ◌<◌, ◌==◌, ℕ, ℤ, Bool, true, false, not, ◌||◌, List, [], ◌∷◌, Option, Some, None, refl, sym, ap, subst, ◌∙◌, arith, nat_tests, inl, inr, ◌⊎◌, option_map, option_or, AllByRecursion, Decides-int_eq}
-use Rattle.rw_base.specs.declared.number.Cell.{Cell}
-use Rattle.rw_model.specs.declared.put.PutEnd.{PutEnd}
-use Rattle.rw_model.specs.declared.put.PutEnd.TheVariants.{Written, Kept, Denied}
-use Rattle.rw_model.specs.declared.writer.Writer.{Writer}
-use Rattle.rw_model.specs.declared.writer.Writer.TheVariants.{Input, Rule, Object as ByObject}
-use Rattle.rw_model.specs.Draft.{Draft}
-use Rattle.rw_series.specs.Fire.{Fire}
-use Rattle.rw_run.specs.Dispatch.{end_in, looks_at, puts_written}
-use Rattle.rw_run.specs.Frame.{AreAlike}
-use Rattle.rw_run.specs.Log.{Asked, Cells, Event, Firing, Log, cells_of, last_put, value_in, written_by}
-use Rattle.rw_run.specs.Next.{Policy, first_due, is_changed, is_same_value, last_firing, last_ones}
-use Rattle.rw_run.specs.Policy.{IsPolicyOf}
+use Rattle.rw_laws.proofs.Common.{AllByRecursion, AreAlike, Asked, Bool, ByObject, Cell, Cells, Decides-int_eq, Denied, Draft, Event, Fire, Firing, Input, IsPolicyOf, Kept, List, Log, None, Option, Policy, PutEnd, Rule, Some, Writer, Written, [], ap, arith, cells_of, end_in, false, first_due, inl, inr, is_changed, last_firing, last_ones, last_put, looks_at, nat_tests, not, option_map, option_or, puts_written, refl, subst, sym, true, value_in, written_by, ℕ, ℤ, ◌<◌, ◌==◌, ◌||◌, ◌∙◌, ◌∷◌, ◌≡◌, ◌≢◌, ◌≤◌, ◌⊎◌}
+use Rattle.rw_run.specs.Next.{is_same_value}
 use Rattle.rw_laws.specs.Rules.{AllStandBy, IsFiringOf, IsHeldOr, StandsBy}
 use Rattle.rw_laws.proofs.Agenda.{none_due}
 use Rattle.rw_laws.proofs.Dispatches.{weaker_all}

@@ -1,26 +1,5 @@
 -- An object that is idle doesn't know all its terms, so that nothing is asked of its balance.
-use Rattle.rw_base.proofs.Common.{◌≡◌, ◌≢◌, ◌≤◌, ◌+◌, ◌==◌, ◌&&◌, not, ℕ, zero, suc, ℤ, pos, nat_le, Bool, true, false, List, [], ◌∷◌, map, Option, Some, None, is_some, refl, sym, ap, ap₂, ◌∙◌, arith, nat_tests, inl, inr, if◌then◌else◌, option_map, AllByRecursion, int_eq, ◌+ℤ◌, ◌-ℤ◌, none-some}
-use Rattle.rw_table.specs.Table.{Row}
-use Rattle.rw_model.specs.declared.content.Content.{Content}
-use Rattle.rw_model.specs.declared.kind.Kind.{Kind}
-use Rattle.rw_model.specs.declared.kind.Kind.TheVariants.{DataObject, Gage, Confluence, Bifurcation, Reach, Reservoir, WaterUser, Canal}
-use Rattle.rw_model.specs.declared.kind.Supply.TheVariants.{Request, Rule as ByRule}
-use Rattle.rw_method.specs.declared.balanced.Balanced.{Balanced}
-use Rattle.rw_method.specs.declared.balanced.Balanced.TheVariants.{Conflicts, Holds, Idle, Solves}
-use Rattle.rw_method.specs.declared.basis.Basis.{Basis}
-use Rattle.rw_method.specs.declared.basis.Basis.TheVariants.{Nothing, Storage, Elevation}
-use Rattle.rw_method.specs.declared.given.Given.{Given}
-use Rattle.rw_method.specs.declared.put.Put.{Put}
-use Rattle.rw_method.specs.declared.solved.Solved.{Solved}
-use Rattle.rw_method.specs.declared.solved.Solved.TheVariants.{Idle as IdleAnswer, Puts, Conflict, OutOfRange}
-use Rattle.rw_method.specs.declared.term.Term.{Term}
-use Rattle.rw_method.specs.declared.view.View.{View}
-use Rattle.rw_method.specs.Balance.{balance_of, sum_of}
-use Rattle.rw_method.specs.Contents.{agree, basis_of, can_hold, difference, disagreement, fault_of_basis, volume_of}
-use Rattle.rw_method.specs.Puts.{puts_of}
-use Rattle.rw_method.specs.Settling.{missing, settled, settled_at, solves, weakest, net_of, value_from_others}
-use Rattle.rw_method.specs.Solve.{all_or_misfit, answer, balanced_of, fault_of_contents, fault_of_past, first_misfit, fits, or_else, solve_of}
-use Rattle.rw_method.specs.View.{given, known}
+use Rattle.rw_laws.proofs.Common.{AllByRecursion, Balanced, Basis, Bifurcation, Bool, ByRule, Canal, Conflict, Conflicts, Confluence, Content, DataObject, Elevation, Gage, Given, Holds, Idle, IdleAnswer, Kind, List, None, Nothing, Option, OutOfRange, Put, Puts, Reach, Request, Reservoir, Row, Solved, Solves, Some, Storage, Term, View, WaterUser, [], agree, all_or_misfit, answer, ap, ap₂, arith, balance_of, balanced_of, basis_of, can_hold, difference, disagreement, false, fault_of_basis, fault_of_contents, fault_of_past, first_misfit, fits, given, if◌then◌else◌, inl, inr, int_eq, is_some, known, map, missing, nat_le, nat_tests, net_of, none-some, not, option_map, or_else, pos, puts_of, refl, settled, settled_at, solve_of, solves, suc, sum_of, sym, true, value_from_others, volume_of, weakest, zero, ℕ, ℤ, ◌&&◌, ◌+ℤ◌, ◌+◌, ◌-ℤ◌, ◌==◌, ◌∙◌, ◌∷◌, ◌≡◌, ◌≢◌, ◌≤◌}
 use Rattle.rw_laws.specs.Balances.{IsBalanced, IsHeld}
 use Rattle.rw_laws.specs.Left.{Left}
 use Rattle.rw_laws.proofs.Leaving.{from_left}

@@ -1,15 +1,5 @@
 -- The puts of a firing that aren't put again: what is written of them is found, and nothing else is.
-use Rattle.rw_base.proofs.Common.{◌≡◌, ◌≢◌, ◌==◌, ◌&&◌, ◌||◌, Bool, true, false, cond, List, [], ◌∷◌, Some, None, refl, sym, ap, ap₂, subst, ◌∙◌, arith, nat_tests, inl, inr, if◌then◌else◌, option_or, AllByRecursion}
-use Rattle.rw_base.specs.declared.number.Cell.{Cell}
-use Rattle.rw_model.specs.declared.content.Content.{Content}
-use Rattle.rw_model.specs.declared.put.PutEnd.{PutEnd}
-use Rattle.rw_model.specs.declared.put.PutEnd.TheVariants.{Written, Kept, Denied}
-use Rattle.rw_model.specs.Draft.{Draft, IsSlot}
-use Rattle.rw_series.specs.Series.{is_shared}
-use Rattle.rw_series.proofs.Sharing.{among_group, known_number, same_turned, together_turned}
-use Rattle.rw_run.specs.Dispatch.{end_in, is_written, puts_written}
-use Rattle.rw_run.specs.Log.{Asked, Cells, last_put}
-use Rattle.rw_run.specs.Next.{is_put_again, last_ones}
+use Rattle.rw_laws.proofs.Common.{AllByRecursion, Asked, Bool, Cell, Cells, Content, Denied, Draft, IsSlot, Kept, List, None, PutEnd, Some, Written, [], among_group, ap, ap₂, arith, cond, end_in, false, if◌then◌else◌, inl, inr, is_put_again, is_shared, is_written, known_number, last_ones, last_put, nat_tests, option_or, puts_written, refl, same_turned, subst, sym, together_turned, true, ◌&&◌, ◌==◌, ◌||◌, ◌∙◌, ◌∷◌, ◌≡◌, ◌≢◌}
 use Rattle.rw_laws.proofs.OwnPuts.{Among}
 
 abbrev pub IsAt : Draft → Asked → Type 0

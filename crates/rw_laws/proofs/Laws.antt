@@ -1,16 +1,5 @@
 -- The laws of priority, of rules and of balance, and what every run keeps.
-use Rattle.rw_base.proofs.Common.{◌≡◌, ◌≤◌, ◌∙◌, ℕ, ℤ, List, Some, subst, sym}
-use Rattle.rw_base.specs.declared.number.Cell.{Cell}
-use Rattle.rw_model.specs.Draft.{Draft}
-use Rattle.rw_model.proofs.Common.{IsBasin}
-use Rattle.rw_series.specs.Series.{held}
-use Rattle.rw_run.specs.declared.run.Run.{Run}
-use Rattle.rw_run.specs.Log.{Log, cells_of}
-use Rattle.rw_run.specs.Next.{Policy}
-use Rattle.rw_run.specs.Policy.{IsPolicyOf}
-use Rattle.rw_run.specs.RunOf.{IsRunOf}
-use Rattle.rw_run.specs.Runs.{IsRun}
-use Rattle.rw_run.specs.Step.{before_closing}
+use Rattle.rw_laws.proofs.Common.{Cell, Draft, IsBasin, IsPolicyOf, IsRun, IsRunOf, List, Log, Policy, Run, Some, before_closing, cells_of, held, subst, sym, ℕ, ℤ, ◌∙◌, ◌≡◌, ◌≤◌}
 use Rattle.rw_laws.specs.Balances.{AllBalanced, IsBalanced}
 use Rattle.rw_laws.specs.Laws.{KeepsLaws}
 use Rattle.rw_laws.specs.Left.{Left}

@@ -1,20 +1,5 @@
 -- A dispatch keeps what it is kept by: which facts of a kind's puts are enough.
-use Rattle.rw_base.proofs.Common.{◌≡◌, ◌≢◌, ◌≤◌, ◌==◌, ℕ, ℤ, Bool, true, false, List, [], ◌∷◌, map, Option, Some, None, IsSome, refl, sym, ap, subst, ◌∙◌, arith, nat_tests, inl, inr, ◌⊎◌, if◌then◌else◌, rules, All, AllByRecursion, Contains, same_Some, none-some}
-use Rattle.rw_model.specs.declared.content.Content.{Content}
-use Rattle.rw_model.specs.declared.kind.Kind.{Kind}
-use Rattle.rw_model.specs.declared.writer.Writer.TheVariants.{Object as ByObject}
-use Rattle.rw_model.specs.Put.{is_same_object}
-use Rattle.rw_method.specs.declared.balanced.Balanced.{Balanced}
-use Rattle.rw_method.specs.declared.balanced.Balanced.TheVariants.{Conflicts, Holds, Idle, Solves}
-use Rattle.rw_method.specs.declared.given.Given.{Given}
-use Rattle.rw_method.specs.declared.put.Put.{Put}
-use Rattle.rw_method.specs.declared.term.Term.{Term}
-use Rattle.rw_method.specs.declared.view.View.{View}
-use Rattle.rw_method.specs.Puts.{held_by, known_after}
-use Rattle.rw_method.specs.Solve.{balanced_of}
-use Rattle.rw_method.specs.Settling.{number_of, settled}
-use Rattle.rw_method.specs.Term.{IsShare}
-use Rattle.rw_method.specs.View.{known}
+use Rattle.rw_laws.proofs.Common.{All, AllByRecursion, Balanced, Bool, ByObject, Conflicts, Contains, Content, Given, Holds, Idle, IsShare, IsSome, Kind, List, None, Option, Put, Solves, Some, Term, View, [], ap, arith, balanced_of, false, held_by, if◌then◌else◌, inl, inr, is_same_object, known, known_after, map, nat_tests, none-some, number_of, refl, rules, same_Some, settled, subst, sym, true, ℕ, ℤ, ◌==◌, ◌∙◌, ◌∷◌, ◌≡◌, ◌≢◌, ◌≤◌, ◌⊎◌}
 use Rattle.rw_laws.specs.Left.{IsGivenUpTo, IsUpTo, Left, Rest, is_own, rest, rests_of}
 use Rattle.rw_laws.specs.Passing.{IsAfter, Passes, content_of}
 use Rattle.rw_laws.proofs.OwnPuts.{Among, all_at, among}

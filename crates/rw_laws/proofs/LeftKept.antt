@@ -1,22 +1,5 @@
 -- What dispatches leave is kept by every event, whatever the kind.
-use Rattle.rw_base.proofs.Common.{◌≡◌, ◌≢◌, ◌≤◌, ◌<◌, ◌==◌, ℕ, zero, suc, ℤ, Bool, true, false, List, [], ◌∷◌, ◌++◌, Option, Some, None, refl, sym, ap, subst, ◌∙◌, arith, nat_tests, inl, inr, if◌then◌else◌, AllByRecursion}
-use Rattle.rw_table.specs.Table.{Row}
-use Rattle.rw_model.specs.declared.kind.Kind.{Kind}
-use Rattle.rw_model.specs.declared.kind.Kind.TheVariants.{DataObject, Gage, Confluence, Bifurcation, Reach, Reservoir, WaterUser, Canal}
-use Rattle.rw_model.specs.declared.kind.Supply.TheVariants.{Request, Rule as ByRule}
-use Rattle.rw_model.proofs.Common.{IsKind, IsStored}
-use Rattle.rw_method.specs.declared.balanced.Balanced.{Balanced}
-use Rattle.rw_method.specs.declared.balanced.Balanced.TheVariants.{Conflicts, Holds, Idle, Solves}
-use Rattle.rw_method.specs.declared.basis.Basis.{Basis}
-use Rattle.rw_method.specs.declared.basis.Basis.TheVariants.{Nothing, Storage, Elevation}
-use Rattle.rw_method.specs.declared.given.Given.{Given}
-use Rattle.rw_method.specs.declared.put.Put.{Put}
-use Rattle.rw_method.specs.declared.view.View.{View}
-use Rattle.rw_method.specs.Balance.{evaporation_of}
-use Rattle.rw_method.specs.Contents.{are_both_zero, basis_of, elevation_of, volume_of}
-use Rattle.rw_method.specs.Puts.{beside_basis, beside_given, evaporation_put, known_after, level_puts, put_found, release_puts, seepage_put, solved_put, user_puts}
-use Rattle.rw_method.specs.Solve.{balanced_of}
-use Rattle.rw_method.specs.View.{given}
+use Rattle.rw_laws.proofs.Common.{AllByRecursion, Balanced, Basis, Bifurcation, Bool, ByRule, Canal, Conflicts, Confluence, DataObject, Elevation, Gage, Given, Holds, Idle, IsKind, IsStored, Kind, List, None, Nothing, Option, Put, Reach, Request, Reservoir, Row, Solves, Some, Storage, View, WaterUser, [], ap, are_both_zero, arith, balanced_of, basis_of, beside_basis, beside_given, elevation_of, evaporation_of, evaporation_put, false, given, if◌then◌else◌, inl, inr, known_after, level_puts, nat_tests, put_found, refl, release_puts, seepage_put, solved_put, subst, suc, sym, true, user_puts, volume_of, zero, ℕ, ℤ, ◌++◌, ◌<◌, ◌==◌, ◌∙◌, ◌∷◌, ◌≡◌, ◌≢◌, ◌≤◌}
 use Rattle.rw_laws.specs.Left.{Left}
 use Rattle.rw_laws.proofs.Answering.{Answered, answered}
 use Rattle.rw_laws.proofs.Leaving.{DispatchFacts, Solving, begins, from_left, others, own_falls, own_left, to_left}

@@ -1,3 +1,4 @@
+pub mod Common
 pub mod Linked
 pub mod Came
 pub mod PutRules

@@ -1,10 +1,5 @@
 -- Cells that share their value hold alike after any log.
-use Rattle.rw_base.proofs.Common.{◌≡◌, ◌==◌, ◌&&◌, Bool, true, false, List, [], ◌∷◌, Some, None, refl, sym, ap, ap₂, ◌∙◌, if◌then◌else◌, option_or, inl, inr, ◌⊎◌, AllByRecursion}
-use Rattle.rw_base.specs.declared.number.Cell.{Cell}
-use Rattle.rw_model.specs.Draft.{Draft, IsSlot}
-use Rattle.rw_series.specs.Series.{is_shared}
-use Rattle.rw_series.proofs.Sharing.{Shared-of, among_group, known_number, together_alike}
-use Rattle.rw_run.specs.Log.{Asked, Log, cells_of, last_put, written_by}
+use Rattle.rw_laws.proofs.Common.{AllByRecursion, Asked, Bool, Cell, Draft, IsSlot, List, Log, None, Shared-of, Some, [], among_group, ap, ap₂, cells_of, false, if◌then◌else◌, inl, inr, is_shared, known_number, last_put, option_or, refl, sym, together_alike, true, written_by, ◌&&◌, ◌==◌, ◌∙◌, ◌∷◌, ◌≡◌, ◌⊎◌}
 use Rattle.rw_laws.specs.Links.{AreLinked}
 
 -- one of the puts is what they leave in the cell

@@ -1,18 +1,5 @@
 -- What the held values of a balance's terms bring, all together, once an object was dispatched.
-use Rattle.rw_base.proofs.Common.{◌≡◌, ◌≢◌, ℕ, ℤ, pos, ◌+ℤ◌, Bool, true, false, List, [], ◌∷◌, ◌++◌, map, Option, Some, None, IsSome, refl, sym, ap, ap₂, subst, ◌∙◌, arith, ints, inl, inr, option_map, All, All-contains, AllByRecursion, Contains, get_or, recursion_from_All, same_Some}
-use Rattle.std.proofs.lemmas.List.Elements.{Contains-get_or, Contains-append_left, Contains-append_right}
-use Rattle.rw_model.specs.declared.content.Content.{Content}
-use Rattle.rw_model.specs.declared.kind.Kind.{Kind}
-use Rattle.rw_method.specs.declared.balanced.Balanced.{Balanced}
-use Rattle.rw_method.specs.declared.balanced.Balanced.TheVariants.{Holds, Solves}
-use Rattle.rw_method.specs.declared.given.Given.{Given}
-use Rattle.rw_method.specs.declared.put.Put.{Put}
-use Rattle.rw_method.specs.declared.term.Term.{Term}
-use Rattle.rw_method.specs.declared.view.View.{View}
-use Rattle.rw_method.specs.Settling.{net_of, settled}
-use Rattle.rw_method.specs.Term.{brought, brought_by}
-use Rattle.rw_method.specs.View.{known_value}
-use Rattle.rw_method.proofs.SolvedTerm.{solved_term}
+use Rattle.rw_laws.proofs.Common.{All, All-contains, AllByRecursion, Balanced, Bool, Contains, Contains-append_left, Contains-append_right, Contains-get_or, Content, Given, Holds, IsSome, Kind, List, None, Option, Put, Solves, Some, Term, View, [], ap, ap₂, arith, brought, brought_by, false, get_or, inl, inr, ints, known_value, map, net_of, option_map, pos, recursion_from_All, refl, same_Some, settled, solved_term, subst, sym, true, ℕ, ℤ, ◌++◌, ◌+ℤ◌, ◌∙◌, ◌∷◌, ◌≡◌, ◌≢◌}
 use Rattle.rw_laws.specs.Passing.{IsAfter}
 use Rattle.rw_laws.proofs.Answering.{Answered}
 use Rattle.rw_laws.proofs.Leaving.{DispatchFacts, Solving, holds_given}

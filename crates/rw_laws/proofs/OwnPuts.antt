@@ -1,21 +1,5 @@
 -- What an object's own dispatch leaves in its slots.
-use Rattle.rw_base.proofs.Common.{◌≡◌, ◌≢◌, ◌≤◌, ◌<◌, ◌==◌, ℕ, zero, suc, Bool, true, false, cond, List, [], ◌∷◌, length, Option, Some, None, refl, sym, ap, subst, ◌∙◌, arith, nat_tests, inl, inr, ◌⊎◌, if◌then◌else◌, option_or, AllByRecursion, recursion_from_All, Contains, get_or, none-some}
-use Rattle.std.proofs.lemmas.List.Elements.{Contains-get_or}
-use Rattle.rw_base.specs.declared.number.Cell.{Cell}
-use Rattle.rw_model.specs.declared.content.Content.{Content}
-use Rattle.rw_model.specs.declared.put.PutEnd.{PutEnd}
-use Rattle.rw_model.specs.declared.put.PutEnd.TheVariants.{Written, Kept, Denied}
-use Rattle.rw_model.specs.Draft.{Draft, IsSlot}
-use Rattle.rw_model.specs.Put.{end_of_put}
-use Rattle.rw_model.proofs.Common.{known_in_place, IsBasin}
-use Rattle.rw_method.specs.declared.put.Put.{Put}
-use Rattle.rw_method.specs.declared.view.View.{View}
-use Rattle.rw_method.specs.View.{known}
-use Rattle.rw_series.specs.Series.{is_shared}
-use Rattle.rw_series.specs.declared.look.Look.{Look}
-use Rattle.rw_series.proofs.Sharing.{Shared-of, among_group, known_number}
-use Rattle.rw_run.specs.Dispatch.{asked_by, asked_for, cell_at, dispatch_of, end_in, is_written, puts_written, view_of}
-use Rattle.rw_run.specs.Log.{Asked, Cells, Event, Log, cells_of, last_put}
+use Rattle.rw_laws.proofs.Common.{AllByRecursion, Asked, Bool, Cell, Cells, Contains, Contains-get_or, Content, Denied, Draft, Event, IsBasin, IsSlot, Kept, List, Log, Look, None, Option, Put, PutEnd, Shared-of, Some, View, Written, [], among_group, ap, arith, asked_by, asked_for, cell_at, cells_of, cond, dispatch_of, end_in, end_of_put, false, get_or, if◌then◌else◌, inl, inr, is_shared, is_written, known, known_in_place, known_number, last_put, length, nat_tests, none-some, option_or, puts_written, recursion_from_All, refl, subst, suc, sym, true, view_of, zero, ℕ, ◌<◌, ◌==◌, ◌∙◌, ◌∷◌, ◌≡◌, ◌≢◌, ◌≤◌, ◌⊎◌}
 use Rattle.rw_laws.specs.Passing.{IsAfter, IsKept, IsWritten}
 use Rattle.rw_laws.proofs.Apart.{one_slot}
 use Rattle.rw_laws.proofs.Dispatches.{AreFine, IsFine, both_all, mapped_all, weaker_all, written_all}

@@ -1,7 +1,5 @@
 -- The slot that an object has in a place is the object's, and is in no other place.
-use Rattle.rw_base.proofs.Common.{◌≡◌, ◌≤◌, ◌+◌, ◌-◌, ◌==◌, ◌&&◌, ℕ, suc, Bool, true, false, List, [], ◌∷◌, Some, refl, sym, ap, ◌∙◌, arith, nat_tests, slice_get, option_map, unwrap_or, if◌then◌else◌}
-use Rattle.rw_model.specs.Links.{owner_of}
-use Rattle.rw_model.proofs.Common.{Object, Placed, all_slots, first_from, is_in_place, slot_at, slot_in_place, numbered-known}
+use Rattle.rw_laws.proofs.Common.{Bool, List, Object, Placed, Some, [], all_slots, ap, arith, false, first_from, if◌then◌else◌, is_in_place, nat_tests, numbered-known, option_map, owner_of, refl, slice_get, slot_at, slot_in_place, suc, sym, true, unwrap_or, ℕ, ◌&&◌, ◌+◌, ◌-◌, ◌==◌, ◌∙◌, ◌∷◌, ◌≡◌, ◌≤◌}
 
 record IsFound (n k : ℕ) (test : Placed → Bool) (slots : List Placed) : Type 0 where
   placed : Placed

@@ -1,22 +1,5 @@
 -- The kinds whose terms are slots: all but the reservoir.
-use Rattle.rw_base.proofs.Common.{◌≡◌, ◌≢◌, ◌≤◌, ◌==◌, ℕ, zero, suc, ℤ, Bool, true, false, List, [], ◌∷◌, ◌++◌, map, Option, Some, None, IsSome, refl, sym, ap, subst, ◌∙◌, arith, nat_tests, inl, inr, ◌⊎◌, option_map, All, All-nil, All-cons, AllByRecursion, Contains, same_Some, none-some}
-use Rattle.rw_model.specs.declared.content.Content.{Content}
-use Rattle.rw_model.specs.declared.kind.Kind.{Kind}
-use Rattle.rw_model.specs.declared.kind.Kind.TheVariants.{DataObject, Gage, Confluence, Bifurcation, Reach, WaterUser, Canal}
-use Rattle.rw_model.specs.declared.data_slots.DataSlot.{DataSlot}
-use Rattle.rw_model.specs.declared.kind.Supply.{Supply}
-use Rattle.rw_model.specs.declared.kind.Supply.TheVariants.{Request, Rule as ByRule}
-use Rattle.rw_method.specs.declared.balanced.Balanced.{Balanced}
-use Rattle.rw_method.specs.declared.balanced.Balanced.TheVariants.{Conflicts, Holds, Idle, Solves}
-use Rattle.rw_method.specs.declared.given.Given.{Given}
-use Rattle.rw_method.specs.declared.put.Put.{Put}
-use Rattle.rw_method.specs.declared.share.Share.TheVariants.{Takes, Conveys}
-use Rattle.rw_method.specs.declared.term.Term.{Term}
-use Rattle.rw_method.specs.declared.view.View.{View}
-use Rattle.rw_method.specs.Puts.{known_after, puts_of, seepage_put, solved_put, user_puts}
-use Rattle.rw_method.specs.Solve.{balanced_of}
-use Rattle.rw_method.specs.Term.{IsShare}
-use Rattle.rw_method.specs.View.{given, known}
+use Rattle.rw_laws.proofs.Common.{All, All-cons, All-nil, AllByRecursion, Balanced, Bifurcation, Bool, ByRule, Canal, Conflicts, Confluence, Contains, Content, Conveys, DataObject, DataSlot, Gage, Given, Holds, Idle, IsShare, IsSome, Kind, List, None, Option, Put, Reach, Request, Solves, Some, Supply, Takes, Term, View, WaterUser, [], ap, arith, balanced_of, false, given, inl, inr, known, known_after, map, nat_tests, none-some, option_map, puts_of, refl, same_Some, seepage_put, solved_put, subst, suc, sym, true, user_puts, zero, ℕ, ℤ, ◌++◌, ◌==◌, ◌∙◌, ◌∷◌, ◌≡◌, ◌≢◌, ◌≤◌, ◌⊎◌}
 use Rattle.rw_laws.specs.Left.{IsGivenUpTo, Rest, rest, rests_of}
 use Rattle.rw_laws.proofs.Answering.{Answered}
 use Rattle.rw_laws.proofs.Leaving.{DispatchFacts, IsBase, PutIs, Solving, holds_given, rests, solved}

@@ -1,10 +1,6 @@
 -- What the put rules say of a put that is written, kept or denied.
-use Rattle.rw_base.proofs.Common.{◌≡◌, ◌≤◌, ◌<◌, ◌==◌, ℕ, Bool, true, false, nat_le, Option, Some, None, refl, ap, arith, nat_tests, inl, inr, ◌⊎◌, if◌then◌else◌, and_parts, Decides-int_eq}
-use Rattle.rw_model.specs.declared.content.Content.{Content}
-use Rattle.rw_model.specs.declared.put.PutEnd.{PutEnd}
-use Rattle.rw_model.specs.declared.put.PutEnd.TheVariants.{Written, Kept, Denied}
-use Rattle.rw_run.specs.Dispatch.{is_written}
-use Rattle.rw_model.specs.Put.{end_of_put, gives_way, is_same_object, is_same_value}
+use Rattle.rw_laws.proofs.Common.{Bool, Content, Decides-int_eq, Denied, Kept, None, Option, PutEnd, Some, Written, and_parts, ap, arith, end_of_put, false, if◌then◌else◌, inl, inr, is_same_object, is_same_value, is_written, nat_le, nat_tests, refl, true, ℕ, ◌<◌, ◌==◌, ◌≡◌, ◌≤◌, ◌⊎◌}
+use Rattle.rw_model.specs.Put.{gives_way}
 
 abbrev pub end_code : PutEnd → ℕ
 end_code Written = 0

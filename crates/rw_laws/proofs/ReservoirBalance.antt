@@ -1,19 +1,6 @@
 -- The reservoir: where a dispatch answers puts, the balance of what is held then is true, storage and elevation go together, and each
 -- derived slot holds what is derived.
-use Rattle.rw_base.proofs.Common.{◌≡◌, ◌≤◌, ℕ, ℤ, pos, ◌-ℤ◌, Bool, true, false, List, [], ◌∷◌, ◌++◌, Option, Some, None, refl, sym, ap, ap₂, subst, ◌∙◌, arith, ints, inl, inr, is_some, unwrap_or, Contains, same_Some, none-some}
-use Rattle.std.specs.Int.{int_min}
-use Rattle.rw_table.specs.Table.{Row}
-use Rattle.rw_model.specs.declared.kind.Kind.{Kind}
-use Rattle.rw_model.specs.declared.kind.Kind.TheVariants.{Reservoir}
-use Rattle.rw_model.proofs.Common.{IsStored as HasParameters}
-use Rattle.rw_method.specs.declared.put.Put.{Put}
-use Rattle.rw_method.specs.declared.share.Share.TheVariants.{Brings, Takes}
-use Rattle.rw_method.specs.declared.view.View.{View}
-use Rattle.rw_method.specs.Balance.{evaporation_from, evaporation_of, side_flows, sum_of}
-use Rattle.rw_method.specs.Contents.{difference}
-use Rattle.rw_method.specs.Puts.{evaporation_put, known_after, level_puts, release_puts, solved_put}
-use Rattle.rw_method.specs.Solve.{balanced_of}
-use Rattle.rw_method.specs.View.{given, known_value}
+use Rattle.rw_laws.proofs.Common.{Bool, Brings, Contains, HasParameters, Kind, List, None, Option, Put, Reservoir, Row, Some, Takes, View, [], ap, ap₂, arith, balanced_of, difference, evaporation_from, evaporation_of, evaporation_put, false, given, inl, inr, int_min, ints, is_some, known_after, known_value, level_puts, none-some, pos, refl, release_puts, same_Some, side_flows, solved_put, subst, sum_of, sym, true, unwrap_or, ℕ, ℤ, ◌++◌, ◌-ℤ◌, ◌∙◌, ◌∷◌, ◌≡◌, ◌≤◌}
 use Rattle.rw_laws.specs.Balances.{IsBalanced, IsHeld, IsLevel, IsLost, IsReleased}
 use Rattle.rw_laws.specs.Passing.{IsAfter}
 use Rattle.rw_laws.proofs.Answering.{Answered}

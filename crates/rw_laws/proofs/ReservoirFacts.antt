@@ -1,28 +1,5 @@
 -- The reservoir, whose contents are given by its storage or by its elevation.
-use Rattle.rw_base.proofs.Common.{◌≡◌, ◌≢◌, ◌≤◌, ◌<◌, ◌==◌, ◌&&◌, not, ℕ, zero, suc, ℤ, pos, nat_le, Bool, true, false, List, [], ◌∷◌, ◌++◌, map, Option, Some, None, IsSome, is_some, refl, sym, ap, subst, ◌∙◌, arith, nat_tests, inl, inr, ◌⊎◌, if◌then◌else◌, option_map, unwrap_or, All, AllByRecursion, Contains, same_Some, none-some, and_parts, ap₂, ◌||◌, Decides-int_eq}
-use Rattle.rw_table.specs.Curve.{elev_of, vol_of}
-use Rattle.rw_table.specs.Table.{Row}
-use Rattle.rw_model.specs.declared.content.Content.{Content}
-use Rattle.rw_model.specs.declared.kind.Kind.{Kind}
-use Rattle.rw_model.specs.declared.kind.Kind.TheVariants.{Reservoir}
-use Rattle.rw_model.proofs.Common.{IsStored}
-use Rattle.rw_method.specs.declared.balanced.Balanced.{Balanced}
-use Rattle.rw_method.specs.declared.balanced.Balanced.TheVariants.{Conflicts, Holds, Idle, Solves}
-use Rattle.rw_method.specs.declared.basis.Basis.{Basis}
-use Rattle.rw_method.specs.declared.basis.Basis.TheVariants.{Nothing, Storage, Elevation}
-use Rattle.rw_method.specs.declared.given.Given.{Given}
-use Rattle.rw_method.specs.declared.put.Put.{Put}
-use Rattle.rw_method.specs.declared.share.Share.TheVariants.{Brings, Takes}
-use Rattle.rw_method.specs.declared.solved.Solved.{Solved}
-use Rattle.rw_method.specs.declared.solved.Solved.TheVariants.{Conflict, OutOfRange}
-use Rattle.rw_method.specs.declared.term.Term.{Term}
-use Rattle.rw_method.specs.declared.view.View.{View}
-use Rattle.rw_method.specs.Balance.{evaporation_of}
-use Rattle.rw_method.specs.Contents.{agree, are_both_zero, basis_of, can_hold, contents_by, disagreement, elevation_of, fault_of_basis, is_this, volume_of}
-use Rattle.rw_method.specs.Puts.{beside_basis, beside_given, evaporation_put, held_by, known_after, level_puts, put_found, release_puts, solved_put}
-use Rattle.rw_method.specs.Solve.{AllFit, balanced_of, fault_of_past, first_misfit, fits, is_held, or_else}
-use Rattle.rw_method.specs.Term.{IsShare}
-use Rattle.rw_method.specs.View.{given, known, known_value}
+use Rattle.rw_laws.proofs.Common.{All, AllByRecursion, AllFit, Balanced, Basis, Bool, Brings, Conflict, Conflicts, Contains, Content, Decides-int_eq, Elevation, Given, Holds, Idle, IsShare, IsSome, IsStored, Kind, List, None, Nothing, Option, OutOfRange, Put, Reservoir, Row, Solved, Solves, Some, Storage, Takes, Term, View, [], agree, and_parts, ap, ap₂, are_both_zero, arith, balanced_of, basis_of, beside_basis, beside_given, can_hold, contents_by, disagreement, elev_of, elevation_of, evaporation_of, evaporation_put, false, fault_of_basis, fault_of_past, first_misfit, fits, given, held_by, if◌then◌else◌, inl, inr, is_held, is_some, is_this, known, known_after, known_value, level_puts, map, nat_le, nat_tests, none-some, not, option_map, or_else, pos, put_found, refl, release_puts, same_Some, solved_put, subst, suc, sym, true, unwrap_or, vol_of, volume_of, zero, ℕ, ℤ, ◌&&◌, ◌++◌, ◌<◌, ◌==◌, ◌||◌, ◌∙◌, ◌∷◌, ◌≡◌, ◌≢◌, ◌≤◌, ◌⊎◌}
 use Rattle.rw_laws.specs.Left.{IsGivenUpTo, Rest, is_own, rest, rests_of}
 use Rattle.rw_laws.specs.Passing.{IsAfter}
 use Rattle.rw_laws.proofs.Answering.{Answered}

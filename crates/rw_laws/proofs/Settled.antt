@@ -1,14 +1,5 @@
 -- What a settled balance tells of its terms.
-use Rattle.rw_base.proofs.Common.{All, Contains, IsSome, List, None, Option, Some, [], ap, arith, cases_Bool, inl, inr, int_eq, nat_le, pos, refl, rules, subst, suc, sym, ℕ, ℤ, ◌++◌, ◌+ℤ◌, ◌==◌, ◌∙◌, ◌∷◌, ◌≡◌, ◌≢◌, ◌≤◌, ◌⊎◌, All-contains, Decides-int_eq}
-use Rattle.rw_method.specs.declared.balanced.Balanced.{Balanced}
-use Rattle.rw_method.specs.declared.balanced.Balanced.TheVariants.{Conflicts, Holds, Idle, Solves}
-use Rattle.rw_method.specs.declared.given.Given.{Given}
-use Rattle.rw_method.specs.declared.term.Term.{Term}
-use Rattle.rw_method.specs.Settling.{IsNoWeaker, IsStronger, missing, net_of, number_of, settled, settled_at, solves, value_from_others, weakest}
-use Rattle.rw_method.specs.Term.{IsShare}
-use Rattle.std.proofs.lemmas.List.Elements.{Contains-append_cases, Contains-append_left, Contains-append_right}
-use Rattle.rw_method.proofs.GivingWay.{gives_way}
-use Rattle.rw_method.proofs.SolvedTerm.{number_of_solved, solved_term}
+use Rattle.rw_laws.proofs.Common.{All, All-contains, Balanced, Conflicts, Contains, Contains-append_cases, Contains-append_left, Contains-append_right, Decides-int_eq, Given, Holds, Idle, IsNoWeaker, IsShare, IsSome, IsStronger, List, None, Option, Solves, Some, Term, [], ap, arith, cases_Bool, gives_way, inl, inr, int_eq, missing, nat_le, net_of, number_of, number_of_solved, pos, refl, rules, settled, settled_at, solved_term, solves, subst, suc, sym, value_from_others, weakest, ℕ, ℤ, ◌++◌, ◌+ℤ◌, ◌==◌, ◌∙◌, ◌∷◌, ◌≡◌, ◌≢◌, ◌≤◌, ◌⊎◌}
 use Rattle.rw_laws.specs.Left.{IsGivenUpTo}
 use Rattle.rw_laws.proofs.OwnPuts.{Among, among}
 

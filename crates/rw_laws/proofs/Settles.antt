@@ -1,32 +1,7 @@
 -- Where a timestep is closed no object waits, and each is balanced.
-use Rattle.rw_base.proofs.Common.{◌≡◌, ◌≤◌, ◌+◌, ◌-◌, ◌==◌, ◌&&◌, not, ℕ, zero, suc, ℤ, nat_le, Bool, true, false, cond, List, [], ◌∷◌, length, Option, Some, None, is_some, refl, sym, ap, subst, ◌∙◌, arith, nat_tests, inl, inr, ◌⊎◌, if◌then◌else◌, option_map, option_or, unwrap_or, slice_get, slice_get_within, All, AllByRecursion, same_Some, none-some}
-use Rattle.rw_base.specs.declared.number.Cell.{Cell}
-use Rattle.rw_model.specs.declared.kind.Kind.{Kind}
-use Rattle.rw_model.specs.declared.kind.Kind.TheVariants.{DataObject, Gage, Confluence, Bifurcation, Reach, Reservoir, WaterUser, Canal}
-use Rattle.rw_model.specs.declared.kind.Supply.TheVariants.{Request, Rule as ByRule}
-use Rattle.rw_model.specs.declared.put.PutEnd.TheVariants.{Written}
-use Rattle.rw_model.specs.Code.{code_of}
-use Rattle.rw_model.specs.Draft.{Draft}
-use Rattle.rw_model.specs.Turn.{is_data}
-use Rattle.rw_model.proofs.Common.{Object, object_at, IsBasin, IsKind}
-use Rattle.rw_method.specs.declared.put.Put.{Put}
-use Rattle.rw_method.specs.declared.solved.Solved.TheVariants.{Idle, Puts}
-use Rattle.rw_method.specs.declared.view.View.{View}
-use Rattle.rw_method.specs.Solve.{solve_of}
-use Rattle.rw_series.specs.Fire.{Fire}
-use Rattle.rw_series.specs.declared.fire.FireEnd.{FireEnd}
-use Rattle.rw_series.specs.declared.fire.FireEnd.TheVariants.{Done, Unknown, ZeroDivisor as DividesByZero, OutOfRange as EndsOutside}
-use Rattle.rw_run.specs.Dispatch.{asked_by, asked_for, dispatch_of, end_in, looks_at, looks_of, puts_written, solved_by, view_of}
-use Rattle.rw_run.specs.Frame.{IsFault}
-use Rattle.rw_run.specs.Log.{Asked, Cells, Event, Firing, Log, cells_of, fault, fired, given, idle, opened, value_in, written_by}
-use Rattle.rw_run.specs.Next.{Policy, asked_of_rule, ended, last_ones}
-use Rattle.rw_run.specs.Policy.{CanAsk, IsPolicyOf}
-use Rattle.rw_run.specs.Runs.{IsRun, Leads, Standing, inside, over, placed, rests, standing}
-use Rattle.rw_run.specs.Step.{before_closing, is_closing}
-use Rattle.rw_run.specs.Times.{times}
-use Rattle.rw_run.specs.Waiting.{ends_wait, first_of, first_waiting, is_put_at, numbers, since, waiting, wakes}
-use Rattle.rw_run.proofs.Lists.{times-numbers}
-use Rattle.rw_run.proofs.Waits.{times-waiting}
+use Rattle.rw_laws.proofs.Common.{All, AllByRecursion, Asked, Bifurcation, Bool, ByRule, CanAsk, Canal, Cell, Cells, Confluence, DataObject, DividesByZero, Done, Draft, EndsOutside, Event, Fire, FireEnd, Firing, Gage, IsBasin, IsFault, IsKind, IsPolicyOf, IsRun, Kind, Leads, List, Log, None, Object, Option, Policy, Put, Puts, Reach, Request, Reservoir, Some, Standing, Unknown, View, WaterUser, Written, [], ap, arith, asked_by, asked_for, asked_of_rule, before_closing, cells_of, code_of, cond, dispatch_of, end_in, ended, ends_wait, false, fault, fired, first_of, first_waiting, idle, if◌then◌else◌, inl, inr, inside, is_closing, is_data, is_put_at, is_some, last_ones, length, looks_at, looks_of, nat_le, nat_tests, none-some, not, numbers, object_at, opened, option_map, option_or, over, placed, puts_written, refl, rests, same_Some, since, slice_get, slice_get_within, solve_of, solved_by, standing, subst, suc, sym, times, times-numbers, times-waiting, true, unwrap_or, value_in, view_of, waiting, wakes, written_by, zero, ℕ, ℤ, ◌&&◌, ◌+◌, ◌-◌, ◌==◌, ◌∙◌, ◌∷◌, ◌≡◌, ◌≤◌, ◌⊎◌}
+use Rattle.rw_method.specs.declared.solved.Solved.TheVariants.{Idle}
+use Rattle.rw_run.specs.Log.{given}
 use Rattle.rw_laws.specs.Balances.{AllBalanced, IsBalanced}
 use Rattle.rw_laws.specs.Left.{Left}
 use Rattle.rw_laws.specs.Passing.{IsAfter}

@@ -1,17 +1,5 @@
 -- An object that doesn't wait is balanced: its last dispatch saw what it holds.
-use Rattle.rw_base.proofs.Common.{◌≡◌, ◌≤◌, ◌<◌, ◌-◌, ◌==◌, ◌&&◌, ◌||◌, ℕ, pos, ◌-ℤ◌, nat_lt, Bool, true, false, List, [], ◌∷◌, map, Option, Some, None, refl, sym, ap, ap₂, ◌∙◌, arith, nat_tests, if◌then◌else◌, option_map, option_or, option_and_then, list_any, AllByRecursion, same_Some, none-some, and_parts}
-use Rattle.rw_base.specs.declared.number.Cell.{Cell}
-use Rattle.rw_model.specs.declared.content.Content.{Content}
-use Rattle.rw_model.specs.declared.kind.Kind.{Kind}
-use Rattle.rw_model.specs.declared.kind.Kind.TheVariants.{DataObject, Gage, Confluence, Bifurcation, Reach, Reservoir, WaterUser, Canal}
-use Rattle.rw_model.specs.Draft.{Draft}
-use Rattle.rw_model.specs.Links.{group_of, is_among, owner_of}
-use Rattle.rw_model.proofs.Common.{Object, object_at, slot_in_place, before_of}
-use Rattle.rw_series.specs.Series.{is_shared}
-use Rattle.rw_series.proofs.Sharing.{Shared-of}
-use Rattle.rw_run.specs.Dispatch.{Past, cell_at, content_in, past_at, past_in, past_of, past_value, places, value_of_past, view_of}
-use Rattle.rw_run.specs.Log.{Asked, Cells, Event, Log, cells_of, last_put, value_in, written_by}
-use Rattle.rw_run.specs.Waiting.{is_at, is_put_at}
+use Rattle.rw_laws.proofs.Common.{AllByRecursion, Asked, Bifurcation, Bool, Canal, Cell, Cells, Confluence, Content, DataObject, Draft, Event, Gage, Kind, List, Log, None, Object, Option, Past, Reach, Reservoir, Shared-of, Some, WaterUser, [], and_parts, ap, ap₂, arith, before_of, cell_at, cells_of, content_in, false, group_of, if◌then◌else◌, is_among, is_at, is_put_at, is_shared, last_put, list_any, map, nat_lt, nat_tests, none-some, object_at, option_and_then, option_map, option_or, owner_of, past_at, past_in, past_of, past_value, places, pos, refl, same_Some, slot_in_place, sym, true, value_in, value_of_past, view_of, written_by, ℕ, ◌&&◌, ◌-ℤ◌, ◌-◌, ◌<◌, ◌==◌, ◌||◌, ◌∙◌, ◌∷◌, ◌≡◌, ◌≤◌}
 use Rattle.rw_laws.proofs.Owned.{owner_in}
 
 -- ---- which puts reach an object

@@ -1,28 +1,6 @@
 -- What holds of every log of a run: priority is kept, and each object's slots are as dispatches leave them.
-use Rattle.rw_base.proofs.Common.{◌≡◌, ◌≤◌, ◌<◌, ◌+◌, ◌==◌, ℕ, ℤ, Bool, true, false, List, [], ◌∷◌, Some, None, refl, sym, ap, subst, ◌∙◌, arith, nat_tests, inl, inr, if◌then◌else◌, option_map, option_or, All, All-nil, AllByRecursion, Contains, same_Some, none-some}
-use Rattle.rw_base.specs.declared.number.Cell.{Cell}
-use Rattle.rw_model.specs.declared.content.Content.{Content}
-use Rattle.rw_model.specs.declared.kind.Kind.{Kind}
-use Rattle.rw_model.specs.declared.writer.Writer.{Writer}
-use Rattle.rw_model.specs.declared.writer.Writer.TheVariants.{Input, Rule, Object as ByObject}
-use Rattle.rw_model.specs.Draft.{Draft}
-use Rattle.rw_model.specs.Put.{is_same_object}
-use Rattle.rw_model.proofs.Common.{Object, object_at, IsBasin, IsKind}
-use Rattle.rw_method.specs.declared.put.Put.{Put}
-use Rattle.rw_method.specs.declared.solved.Solved.TheVariants.{Puts}
-use Rattle.rw_method.specs.declared.view.View.{View}
-use Rattle.rw_method.specs.Solve.{solve_of}
-use Rattle.rw_method.specs.View.{known}
-use Rattle.rw_series.specs.Fire.{Fire}
-use Rattle.rw_series.specs.declared.fire.FireEnd.{FireEnd}
-use Rattle.rw_series.specs.declared.fire.FireEnd.TheVariants.{Done, Unknown, ZeroDivisor as DividesByZero, OutOfRange as EndsOutside}
-use Rattle.rw_series.specs.Series.{is_shared}
-use Rattle.rw_run.specs.Dispatch.{asked_for, cell_at, dispatch_of, looks_of, puts_written, view_of}
-use Rattle.rw_run.specs.Frame.{IsFault}
-use Rattle.rw_run.specs.Log.{Cells, Event, Firing, Log, cells_of, closed, fault, fired, given, idle, input_content, last_put, opened, value_in, written_by}
-use Rattle.rw_run.specs.Next.{Policy, ended}
-use Rattle.rw_run.specs.Policy.{CanAsk, IsPolicyOf}
-use Rattle.rw_run.specs.Runs.{IsRun, Leads, Standing, inside, over, placed, rests, standing}
+use Rattle.rw_laws.proofs.Common.{All, All-nil, AllByRecursion, Bool, ByObject, CanAsk, Cell, Cells, Contains, Content, DividesByZero, Done, Draft, EndsOutside, Event, Fire, FireEnd, Firing, Input, IsBasin, IsFault, IsKind, IsPolicyOf, IsRun, Kind, Leads, List, Log, None, Object, Policy, Put, Puts, Rule, Some, Standing, Unknown, View, Writer, [], ap, arith, asked_for, cell_at, cells_of, closed, dispatch_of, ended, false, fault, fired, idle, if◌then◌else◌, inl, input_content, inr, inside, is_same_object, is_shared, known, last_put, looks_of, nat_tests, none-some, object_at, opened, option_map, option_or, over, placed, puts_written, refl, rests, same_Some, solve_of, standing, subst, sym, true, value_in, view_of, written_by, ℕ, ℤ, ◌+◌, ◌<◌, ◌==◌, ◌∙◌, ◌∷◌, ◌≡◌, ◌≤◌}
+use Rattle.rw_run.specs.Log.{given}
 use Rattle.rw_laws.proofs.Agenda.{due_is_rule}
 use Rattle.rw_laws.specs.Left.{is_own}
 use Rattle.rw_laws.specs.Passing.{IsAfter, Passes}

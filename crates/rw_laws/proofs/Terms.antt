@@ -1,22 +1,5 @@
 -- The terms of a balance, and by what each is given.
-use Rattle.rw_base.proofs.Common.{◌≡◌, ◌≤◌, ℕ, zero, suc, pos, nat_le, Bool, true, false, List, [], ◌∷◌, map, Option, Some, None, refl, sym, ap, subst, ◌∙◌, arith, nat_tests, inl, inr, ◌⊎◌, if◌then◌else◌, unwrap_or, AllByRecursion, same_Some, none-some}
-use Rattle.rw_base.specs.declared.number.ObjectNo.{ObjectNo}
-use Rattle.rw_table.specs.Table.{Row}
-use Rattle.rw_model.specs.declared.content.Content.{Content}
-use Rattle.rw_model.specs.declared.kind.Kind.{Kind}
-use Rattle.rw_model.specs.declared.kind.Kind.TheVariants.{DataObject, Gage, Confluence, Bifurcation, Reach, Reservoir, WaterUser, Canal}
-use Rattle.rw_model.specs.declared.kind.Supply.TheVariants.{Request, Rule as ByRule}
-use Rattle.rw_model.specs.declared.writer.Writer.TheVariants.{Object as ByObject}
-use Rattle.rw_model.specs.Put.{is_same_object}
-use Rattle.rw_method.specs.declared.basis.Basis.TheVariants.{Storage, Elevation}
-use Rattle.rw_method.specs.declared.given.Given.{Given}
-use Rattle.rw_method.specs.declared.share.Share.{Share}
-use Rattle.rw_method.specs.declared.share.Share.TheVariants.{Brings, Takes, Conveys}
-use Rattle.rw_method.specs.declared.term.Term.{Term}
-use Rattle.rw_method.specs.declared.view.View.{View}
-use Rattle.rw_method.specs.Balance.{balance_of}
-use Rattle.rw_method.specs.Contents.{basis_of, contents_by, volume_of}
-use Rattle.rw_method.specs.View.{given, given_by, known}
+use Rattle.rw_laws.proofs.Common.{AllByRecursion, Bifurcation, Bool, Brings, ByObject, ByRule, Canal, Confluence, Content, Conveys, DataObject, Elevation, Gage, Given, Kind, List, None, ObjectNo, Option, Reach, Request, Reservoir, Row, Share, Some, Storage, Takes, Term, View, WaterUser, [], ap, arith, balance_of, basis_of, contents_by, false, given, given_by, if◌then◌else◌, inl, inr, is_same_object, known, map, nat_le, nat_tests, none-some, pos, refl, same_Some, subst, suc, sym, true, unwrap_or, volume_of, zero, ℕ, ◌∙◌, ◌∷◌, ◌≡◌, ◌≤◌, ◌⊎◌}
 use Rattle.rw_laws.specs.Left.{IsGivenUpTo, is_own}
 use Rattle.rw_laws.specs.Passing.{Passes}
 use Rattle.rw_laws.proofs.OwnPuts.{Among}

@@ -1,15 +1,6 @@
 -- What the puts of an event leave in the cells, where each is over a content with no lesser number.
-use Rattle.rw_base.proofs.Common.{◌≡◌, ◌≤◌, ℕ, true, List, [], ◌∷◌, Some, sym, ap, subst, ◌∙◌, arith, inl, inr, ◌⊎◌, option_or, AllByRecursion, All, All-nil, All-cons, same_Some}
-use Rattle.rw_base.specs.declared.number.Cell.{Cell}
-use Rattle.rw_model.specs.declared.content.Content.{Content}
-use Rattle.rw_model.specs.declared.put.PutEnd.TheVariants.{Written}
-use Rattle.rw_model.specs.declared.writer.Writer.{Writer}
-use Rattle.rw_model.specs.declared.writer.Writer.TheVariants.{Input, Rule, Object}
-use Rattle.rw_model.specs.Draft.{Draft, IsSlot}
-use Rattle.rw_model.specs.Put.{end_of_put, is_same_object}
-use Rattle.rw_series.proofs.Sharing.{Shared-of}
-use Rattle.rw_run.specs.Dispatch.{end_in}
-use Rattle.rw_run.specs.Log.{Asked, Cells, Event, Log, cells_of, written_by}
+use Rattle.rw_laws.proofs.Common.{All, All-cons, All-nil, AllByRecursion, Asked, Cell, Cells, Content, Draft, Event, Input, IsSlot, List, Log, Rule, Shared-of, Some, Writer, Written, [], ap, arith, cells_of, end_in, end_of_put, inl, inr, is_same_object, option_or, same_Some, subst, sym, true, written_by, ℕ, ◌∙◌, ◌∷◌, ◌≡◌, ◌≤◌, ◌⊎◌}
+use Rattle.rw_model.specs.declared.writer.Writer.TheVariants.{Object}
 use Rattle.rw_laws.specs.Priority.{IsNoWeaker, KeepsPriority}
 use Rattle.rw_laws.proofs.Linked.{Found, last_found, linked}
 use Rattle.rw_laws.proofs.PutRules.{was_written}

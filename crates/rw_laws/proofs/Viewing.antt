@@ -1,15 +1,5 @@
 -- How what an object sees goes on, by the puts that an event writes.
-use Rattle.rw_base.proofs.Common.{◌≡◌, ◌≤◌, ◌<◌, ℕ, nat_lt, Bool, true, false, ◌∷◌, length, map, Option, Some, None, refl, sym, ap, ◌∙◌, arith, nat_tests, inl, inr, ◌⊎◌, option_or, option_map, option_and_then, length-map, length-range_with_len, AllByRecursion}
-use Rattle.std.proofs.lemmas.List.{get_or_past}
-use Rattle.rw_base.specs.declared.number.Cell.{Cell}
-use Rattle.rw_model.specs.declared.writer.Writer.TheVariants.{Object as ByObject}
-use Rattle.rw_model.specs.Draft.{Draft}
-use Rattle.rw_model.specs.Put.{is_same_object}
-use Rattle.rw_model.proofs.Common.{slot_in_place}
-use Rattle.rw_method.specs.declared.view.View.{View}
-use Rattle.rw_method.specs.View.{known}
-use Rattle.rw_run.specs.Dispatch.{cell_at, content_in, places, view_of}
-use Rattle.rw_run.specs.Log.{Asked, Cells, Event, Log, cells_of, written_by}
+use Rattle.rw_laws.proofs.Common.{AllByRecursion, Asked, Bool, ByObject, Cell, Cells, Draft, Event, Log, None, Option, Some, View, ap, arith, cell_at, cells_of, content_in, false, get_or_past, inl, inr, is_same_object, known, length, length-map, length-range_with_len, map, nat_lt, nat_tests, option_and_then, option_map, option_or, places, refl, slot_in_place, sym, true, view_of, written_by, ℕ, ◌<◌, ◌∙◌, ◌∷◌, ◌≡◌, ◌≤◌, ◌⊎◌}
 use Rattle.rw_laws.specs.Passing.{IsReplaced, Passes}
 use Rattle.rw_laws.proofs.Linked.{last_found, linked}
 use Rattle.rw_laws.proofs.Told.{IsWriting}

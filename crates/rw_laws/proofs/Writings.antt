@@ -1,29 +1,5 @@
 -- The puts that firings and dispatches write.
-use Rattle.rw_base.proofs.Common.{◌≡◌, ◌≤◌, ◌<◌, ◌+◌, ◌-◌, ℕ, nat_le, Bool, true, false, List, [], ◌∷◌, map, Option, Some, None, IsSome, refl, sym, ap, subst, ◌∙◌, arith, nat_tests, inl, inr, if◌then◌else◌, option_map, option_and_then, unwrap_or, slice_get, get_or_from_slice_get, slice_get_within, get_or-map-range_with_len, AllByRecursion, All, recursion_from_All, same_Some, none-some}
-use Rattle.rw_base.specs.declared.number.Cell.{Cell}
-use Rattle.rw_model.specs.declared.content.Content.{Content}
-use Rattle.rw_model.specs.declared.kind.Kind.{Kind}
-use Rattle.rw_model.specs.declared.put.PutEnd.TheVariants.{Written}
-use Rattle.rw_model.specs.declared.writer.Writer.{Writer}
-use Rattle.rw_model.specs.declared.writer.Writer.TheVariants.{Input, Rule, Object as ByObject}
-use Rattle.rw_model.specs.Draft.{Draft, IsSlot, IsSound}
-use Rattle.rw_model.specs.Put.{end_of_put, is_same_object}
-use Rattle.rw_model.proofs.Common.{Object, object_at, slot_in, slot_in_place, known_in_place, IsBasin, IsKind}
-use Rattle.rw_method.specs.declared.put.Put.{Put}
-use Rattle.rw_method.specs.declared.solved.Solved.TheVariants.{Puts}
-use Rattle.rw_method.specs.declared.view.View.{View}
-use Rattle.rw_method.specs.Solve.{solve_of}
-use Rattle.rw_method.specs.View.{known}
-use Rattle.rw_method.proofs.SolvedPuts.{IsPutOf, solve-puts}
-use Rattle.rw_series.specs.Fire.{Fire}
-use Rattle.rw_series.specs.declared.fire.FireEnd.{FireEnd}
-use Rattle.rw_series.specs.declared.fire.FireEnd.TheVariants.{Done, Unknown, ZeroDivisor as DividesByZero, OutOfRange as EndsOutside}
-use Rattle.rw_series.specs.declared.fire.RulePut.{RulePut}
-use Rattle.rw_dispatch.proofs.Viewed.{has_slot}
-use Rattle.rw_run.specs.Dispatch.{asked_by, asked_for, cell_at, content_in, end_in, puts_written, view_of}
-use Rattle.rw_run.specs.Log.{Asked, Cells, written_by}
-use Rattle.rw_run.specs.Next.{Policy, asked_by_rule, asked_of_rule, ended, is_put_again, last_ones}
-use Rattle.rw_run.specs.Policy.{CanAsk}
+use Rattle.rw_laws.proofs.Common.{All, AllByRecursion, Asked, Bool, ByObject, CanAsk, Cell, Cells, Content, DividesByZero, Done, Draft, EndsOutside, Fire, FireEnd, Input, IsBasin, IsKind, IsPutOf, IsSlot, IsSome, IsSound, Kind, List, None, Object, Option, Policy, Put, Puts, Rule, RulePut, Some, Unknown, View, Writer, Written, [], ap, arith, asked_by, asked_by_rule, asked_for, asked_of_rule, cell_at, content_in, end_in, end_of_put, ended, false, get_or-map-range_with_len, get_or_from_slice_get, has_slot, if◌then◌else◌, inl, inr, is_put_again, is_same_object, known, known_in_place, last_ones, map, nat_le, nat_tests, none-some, object_at, option_and_then, option_map, puts_written, recursion_from_All, refl, same_Some, slice_get, slice_get_within, slot_in, slot_in_place, solve-puts, solve_of, subst, sym, true, unwrap_or, view_of, written_by, ℕ, ◌+◌, ◌-◌, ◌<◌, ◌∙◌, ◌∷◌, ◌≡◌, ◌≤◌}
 use Rattle.rw_laws.specs.Left.{is_own}
 use Rattle.rw_laws.proofs.Dispatches.{filtered_all, mapped_all, weaker_all, written_all}
 use Rattle.rw_laws.proofs.PutRules.{was_written}

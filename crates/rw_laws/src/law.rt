@@ -1,5 +1,5 @@
 //! The laws. Each is the `ensures` of a function that does nothing.
-ghost use Rattle.std.specs.Prelude.{◌≡◌, ◌≤◌, ℕ, ℤ, pos, neg_ℤ, ◌≤ℤ◌, List, [], ◌∷◌, ◌++◌, Some, None, true, false};
+ghost use Rattle.std.specs.Prelude.{◌≡◌, ◌≤◌, ℕ, ℤ, pos, neg_ℤ, ◌≤ℤ◌, List, [], ◌∷◌, ◌++◌, Ok, Some, None, true, false};
 ghost use Rattle.rw_base.specs.declared.number.Cell.{Cell};
 ghost use Rattle.rw_base.specs.declared.number.ObjectNo.{ObjectNo};
 ghost use Rattle.rw_table.specs.Curve.{elev_of};
@@ -24,12 +24,20 @@ ghost use Rattle.rw_run.specs.Runs.{IsRun, placed};
 ghost use Rattle.rw_run.specs.Step.{before_closing};
 ghost use Rattle.rw_run.specs.Worked.{across, across_run, linked_basin};
 ghost use Rattle.rw_run.specs.declared.run.Run.{Run};
+ghost use Rattle.rw_inputs.specs.Inputs.{Inputs};
+ghost use Rattle.rpl_verify.specs.Verified.{verified};
+ghost use Rattle.rpl_verify.specs.Verified.{Accepted};
+ghost use Rattle.rw_rules.specs.Rules.{policy_in};
+ghost use Rattle.rw_engine.specs.Passing.{ComesTo};
 ghost use Rattle.rw_laws.specs.Balances.{AllBalanced};
 ghost use Rattle.rw_laws.specs.Laws.{KeepsLaws};
 ghost use Rattle.rw_laws.specs.Links.{AreLinked};
 ghost use Rattle.rw_laws.specs.Priority.{KeepPriority};
 ghost use Rattle.rw_laws.specs.Rules.{AllStandBy};
 ghost use Rattle.rw_laws.specs.Worked.{apart, by_rule, changed_after, dam, dam_events, dam_log, gage, held_low, inflow, put_at, started, torn, weakened};
+
+use rpl_policy::law::code_keeps_promises;
+use rpl_verify::law::answered_code_is_safe;
 
 /// What every run keeps, of the table that it comes to: linked slots agree; no value gave way to one of lower priority; and
 /// of each timestep that was closed balances are true of what the table has, and each rule's last firing stood.
@@ -38,6 +46,18 @@ pub fn every_run()
         → IsBasin basin → IsPolicyOf basin policy → IsRun basin policy inputs log
         → IsRunOf basin log run → KeepsLaws basin policy log run }
 {}
+
+/// So does what `run_all` comes to, by verified code and whatever the inputs.
+pub fn every_run_of_code()
+    ensures { (basin : Draft) (policy : Accepted) (inputs : Inputs) (run : Run)
+        → IsBasin basin → verified basin policy.blocks ≡ Ok policy
+        → ComesTo basin (policy_in basin policy) inputs run
+        → (log : Log) × KeepsLaws basin (policy_in basin policy) log run }
+{
+    every_run();
+    code_keeps_promises();
+    answered_code_is_safe();
+}
 
 /// All cells of a link group are held alike after any log.
 pub fn links()
