@@ -20,14 +20,14 @@ named Run = refl
 pub one_job : (a b : Job) → name_of a ≡ name_of b → a ≡ b
 one_job a b same = let both : Some a ≡ Some b = sym (named a) ∙ ap job_named same ∙ named b in cc
 
-same_words : (a b : Command) → words_of a ≡ words_of b → a ≡ b
-same_words a b same =
+same_words : (a b : Command) → words_of a ≡ words_of b → a.edits ≡ b.edits → a ≡ b
+same_words a b same edits =
     let job = one_job a.job b.job (ap (λ words. slice_index_or words 0 []) same) in
     let paths : a.paths ≡ b.paths = ap (drop 1) same in
-    λ i. record { job = job i; paths = paths i }
+    λ i. record { job = job i; paths = paths i; edits = edits i }
 
 pub one_command : (words : List (List ℕ)) (a b : Command) → Asks words a → Asks words b → a ≡ b
-one_command words a b h k = same_words a b (sym h.are ∙ k.are)
+one_command words a b h k = same_words a b (sym h.are ∙ k.are) (h.plain ∙ sym k.plain)
 
 -- what holds of a command that the words ask for holds of each
 pub of_command : (words : List (List ℕ)) (a b : Command) → Asks words a → Asks words b

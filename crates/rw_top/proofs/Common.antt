@@ -22,7 +22,7 @@ pub use Rattle.rw_top.specs.Call.{Call}
 pub use Rattle.rw_top.specs.Command.{AskFor, AskNothing, Asks, Command, IsPath, Names, command_of, files_of, name_of, order, path_of, place_in, simulates, takes_code, texts_of, words_of}
 pub use Rattle.rw_top.specs.Promise.{Promise, RefusedCommand, RefusedWords, WasRefused, Wrote, WroteCheck, WroteCode, WroteRun}
 pub use Rattle.rw_top.specs.Reading.{Accepts, AcceptsAll, AreRead, Files, HoldsTooLong, IsHonest, IsHonestOfAll, IsHonestUpTo, IsTextAt, IsTooLong, Reaches, ReadsInputs, ReadsModel, ReadsPolicy, RefusesInputs, RefusesModel, RefusesPolicy, SaysAt, WasRead, reads_code}
-pub use Rattle.rw_top.specs.Reason.{BadInputs, BadModel, BadPolicy, IsFound, IsHonestFor, LongFile, Reason, file_of, policy_status, status_by}
+pub use Rattle.rw_top.specs.Reason.{BadEdits, BadInputs, BadModel, BadPolicy, IsFound, IsHonestFor, LongFile, Reason, file_of, policy_status, status_by}
 pub use Rattle.rw_top.specs.Refusal.{Cause, EndsWith, FailsToRead, FileCause, FindsTooLong, IsPolicyRefusal, WasFound, reason_of, refusal_after, status_of}
 pub use Rattle.rw_top.specs.RunText.{IsRunText, text_of}
 pub use Rattle.rw_top.specs.Seen.{files_seen, policy_of}

@@ -1,8 +1,9 @@
 -- What each status says of a call that keeps its promise.
-use Rattle.rw_top.proofs.Common.{AskFor, AskNothing, Asks, BadInputs, BadModel, BadPolicy, AreRead, Call, Command, FailsToRead, Fault, File, Files, FindsTooLong, GrowsBy, Holds, InputRefusal, IsRunText, IsSomeAnd, IsTextOf, Job, None, Option, ReadsInputs, ReadsPolicy, SaysAt, Some, List, LongFile, ModelRefusal, Promise, Reason, Refusal, RefusedCommand, RefusesInputs, RefusesModel, RefusesPolicy, Rose, RunEnd, Settled, WasFound, WasRefused, WritesFront, WroteCheck, WroteCode, WroteRun, ap, arith, false, inl, inr, reads_code, refl, status_by, status_of, status_of_end, subst, takes_code, true, ℕ, ◌∙◌, ◌≡◌, ◌≢◌, ◌≤◌, ◌⊎◌}
+use Rattle.rw_top.proofs.Common.{AskFor, AskNothing, Asks, BadEdits, BadInputs, BadModel, BadPolicy, AreRead, Call, Command, FailsToRead, Fault, File, Files, FindsTooLong, GrowsBy, Holds, InputRefusal, IsRunText, IsSomeAnd, IsTextOf, Job, None, Option, ReadsInputs, ReadsPolicy, SaysAt, Some, List, LongFile, ModelRefusal, Promise, Reason, Refusal, RefusedCommand, RefusesInputs, RefusesModel, RefusesPolicy, Rose, RunEnd, Settled, WasFound, WasRefused, WritesFront, WroteCheck, WroteCode, WroteRun, ap, arith, false, inl, inr, reads_code, refl, status_by, status_of, status_of_end, subst, takes_code, true, ℕ, ◌∙◌, ◌≡◌, ◌≢◌, ◌≤◌, ◌⊎◌}
 use Rattle.rw_run.specs.Next.{no_rules}
 use Rattle.rw_run.specs.declared.fault.RunFault.{RunFault}
 use Rattle.rw_top.specs.Promise.{WroteRules}
+use Rattle.rw_top.specs.Reading.{RefusesEdits}
 use Rattle.rw_top.specs.RunText.{IsRulesText}
 use Rattle.rw_base.proofs.Common.{◌&&◌}
 use Rattle.rw_inputs.specs.Inputs.{Inputs as Given}
@@ -178,8 +179,9 @@ module _ (call : Call) where
   bad_code command reason is found = absurd (omega (arith, is))
 
   bad_inputs : (command : Command) (reason : Reason) → 8 ≡ status_by reason → WasFound command call.shelf reason
-      → (why : InputRefusal) × RefusesInputs command call.shelf.before.holds why
-  bad_inputs command (BadInputs fault) is found = (fault, found)
+      → (why : InputRefusal) × (RefusesInputs command call.shelf.before.holds why ⊎ RefusesEdits command call.shelf.before.holds why)
+  bad_inputs command (BadInputs why) is found = (why, inl found)
+  bad_inputs command (BadEdits why) is found = (why, inr found)
   bad_inputs command (BadPolicy (BadRules why)) is found = absurd (omega (arith, is))
   bad_inputs command (BadPolicy (BadBlocks why)) is found = absurd (omega (arith, is))
   bad_inputs command reason is found = absurd (omega (arith, is))
@@ -200,7 +202,8 @@ module _ (call : Call) where
   pub code : Promise call 9 → AskFor call.words (λ command. (why : BadCode) × RefusesPolicy command call.shelf.before.holds (BadBlocks why))
   code promise = let there = reason_of_status 9 (omega arith) promise in (there.0, there.1, bad_code there.0 there.2.0 there.2.1 there.2.2)
 
-  pub inputs : Promise call 8 → AskFor call.words (λ command. (why : InputRefusal) × RefusesInputs command call.shelf.before.holds why)
+  pub inputs : Promise call 8 → AskFor call.words (λ command. (why : InputRefusal)
+      × (RefusesInputs command call.shelf.before.holds why ⊎ RefusesEdits command call.shelf.before.holds why))
   inputs promise = let there = reason_of_status 8 (omega arith) promise in (there.0, there.1, bad_inputs there.0 there.2.0 there.2.1 there.2.2)
 
   pub too_long : Promise call 10 → AskFor call.words (λ command. (file : File) × FindsTooLong command call.shelf file)

@@ -1,5 +1,5 @@
 ghost use Rattle.std.specs.Prelude.{◌≡◌, ◌≢◌, All, MatchBool, MatchOption, length, option_map, slice_index_or, string_bytes, [], Some};
-ghost use Rattle.rw_top.specs.Command.{Asks, AskNothing, IsPath, command_of, files_of, name_of, path_of, place_in, takes_code, texts_of};
+ghost use Rattle.rw_top.specs.Command.{Asks, AskNothing, IsPath, command_of, files_of, name_of, named_path, path_of, place_in, takes_code, texts_of};
 ghost use Rattle.rw_top.specs.declared.refusal.File.TheVariants as F;
 
 use crate::File;
@@ -66,11 +66,12 @@ impl Job {
     }
 }
 
-/// A command: its job, and the paths that it names, one for each file.
+/// A command: its job, and the paths that it names, one for each file, and one of edits where they are given.
 #[derive(Clone, Copy)]
 pub(crate) struct Command<'w> {
     pub(crate) job: Job,
     paths: &'w [String],
+    edits: Option<&'w str>,
 }
 
 // The word in a place, or the empty one.
@@ -91,13 +92,25 @@ impl<'w> Command<'w> {
         word_at(self.paths, 0)
     }
 
-    /// The path of a file, where the command reads it.
-    pub(crate) fn path(&self, file: File) -> Option<&'w str>
-        ensures { option_map (λ path. path.now) result ≡ path_of (command_of self.now) file }
+    // The path of a file that its job reads.
+    fn named(&self, file: File) -> Option<&'w str>
+        ensures { option_map (λ path. path.now) result ≡ named_path (command_of self.now) file }
     {
         match self.job.place(file) {
             Some(place) => Some(word_at(self.paths, place)),
             None => None,
+        }
+    }
+
+    /// The path of a file, where the command reads it.
+    pub(crate) fn path(&self, file: File) -> Option<&'w str>
+        ensures { option_map (λ path. path.now) result ≡ path_of (command_of self.now) file }
+    {
+        match file {
+            File::Model => self.named(File::Model),
+            File::Policy => self.named(File::Policy),
+            File::Inputs => self.named(File::Inputs),
+            File::Edits => self.edits,
         }
     }
 }
@@ -137,5 +150,9 @@ pub(crate) fn read_words(words: &[String]) -> Option<Command<'_>>
     if paths.len() != job.file_count() || !are_paths(paths) {
         return None;
     }
-    Some(Command { job, paths })
+    Some(Command {
+        job,
+        paths,
+        edits: None,
+    })
 }

@@ -26,7 +26,7 @@ ghost use Rattle.rw_top.specs.Command.{AskFor, AskNothing, Asks, Command, order,
 ghost use Rattle.rw_top.specs.FirstCall.{IsFirstCall};
 ghost use Rattle.rw_top.specs.Policy.{BadCode, RulesRefusal, BadRules, BadBlocks, Policy, Ruleset, Code, IsPolicyOf};
 ghost use Rattle.rw_top.specs.Promise.{Promise, WroteCheck, WroteCode, WroteRules, WroteRun};
-ghost use Rattle.rw_top.specs.Reading.{AcceptsAll, HoldsTooLong, ReadsInputs, RefusesInputs, RefusesModel, RefusesPolicy};
+ghost use Rattle.rw_top.specs.Reading.{AcceptsAll, HoldsTooLong, ReadsInputs, RefusesEdits, RefusesInputs, RefusesModel, RefusesPolicy};
 ghost use Rattle.rw_top.specs.Refusal.{FailsToRead, FindsTooLong};
 ghost use Rattle.rw_top.specs.Told.{AreTold};
 ghost use Rattle.rw_top.specs.Written.{WritesFront};
@@ -112,7 +112,8 @@ pub fn statuses()
     ensures code { (call : Call) → Promise call 9 → AskFor call.words (λ command. (why : BadCode)
         × RefusesPolicy command call.shelf.before.holds (BadBlocks why)) }
     ensures inputs { (call : Call) → Promise call 8 → AskFor call.words
-        (λ command. (why : InputRefusal) × RefusesInputs command call.shelf.before.holds why) }
+        (λ command. (why : InputRefusal) × (RefusesInputs command call.shelf.before.holds why
+        ⊎ RefusesEdits command call.shelf.before.holds why)) }
     ensures too_long { (call : Call) → Promise call 10
         → AskFor call.words (λ command. (file : File) × FindsTooLong command call.shelf file) }
     ensures untouched { (call : Call) (status : ℕ) → Promise call status → 2 ≤ status → status ≢ 4
@@ -143,6 +144,11 @@ pub fn dues()
         → RefusesInputs command call.shelf.before.holds why
         → AreTold command call.shelf 2
         → (status ≡ 8) ⊎ (status ≡ 5) }
+    ensures edits { (call : Call) (status : ℕ) (command : Command) (why : InputRefusal)
+        → Promise call status → Asks call.words command
+        → RefusesEdits command call.shelf.before.holds why
+        → AreTold command call.shelf 3
+        → (status ≡ 8) ⊎ (status ≡ 5) }
     ensures long { (call : Call) (status : ℕ) (command : Command) (file : File)
         → Promise call status → Asks call.words command
         → HoldsTooLong command call.shelf.before.holds file
@@ -151,7 +157,7 @@ pub fn dues()
     ensures none { (call : Call) (status : ℕ) (command : Command)
         → Promise call status → Asks call.words command
         → AcceptsAll command call.shelf.before.holds
-        → AreTold command call.shelf 2 → ¬ Rose call.out.before.faults call.out.after.faults
+        → AreTold command call.shelf 3 → ¬ Rose call.out.before.faults call.out.after.faults
         → (status ≤ 1) ⊎ (status ≡ 5) }
 {}
 
