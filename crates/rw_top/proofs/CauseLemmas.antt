@@ -1,5 +1,5 @@
 -- Causes as the code comes to them, step by step.
-use Rattle.rw_top.proofs.Common.{BadEdits, BadInputs, BadModel, BadPolicy, Cause, Change, Checked, Command, Declared, Err, FILE_MAX, File, FileCause, Holds, IsErrOf, IsPolicyRefusal, IsReading, IsSomeAnd, IsTooLong, List, LongFile, MatchResult, None, NoneFell, Ok, Option, Reaches, ReadsPolicy, Reason, Refusal, Result, Rose, ShelfView, SinkView, Some, WasFound, ap, arith, change, checked, false, inl, inr, option_map, path_of, reason_of, refl, refusal_after, status_by, status_of, subst, sym, true, with_types, ℕ, ◌<◌, ◌∙◌, ◌≡◌}
+use Rattle.rw_top.proofs.Common.{AreRead, BadEdits, BadInputs, BadModel, BadPolicy, Cause, Change, Checked, Command, Declared, Err, FILE_MAX, File, FileCause, Files, Holds, IsErrOf, IsPolicyRefusal, IsReading, IsSomeAnd, IsTooLong, List, LongFile, MatchResult, None, NoneFell, Ok, Option, Reaches, ReadsPolicy, Reason, Refusal, Result, Rose, ShelfView, SinkView, Some, WasFound, ap, arith, change, checked, false, inl, inr, option_map, path_of, reason_of, refl, refusal_after, status_by, status_of, subst, sym, true, with_types, ℕ, ◌<◌, ◌∙◌, ◌≡◌}
 use Rattle.rw_inputs.specs.Refusal.{refused_at}
 use Rattle.rw_io.specs.declared.whole_file.ReadEnd.{ReadEnd}
 use Rattle.rw_io.specs.declared.whole_file.ReadEnd.TheVariants.{ReadFault, TooLong as EndTooLong, NoMemory as EndNoMemory}
@@ -27,6 +27,7 @@ use Rattle.rw_top.specs.Policy.{Unread, Misfit, Policy, BadRules, BadBlocks, Bad
 use Rattle.rw_top.specs.Reading.{ReadsModel, WasRead, reads_code}
 use Rattle.rw_top.specs.Refusal.{TellsReason}
 use Rattle.rw_top.specs.declared.refusal.File.TheVariants.{Policy as PolicyFile}
+use Rattle.rw_top.specs.Written.{Stops}
 use Rattle.rw_top.specs.Ready.{IsMadeOf}
 use Rattle.rw_top.specs.declared.policy.Policy.TheVariants as Held
 use Rattle.rw_top.specs.declared.refusal.Refusal.TheVariants.{CannotRead, CannotWrite, NoMemory, Model, Grammar, Types, Code, Block as BlockAt, Inputs, Edits, TooLong}
@@ -212,4 +213,13 @@ found_later P command first later now (Err why) same fell cause = cause_earlier 
 pub unwritten : (command : Command) (shelf : Change ShelfView) (out : Change SinkView) (why : Refusal)
     → out.after.contents ≡ out.before.contents → FileCause command shelf why → Cause command shelf out why
 unwritten command shelf out CannotWrite still cause = let tells : None ≡ Some cause.reason = cause.tells in absurd cc
+unwritten command shelf out NoMemory still cause = inl still
 unwritten command shelf out why still cause = (cause, still)
+
+-- and one after something was
+pub job_cause : (command : Command) (shelf : Change ShelfView) (out : Change SinkView) (files : Files)
+    → AreRead command shelf.before.holds files → (why : Refusal) → Stops command.job files out why → Cause command shelf out why
+job_cause command shelf out files read CannotWrite stops = ((files, read, stops.0), stops.1)
+job_cause command shelf out files read NoMemory (inl still) = inl still
+job_cause command shelf out files read NoMemory (inr some) = inr (files, read, some)
+job_cause command shelf out files read why stops = absurd stops

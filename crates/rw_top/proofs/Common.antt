@@ -26,7 +26,7 @@ pub use Rattle.rw_top.specs.Reason.{BadEdits, BadInputs, BadModel, BadPolicy, Is
 pub use Rattle.rw_top.specs.Refusal.{Cause, EndsWith, FailsToRead, FileCause, FindsTooLong, IsPolicyRefusal, WasFound, reason_of, refusal_after, status_of}
 pub use Rattle.rw_top.specs.RunText.{IsRunText, text_of}
 pub use Rattle.rw_top.specs.Seen.{files_seen, policy_of}
-pub use Rattle.rw_top.specs.Written.{HasText, IsTextOf, Tells, WritesAll, WritesFront, status_of_end}
+pub use Rattle.rw_top.specs.Written.{IsTextOf, Tells, WritesAll, WritesFront, status_of_end}
 pub use Rattle.rw_top.specs.declared.command.Job.{Job}
 pub use Rattle.rw_top.specs.declared.refusal.File.{File}
 pub use Rattle.rw_top.specs.declared.refusal.Refusal.{Refusal}

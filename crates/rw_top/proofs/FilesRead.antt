@@ -1,14 +1,13 @@
 -- Files that were read one after the other.
 use Rattle.rw_top.proofs.Common.{AreRead, Command, Files, Holds, IfSome, List, None, Option, Reaches, ReadsInputs, ReadsModel, ReadsPolicy, SaysAt, Some, option_map, policy_of, subst, ℕ, ◌≡◌}
-use Rattle.std.specs.List.{All}
-use Rattle.rw_inputs.specs.Edits.{Batch, IsBatch}
+use Rattle.rw_inputs.specs.Edits.{Batch}
 use Rattle.rw_inputs.specs.Inputs.{Inputs as Given}
 use Rattle.rw_model.specs.Draft.{Draft}
 use Rattle.rw_top.specs.declared.files.Behind.{Behind}
 use Rattle.rw_top.specs.declared.policy.Policy.{Policy as Held}
 use Rattle.rw_top.specs.declared.refusal.File.TheVariants.{Policy, Inputs, Edits}
 use Rattle.rw_top.specs.Reading.{ReadsEdits}
-use Rattle.rw_top.specs.Ready.{AreBehind, AreReadAs, IsFit, IsReadAs}
+use Rattle.rw_top.specs.Ready.{AreBehind, AreEdits, AreReadAs, IsFit, IsReadAs}
 use Rattle.rw_top.proofs.Findings.{reaches_edits, reaches_inputs, reaches_later}
 
 -- the policy that was read, in the definitions' terms
@@ -30,9 +29,9 @@ seen_edits command holds basin None items says = says
 seen_edits command holds basin (Some x) items says = says.are
 
 pub edits_fit : {A : Type 0} (command : Command) (holds : Holds) (basin : Draft) (found : Option A) (items : A → List Batch)
-    → SaysAt command Edits found (λ x. AreReadAs command holds basin (items x)) → IfSome found (λ x. All (IsBatch basin) (items x))
+    → SaysAt command Edits found (λ x. AreReadAs command holds basin (items x)) → IfSome found (λ x. AreEdits basin (items x))
 edits_fit command holds basin None items says = tt
-edits_fit command holds basin (Some x) items says = says.fit
+edits_fit command holds basin (Some x) items says = record { fit = says.fit; few = says.few }
 
 -- behind the policy stand the inputs, of a shelf that holds the same
 pub inputs_reached : (command : Command) (holds now : Holds) → ((path : List ℕ) → now path ≡ holds path)

@@ -15,3 +15,5 @@ pub mod CheckedPolicies
 pub mod FirstCall
 pub mod FilesRead
 pub mod RulesText
+pub mod SectionLemmas
+pub mod FewBatches

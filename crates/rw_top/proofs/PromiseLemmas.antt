@@ -9,11 +9,11 @@ at_most_1 : (end : RunEnd) → status_of_end end ≤ 1
 at_most_1 Settled = omega arith
 at_most_1 (Fault why) = omega arith
 
-status_at_most_1 : (job : Job) (files : Files) (status : ℕ) (text : List ℕ) → IsTextOf job files status text → status ≤ 1
-status_at_most_1 Simulate files status text is = let most = at_most_1 is.0 in omega (arith, most, is.1)
-status_at_most_1 Check files status text is = omega (arith, is.0)
-status_at_most_1 Compile files status text is = omega (arith, is.0)
-status_at_most_1 Run files status text is = let most = at_most_1 is.0 in omega (arith, most, is.1)
+status_at_most_1 : (job : Job) (files : Files) (status : ℕ) (texts : List (List ℕ)) → IsTextOf job files status texts → status ≤ 1
+status_at_most_1 Simulate files status texts is = let most = at_most_1 is.0 in omega (arith, most, is.1)
+status_at_most_1 Check files status texts is = omega (arith, is.0)
+status_at_most_1 Compile files status texts is = omega (arith, is.0)
+status_at_most_1 Run files status texts is = let most = at_most_1 is.0 in omega (arith, most, is.1)
 
 at_least_2 : (why : Refusal) → 2 ≤ status_of why
 at_least_2 Words = omega arith
@@ -26,7 +26,7 @@ was_refused call why was = was
 module _ (call : Call) (held : (path : List ℕ) → call.shelf.after.holds path ≡ call.shelf.before.holds path) where
   pub promised_text : (status : ℕ) → Wrote call status → Promise call status
   promised_text status wrote =
-      let low = status_at_most_1 wrote.command.job wrote.text.is.files status wrote.text.text wrote.text.is.is in
+      let low = status_at_most_1 wrote.command.job wrote.text.0 status wrote.text.2.texts wrote.text.2.is in
       record {
         done = λ below. wrote;
         refused = λ above. absurd (omega (arith, low, above));
@@ -34,7 +34,7 @@ module _ (call : Call) (held : (path : List ℕ) → call.shelf.after.holds path
         due = λ command asks reason found honest.
             let wrote_all = of_command call.words wrote.command command wrote.asked asks
             (λ it. WritesAll it call.shelf.before.holds call.out status) wrote.text in
-            absurd (none_due command call.shelf status wrote_all.text wrote_all.is reason found honest);
+            absurd (none_due command call.shelf wrote_all.0 wrote_all.1 reason found honest);
         complete = λ command asks accepted calm. inl low;
         held = held;
       }

@@ -1,7 +1,8 @@
 -- What is promised of each call of the program.
-use Rattle.std.specs.Prelude.{◌≡◌, ◌⊎◌, ℕ, ◌≤◌, List}
+use Rattle.std.specs.Prelude.{◌≡◌, ◌⊎◌, ℕ, ◌≤◌, List, [], Option, unwrap_or}
 use Rattle.rw_io.specs.Causes.{Rose}
 use Rattle.rw_io.specs.Known.{GrowsBy}
+use Rattle.rw_inputs.specs.Edits.{Batch}
 use Rattle.rw_inputs.specs.Inputs.{Inputs as Given}
 use Rattle.rw_model.specs.Draft.{Draft}
 use Rattle.rw_run.specs.Next.{no_rules}
@@ -15,10 +16,12 @@ use Rattle.rw_top.specs.Command.{AskNothing, Asks, Command}
 use Rattle.rw_top.specs.Policy.{Policy as Rules, Ruleset}
 use Rattle.rw_top.specs.Reason.{Reason, IsFound, IsHonestFor, status_by}
 use Rattle.rw_top.specs.Lines.{line_of, words_line}
-use Rattle.rw_top.specs.Reading.{AcceptsAll, IsHonestOfAll, ReadsInputs, ReadsPolicy}
+use Rattle.rw_top.specs.Reading.{AcceptsAll, IsHonestOfAll, ReadsEdits, ReadsInputs, ReadsPolicy, SaysAt}
 use Rattle.rw_top.specs.Refusal.{Cause, EndsWith, status_of}
 use Rattle.rw_top.specs.RunText.{IsRulesText, IsRunText}
+use Rattle.rw_top.specs.Sections.{AreSections, joined}
 use Rattle.rw_top.specs.Written.{Tells, WritesAll}
+use Rattle.rw_top.specs.declared.refusal.File.TheVariants.{Edits}
 use Rattle.rw_top.specs.declared.refusal.Refusal.{Refusal}
 use Rattle.rw_top.specs.declared.refusal.Refusal.TheVariants.{Words}
 
@@ -81,10 +84,10 @@ pub record WroteRun (call : Call) (end : RunEnd) : Type 0 where
   pub inputs : Given
   pub read : ReadsInputs command call.shelf.before.holds basin inputs
   pub text : List ℕ
-  pub is : IsRunText basin no_rules inputs end text
+  pub is : IsRunText basin no_rules 0 inputs end text
   pub grew : GrowsBy call.out.before.contents call.out.after.contents text
 
--- a run by a policy that is accepted, which ends so, and its text
+-- the sections of runs by a policy that is accepted, after each batch of edits, of which the last one ends so
 pub record WroteRules (call : Call) (end : RunEnd) : Type 0 where
   pub command : Command
   pub asked : Asks call.words command
@@ -93,9 +96,11 @@ pub record WroteRules (call : Call) (end : RunEnd) : Type 0 where
   pub rules : ReadsPolicy command call.shelf.before.holds basin policy
   pub inputs : Given
   pub read : ReadsInputs command call.shelf.before.holds basin inputs
-  pub text : List ℕ
-  pub is : IsRulesText basin policy inputs end text
-  pub grew : GrowsBy call.out.before.contents call.out.after.contents text
+  pub edits : Option (List Batch)
+  pub edited : SaysAt command Edits edits (ReadsEdits command call.shelf.before.holds basin)
+  pub texts : List (List ℕ)
+  pub are : AreSections (IsRulesText basin policy) 0 inputs (unwrap_or edits []) end texts
+  pub grew : GrowsBy call.out.before.contents call.out.after.contents (joined texts)
 
 -- the budgets of a policy that is accepted
 pub record WroteCheck (call : Call) : Type 0 where

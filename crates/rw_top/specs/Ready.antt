@@ -1,5 +1,5 @@
 -- What is known of the files of a command before its text is made.
-use Rattle.std.specs.Prelude.{◌≡◌, ℕ, Bool, List, Ok, IfSome, IsOk, IsSome, IsSomeAnd}
+use Rattle.std.specs.Prelude.{◌≡◌, ℕ, ◌≤◌, Bool, List, length, Ok, IfSome, IsOk, IsSome, IsSomeAnd}
 use Rattle.std.specs.List.{All}
 use Rattle.rw_inputs.specs.EditRows.{edits_of}
 use Rattle.rw_inputs.specs.Edits.{Batch, IsBatch}
@@ -38,11 +38,18 @@ pub record IsReadAs (command : Command) (holds : Holds) (basin : Draft) (policy 
 pub record AreMadeOf (basin : Draft) (text : List ℕ) (batches : List Batch) : Type 0 where
   pub are : edits_of basin text ≡ Ok batches
   pub fit : All (IsBatch basin) batches
+  pub few : length batches ≤ 64
 
 -- the batches that were read are those that the command names, and are of the basin
 pub record AreReadAs (command : Command) (holds : Holds) (basin : Draft) (batches : List Batch) : Type 0 where
   pub are : ReadsEdits command holds basin batches
   pub fit : All (IsBatch basin) batches
+  pub few : length batches ≤ 64
+
+-- batches of the basin, not too many of them
+pub record AreEdits (basin : Draft) (batches : List Batch) : Type 0 where
+  pub fit : All (IsBatch basin) batches
+  pub few : length batches ≤ 64
 
 -- the files behind the model were read, and this is what they say
 pub record AreBehind (command : Command) (holds : Holds) (basin : Draft) (behind : Behind) : Type 0 where
@@ -54,4 +61,4 @@ pub record AreBehind (command : Command) (holds : Holds) (basin : Draft) (behind
 pub record AreReady (job : Job) (files : Files) : Type 0 where
   pub policy : IsSome (place_in (files_of job) Policy) → IsSomeAnd files.policy (IsFit files.basin)
   pub inputs : IsSome (place_in (files_of job) Inputs) → IsSomeAnd files.inputs (IsInputsOf files.basin)
-  pub edits : IfSome files.edits (λ batches. All (IsBatch files.basin) batches.items)
+  pub edits : IfSome files.edits (λ batches. AreEdits files.basin batches.items)

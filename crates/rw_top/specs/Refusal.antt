@@ -20,7 +20,7 @@ use Rattle.rw_top.specs.Command.{Command, path_of}
 use Rattle.rw_top.specs.Policy.{Unread, Misfit, PolicyRefusal, BadRules, BadBlocks, RefusesText, BadGrammar, BadNode}
 use Rattle.rw_top.specs.Reason.{Reason, BadModel, BadPolicy, BadInputs, BadEdits, LongFile, IsFound}
 use Rattle.rw_top.specs.Reading.{HoldsTooLong, Reaches}
-use Rattle.rw_top.specs.Written.{WritesFront}
+use Rattle.rw_top.specs.Written.{WritesFront, WritesSections}
 use Rattle.rw_top.specs.declared.refusal.File.{File}
 use Rattle.rw_top.specs.declared.refusal.Refusal.{Refusal}
 use Rattle.rw_top.specs.declared.refusal.Refusal.TheVariants.{Words, CannotRead, CannotWrite, NoMemory, Model, Grammar, Types, Code, Block, Inputs, Edits, TooLong}
@@ -89,10 +89,12 @@ FileCause command shelf (CannotRead file) = FailsToRead command shelf file
 FileCause command shelf NoMemory = ⊤
 FileCause command shelf why = TellsReason command shelf why
 
--- why the command is refused; but for a failed write, nothing was written
+-- why the command is refused. After a failed write a front of its text was written, after want of memory the first sections of a run
+-- or nothing, and else nothing
 abbrev pub Cause : Command → Change ShelfView → Change SinkView → Refusal → Type 0
 Cause command shelf out CannotWrite =
     WritesFront command shelf.before.holds out × Rose out.before.faults out.after.faults
+Cause command shelf out NoMemory = WritesSections command shelf.before.holds out
 Cause command shelf out why = FileCause command shelf why × (out.after.contents ≡ out.before.contents)
 
 -- why the bytes of a model's file give no basin

@@ -1,13 +1,11 @@
 // The files of a command, read and judged, each before the next.
 ghost use Rattle.std.specs.Prelude.{◌≡◌, ℕ, ◌≤◌, List, MatchResult, IfOk, IfSome, Some, length};
-ghost use Rattle.std.specs.List.{All};
-ghost use Rattle.rw_inputs.specs.Edits.{IsBatch};
 ghost use Rattle.rw_io.specs.Causes.{NoneFell};
 ghost use Rattle.rw_io.specs.Outside.{change};
 ghost use Rattle.rw_top.specs.Command.{command_of, path_of};
 ghost use Rattle.rw_top.specs.Reading.{AreRead, Reaches, ReadsInputs, ReadsModel, SaysAt, WasRead, reads_code};
 ghost use Rattle.rw_top.specs.Refusal.{FileCause, IsPolicyRefusal};
-ghost use Rattle.rw_top.specs.Ready.{AreBehind, AreReadAs, IsFit, IsMadeOf, IsReadAs};
+ghost use Rattle.rw_top.specs.Ready.{AreBehind, AreEdits, AreReadAs, IsFit, IsMadeOf, IsReadAs};
 ghost use Rattle.rw_top.specs.Seen.{files_seen};
 ghost use Rattle.rw_top.specs.declared.refusal.File.TheVariants as F;
 
@@ -243,7 +241,7 @@ pub(crate) fn read_files<S: Shelf>(
         (FileCause (command_of command.now) (change (S.seen shelf.old) (S.seen shelf.new))) }
     ensures fits { IfOk result (λ files. IfSome files.policy (IsFit files.basin)) }
     ensures edits { IfOk result (λ files. IfSome files.edits
-        (λ batches. All (IsBatch files.basin) batches.items)) }
+        (λ batches. AreEdits files.basin batches.items)) }
     ensures held { (p : List ℕ) → (S.seen shelf.new).holds p ≡ (S.seen shelf.old).holds p }
 {
     let basin = match read_basin(alloc, command, shelf) {

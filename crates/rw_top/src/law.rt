@@ -29,7 +29,7 @@ ghost use Rattle.rw_top.specs.Promise.{Promise, WroteCheck, WroteCode, WroteRule
 ghost use Rattle.rw_top.specs.Reading.{AcceptsAll, HoldsTooLong, ReadsInputs, RefusesEdits, RefusesInputs, RefusesModel, RefusesPolicy};
 ghost use Rattle.rw_top.specs.Refusal.{FailsToRead, FindsTooLong};
 ghost use Rattle.rw_top.specs.Told.{AreTold};
-ghost use Rattle.rw_top.specs.Written.{WritesFront};
+ghost use Rattle.rw_top.specs.Written.{WritesFront, WritesSections};
 ghost use Rattle.rw_top.specs.RunText.{IsRunText};
 ghost use Rattle.rw_top.specs.declared.refusal.File.{File};
 
@@ -47,12 +47,13 @@ pub fn one_inputs()
         → Reads basin text inputs → ¬ Refuses basin text why }
 {}
 
-/// A basin, a policy and inputs have one run, which has one end and one text, and all that counts of inputs are their values.
+/// A basin, a policy and inputs have one run, which has one end and one text in each section's place, and all that counts of inputs are their values.
 pub fn one_text()
-    ensures { (basin : Draft) (policy : RunPolicy) (inputs others : Inputs)
+    ensures { (basin : Draft) (policy : RunPolicy) (number : ℕ) (inputs others : Inputs)
         (end other : RunEnd) (text more : List ℕ)
         → ((slot step : ℕ) → value_at inputs slot step ≡ value_at others slot step)
-        → IsRunText basin policy inputs end text → IsRunText basin policy others other more
+        → IsRunText basin policy number inputs end text
+        → IsRunText basin policy number others other more
         → (end ≡ other) × (text ≡ more) }
 {
     one_run();
@@ -64,7 +65,7 @@ pub fn first_form()
     ensures { (basin : Draft) (model : FirstModel) (inputs : Inputs) (inflows outflows : List ℤ)
         → IsBasin basin → IsFirstForm basin model
         → IsFirstFlows inputs model.run.count inflows outflows
-        → (end : RunEnd) (text : List ℕ) → IsRunText basin no_rules inputs end text
+        → (end : RunEnd) (text : List ℕ) → IsRunText basin no_rules 0 inputs end text
         → (fault : Option ℤ) × IsFirstText model inflows outflows fault text
         × ((fault ≡ None) ↔ (end ≡ Settled)) }
 {
@@ -91,7 +92,8 @@ pub fn first_call()
     files_are_basins();
 }
 
-/// What each status says of a call that keeps its promise. 5 says nothing: want of memory may always come.
+/// What each status says of a call that keeps its promise. Want of memory, 5, may always come. Then nothing was written, or, of a
+/// command that runs a policy, the first sections, each whole.
 pub fn statuses()
     ensures settled { (call : Call) → Promise call 0
         → WroteRun call Settled ⊎ WroteRules call Settled ⊎ WroteCheck call ⊎ WroteCode call }
@@ -116,8 +118,10 @@ pub fn statuses()
         ⊎ RefusesEdits command call.shelf.before.holds why)) }
     ensures too_long { (call : Call) → Promise call 10
         → AskFor call.words (λ command. (file : File) × FindsTooLong command call.shelf file) }
-    ensures untouched { (call : Call) (status : ℕ) → Promise call status → 2 ≤ status → status ≢ 4
-        → call.out.after.contents ≡ call.out.before.contents }
+    ensures sections { (call : Call) → Promise call 5
+        → AskFor call.words (λ command. WritesSections command call.shelf.before.holds call.out) }
+    ensures untouched { (call : Call) (status : ℕ) → Promise call status → 2 ≤ status
+        → status ≢ 4 → status ≢ 5 → call.out.after.contents ≡ call.out.before.contents }
 {}
 
 /// What has to be refused of a command is, with its status, unless memory was wanting: where the shelf tells the files up to the one

@@ -15,6 +15,7 @@ mod perform;
 mod policy;
 mod refusal;
 mod run;
+mod sections;
 mod simulate;
 mod tell;
 mod top;

@@ -35,6 +35,7 @@ fn text_by_verified<L: Ledger>(
     methods: &Catalogue,
     policy: &Verified,
     predefs: &Predefs,
+    number: u32,
     inputs: &Inputs,
     steps: &mut Steps<L>,
 ) -> Result<(Vec<u8>, RunEnd), NoMemory>
@@ -42,11 +43,13 @@ fn text_by_verified<L: Ledger>(
     requires fits { verified basin.now policy.now.blocks ≡ Ok policy.now }
     requires inputs { IsInputsOf basin.now inputs.now }
     ensures { IfOk result (λ pair. IsRulesText basin.now
-        (Code policy.now.blocks policy.now.budgets) inputs.now pair.1 pair.0.items) }
+        (Code policy.now.blocks policy.now.budgets) number inputs.now pair.1 pair.0.items) }
 {
     answered_code_is_safe();
     firings_are_verified();
-    let written = text_by_code(alloc, basin, methods, policy, predefs, inputs, steps)?;
+    let written = text_by_code(
+        alloc, basin, methods, policy, predefs, number, inputs, steps,
+    )?;
     Ok(written)
 }
 
@@ -57,6 +60,7 @@ fn text_by_ruleset<L: Ledger>(
     methods: &Catalogue,
     typed: &Typed,
     predefs: &Predefs,
+    number: u32,
     inputs: &Inputs,
     steps: &mut Steps<L>,
 ) -> Result<(Vec<u8>, RunEnd), NoMemory>
@@ -64,7 +68,7 @@ fn text_by_ruleset<L: Ledger>(
     requires fits { IsOk (judged basin.now (rules_of typed.now.rules)) }
     requires inputs { IsInputsOf basin.now inputs.now }
     ensures { IfOk result (λ pair. IsRulesText basin.now (Ruleset (rules_of typed.now.rules))
-        inputs.now pair.1 pair.0.items) }
+        number inputs.now pair.1 pair.0.items) }
 {
     accepted();
     bounds();
@@ -73,7 +77,7 @@ fn text_by_ruleset<L: Ledger>(
     firings_of_rules_are_verified();
     let _rules = typed.rules();
     let code = compile(alloc, typed, basin)?;
-    let written = text_by_code(alloc, basin, methods, &code, predefs, inputs, steps)?;
+    let written = text_by_code(alloc, basin, methods, &code, predefs, number, inputs, steps)?;
     Ok(written)
 }
 
@@ -84,6 +88,7 @@ pub(crate) fn text_by_policy<L: Ledger>(
     methods: &Catalogue,
     policy: &Policy,
     predefs: &Predefs,
+    number: u32,
     inputs: &Inputs,
     steps: &mut Steps<L>,
 ) -> Result<(Vec<u8>, RunEnd), NoMemory>
@@ -91,12 +96,14 @@ pub(crate) fn text_by_policy<L: Ledger>(
     requires fits { IsFit basin.now policy.now }
     requires inputs { IsInputsOf basin.now inputs.now }
     ensures { IfOk result (λ pair. IsRulesText basin.now (policy_of policy.now)
-        inputs.now pair.1 pair.0.items) }
+        number inputs.now pair.1 pair.0.items) }
 {
     match policy {
         Policy::Ruleset(typed) => {
-            text_by_ruleset(alloc, basin, methods, typed, predefs, inputs, steps)
+            text_by_ruleset(alloc, basin, methods, typed, predefs, number, inputs, steps)
         }
-        Policy::Code(code) => text_by_verified(alloc, basin, methods, code, predefs, inputs, steps),
+        Policy::Code(code) => text_by_verified(
+            alloc, basin, methods, code, predefs, number, inputs, steps,
+        ),
     }
 }

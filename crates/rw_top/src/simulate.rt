@@ -24,6 +24,7 @@ pub(crate) fn text_by_code<L: Ledger>(
     methods: &Catalogue,
     policy: &Verified,
     predefs: &Predefs,
+    number: u32,
     inputs: &Inputs,
     steps: &mut Steps<L>,
 ) -> Result<(Vec<u8>, RunEnd), NoMemory>
@@ -31,10 +32,10 @@ pub(crate) fn text_by_code<L: Ledger>(
     requires order { AreInOrder (map (λ b. code (b.vtable, b.value)) methods.now.methods.items) }
     requires inputs { IsInputsOf basin.now inputs.now }
     ensures { IfOk result (λ pair. IsRunText basin.now (policy_of_code basin.now policy.now.blocks)
-        inputs.now pair.1 pair.0.items) }
+        number inputs.now pair.1 pair.0.items) }
 {
     let run = run_without_trace(alloc, basin, methods, policy, predefs, inputs, steps)?;
-    let text = section(alloc, basin, 0, &run)?;
+    let text = section(alloc, basin, number, &run)?;
     Ok((text, run.end))
 }
 
@@ -49,10 +50,10 @@ pub(crate) fn text_without_rules<L: Ledger>(
 ) -> Result<(Vec<u8>, RunEnd), NoMemory>
     requires order { AreInOrder (map (λ b. code (b.vtable, b.value)) methods.now.methods.items) }
     requires inputs { IsInputsOf basin.now inputs.now }
-    ensures { IfOk result (λ pair. IsRunText basin.now no_rules inputs.now pair.1 pair.0.items) }
+    ensures { IfOk result (λ pair. IsRunText basin.now no_rules 0 inputs.now pair.1 pair.0.items) }
 {
     same_runs();
     let empty = Verified::none(alloc);
-    let written = text_by_code(alloc, basin, methods, &empty, predefs, inputs, steps)?;
+    let written = text_by_code(alloc, basin, methods, &empty, predefs, 0, inputs, steps)?;
     Ok(written)
 }
