@@ -5,10 +5,8 @@ use Rattle.rw_laws.proofs.Settled.{balanced_code}
 use Rattle.rw_laws.proofs.Terms.{shape_of, term_in, terms_are}
 
 abbrev puts_in : Solved → Option (List Put)
-puts_in IdleAnswer = None
 puts_in (Puts puts) = Some puts
-puts_in (Conflict place held found) = None
-puts_in (OutOfRange place value) = None
+puts_in any = None
 
 abbrev NoPuts : Option Solved → Type 0
 NoPuts None = Unit {0}
@@ -39,17 +37,11 @@ disagreement_no_puts table (Some storage) (Some elevation) =
     if_no_puts (storage.number == 0 && elevation.number == 0 && not (agree table storage.value elevation.value)) (Some (Conflict 3 elevation.value _)) None refl tt
 
 contents_no_puts : (kind : Kind) (view : View) → NoPuts (fault_of_contents kind view)
-contents_no_puts (DataObject slots) view = tt
-contents_no_puts Gage view = tt
-contents_no_puts Confluence view = tt
-contents_no_puts Bifurcation view = tt
-contents_no_puts (Reach lag history local_inflow diversion return_flow) view = tt
 contents_no_puts (Reservoir initial_storage table local_inflow diversion return_flow evaporation max_release) view =
     or_no_puts (fault_of_past evaporation table view.past) _ (past_no_puts evaporation table view.past)
     (or_no_puts (fault_of_basis table (basis_of (given view 2) (given view 3))) _ (basis_no_puts table (basis_of (given view 2) (given view 3)))
     (disagreement_no_puts table (given view 2) (given view 3)))
-contents_no_puts (WaterUser depletion supply) view = tt
-contents_no_puts (Canal seepage) view = tt
+contents_no_puts kind view = tt
 
 -- the puts are those that were judged, all of them fit, nothing is wrong with the contents, and a term was solved or the balance is true
 pub record Answered (kind : Kind) (view : View) (puts : List Put) : Type 0 where
@@ -76,21 +68,18 @@ record Judged (fit : Put → Bool) (judging puts : List Put) (balanced : Balance
 judged : (fit : Put → Bool) (judging puts : List Put) (balanced : Balanced) (fault : Option Solved) → NoPuts fault → answer fit judging balanced fault ≡ Puts puts
     → Judged fit judging puts balanced fault
 judged fit judging puts Idle fault fine e = absurd (none-some _ (ap puts_in e))
-judged fit judging puts Holds (Some found) fine e = absurd (none-some _ (sym fine ∙ ap puts_in e))
-judged fit judging puts (Solves place value number) (Some found) fine e = absurd (none-some _ (sym fine ∙ ap puts_in e))
-judged fit judging puts (Conflicts place held found_value) (Some found) fine e = absurd (none-some _ (sym fine ∙ ap puts_in e))
 judged fit judging puts (Conflicts place held found_value) None fine e = absurd (none-some _ (ap puts_in e))
 judged fit judging puts Holds None fine e =
     let by = by_misfit fit judging puts (first_misfit fit judging) refl e in record { same = by.0; fit_all = by.1; fine = refl; code = inl refl }
 judged fit judging puts (Solves place value number) None fine e =
     let by = by_misfit fit judging puts (first_misfit fit judging) refl e in record { same = by.0; fit_all = by.1; fine = refl; code = inr refl }
+judged fit judging puts balanced (Some found) fine e = absurd (none-some _ (sym fine ∙ ap puts_in e))
 
 ends_by : (kind : Kind) (view : View) (balanced : Balanced) → balanced_of kind view ≡ balanced → (balanced_code balanced ≡ 1) ⊎ (balanced_code balanced ≡ 2)
     → (balanced_of kind view ≡ Holds) ⊎ Solving kind view
-ends_by kind view Idle is code = absurd (elim code [ inl one ↦ omega (arith, one) | inr two ↦ omega (arith, two) ])
 ends_by kind view Holds is code = inl is
 ends_by kind view (Solves place value number) is code = inr (record { place = place; value = value; number = number; is = is })
-ends_by kind view (Conflicts place held found) is code = absurd (elim code [ inl one ↦ omega (arith, one) | inr two ↦ omega (arith, two) ])
+ends_by kind view balanced is code = absurd (elim code [ inl one ↦ omega (arith, one) | inr two ↦ omega (arith, two) ])
 
 steady_by : (kind : Kind) (view : View) (found : Option ℤ) → (balance_of kind view).steady ≡ found → (balanced_code (balanced_of kind view) ≡ 1) ⊎ (balanced_code (balanced_of kind view) ≡ 2)
     → (steady : ℤ) × ((balance_of kind view).steady ≡ Some steady)

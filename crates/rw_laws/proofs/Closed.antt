@@ -8,6 +8,7 @@ use Rattle.rw_laws.proofs.Settles.{later_all}
 use Rattle.rw_laws.proofs.Staying.{AreLater, earlier_stays}
 use Rattle.rw_laws.proofs.Told.{IsWriting}
 use Rattle.rw_laws.proofs.Writings.{IsRulePut, fired_writings}
+use Rattle.rw_laws.proofs.Along.{along, none_closed}
 
 -- a log whose closed timesteps hold what they held when they were closed, all of them before where it stands
 abbrev IsAfter : ℕ → Standing → Type 0
@@ -121,16 +122,8 @@ module _ (basin : Draft) (valid : IsBasin basin) (policy : Policy) (promise : Is
   next_past log event (asks at) past = asked_past log event at.step at.object at.stands (asked_of basin (cells_of basin log) at.object at.step event at.is) past
   next_past log event (ends why) past = ends_past log event why past
 
-  lead_past : (old : Log) (events : List Event) (new : Log) → Leads basin policy old events new → ArePast basin old → ArePast basin new
-  lead_past old [] new leads past = subst (ArePast basin) (sym leads) past
-  lead_past old (event ∷ events) new leads past = lead_past (event ∷ old) events new leads.1 (next_past old event (came basin policy old event leads.0) past)
-
-  none_closed : (log : Log) (inputs : List (Cell × ℤ)) → ((step : ℕ) → before_closing step log ≡ None) → (step : ℕ) → before_closing step (placed log inputs) ≡ None
-  none_closed log [] none step = none step
-  none_closed log (input ∷ inputs) none step = none_closed (given input.0 input.1 ∷ log) inputs none step
-
   past_run : (inputs : List (Cell × ℤ)) (log : Log) → IsRun basin policy inputs log → ArePast basin log
-  past_run inputs log run = lead_past (placed [] inputs) run.events log run.leads (record {
+  past_run inputs log run = along basin policy (ArePast basin) next_past inputs log run (record {
     each = λ at early is. absurd (none-some early (sym (none_closed [] inputs (λ t. refl) at) ∙ is));
     last = subst (λ s. IsLast s (last_closed (placed [] inputs))) (sym (standing-placed [] inputs refl)) (sym (closed-placed [] inputs));
     all = λ step first near. let none = closed-placed [] inputs in absurd (omega (arith, first, near, none));

@@ -58,17 +58,15 @@ fired_on basin policy latest step log event rule firing all is = record {
 }
 
 abbrev is_object : Writer → Bool
-is_object Input = false
-is_object (Rule rule) = false
 is_object (ByObject object) = true
+is_object any = false
 
 pub object_no_rule : (writer : Writer) (object rule : ℕ) → writer ≡ ByObject (record { 0 = object }) → writer ≢ Rule (record { 0 = rule })
 object_no_rule writer object rule is same = absurd (let no : true ≡ false = sym (ap is_object is) ∙ ap is_object same in cc)
 
 abbrev rule_in : Writer → ℕ
-rule_in Input = 0
 rule_in (Rule rule) = rule.0
-rule_in (ByObject object) = 0
+rule_in any = 0
 
 pub other_rule : (writer : Writer) (one other : ℕ) → writer ≡ Rule (record { 0 = one }) → (one == other) ≡ false → writer ≢ Rule (record { 0 = other })
 other_rule writer one other is apart same =

@@ -44,17 +44,11 @@ disagreement_busy table (Some storage) (Some elevation) =
     if_busy (storage.number == 0 && elevation.number == 0 && not (agree table storage.value elevation.value)) (Some (Conflict 3 elevation.value _)) None (omega arith) tt
 
 contents_busy : (kind : Kind) (view : View) → IsBusy (fault_of_contents kind view)
-contents_busy (DataObject slots) view = tt
-contents_busy Gage view = tt
-contents_busy Confluence view = tt
-contents_busy Bifurcation view = tt
-contents_busy (Reach lag history local_inflow diversion return_flow) view = tt
 contents_busy (Reservoir initial_storage table local_inflow diversion return_flow evaporation max_release) view =
     or_busy (fault_of_past evaporation table view.past) _ (past_busy evaporation table view.past)
     (or_busy (fault_of_basis table (basis_of (given view 2) (given view 3))) _ (basis_busy table (basis_of (given view 2) (given view 3)))
     (disagreement_busy table (given view 2) (given view 3)))
-contents_busy (WaterUser depletion supply) view = tt
-contents_busy (Canal seepage) view = tt
+contents_busy kind view = tt
 
 misfit_busy : (puts : List Put) (misfit : Option Put) → 1 ≤ answer_code (all_or_misfit puts misfit)
 misfit_busy puts None = omega arith
@@ -62,12 +56,9 @@ misfit_busy puts (Some put) = omega arith
 
 idle_of : (fit : Put → Bool) (puts : List Put) (balanced : Balanced) (fault : Option Solved) → IsBusy fault → answer fit puts balanced fault ≡ IdleAnswer → balanced_code balanced ≡ 0
 idle_of fit puts Idle fault busy e = refl
-idle_of fit puts Holds (Some found) busy e = absurd (let code = ap answer_code e in omega (arith, busy, code))
-idle_of fit puts (Solves place value number) (Some found) busy e = absurd (let code = ap answer_code e in omega (arith, busy, code))
-idle_of fit puts (Conflicts place held solved) (Some found) busy e = absurd (let code = ap answer_code e in omega (arith, busy, code))
 idle_of fit puts (Conflicts place held solved) None busy e = absurd (let code = ap answer_code e in omega (arith, code))
-idle_of fit puts Holds None busy e = absurd (let code = ap answer_code e in let some = misfit_busy puts (first_misfit fit puts) in omega (arith, some, code))
-idle_of fit puts (Solves place value number) None busy e = absurd (let code = ap answer_code e in let some = misfit_busy puts (first_misfit fit puts) in omega (arith, some, code))
+idle_of fit puts balanced (Some found) busy e = absurd (let code = ap answer_code e in omega (arith, busy, code))
+idle_of fit puts balanced None busy e = absurd (let code = ap answer_code e in let some = misfit_busy puts (first_misfit fit puts) in omega (arith, some, code))
 
 pub idle_balance : (kind : Kind) (view : View) → solve_of kind view ≡ IdleAnswer → balanced_code (balanced_of kind view) ≡ 0
 idle_balance kind view e = idle_of (fits kind view) (puts_of kind view (balanced_of kind view)) (balanced_of kind view) (fault_of_contents kind view) (contents_busy kind view) e

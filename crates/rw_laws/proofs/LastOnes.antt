@@ -100,8 +100,7 @@ module _ (basin : Draft) (cells : Cells) where
 
   not_written : (end : PutEnd) → end ≢ Written → is_written end ≡ false
   not_written Written other = absurd (other refl)
-  not_written Kept other = refl
-  not_written (Denied held) other = refl
+  not_written end other = refl
 
   member_of : (P : Asked → Type 0) (puts : List Asked) (put : Asked) → AllByRecursion P puts → Among puts put → P put
   member_of P [] put all has = absurd has

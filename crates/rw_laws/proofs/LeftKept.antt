@@ -77,28 +77,20 @@ up_both most [] ys a b = b
 up_both most (x ∷ xs) ys a b = (a.0, up_both most xs ys a.1 b)
 
 solved_alone_apart : (balanced : Balanced) → AreApart (solved_put balanced)
-solved_alone_apart Idle = tt
-solved_alone_apart Holds = tt
 solved_alone_apart (Solves place value number) = (tt, tt)
-solved_alone_apart (Conflicts place held found) = tt
+solved_alone_apart balanced = tt
 
 abbrev pub SolvesUpTo : ℕ → Balanced → Type 0
-SolvesUpTo most Idle = Unit {0}
-SolvesUpTo most Holds = Unit {0}
 SolvesUpTo most (Solves place value number) = place ≤ most
-SolvesUpTo most (Conflicts place held found) = Unit {0}
+SolvesUpTo most any = Unit {0}
 
 pub solved_up_to : (most : ℕ) (balanced : Balanced) → SolvesUpTo most balanced → AreUpTo most (solved_put balanced)
-solved_up_to most Idle few = tt
-solved_up_to most Holds few = tt
 solved_up_to most (Solves place value number) few = (few, tt)
-solved_up_to most (Conflicts place held found) few = tt
+solved_up_to most balanced few = tt
 
 low_of : (kind : Kind) (view : View) (most : ℕ) → ((solving : Solving kind view) → solving.place ≤ most) → (balanced : Balanced) → balanced_of kind view ≡ balanced → SolvesUpTo most balanced
-low_of kind view most low Idle is = tt
-low_of kind view most low Holds is = tt
 low_of kind view most low (Solves place value number) is = low (record { place = place; value = value; number = number; is = is })
-low_of kind view most low (Conflicts place held found) is = tt
+low_of kind view most low balanced is = tt
 
 low_sort : (shape : List Sort) (most place : ℕ) → AllByRecursion (λ (s : Sort). s.place ≤ most) shape → (s : Sort) → Among shape s → s.place ≡ place → place ≤ most
 low_sort shape most place all s has there = subst (λ p. p ≤ most) there (all_at (λ (s : Sort). s.place ≤ most) shape s all has)
@@ -156,20 +148,16 @@ module _ (table : Option (List Row)) (storage elevation : Option Given) where
   level_up_by value number false = given_up (are_both_zero storage elevation)
 
   level_up : (balanced : Balanced) → AreUpTo 3 (level_puts table storage elevation balanced)
-  level_up Idle = given_up (are_both_zero storage elevation)
-  level_up Holds = given_up (are_both_zero storage elevation)
-  level_up (Conflicts place held found) = given_up (are_both_zero storage elevation)
   level_up (Solves place value number) = level_up_by value number (place == 2)
+  level_up balanced = given_up (are_both_zero storage elevation)
 
   level_alone_by : (value : ℤ) (number : ℕ) (test : Bool) → AreApart (if test then put_found 3 (elevation_of table value) number else beside_given table storage elevation)
   level_alone_by value number true = found_alone 3 (elevation_of table value) number
   level_alone_by value number false = given_alone (are_both_zero storage elevation)
 
   level_alone : (balanced : Balanced) → AreApart (level_puts table storage elevation balanced)
-  level_alone Idle = given_alone (are_both_zero storage elevation)
-  level_alone Holds = given_alone (are_both_zero storage elevation)
-  level_alone (Conflicts place held found) = given_alone (are_both_zero storage elevation)
   level_alone (Solves place value number) = level_alone_by value number (place == 2)
+  level_alone balanced = given_alone (are_both_zero storage elevation)
 
   level_apart_by : (place : ℕ) (value : ℤ) (number : ℕ) → place ≤ 2 → (test : Bool) → (place == 2) ≡ test
       → ApartFrom place (if test then put_found 3 (elevation_of table value) number else beside_given table storage elevation)
@@ -178,10 +166,8 @@ module _ (table : Option (List Row)) (storage elevation : Option Given) where
       given_apart place (λ same. absurd (grind (arith, nat_tests, is, same))) (λ same. omega (arith, same, few)) (are_both_zero storage elevation)
 
   level_apart : (balanced : Balanced) → SolvesUpTo 2 balanced → AllApart (solved_put balanced) (level_puts table storage elevation balanced)
-  level_apart Idle few = tt
-  level_apart Holds few = tt
-  level_apart (Conflicts place held found) few = tt
   level_apart (Solves place value number) few = (level_apart_by place value number few (place == 2) refl, tt)
+  level_apart balanced few = tt
 
 evaporation_between : (chosen : Bool) (amount : Option ℤ) → AreFrom 3 (evaporation_put chosen amount) × (AreUpTo 8 (evaporation_put chosen amount) × AreApart (evaporation_put chosen amount))
 evaporation_between true amount = ((omega arith, tt), ((omega arith, tt), (tt, tt)))

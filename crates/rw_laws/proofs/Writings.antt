@@ -50,14 +50,12 @@ rule_writing basin latest rule step cells first put (end, is) = record {
 
 pub fired_writings : (basin : Draft) (policy : Policy) (latest rule step : ℕ) (cells : Cells) (fire : Fire) (end : FireEnd) → 1 ≤ rule
     → All (CanAsk basin) fire.puts → AllByRecursion (λ put. IsWriting basin latest cells put × IsRulePut basin rule step put) (written_by (ended basin cells rule step fire end))
-fired_writings basin policy latest rule step cells fire DividesByZero first asks = tt
-fired_writings basin policy latest rule step cells fire (EndsOutside value) first asks = tt
-fired_writings basin policy latest rule step cells fire Unknown first asks = tt
 fired_writings basin policy latest rule step cells fire Done first asks =
     weaker_all (λ put. (end_in cells put ≡ Written) × IsRulePut basin rule step put) (λ put. IsWriting basin latest cells put × IsRulePut basin rule step put)
     (puts_written cells (last_ones basin (asked_of_rule basin rule step fire.puts))) (λ put both. (rule_writing basin latest rule step cells first put both, both.1))
     (written_all (IsRulePut basin rule step) cells (last_ones basin (asked_of_rule basin rule step fire.puts))
     (last_all (IsRulePut basin rule step) basin (asked_of_rule basin rule step fire.puts) (asked_rule_all basin rule step fire.puts asks)))
+fired_writings basin policy latest rule step cells fire end first asks = tt
 
 -- ---- an object has a number, and its parameters are in range
 
