@@ -1,6 +1,6 @@
 -- What is so of a run's inputs and stays so with each event is so of the run, and what follows from it where a timestep is closed is so just
 -- before each closing.
-use Rattle.rw_laws.proofs.Common.{Bool, Cell, Draft, DividesByZero, Done, EndsOutside, Event, FireEnd, IsFault, IsRun, Leads, List, Log, None, Policy, Some, Unknown, [], ap, arith, before_closing, cells_of, ended, false, fault, if◌then◌else◌, is_closing, nat_tests, none-some, placed, refl, same_Some, subst, sym, true, ℕ, ℤ, ◌==◌, ◌∙◌, ◌∷◌, ◌≡◌}
+use Rattle.rw_laws.proofs.Common.{Bool, Cell, Draft, Done, Event, FireEnd, IsFault, IsRun, Leads, List, Log, None, Policy, Some, [], ap, arith, before_closing, cells_of, ended, false, fault, if◌then◌else◌, is_closing, nat_tests, none-some, placed, refl, same_Some, subst, sym, true, ℕ, ℤ, ◌==◌, ◌∙◌, ◌∷◌, ◌≡◌}
 use Rattle.rw_run.specs.Log.{given}
 use Rattle.rw_laws.proofs.Came.{Came, Closes, asks, came, closes, ends, fires, opens}
 use Rattle.rw_laws.proofs.Dispatches.{Asked_of, asked_of, idles, solves, stops}

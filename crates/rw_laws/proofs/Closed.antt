@@ -1,8 +1,7 @@
 -- What a timestep that was closed holds stays so to the end of the run.
-use Rattle.rw_laws.proofs.Common.{All, Asked, Bool, CanAsk, Cell, DividesByZero, Done, Draft, EndsOutside, Event, Fire, FireEnd, IsBasin, IsFault, IsPolicyOf, IsRun, Leads, List, Log, None, Policy, Some, Standing, Unknown, [], ap, arith, before_closing, cells_of, closed, closed-placed, ended, false, fault, if◌then◌else◌, inl, inr, inside, is_closing, last_closed, nat_tests, none-some, opened, option_or, over, placed, refl, rests, same_Some, standing, standing-placed, subst, sym, true, value_in, written_by, ℕ, ℤ, ◌+◌, ◌<◌, ◌==◌, ◌∙◌, ◌∷◌, ◌≡◌, ◌≢◌, ◌≤◌, ◌⊎◌}
-use Rattle.rw_run.specs.Log.{given}
+use Rattle.rw_laws.proofs.Common.{All, Asked, Bool, CanAsk, Cell, DividesByZero, Done, Draft, EndsOutside, Event, Fire, FireEnd, IsBasin, IsFault, IsPolicyOf, IsRun, List, Log, Policy, Some, Standing, Unknown, [], ap, arith, before_closing, cells_of, closed, closed-placed, ended, false, fault, if◌then◌else◌, inl, inr, inside, is_closing, last_closed, nat_tests, none-some, opened, option_or, over, placed, refl, rests, same_Some, standing, standing-placed, subst, sym, true, value_in, written_by, ℕ, ℤ, ◌+◌, ◌<◌, ◌==◌, ◌∙◌, ◌∷◌, ◌≡◌, ◌≢◌, ◌≤◌, ◌⊎◌}
 use Rattle.rw_laws.proofs.Agenda.{due_is_rule}
-use Rattle.rw_laws.proofs.Came.{Came, asks, came, closes, ends, fires, opens}
+use Rattle.rw_laws.proofs.Came.{Came, asks, closes, ends, fires, opens}
 use Rattle.rw_laws.proofs.Dispatches.{Asked_of, asked_of, idles, solves, stops, weaker_all}
 use Rattle.rw_laws.proofs.Settles.{later_all}
 use Rattle.rw_laws.proofs.Staying.{AreLater, earlier_stays}

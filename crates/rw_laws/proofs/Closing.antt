@@ -1,9 +1,8 @@
 -- What holds where a timestep of a run is closed.
-use Rattle.rw_laws.proofs.Common.{AllByRecursion, Bool, ByObject, Cell, Cells, DividesByZero, Done, Draft, EndsOutside, Event, Fire, FireEnd, Firing, IsBasin, IsFault, IsKind, IsPolicyOf, IsRun, Kind, Leads, List, Log, Policy, Some, Standing, Unknown, View, [], ap, arith, asked_for, asked_of_rule, before_closing, cells_looked, cells_of, dispatch_of, ended, false, fault, fired, idle, if◌then◌else◌, inside, is_closing, last_firing, last_ones, looks_at, looks_of, nat_tests, none-some, over, placed, puts_written, refl, rests, same_Some, standing, standing-placed, subst, sym, true, value_in, view_of, ℕ, ℤ, ◌==◌, ◌∙◌, ◌∷◌, ◌≡◌, ◌≤◌}
-use Rattle.rw_run.specs.Log.{given}
+use Rattle.rw_laws.proofs.Common.{AllByRecursion, Bool, ByObject, Cell, Cells, DividesByZero, Done, Draft, EndsOutside, Event, Fire, FireEnd, Firing, IsBasin, IsFault, IsKind, IsPolicyOf, IsRun, Kind, List, Log, Policy, Some, Standing, Unknown, View, [], ap, arith, asked_for, asked_of_rule, before_closing, cells_looked, cells_of, dispatch_of, ended, false, fault, fired, idle, if◌then◌else◌, inside, last_firing, last_ones, looks_at, looks_of, nat_tests, none-some, over, placed, puts_written, refl, rests, same_Some, standing, standing-placed, subst, sym, true, value_in, view_of, ℕ, ℤ, ◌==◌, ◌∙◌, ◌∷◌, ◌≡◌, ◌≤◌}
 use Rattle.rw_laws.specs.Rules.{AllStandBy, EndsAs}
 use Rattle.rw_laws.proofs.Agenda.{due_is_rule}
-use Rattle.rw_laws.proofs.Came.{Came, Closes, Fires, asks, came, closes, ends, fires, opens}
+use Rattle.rw_laws.proofs.Came.{Came, Fires, asks, closes, ends, fires, opens}
 use Rattle.rw_laws.proofs.Dispatches.{Asked_of, asked_of, idles, solves, stops, weaker_all}
 use Rattle.rw_laws.proofs.Firings.{FiredIn, IsLast, IsNotOf, all_stand_by, all_standing, fired_on, object_no_rule, other_rule}
 use Rattle.rw_laws.proofs.LastOnes.{IsAt}

@@ -1,5 +1,5 @@
 -- What a dispatch comes to: an object is idle, or it asks for puts of which none is denied, or the run ends by a fault.
-use Rattle.rw_laws.proofs.Common.{AllByRecursion, Asked, Bool, Cells, Conflict, Denied, Draft, Event, IsFault, Kept, Kind, List, None, Object, Option, OutOfRange, Put, PutEnd, Puts, Solved, Some, Written, [], answered, ap, asked_for, cond, denied_by, dispatch_of, dispatched, end_in, false, filter, idle, inl, inr, is_written, judged, looks_of, map, none-some, object_at, option_map, or_fault, puts_written, refl, solve_of, solved_by, subst, sym, true, unwrap_or, view_of, ℕ, ◌∙◌, ◌∷◌, ◌≡◌, ◌⊎◌}
+use Rattle.rw_laws.proofs.Common.{AllByRecursion, Asked, Bool, Cells, Denied, Draft, Event, IsFault, Kind, List, None, Object, Option, Put, PutEnd, Puts, Solved, Some, Written, [], answered, ap, asked_for, cond, denied_by, dispatch_of, dispatched, end_in, false, filter, idle, inl, inr, is_written, judged, looks_of, map, none-some, object_at, option_map, or_fault, puts_written, refl, solve_of, solved_by, subst, sym, true, unwrap_or, view_of, ℕ, ◌∙◌, ◌∷◌, ◌≡◌, ◌⊎◌}
 use Rattle.rw_method.specs.declared.solved.Solved.TheVariants.{Idle}
 use Rattle.rw_laws.proofs.PutRules.{is_written_fact}
 

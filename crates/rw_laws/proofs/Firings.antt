@@ -1,5 +1,5 @@
 -- What is left of the last firing of each rule, and that each would do the same again where the timestep is closed.
-use Rattle.rw_laws.proofs.Common.{AllByRecursion, AreAlike, Asked, Bool, ByObject, Cell, Cells, Decides-int_eq, Denied, Draft, Event, Fire, Firing, Input, IsPolicyOf, Kept, List, Log, None, Option, Policy, PutEnd, Rule, Some, Writer, Written, [], ap, arith, cells_of, end_in, false, first_due, inl, inr, is_changed, last_firing, last_ones, last_put, looks_at, nat_tests, not, option_map, option_or, puts_written, refl, subst, sym, true, value_in, written_by, ℕ, ℤ, ◌<◌, ◌==◌, ◌||◌, ◌∙◌, ◌∷◌, ◌≡◌, ◌≢◌, ◌≤◌, ◌⊎◌}
+use Rattle.rw_laws.proofs.Common.{AllByRecursion, AreAlike, Asked, Bool, ByObject, Cell, Cells, Decides-int_eq, Denied, Draft, Event, Fire, Firing, IsPolicyOf, Kept, List, Log, None, Option, Policy, PutEnd, Rule, Some, Writer, Written, [], ap, arith, cells_of, end_in, false, first_due, inl, inr, is_changed, last_firing, last_ones, last_put, looks_at, nat_tests, not, option_map, option_or, puts_written, refl, subst, sym, true, value_in, written_by, ℕ, ℤ, ◌<◌, ◌==◌, ◌||◌, ◌∙◌, ◌∷◌, ◌≡◌, ◌≢◌, ◌≤◌, ◌⊎◌}
 use Rattle.rw_run.specs.Next.{is_same_value}
 use Rattle.rw_laws.specs.Rules.{AllStandBy, IsFiringOf, IsHeldOr, StandsBy}
 use Rattle.rw_laws.proofs.Agenda.{none_due}

@@ -1,5 +1,5 @@
 -- A dispatch keeps what it is kept by: which facts of a kind's puts are enough.
-use Rattle.rw_laws.proofs.Common.{All, AllByRecursion, Balanced, Bool, ByObject, Conflicts, Contains, Content, Given, Holds, Idle, IsShare, IsSome, Kind, List, None, Option, Put, Solves, Some, Term, View, [], ap, arith, balanced_of, false, held_by, if◌then◌else◌, inl, inr, is_same_object, known, known_after, map, nat_tests, none-some, number_of, refl, rules, same_Some, settled, subst, sym, true, ℕ, ℤ, ◌==◌, ◌∙◌, ◌∷◌, ◌≡◌, ◌≢◌, ◌≤◌, ◌⊎◌}
+use Rattle.rw_laws.proofs.Common.{All, AllByRecursion, Balanced, Bool, ByObject, Contains, Content, Given, Holds, IsShare, IsSome, Kind, List, None, Option, Put, Solves, Some, Term, View, [], ap, arith, balanced_of, false, held_by, if◌then◌else◌, inl, inr, is_same_object, known, known_after, map, nat_tests, none-some, number_of, refl, rules, same_Some, settled, subst, sym, true, ℕ, ℤ, ◌==◌, ◌∙◌, ◌∷◌, ◌≡◌, ◌≢◌, ◌≤◌, ◌⊎◌}
 use Rattle.rw_laws.specs.Left.{IsGivenUpTo, IsUpTo, Left, Rest, is_own, rest, rests_of}
 use Rattle.rw_laws.specs.Passing.{IsAfter, Passes, content_of}
 use Rattle.rw_laws.proofs.OwnPuts.{Among, all_at, among}

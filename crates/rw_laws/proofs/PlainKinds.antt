@@ -1,5 +1,5 @@
 -- The kinds whose terms are slots: all but the reservoir.
-use Rattle.rw_laws.proofs.Common.{All, All-cons, All-nil, AllByRecursion, Balanced, Bifurcation, Bool, ByRule, Canal, Conflicts, Confluence, Contains, Content, Conveys, DataObject, DataSlot, Gage, Given, Holds, Idle, IsShare, IsSome, Kind, List, None, Option, Put, Reach, Request, Solves, Some, Supply, Takes, Term, View, WaterUser, [], ap, arith, balanced_of, false, given, inl, inr, known, known_after, map, nat_tests, none-some, option_map, puts_of, refl, same_Some, seepage_put, solved_put, subst, suc, sym, true, user_puts, zero, ℕ, ℤ, ◌++◌, ◌==◌, ◌∙◌, ◌∷◌, ◌≡◌, ◌≢◌, ◌≤◌, ◌⊎◌}
+use Rattle.rw_laws.proofs.Common.{All, All-cons, All-nil, AllByRecursion, Balanced, Bifurcation, Bool, ByRule, Canal, Confluence, Contains, Content, Conveys, DataObject, DataSlot, Gage, Given, Holds, IsShare, IsSome, Kind, List, None, Option, Put, Reach, Request, Solves, Some, Supply, Takes, Term, View, WaterUser, [], ap, arith, balanced_of, false, given, inl, inr, known, known_after, map, nat_tests, none-some, option_map, puts_of, refl, same_Some, seepage_put, solved_put, subst, suc, sym, true, user_puts, zero, ℕ, ℤ, ◌++◌, ◌==◌, ◌∙◌, ◌∷◌, ◌≡◌, ◌≢◌, ◌≤◌, ◌⊎◌}
 use Rattle.rw_laws.specs.Left.{IsGivenUpTo, Rest, rest, rests_of}
 use Rattle.rw_laws.proofs.Answering.{Answered}
 use Rattle.rw_laws.proofs.Leaving.{DispatchFacts, IsBase, PutIs, Solving, holds_given, rests, solved}

@@ -510,6 +510,14 @@ module _ (initial_storage : ℤ) (table : Option (List Row)) (local_inflow diver
       unique = unique;
     }
 
+    contents_value : (held from : Given) → contents_by table (basis_of storage elevation) ≡ Some held → basis_of storage elevation ≡ Elevation from → (found : ℤ) → volume_of table from.value ≡ Some found
+        → held.value ≡ found
+    contents_value held from given_is basis found found_is = ap value_or (sym given_is ∙ ap (contents_by table) basis) ∙ ap (λ v. unwrap_or v (pos 0)) found_is
+      where
+        value_or : Option Given → ℤ
+        value_or None = pos 0
+        value_or (Some g) = g.value
+
     -- ---- what it holds then
 
     module _ (new : View) (after : IsAfter view new puts) where
@@ -561,15 +569,10 @@ module _ (initial_storage : ℤ) (table : Option (List Row)) (local_inflow diver
             let put : Put = record { place = 2; value = found.0; number = by_elevation.from.number } in
             let in_basis : Among (beside_basis table (basis_of storage elevation)) put =
             subst (λ b. Among (beside_basis table b) put) (sym by_elevation.basis) (subst (λ v. Among (put_found 2 v by_elevation.from.number) put) (sym found.1) (inl refl)) in
-            let value : held.value ≡ found.0 =
-            ap (λ (g : Option Given). value_or g) (sym given_is ∙ ap (contents_by table) by_elevation.basis) ∙ ap (λ v. unwrap_or v (pos 0)) found.1 in
+            let value : held.value ≡ found.0 = contents_value held by_elevation.from given_is by_elevation.basis found.0 found.1 in
             put_held put (beside_there none (not_zeros by_elevation) put in_basis) ∙ ap Some (sym value)
       ]
         where
-          value_or : Option Given → ℤ
-          value_or None = pos 0
-          value_or (Some g) = g.value
-
           not_zeros : ByElevation table storage elevation held → are_both_zero storage elevation ≡ false
           not_zeros e = by storage elevation e.is e.lesser
             where
@@ -691,13 +694,6 @@ module _ (initial_storage : ℤ) (table : Option (List Row)) (local_inflow diver
               let found = no_fault_basis e.from e.basis in
               let value : held.value ≡ found.0 = contents_value held e.from given_is e.basis found.0 found.1 in
               (e.from.value, (at_three, inr (sym (ap (λ z. volume_of z e.from.value) at) ∙ found.1 ∙ ap Some (sym value ∙ same))))
-            where
-              value_or : Option Given → ℤ
-              value_or None = pos 0
-              value_or (Some g) = g.value
-
-              contents_value : (held from : Given) → contents_by table (basis_of storage elevation) ≡ Some held → basis_of storage elevation ≡ Elevation from → (found : ℤ) → volume_of table from.value ≡ Some found → held.value ≡ found
-              contents_value held from given_is basis found found_is = ap value_or (sym given_is ∙ ap (contents_by table) basis) ∙ ap (λ v. unwrap_or v (pos 0)) found_is
 
           given_two : (none : NoneStores) → (read : ℤ) × ((known_value new 3 ≡ Some read) × ((elev_of rows stores ≡ Some read) ⊎ (vol_of rows read ≡ Some stores)))
           given_two none =

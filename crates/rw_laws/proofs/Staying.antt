@@ -1,5 +1,5 @@
 -- An object that doesn't wait is balanced: its last dispatch saw what it holds.
-use Rattle.rw_laws.proofs.Common.{AllByRecursion, Asked, Bifurcation, Bool, Canal, Cell, Cells, Confluence, Content, DataObject, Draft, Event, Gage, Kind, List, Log, None, Object, Option, Past, Reach, Reservoir, Shared-of, Some, WaterUser, [], and_parts, ap, ap₂, arith, before_of, cell_at, cells_of, content_in, false, group_of, if◌then◌else◌, is_among, is_at, is_put_at, is_shared, last_put, list_any, map, nat_lt, nat_tests, none-some, object_at, option_and_then, option_map, option_or, owner_of, past_at, past_in, past_of, past_value, places, pos, refl, same_Some, slot_in_place, sym, true, value_in, value_of_past, view_of, written_by, ℕ, ◌&&◌, ◌-ℤ◌, ◌-◌, ◌<◌, ◌==◌, ◌||◌, ◌∙◌, ◌∷◌, ◌≡◌, ◌≤◌}
+use Rattle.rw_laws.proofs.Common.{AllByRecursion, Asked, Bool, Cell, Cells, Content, Draft, Event, Kind, List, Log, None, Object, Option, Past, Reach, Reservoir, Shared-of, Some, [], and_parts, ap, ap₂, arith, before_of, cell_at, cells_of, content_in, false, group_of, if◌then◌else◌, is_among, is_at, is_put_at, is_shared, last_put, list_any, map, nat_lt, nat_tests, none-some, object_at, option_and_then, option_map, option_or, owner_of, past_at, past_in, past_of, past_value, places, pos, refl, same_Some, slot_in_place, sym, true, value_in, value_of_past, view_of, written_by, ℕ, ◌&&◌, ◌-ℤ◌, ◌-◌, ◌<◌, ◌==◌, ◌||◌, ◌∙◌, ◌∷◌, ◌≡◌, ◌≤◌}
 use Rattle.rw_laws.proofs.Owned.{owner_in}
 
 -- ---- which puts reach an object

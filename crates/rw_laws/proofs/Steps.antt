@@ -1,11 +1,11 @@
 -- What holds of every log of a run: priority is kept, and each object's slots are as dispatches leave them.
-use Rattle.rw_laws.proofs.Common.{All, All-nil, AllByRecursion, Bool, ByObject, CanAsk, Cell, Cells, Contains, Content, DividesByZero, Done, Draft, EndsOutside, Event, Fire, FireEnd, Firing, Input, IsBasin, IsFault, IsKind, IsPolicyOf, IsRun, Kind, Leads, List, Log, None, Object, Policy, Put, Puts, Rule, Some, Standing, Unknown, View, Writer, [], ap, arith, asked_for, cell_at, cells_of, closed, dispatch_of, ended, false, fault, fired, idle, if◌then◌else◌, inl, input_content, inr, inside, is_same_object, is_shared, known, last_put, looks_of, nat_tests, none-some, object_at, opened, option_map, option_or, over, placed, puts_written, refl, rests, same_Some, solve_of, standing, subst, sym, true, value_in, view_of, written_by, ℕ, ℤ, ◌+◌, ◌<◌, ◌==◌, ◌∙◌, ◌∷◌, ◌≡◌, ◌≤◌}
+use Rattle.rw_laws.proofs.Common.{All, All-nil, AllByRecursion, Bool, ByObject, CanAsk, Cell, Cells, Contains, Content, DividesByZero, Done, Draft, EndsOutside, Event, Fire, FireEnd, Firing, IsBasin, IsFault, IsKind, IsPolicyOf, Kind, List, Log, None, Object, Policy, Put, Puts, Rule, Some, Standing, Unknown, View, Writer, [], ap, arith, asked_for, cell_at, cells_of, closed, dispatch_of, ended, false, fault, fired, idle, if◌then◌else◌, inl, input_content, inr, inside, is_same_object, is_shared, known, last_put, looks_of, nat_tests, none-some, object_at, opened, option_map, option_or, over, placed, puts_written, refl, rests, same_Some, solve_of, standing, subst, sym, true, value_in, view_of, written_by, ℕ, ℤ, ◌+◌, ◌<◌, ◌==◌, ◌∙◌, ◌∷◌, ◌≡◌, ◌≤◌}
 use Rattle.rw_run.specs.Log.{given}
 use Rattle.rw_laws.proofs.Agenda.{due_is_rule}
 use Rattle.rw_laws.specs.Left.{is_own}
 use Rattle.rw_laws.specs.Passing.{IsAfter, Passes}
 use Rattle.rw_laws.specs.Priority.{IsNoWeaker, KeepPriority, KeepsPriority}
-use Rattle.rw_laws.proofs.Came.{Came, Closes, Fires, Opens, asks, came, closes, ends, fires, opens}
+use Rattle.rw_laws.proofs.Came.{Came, Closes, Fires, Opens, asks, closes, ends, fires, opens}
 use Rattle.rw_laws.proofs.Dispatches.{Asked_of, Solves, asked_of, idles, solves, stops, weaker_all}
 use Rattle.rw_laws.proofs.OwnPuts.{own_after}
 use Rattle.rw_laws.proofs.Told.{AreTold, IsTold, IsWriting, keeps_priority, told_after}

@@ -60,6 +60,7 @@ pub fn every_run_of_code()
 }
 
 /// All cells of a link group are held alike after any log.
+#[tactic(auto, using(crate::proofs::Linked::links))]
 pub fn links()
     ensures { (basin : Draft) (log : Log) → AreLinked basin (cells_of basin log) }
 {}
