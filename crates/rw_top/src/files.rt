@@ -75,7 +75,8 @@ fn judge_for(
     text: &[u8],
 ) -> Result<Policy, Refusal>
     requires { length text.now ≤ 16_777_216 }
-    ensures { MatchResult result (IsMadeOf (reads_code (command_of command.now) text.now) basin.now text.now)
+    ensures { MatchResult result
+        (IsMadeOf (reads_code (command_of command.now) text.now) basin.now text.now)
         (IsPolicyRefusal (reads_code (command_of command.now) text.now) basin.now text.now) }
 {
     judge_policy(
