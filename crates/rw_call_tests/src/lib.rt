@@ -1,12 +1,14 @@
 //! Worked examples of calls below the top one, lowest first: quantities, rating tables, stamps, files, a basin that is built,
-//! a series, the queue of objects that wait, runs and sections. There is nothing here but tests: what they compare with was
-//! worked out by hand.
+//! a series, edits of inputs, the queue of objects that wait, runs and sections. There is nothing here but tests: what they
+//! compare with was worked out by hand.
 #![tactic(auto)]
 
 #[cfg(test)]
 mod arithmetic;
 #[cfg(test)]
 mod building;
+#[cfg(test)]
+mod edits;
 #[cfg(test)]
 mod files;
 #[cfg(test)]

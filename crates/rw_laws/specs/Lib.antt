@@ -1,0 +1,8 @@
+pub mod Left
+pub mod Passing
+pub mod Links
+pub mod Priority
+pub mod Rules
+pub mod Balances
+pub mod Laws
+pub mod Worked

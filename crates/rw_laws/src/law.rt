@@ -1,0 +1,149 @@
+//! The laws. Each is the `ensures` of a function that does nothing.
+ghost use Rattle.std.specs.Prelude.{◌≡◌, ◌≤◌, ℕ, ℤ, pos, neg_ℤ, ◌≤ℤ◌, List, [], ◌∷◌, ◌++◌, Ok, Some, None, true, false};
+ghost use Rattle.rw_base.specs.declared.number.Cell.{Cell};
+ghost use Rattle.rw_base.specs.declared.number.ObjectNo.{ObjectNo};
+ghost use Rattle.rw_table.specs.Curve.{elev_of};
+ghost use Rattle.rw_table.specs.Table.{IsTable, Row};
+ghost use Rattle.rw_model.specs.Basin.{IsBasin};
+ghost use Rattle.rw_model.specs.Draft.{Draft};
+ghost use Rattle.rw_model.specs.declared.kind.Kind.TheVariants as Kind;
+ghost use Rattle.rw_model.specs.declared.writer.Writer.TheVariants.{Object as ByObject};
+ghost use Rattle.rw_method.specs.Contents.{evaporated};
+ghost use Rattle.rw_method.specs.Puts.{put};
+ghost use Rattle.rw_method.specs.Solve.{solve_of};
+ghost use Rattle.rw_method.specs.View.{known, known_value};
+ghost use Rattle.rw_method.specs.Worked.{input, view_with, worked_rows};
+ghost use Rattle.rw_method.specs.declared.solved.Solved.TheVariants as Solved;
+ghost use Rattle.rw_run.specs.Dispatch.{cell_at, view_of};
+ghost use Rattle.rw_run.specs.Frame.{log_after};
+ghost use Rattle.rw_run.specs.Log.{Log, cells_of, closed};
+ghost use Rattle.rw_run.specs.Next.{Policy};
+ghost use Rattle.rw_run.specs.Policy.{IsPolicyOf};
+ghost use Rattle.rw_run.specs.RunOf.{IsRunOf};
+ghost use Rattle.rw_run.specs.Runs.{IsRun, placed};
+ghost use Rattle.rw_run.specs.Step.{before_closing};
+ghost use Rattle.rw_run.specs.Worked.{across, across_run, linked_basin};
+ghost use Rattle.rw_run.specs.declared.run.Run.{Run};
+ghost use Rattle.rw_inputs.specs.Inputs.{Inputs};
+ghost use Rattle.rpl_verify.specs.Verified.{verified};
+ghost use Rattle.rpl_verify.specs.Verified.{Accepted};
+ghost use Rattle.rw_rules.specs.Rules.{policy_in};
+ghost use Rattle.rw_engine.specs.Passing.{ComesTo};
+ghost use Rattle.rw_laws.specs.Balances.{AllBalanced};
+ghost use Rattle.rw_laws.specs.Laws.{KeepsLaws};
+ghost use Rattle.rw_laws.specs.Links.{AreLinked};
+ghost use Rattle.rw_laws.specs.Priority.{KeepPriority};
+ghost use Rattle.rw_laws.specs.Rules.{AllStandBy};
+ghost use Rattle.rw_laws.specs.Worked.{apart, by_rule, changed_after, dam, dam_events, dam_log, gage, held_low, inflow, put_at, started, torn, weakened};
+
+use rpl_policy::law::code_keeps_promises;
+use rpl_verify::law::answered_code_is_safe;
+
+/// What every run keeps, of the table that it comes to: linked slots agree; no value gave way to one of lower priority; and
+/// of each timestep that was closed balances are true of what the table has, and each rule's last firing stood.
+pub fn every_run()
+    ensures { (basin : Draft) (policy : Policy) (inputs : List (Cell × ℤ)) (log : Log) (run : Run)
+        → IsBasin basin → IsPolicyOf basin policy → IsRun basin policy inputs log
+        → IsRunOf basin log run → KeepsLaws basin policy log run }
+{}
+
+/// So does what `run_all` comes to, by verified code and whatever the inputs, of the very log that it comes to.
+pub fn every_run_of_code()
+    ensures { (basin : Draft) (policy : Accepted) (inputs : Inputs) (run : Run)
+        → IsBasin basin → verified basin policy.blocks ≡ Ok policy
+        → (comes : ComesTo basin (policy_in basin policy) inputs run)
+        → KeepsLaws basin (policy_in basin policy) comes.log run }
+{
+    every_run();
+    code_keeps_promises();
+    answered_code_is_safe();
+}
+
+/// All cells of a link group are held alike after any log.
+#[tactic(auto, using(crate::proofs::Linked::links))]
+pub fn links()
+    ensures { (basin : Draft) (log : Log) → AreLinked basin (cells_of basin log) }
+{}
+
+/// In every run, also one that ended in a fault: no put that is written has a greater number than what its cell holds, and
+/// what an input gave stays.
+pub fn priority()
+    ensures { (basin : Draft) (policy : Policy) (inputs : List (Cell × ℤ)) (log : Log)
+        → IsBasin basin → IsPolicyOf basin policy → IsRun basin policy inputs log
+        → KeepPriority basin log }
+{}
+
+/// Just before a timestep of a run is closed: of each object whose solvable and fixed terms and past value are known, the
+/// balance is true of what is held, and each derived slot holds what is derived.
+pub fn balance()
+    ensures { (basin : Draft) (policy : Policy) (inputs : List (Cell × ℤ)) (log before : Log)
+        (step : ℕ) → IsBasin basin → IsPolicyOf basin policy → IsRun basin policy inputs log
+        → before_closing step log ≡ Some before → AllBalanced basin step (cells_of basin before) }
+{}
+
+/// Just before a timestep of a run is closed each rule fired in it and would do the same again, and what it put last stands or
+/// gave way to a put that is no weaker.
+pub fn rules()
+    ensures { (basin : Draft) (policy : Policy) (inputs : List (Cell × ℤ)) (log before : Log)
+        (step : ℕ) → IsBasin basin → IsPolicyOf basin policy → IsRun basin policy inputs log
+        → before_closing step log ≡ Some before → AllStandBy basin policy step before }
+{}
+
+/// A cell of a timestep that was closed, or of an earlier one, holds at the end of the run what it held just before the closing.
+pub fn closed_timesteps_stay()
+    ensures { (basin : Draft) (policy : Policy) (inputs : List (Cell × ℤ)) (log before : Log)
+        (step : ℕ) → IsBasin basin → IsPolicyOf basin policy → IsRun basin policy inputs log
+        → before_closing step log ≡ Some before
+        → (cell : Cell) → cell.step.0 ≤ step → cells_of basin log cell ≡ cells_of basin before cell }
+{}
+
+/// A table gives what evaporates of each storage that it has, at a rate that isn't below 0.
+pub fn tables_give_evaporation()
+    ensures { (rows : List Row) (storage rate elevation : ℤ)
+        → IsTable rows → elev_of rows storage ≡ Some elevation → pos 0 ≤ℤ rate
+        → (amount : ℤ) × (evaporated rows storage rate ≡ Some amount) }
+{}
+
+/// At a rate below 0 it may give nothing: of 250 m3 at -5000 mm there is no volume, and 0 is put. No reader takes such a rate.
+pub fn a_rate_below_zero()
+    ensures nothing { evaporated worked_rows (pos 250) (neg_ℤ (pos 5000)) ≡ None }
+    ensures put { (own : ObjectNo)
+        → solve_of (Kind.Reservoir (pos 250) (Some worked_rows) false false false true None)
+        (view_with (Kind.Reservoir (pos 250) (Some worked_rows) false false false true None) own
+        (Some (pos 250)) (input (pos 0) ∷ input (pos 0) ∷ None ∷ None ∷ None ∷ None ∷ None
+        ∷ input (neg_ℤ (pos 5000)) ∷ []))
+        ≡ Solved.Puts (put 2 (pos 250) 0 ∷ put 3 (pos 501) 0 ∷ put 8 (pos 0) 0 ∷ []) }
+{}
+
+/// A dam on one day, into which 100 flow. It comes to hold 1020, of 1000 and 100 less 80; the 50 that rule 2 put gave way to what
+/// the dam solved from rule 1's storage, at priority 1.
+pub fn a_dam()
+    ensures run { IsRun dam held_low inflow (closed 1 ∷ dam_log) }
+    ensures closing { before_closing 1 (closed 1 ∷ dam_log) ≡ Some dam_log }
+    ensures past { (view_of dam (cells_of dam dam_log) 1 1).past ≡ Some (pos 1000) }
+    ensures flows { known_value (view_of dam (cells_of dam dam_log) 1 1) 0 ≡ Some (pos 100) }
+    ensures out { known (view_of dam (cells_of dam dam_log) 1 1) 1
+        ≡ Some (put_at 2 (pos 80) 1 (ByObject (record { 0 = 1 }))).content }
+    ensures stored { known_value (view_of dam (cells_of dam dam_log) 1 1) 2 ≡ Some (pos 1020) }
+{}
+
+/// Two linked slots after a run: a rule put 10 to the second one alone.
+pub fn a_link()
+    ensures run { IsRun linked_basin across [] (log_after across_run []) }
+    ensures first { cells_of linked_basin (log_after across_run []) (cell_at 1 1)
+        ≡ Some (by_rule 1 2 (pos 10)).content }
+    ensures second { cells_of linked_basin (log_after across_run []) (cell_at 2 1)
+        ≡ Some (by_rule 1 2 (pos 10)).content }
+{}
+
+/// The laws aren't true of any cells and any log. In cells that no log leaves linked slots differ. In logs that are of no run a
+/// gage lets out more than flows in, a weaker rule writes over a stronger one, a rule never fired, and a timestep changes that
+/// was closed.
+pub fn no_runs()
+    ensures links { ¬ AreLinked linked_basin apart }
+    ensures balance { ¬ AllBalanced gage 1 (cells_of gage torn) }
+    ensures priority { ¬ KeepPriority gage weakened }
+    ensures rules { ¬ AllStandBy dam held_low 1 started }
+    ensures closed { ¬ ((cell : Cell) → cell.step.0 ≤ 1
+        → cells_of gage changed_after cell ≡ cells_of gage torn cell) }
+{}
