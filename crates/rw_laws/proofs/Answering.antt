@@ -1,55 +1,54 @@
 -- What is known where a dispatch answers puts.
-use Rattle.rw_laws.proofs.Common.{AllFit, Balanced, Basis, Bifurcation, Bool, Canal, Conflict, Conflicts, Confluence, DataObject, Elevation, Gage, Given, Holds, Idle, IdleAnswer, Kind, List, None, Nothing, Option, OutOfRange, Put, Puts, Reach, Reservoir, Row, Solved, Solves, Some, Storage, View, WaterUser, agree, all_or_misfit, answer, ap, ap₂, arith, balance_of, balanced_of, basis_of, can_hold, disagreement, false, fault_of_basis, fault_of_contents, fault_of_past, first_misfit, fits, given, if◌then◌else◌, inl, inr, is_some, map, none-some, not, or_else, puts_of, refl, same_Some, settled, solve_of, subst, sym, true, volume_of, ℤ, ◌&&◌, ◌==◌, ◌∙◌, ◌≡◌, ◌⊎◌}
+use Rattle.rw_laws.proofs.Common.{AllFit, Balanced, Basis, Bool, Conflict, Conflicts, Elevation, Given, Holds, Idle, IdleAnswer, Kind, List, None, Nothing, Option, OutOfRange, Put, Puts, Reservoir, Row, Solved, Solves, Some, Storage, View, agree, all_or_misfit, answer, ap, ap₂, arith, balance_of, balanced_of, basis_of, can_hold, disagreement, false, fault_of_basis, fault_of_contents, fault_of_past, first_misfit, fits, given, if◌then◌else◌, inl, inr, is_some, map, none-some, not, or_else, puts_of, refl, same_Some, settled, solve_of, subst, sym, true, volume_of, ℕ, ℤ, ◌&&◌, ◌==◌, ◌≡◌, ◌≤◌, ◌⊎◌}
 use Rattle.rw_laws.proofs.Leaving.{Solving}
 use Rattle.rw_laws.proofs.Settled.{balanced_code}
 use Rattle.rw_laws.proofs.Terms.{shape_of, term_in, terms_are}
 
 abbrev puts_in : Solved → Option (List Put)
-puts_in IdleAnswer = None
 puts_in (Puts puts) = Some puts
-puts_in (Conflict place held found) = None
-puts_in (OutOfRange place value) = None
+puts_in any = None
 
-abbrev NoPuts : Option Solved → Type 0
-NoPuts None = Unit {0}
-NoPuts (Some answer) = puts_in answer ≡ None
+abbrev pub answer_code : Solved → ℕ
+answer_code IdleAnswer = 0
+answer_code (Puts puts) = 1
+answer_code (Conflict place held found) = 2
+answer_code (OutOfRange place value) = 3
 
-if_no_puts : (test : Bool) (a b : Option Solved) → NoPuts a → NoPuts b → NoPuts (if test then a else b)
-if_no_puts true a b x y = x
-if_no_puts false a b x y = y
+-- an answer that is neither idle nor puts, if there is one
+abbrev pub IsFaulty : Option Solved → Type 0
+IsFaulty None = Unit {0}
+IsFaulty (Some answer) = 2 ≤ answer_code answer
 
-or_no_puts : (a b : Option Solved) → NoPuts a → NoPuts b → NoPuts (or_else a b)
-or_no_puts None b x y = y
-or_no_puts (Some answer) b x y = x
+if_faulty : (test : Bool) (a b : Option Solved) → IsFaulty a → IsFaulty b → IsFaulty (if test then a else b)
+if_faulty true a b x y = x
+if_faulty false a b x y = y
 
-past_no_puts : (evaporation : Bool) (table : Option (List Row)) (past : Option ℤ) → NoPuts (fault_of_past evaporation table past)
-past_no_puts evaporation table None = tt
-past_no_puts evaporation table (Some storage) = if_no_puts (evaporation && not (can_hold table storage)) (Some (OutOfRange 2 storage)) None refl tt
+or_faulty : (a b : Option Solved) → IsFaulty a → IsFaulty b → IsFaulty (or_else a b)
+or_faulty None b x y = y
+or_faulty (Some answer) b x y = x
 
-basis_no_puts : (table : Option (List Row)) (basis : Basis) → NoPuts (fault_of_basis table basis)
-basis_no_puts table Nothing = tt
-basis_no_puts table (Storage storage) = if_no_puts (can_hold table storage.value) None (Some (OutOfRange 2 storage.value)) tt refl
-basis_no_puts table (Elevation elevation) =
-    if_no_puts (is_some (volume_of table elevation.value)) None (Some (OutOfRange 3 elevation.value)) tt refl
+past_faulty : (evaporation : Bool) (table : Option (List Row)) (past : Option ℤ) → IsFaulty (fault_of_past evaporation table past)
+past_faulty evaporation table None = tt
+past_faulty evaporation table (Some storage) = if_faulty (evaporation && not (can_hold table storage)) (Some (OutOfRange 2 storage)) None (omega arith) tt
 
-disagreement_no_puts : (table : Option (List Row)) (storage elevation : Option Given) → NoPuts (disagreement table storage elevation)
-disagreement_no_puts table None elevation = tt
-disagreement_no_puts table (Some storage) None = tt
-disagreement_no_puts table (Some storage) (Some elevation) =
-    if_no_puts (storage.number == 0 && elevation.number == 0 && not (agree table storage.value elevation.value)) (Some (Conflict 3 elevation.value _)) None refl tt
+basis_faulty : (table : Option (List Row)) (basis : Basis) → IsFaulty (fault_of_basis table basis)
+basis_faulty table Nothing = tt
+basis_faulty table (Storage storage) = if_faulty (can_hold table storage.value) None (Some (OutOfRange 2 storage.value)) tt (omega arith)
+basis_faulty table (Elevation elevation) =
+    if_faulty (is_some (volume_of table elevation.value)) None (Some (OutOfRange 3 elevation.value)) tt (omega arith)
 
-contents_no_puts : (kind : Kind) (view : View) → NoPuts (fault_of_contents kind view)
-contents_no_puts (DataObject slots) view = tt
-contents_no_puts Gage view = tt
-contents_no_puts Confluence view = tt
-contents_no_puts Bifurcation view = tt
-contents_no_puts (Reach lag history local_inflow diversion return_flow) view = tt
-contents_no_puts (Reservoir initial_storage table local_inflow diversion return_flow evaporation max_release) view =
-    or_no_puts (fault_of_past evaporation table view.past) _ (past_no_puts evaporation table view.past)
-    (or_no_puts (fault_of_basis table (basis_of (given view 2) (given view 3))) _ (basis_no_puts table (basis_of (given view 2) (given view 3)))
-    (disagreement_no_puts table (given view 2) (given view 3)))
-contents_no_puts (WaterUser depletion supply) view = tt
-contents_no_puts (Canal seepage) view = tt
+disagreement_faulty : (table : Option (List Row)) (storage elevation : Option Given) → IsFaulty (disagreement table storage elevation)
+disagreement_faulty table None elevation = tt
+disagreement_faulty table (Some storage) None = tt
+disagreement_faulty table (Some storage) (Some elevation) =
+    if_faulty (storage.number == 0 && elevation.number == 0 && not (agree table storage.value elevation.value)) (Some (Conflict 3 elevation.value _)) None (omega arith) tt
+
+pub contents_faulty : (kind : Kind) (view : View) → IsFaulty (fault_of_contents kind view)
+contents_faulty (Reservoir initial_storage table local_inflow diversion return_flow evaporation max_release) view =
+    or_faulty (fault_of_past evaporation table view.past) _ (past_faulty evaporation table view.past)
+    (or_faulty (fault_of_basis table (basis_of (given view 2) (given view 3))) _ (basis_faulty table (basis_of (given view 2) (given view 3)))
+    (disagreement_faulty table (given view 2) (given view 3)))
+contents_faulty kind view = tt
 
 -- the puts are those that were judged, all of them fit, nothing is wrong with the contents, and a term was solved or the balance is true
 pub record Answered (kind : Kind) (view : View) (puts : List Put) : Type 0 where
@@ -73,24 +72,21 @@ record Judged (fit : Put → Bool) (judging puts : List Put) (balanced : Balance
   fine : fault ≡ None
   code : (balanced_code balanced ≡ 1) ⊎ (balanced_code balanced ≡ 2)
 
-judged : (fit : Put → Bool) (judging puts : List Put) (balanced : Balanced) (fault : Option Solved) → NoPuts fault → answer fit judging balanced fault ≡ Puts puts
+judged : (fit : Put → Bool) (judging puts : List Put) (balanced : Balanced) (fault : Option Solved) → IsFaulty fault → answer fit judging balanced fault ≡ Puts puts
     → Judged fit judging puts balanced fault
 judged fit judging puts Idle fault fine e = absurd (none-some _ (ap puts_in e))
-judged fit judging puts Holds (Some found) fine e = absurd (none-some _ (sym fine ∙ ap puts_in e))
-judged fit judging puts (Solves place value number) (Some found) fine e = absurd (none-some _ (sym fine ∙ ap puts_in e))
-judged fit judging puts (Conflicts place held found_value) (Some found) fine e = absurd (none-some _ (sym fine ∙ ap puts_in e))
 judged fit judging puts (Conflicts place held found_value) None fine e = absurd (none-some _ (ap puts_in e))
 judged fit judging puts Holds None fine e =
     let by = by_misfit fit judging puts (first_misfit fit judging) refl e in record { same = by.0; fit_all = by.1; fine = refl; code = inl refl }
 judged fit judging puts (Solves place value number) None fine e =
     let by = by_misfit fit judging puts (first_misfit fit judging) refl e in record { same = by.0; fit_all = by.1; fine = refl; code = inr refl }
+judged fit judging puts balanced (Some found) fine e = absurd (let code = ap answer_code e in omega (arith, fine, code))
 
 ends_by : (kind : Kind) (view : View) (balanced : Balanced) → balanced_of kind view ≡ balanced → (balanced_code balanced ≡ 1) ⊎ (balanced_code balanced ≡ 2)
     → (balanced_of kind view ≡ Holds) ⊎ Solving kind view
-ends_by kind view Idle is code = absurd (elim code [ inl one ↦ omega (arith, one) | inr two ↦ omega (arith, two) ])
 ends_by kind view Holds is code = inl is
 ends_by kind view (Solves place value number) is code = inr (record { place = place; value = value; number = number; is = is })
-ends_by kind view (Conflicts place held found) is code = absurd (elim code [ inl one ↦ omega (arith, one) | inr two ↦ omega (arith, two) ])
+ends_by kind view balanced is code = absurd (elim code [ inl one ↦ omega (arith, one) | inr two ↦ omega (arith, two) ])
 
 steady_by : (kind : Kind) (view : View) (found : Option ℤ) → (balance_of kind view).steady ≡ found → (balanced_code (balanced_of kind view) ≡ 1) ⊎ (balanced_code (balanced_of kind view) ≡ 2)
     → (steady : ℤ) × ((balance_of kind view).steady ≡ Some steady)
@@ -101,7 +97,7 @@ steady_by kind view None is code =
 
 pub answered : (kind : Kind) (view : View) (puts : List Put) → solve_of kind view ≡ Puts puts → Answered kind view puts
 answered kind view puts e =
-    let is = judged (fits kind view) (puts_of kind view (balanced_of kind view)) puts (balanced_of kind view) (fault_of_contents kind view) (contents_no_puts kind view) e in
+    let is = judged (fits kind view) (puts_of kind view (balanced_of kind view)) puts (balanced_of kind view) (fault_of_contents kind view) (contents_faulty kind view) e in
     let steady = steady_by kind view (balance_of kind view).steady refl is.code in
     record {
       same = is.same;

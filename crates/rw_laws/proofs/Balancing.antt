@@ -171,10 +171,8 @@ module _ (old : View) (puts : List Put) (new : View) (after : IsAfter old new pu
       ((λ same. omega (arith, same)), ((λ same. omega (arith, same)), tt)))) (among puts put has)
     where
       by : (balanced : Balanced) → balanced_of (WaterUser depletion supply) old ≡ balanced → AllByRecursion (λ (put : Put). put.place ≢ 1) (solved_put balanced)
-      by Idle e = tt
-      by Holds e = tt
-      by (Conflicts place held found) e = tt
       by (Solves place value number) e = ((λ same. none (record { place = place; value = value; number = number; is = e }) (sym same)), tt)
+      by balanced e = tt
 
   no_request : (depletion : ℕ) (supply : Supply) → IsKind (WaterUser depletion supply) → Answered (WaterUser depletion supply) old puts → ((solving : Solving (WaterUser depletion supply) old) → solving.place ≢ 0)
       → (put : Put) → Contains puts put → put.place ≢ 0
@@ -186,10 +184,8 @@ module _ (old : View) (puts : List Put) (new : View) (after : IsAfter old new pu
       ((λ same. omega (arith, same)), ((λ same. omega (arith, same)), tt)))) (among puts put has)
     where
       by : (balanced : Balanced) → balanced_of (WaterUser depletion supply) old ≡ balanced → AllByRecursion (λ (put : Put). put.place ≢ 0) (solved_put balanced)
-      by Idle e = tt
-      by Holds e = tt
-      by (Conflicts place held found) e = tt
       by (Solves place value number) e = (none (record { place = place; value = value; number = number; is = e }), tt)
+      by balanced e = tt
 
   pub request_balanced : (depletion : ℕ) → Answered (WaterUser depletion Request) old puts → DispatchFacts (WaterUser depletion Request) old puts → IsKind (WaterUser depletion Request)
       → IsBalanced (WaterUser depletion Request) new

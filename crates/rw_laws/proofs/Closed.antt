@@ -1,13 +1,13 @@
 -- What a timestep that was closed holds stays so to the end of the run.
-use Rattle.rw_laws.proofs.Common.{All, Asked, Bool, CanAsk, Cell, DividesByZero, Done, Draft, EndsOutside, Event, Fire, FireEnd, IsBasin, IsFault, IsPolicyOf, IsRun, Leads, List, Log, None, Policy, Some, Standing, Unknown, [], ap, arith, before_closing, cells_of, closed, closed-placed, ended, false, fault, if◌then◌else◌, inl, inr, inside, is_closing, last_closed, nat_tests, none-some, opened, option_or, over, placed, refl, rests, same_Some, standing, standing-placed, subst, sym, true, value_in, written_by, ℕ, ℤ, ◌+◌, ◌<◌, ◌==◌, ◌∙◌, ◌∷◌, ◌≡◌, ◌≢◌, ◌≤◌, ◌⊎◌}
-use Rattle.rw_run.specs.Log.{given}
+use Rattle.rw_laws.proofs.Common.{All, Asked, Bool, CanAsk, Cell, DividesByZero, Done, Draft, EndsOutside, Event, Fire, FireEnd, IsBasin, IsFault, IsPolicyOf, IsRun, List, Log, Policy, Some, Standing, Unknown, [], ap, arith, before_closing, cells_of, closed, closed-placed, ended, false, fault, if◌then◌else◌, inl, inr, inside, is_closing, last_closed, nat_tests, none-some, opened, option_or, over, placed, refl, rests, same_Some, standing, standing-placed, subst, sym, true, value_in, written_by, ℕ, ℤ, ◌+◌, ◌<◌, ◌==◌, ◌∙◌, ◌∷◌, ◌≡◌, ◌≢◌, ◌≤◌, ◌⊎◌}
 use Rattle.rw_laws.proofs.Agenda.{due_is_rule}
-use Rattle.rw_laws.proofs.Came.{Came, asks, came, closes, ends, fires, opens}
+use Rattle.rw_laws.proofs.Came.{Came, asks, closes, ends, fires, opens}
 use Rattle.rw_laws.proofs.Dispatches.{Asked_of, asked_of, idles, solves, stops, weaker_all}
 use Rattle.rw_laws.proofs.Settles.{later_all}
 use Rattle.rw_laws.proofs.Staying.{AreLater, earlier_stays}
 use Rattle.rw_laws.proofs.Told.{IsWriting}
 use Rattle.rw_laws.proofs.Writings.{IsRulePut, fired_writings}
+use Rattle.rw_laws.proofs.Along.{along, none_closed}
 
 -- a log whose closed timesteps hold what they held when they were closed, all of them before where it stands
 abbrev IsAfter : ℕ → Standing → Type 0
@@ -121,16 +121,8 @@ module _ (basin : Draft) (valid : IsBasin basin) (policy : Policy) (promise : Is
   next_past log event (asks at) past = asked_past log event at.step at.object at.stands (asked_of basin (cells_of basin log) at.object at.step event at.is) past
   next_past log event (ends why) past = ends_past log event why past
 
-  lead_past : (old : Log) (events : List Event) (new : Log) → Leads basin policy old events new → ArePast basin old → ArePast basin new
-  lead_past old [] new leads past = subst (ArePast basin) (sym leads) past
-  lead_past old (event ∷ events) new leads past = lead_past (event ∷ old) events new leads.1 (next_past old event (came basin policy old event leads.0) past)
-
-  none_closed : (log : Log) (inputs : List (Cell × ℤ)) → ((step : ℕ) → before_closing step log ≡ None) → (step : ℕ) → before_closing step (placed log inputs) ≡ None
-  none_closed log [] none step = none step
-  none_closed log (input ∷ inputs) none step = none_closed (given input.0 input.1 ∷ log) inputs none step
-
   past_run : (inputs : List (Cell × ℤ)) (log : Log) → IsRun basin policy inputs log → ArePast basin log
-  past_run inputs log run = lead_past (placed [] inputs) run.events log run.leads (record {
+  past_run inputs log run = along basin policy (ArePast basin) next_past inputs log run (record {
     each = λ at early is. absurd (none-some early (sym (none_closed [] inputs (λ t. refl) at) ∙ is));
     last = subst (λ s. IsLast s (last_closed (placed [] inputs))) (sym (standing-placed [] inputs refl)) (sym (closed-placed [] inputs));
     all = λ step first near. let none = closed-placed [] inputs in absurd (omega (arith, first, near, none));

@@ -1,15 +1,15 @@
 -- What holds where a timestep of a run is closed.
-use Rattle.rw_laws.proofs.Common.{AllByRecursion, Bool, ByObject, Cell, Cells, DividesByZero, Done, Draft, EndsOutside, Event, Fire, FireEnd, Firing, IsBasin, IsFault, IsKind, IsPolicyOf, IsRun, Kind, Leads, List, Log, Policy, Some, Standing, Unknown, View, [], ap, arith, asked_for, asked_of_rule, before_closing, cells_looked, cells_of, dispatch_of, ended, false, fault, fired, idle, if◌then◌else◌, inside, is_closing, last_firing, last_ones, looks_at, looks_of, nat_tests, none-some, over, placed, puts_written, refl, rests, same_Some, standing, subst, sym, true, value_in, view_of, ℕ, ℤ, ◌==◌, ◌∙◌, ◌∷◌, ◌≡◌, ◌≤◌}
-use Rattle.rw_run.specs.Log.{given}
+use Rattle.rw_laws.proofs.Common.{AllByRecursion, Bool, ByObject, Cell, Cells, DividesByZero, Done, Draft, EndsOutside, Event, Fire, FireEnd, Firing, IsBasin, IsFault, IsKind, IsPolicyOf, IsRun, Kind, List, Log, Policy, Some, Standing, Unknown, View, [], ap, arith, asked_for, asked_of_rule, before_closing, cells_looked, cells_of, dispatch_of, ended, false, fault, fired, idle, if◌then◌else◌, inside, last_firing, last_ones, looks_at, looks_of, nat_tests, none-some, over, placed, puts_written, refl, rests, same_Some, standing, standing-placed, subst, sym, true, value_in, view_of, ℕ, ℤ, ◌==◌, ◌∙◌, ◌∷◌, ◌≡◌, ◌≤◌}
 use Rattle.rw_laws.specs.Rules.{AllStandBy, EndsAs}
 use Rattle.rw_laws.proofs.Agenda.{due_is_rule}
-use Rattle.rw_laws.proofs.Came.{Came, Closes, Fires, asks, came, closes, ends, fires, opens}
+use Rattle.rw_laws.proofs.Came.{Came, Fires, asks, closes, ends, fires, opens}
 use Rattle.rw_laws.proofs.Dispatches.{Asked_of, asked_of, idles, solves, stops, weaker_all}
 use Rattle.rw_laws.proofs.Firings.{FiredIn, IsLast, IsNotOf, all_stand_by, all_standing, fired_on, object_no_rule, other_rule}
 use Rattle.rw_laws.proofs.LastOnes.{IsAt}
 use Rattle.rw_laws.proofs.Steps.{Holds, IsKept, LeftIn, ToldIn, begin_holds, next_holds}
 use Rattle.rw_laws.proofs.Told.{AreTold, IsWriting}
 use Rattle.rw_laws.proofs.Writings.{IsRulePut, asked_rule_all, fired_writings, is_object_of, object_puts, solved_writings}
+use Rattle.rw_laws.proofs.Along.{all_closed}
 
 abbrev FiredAt : Draft → Policy → Log → Standing → Type 0
 FiredAt basin policy log (rests step) = Unit {0}
@@ -74,8 +74,6 @@ module _ (L : Kind → View → Type 0) (kept : IsKept L) (basin : Draft) (valid
   ended_fired : (log : Log) (step rule : ℕ) (fire : Fire) (end : FireEnd) → fire.end ≡ end → Holds L basin log → standing log ≡ inside step → FiredIn basin policy step log → 1 ≤ rule
       → policy.fire rule step (value_in (cells_of basin log)) ≡ Some fire
       → FiredAt basin policy (ended basin (cells_of basin log) rule step fire end ∷ log) (standing (ended basin (cells_of basin log) rule step fire end ∷ log))
-  ended_fired log step rule fire DividesByZero at holds stands before first does = tt
-  ended_fired log step rule fire (EndsOutside value) at holds stands before first does = tt
   ended_fired log step rule fire Unknown at holds stands before first does =
       let none : fire.puts ≡ [] = promise.silent rule step (value_in (cells_of basin log)) fire does (λ done. let no : 0 ≡ 1 = ap end_number (sym at ∙ done) in omega (arith, no)) in
       after_firing log step rule fire _ refl holds stands before does refl (subst (EndsAs false) (sym at) refl) (ap (asked_of_rule basin rule step) (sym none)) refl refl tt tt
@@ -83,6 +81,7 @@ module _ (L : Kind → View → Type 0) (kept : IsKept L) (basin : Draft) (valid
       let asks_all = promise.asks rule step (value_in (cells_of basin log)) fire does in
       after_firing log step rule fire _ refl holds stands before does refl (subst (EndsAs true) (sym at) refl) refl refl refl
       (asked_rule_all basin rule step fire.puts asks_all) (fired_writings basin policy step rule step (cells_of basin log) fire Done first asks_all)
+  ended_fired log step rule fire end at holds stands before first does = tt
 
   fires_fired : (log : Log) (event : Event) → IsWithin L basin policy log → Fires basin policy log event → FiredAt basin policy (event ∷ log) (standing (event ∷ log))
   fires_fired log event within at =
@@ -119,73 +118,17 @@ module _ (L : Kind → View → Type 0) (kept : IsKept L) (basin : Draft) (valid
       (asked_of basin (cells_of basin log) at.object at.step event at.is)
   next_fired log event within (ends why) = over_fired log event why
 
-  pub next_within : (log : Log) (event : Event) → IsWithin L basin policy log → Came basin policy log event → IsWithin L basin policy (event ∷ log)
-  next_within log event within comes =
+  pub next_within : (log : Log) (event : Event) → Came basin policy log event → IsWithin L basin policy log → IsWithin L basin policy (event ∷ log)
+  next_within log event comes within =
       record { holds = next_holds L kept basin valid policy promise log event within.holds comes; fired = next_fired log event within comes }
 
-  begin_fired : (log : Log) (inputs : List (Cell × ℤ)) → standing log ≡ rests 0 → FiredAt basin policy (placed log inputs) (standing (placed log inputs))
-  begin_fired log [] stands = subst (FiredAt basin policy log) (sym stands) tt
-  begin_fired log (input ∷ inputs) stands = begin_fired (given input.0 input.1 ∷ log) inputs refl
-
   pub begin_within : (inputs : List (Cell × ℤ)) → IsWithin L basin policy (placed [] inputs)
-  begin_within inputs = record { holds = begin_holds L kept basin valid policy promise inputs; fired = begin_fired [] inputs refl }
-
-  -- ---- closed timesteps
-
-  ends_closing : (P : ℕ → Log → Type 0) (log : Log) (event : Event) (step : ℕ) → IsFault event → is_closing step event ≡ true → P step log
-  ends_closing P log (fault why) step over_by is = absurd (grind (arith, is))
-  ends_closing P log event step over_by is = absurd over_by
-
-  pub closing_of : (P : ℕ → Log → Type 0) → ((log : Log) (event : Event) → IsWithin L basin policy log → (at : Closes basin policy log event) → P at.step log)
-      → (log : Log) (event : Event) (step : ℕ) → IsWithin L basin policy log → Came basin policy log event → is_closing step event ≡ true → P step log
-  closing_of P f log event step within (opens at) is = absurd (let no : false ≡ true = ap (is_closing step) (sym at.is) ∙ is in cc)
-  closing_of P f log event step within (closes at) is =
-      let here : (at.step == step) ≡ true = ap (is_closing step) (sym at.is) ∙ is in
-      let same : at.step ≡ step = grind (arith, nat_tests, here) in subst (λ s. P s log) same (f log event within at)
-  closing_of P f log event step within (fires at) is = absurd (by at.fire.end (ap (is_closing step) (sym at.is) ∙ is))
-    where
-      by : (end : FireEnd) → is_closing step (ended basin (cells_of basin log) at.rule at.step at.fire end) ≡ true → ⊥
-      by DividesByZero e = absurd (grind (arith, e))
-      by (EndsOutside value) e = absurd (grind (arith, e))
-      by Unknown e = absurd (grind (arith, e))
-      by Done e = absurd (grind (arith, e))
-  closing_of P f log event step within (asks at) is = by (asked_of basin (cells_of basin log) at.object at.step event at.is)
-    where
-      by : Asked_of basin (cells_of basin log) at.object at.step event → P step log
-      by (idles of) = absurd (let no : false ≡ true = ap (is_closing step) (sym of.is) ∙ is in cc)
-      by (solves of) = absurd (let no : false ≡ true = ap (is_closing step) (sym of.is) ∙ is in cc)
-      by (stops why) = ends_closing P log event step why is
-  closing_of P f log event step within (ends why) is = ends_closing P log event step why is
-
-  -- what is so wherever a timestep is closed is so just before each closing that a log has
-  abbrev AllClosed : (ℕ → Log → Type 0) → Log → Type 0
-  AllClosed P log = (step : ℕ) (before : Log) → before_closing step log ≡ Some before → P step before
-
-  next_closed : (P : ℕ → Log → Type 0) → ((log : Log) (event : Event) → IsWithin L basin policy log → (at : Closes basin policy log event) → P at.step log)
-      → (log : Log) (event : Event) → IsWithin L basin policy log → Came basin policy log event → AllClosed P log → AllClosed P (event ∷ log)
-  next_closed P f log event within comes all step before is = by (is_closing step event) refl is
-    where
-      by : (test : Bool) → is_closing step event ≡ test → (if test then Some log else before_closing step log) ≡ Some before → P step before
-      by true here is = subst (P step) (same_Some _ _ is) (closing_of P f log event step within comes here)
-      by false there is = all step before is
-
-  begin_closed : (P : ℕ → Log → Type 0) (log : Log) (inputs : List (Cell × ℤ)) → AllClosed P log → AllClosed P (placed log inputs)
-  begin_closed P log [] all = all
-  begin_closed P log (input ∷ inputs) all = begin_closed P (given input.0 input.1 ∷ log) inputs all
-
-  lead_closed : (P : ℕ → Log → Type 0) → ((log : Log) (event : Event) → IsWithin L basin policy log → (at : Closes basin policy log event) → P at.step log)
-      → (old : Log) (events : List Event) (new : Log) → Leads basin policy old events new → IsWithin L basin policy old → AllClosed P old → AllClosed P new
-  lead_closed P f old [] new leads within all = subst (AllClosed P) (sym leads) all
-  lead_closed P f old (event ∷ events) new leads within all =
-      let comes = came basin policy old event leads.0 in
-      lead_closed P f (event ∷ old) events new leads.1 (next_within old event within comes) (next_closed P f old event within comes all)
-
-  pub all_closed : (P : ℕ → Log → Type 0) → ((log : Log) (event : Event) → IsWithin L basin policy log → (at : Closes basin policy log event) → P at.step log)
-      → (inputs : List (Cell × ℤ)) (log : Log) → IsRun basin policy inputs log → (step : ℕ) (before : Log) → before_closing step log ≡ Some before → P step before
-  all_closed P f inputs log run =
-      lead_closed P f (placed [] inputs) run.events log run.leads (begin_within inputs) (begin_closed P [] inputs (λ step before is. absurd (none-some before is)))
+  begin_within inputs = record {
+    holds = begin_holds L kept basin valid policy promise inputs;
+    fired = subst (FiredAt basin policy (placed [] inputs)) (sym (standing-placed [] inputs refl)) tt;
+  }
 
   pub rules_stand : (inputs : List (Cell × ℤ)) (log : Log) → IsRun basin policy inputs log → (step : ℕ) (before : Log) → before_closing step log ≡ Some before
       → AllStandBy basin policy step before
-  rules_stand = all_closed (AllStandBy basin policy) (λ log event within at.
-      all_stand_by basin policy at.step log promise (subst (FiredAt basin policy log) at.stands within.fired) at.none_due)
+  rules_stand inputs log run = all_closed basin policy (IsWithin L basin policy) next_within (AllStandBy basin policy) (λ log event within at.
+      all_stand_by basin policy at.step log promise (subst (FiredAt basin policy log) at.stands within.fired) at.none_due) inputs log run (begin_within inputs)

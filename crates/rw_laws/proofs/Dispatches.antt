@@ -1,13 +1,12 @@
 -- What a dispatch comes to: an object is idle, or it asks for puts of which none is denied, or the run ends by a fault.
-use Rattle.rw_laws.proofs.Common.{AllByRecursion, Asked, Bool, Cells, Conflict, Denied, Draft, Event, IsFault, Kept, Kind, List, None, Object, Option, OutOfRange, Put, PutEnd, Puts, Solved, Some, Written, [], answered, ap, asked_for, cond, denied_by, dispatch_of, dispatched, end_in, false, filter, idle, inl, inr, is_written, judged, looks_of, map, none-some, object_at, option_map, or_fault, puts_written, refl, solve_of, solved_by, subst, sym, true, unwrap_or, view_of, ℕ, ◌∙◌, ◌∷◌, ◌≡◌, ◌⊎◌}
+use Rattle.rw_laws.proofs.Common.{AllByRecursion, Asked, Bool, Cells, Denied, Draft, Event, IsFault, Kind, List, None, Object, Option, Put, PutEnd, Puts, Solved, Some, Written, [], answered, ap, asked_for, cond, denied_by, dispatch_of, dispatched, end_in, false, filter, idle, inl, inr, is_written, judged, looks_of, map, none-some, object_at, option_map, or_fault, puts_written, refl, solve_of, solved_by, subst, sym, true, unwrap_or, view_of, ℕ, ◌∙◌, ◌∷◌, ◌≡◌, ◌⊎◌}
 use Rattle.rw_method.specs.declared.solved.Solved.TheVariants.{Idle}
 use Rattle.rw_laws.proofs.PutRules.{is_written_fact}
 
 -- a put isn't denied
 abbrev pub IsFine : PutEnd → Type 0
-IsFine Written = Unit {0}
-IsFine Kept = Unit {0}
 IsFine (Denied held) = ⊥
+IsFine any = Unit {0}
 
 abbrev pub AreFine : Cells → List Asked → Type 0
 AreFine cells asked = AllByRecursion (λ (put : Asked). IsFine (end_in cells put)) asked
@@ -15,11 +14,9 @@ AreFine cells asked = AllByRecursion (λ (put : Asked). IsFine (end_in cells put
 if_fine : (cells : Cells) (object : ℕ) (put : Asked) (puts : List Asked) (rest : Event) (end : PutEnd) → end_in cells put ≡ end
     → (judged cells object puts rest ≡ rest) × AreFine cells puts ⊎ IsFault (judged cells object puts rest)
     → ((or_fault (denied_by end put) object put (judged cells object puts rest) ≡ rest) × (IsFine (end_in cells put) × AreFine cells puts)) ⊎ IsFault (or_fault (denied_by end put) object put (judged cells object puts rest))
-if_fine cells object put puts rest Written is (inl fine) = inl (fine.0, (subst IsFine (sym is) tt, fine.1))
-if_fine cells object put puts rest Kept is (inl fine) = inl (fine.0, (subst IsFine (sym is) tt, fine.1))
-if_fine cells object put puts rest Written is (inr why) = inr why
-if_fine cells object put puts rest Kept is (inr why) = inr why
 if_fine cells object put puts rest (Denied held) is later = inr tt
+if_fine cells object put puts rest end is (inl fine) = inl (fine.0, (subst IsFine (sym is) tt, fine.1))
+if_fine cells object put puts rest end is (inr why) = inr why
 
 pub judged_fine : (cells : Cells) (object : ℕ) (puts : List Asked) (rest : Event)
     → ((judged cells object puts rest ≡ rest) × AreFine cells puts) ⊎ IsFault (judged cells object puts rest)
@@ -45,10 +42,8 @@ pub data Asked_of (basin : Draft) (cells : Cells) (object step : ℕ) (event : E
   stops : IsFault event → Asked_of basin cells object step event
 
 abbrev puts_in : Solved → Option (List Put)
-puts_in Idle = None
 puts_in (Puts puts) = Some puts
-puts_in (Conflict place held found) = None
-puts_in (OutOfRange place value) = None
+puts_in any = None
 
 record HasKind (basin : Draft) (cells : Cells) (object step : ℕ) (puts : List Put) : Type 0 where
   kind : Kind
@@ -72,8 +67,7 @@ module _ (basin : Draft) (cells : Cells) (object step : ℕ) (event : Event) whe
         | inl fine ↦ solves (record { kind = has.kind; own = has.own; puts = puts; answers = has.answers; fine = fine.1; is = sym is ∙ fine.0 })
         | inr why ↦ stops (subst IsFault is why)
       ]
-  by_answer (Conflict place held found) answers is = stops (subst IsFault is tt)
-  by_answer (OutOfRange place value) answers is = stops (subst IsFault is tt)
+  by_answer answer answers is = stops (subst IsFault is tt)
 
   pub asked_of : event ≡ dispatched basin cells object step → Asked_of basin cells object step event
   asked_of is = by_answer (solved_by basin cells object step) refl (sym is)

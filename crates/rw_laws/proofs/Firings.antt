@@ -1,5 +1,5 @@
 -- What is left of the last firing of each rule, and that each would do the same again where the timestep is closed.
-use Rattle.rw_laws.proofs.Common.{AllByRecursion, AreAlike, Asked, Bool, ByObject, Cell, Cells, Decides-int_eq, Denied, Draft, Event, Fire, Firing, Input, IsPolicyOf, Kept, List, Log, None, Option, Policy, PutEnd, Rule, Some, Writer, Written, [], ap, arith, cells_of, end_in, false, first_due, inl, inr, is_changed, last_firing, last_ones, last_put, looks_at, nat_tests, not, option_map, option_or, puts_written, refl, subst, sym, true, value_in, written_by, ℕ, ℤ, ◌<◌, ◌==◌, ◌||◌, ◌∙◌, ◌∷◌, ◌≡◌, ◌≢◌, ◌≤◌, ◌⊎◌}
+use Rattle.rw_laws.proofs.Common.{AllByRecursion, AreAlike, Asked, Bool, ByObject, Cell, Cells, Decides-int_eq, Denied, Draft, Event, Fire, Firing, IsPolicyOf, Kept, List, Log, None, Option, Policy, PutEnd, Rule, Some, Writer, Written, [], ap, arith, cells_of, end_in, false, first_due, inl, inr, is_changed, last_firing, last_ones, last_put, looks_at, nat_tests, not, option_map, option_or, puts_written, refl, subst, sym, true, value_in, written_by, ℕ, ℤ, ◌<◌, ◌==◌, ◌||◌, ◌∙◌, ◌∷◌, ◌≡◌, ◌≢◌, ◌≤◌, ◌⊎◌}
 use Rattle.rw_run.specs.Next.{is_same_value}
 use Rattle.rw_laws.specs.Rules.{AllStandBy, IsFiringOf, IsHeldOr, StandsBy}
 use Rattle.rw_laws.proofs.Agenda.{none_due}
@@ -58,17 +58,15 @@ fired_on basin policy latest step log event rule firing all is = record {
 }
 
 abbrev is_object : Writer → Bool
-is_object Input = false
-is_object (Rule rule) = false
 is_object (ByObject object) = true
+is_object any = false
 
 pub object_no_rule : (writer : Writer) (object rule : ℕ) → writer ≡ ByObject (record { 0 = object }) → writer ≢ Rule (record { 0 = rule })
 object_no_rule writer object rule is same = absurd (let no : true ≡ false = sym (ap is_object is) ∙ ap is_object same in cc)
 
 abbrev rule_in : Writer → ℕ
-rule_in Input = 0
 rule_in (Rule rule) = rule.0
-rule_in (ByObject object) = 0
+rule_in any = 0
 
 pub other_rule : (writer : Writer) (one other : ℕ) → writer ≡ Rule (record { 0 = one }) → (one == other) ≡ false → writer ≢ Rule (record { 0 = other })
 other_rule writer one other is apart same =

@@ -1,5 +1,5 @@
 -- An object that is idle doesn't know all its terms, so that nothing is asked of its balance.
-use Rattle.rw_laws.proofs.Common.{AllByRecursion, Balanced, Basis, Bifurcation, Bool, ByRule, Canal, Conflict, Conflicts, Confluence, Content, DataObject, Elevation, Gage, Given, Holds, Idle, IdleAnswer, Kind, List, None, Nothing, Option, OutOfRange, Put, Puts, Reach, Request, Reservoir, Row, Solved, Solves, Some, Storage, Term, View, WaterUser, [], agree, all_or_misfit, answer, ap, ap₂, arith, balance_of, balanced_of, basis_of, can_hold, difference, disagreement, false, fault_of_basis, fault_of_contents, fault_of_past, first_misfit, fits, given, if◌then◌else◌, inl, inr, int_eq, is_some, known, map, missing, nat_le, nat_tests, net_of, none-some, not, option_map, or_else, pos, puts_of, refl, settled, settled_at, solve_of, solves, suc, sum_of, sym, true, value_from_others, volume_of, weakest, zero, ℕ, ℤ, ◌&&◌, ◌+ℤ◌, ◌+◌, ◌-ℤ◌, ◌==◌, ◌∙◌, ◌∷◌, ◌≡◌, ◌≢◌, ◌≤◌}
+use Rattle.rw_laws.proofs.Common.{AllByRecursion, Balanced, Bifurcation, Bool, ByRule, Canal, Conflicts, Confluence, Content, DataObject, Gage, Given, Holds, Idle, IdleAnswer, Kind, List, None, Option, Put, Reach, Request, Reservoir, Solved, Some, Term, View, WaterUser, [], all_or_misfit, answer, ap, ap₂, arith, balance_of, balanced_of, difference, false, fault_of_contents, first_misfit, fits, if◌then◌else◌, inl, inr, int_eq, is_some, known, map, missing, nat_le, nat_tests, net_of, none-some, option_map, pos, puts_of, refl, settled, settled_at, solve_of, solves, suc, sum_of, sym, true, value_from_others, weakest, zero, ℕ, ℤ, ◌+ℤ◌, ◌+◌, ◌-ℤ◌, ◌==◌, ◌∙◌, ◌∷◌, ◌≡◌, ◌≢◌, ◌≤◌}
 use Rattle.rw_laws.specs.Balances.{IsBalanced, IsHeld}
 use Rattle.rw_laws.specs.Left.{Left}
 use Rattle.rw_laws.proofs.Leaving.{from_left}
@@ -7,70 +7,22 @@ use Rattle.rw_laws.proofs.Netting.{AreDistinct}
 use Rattle.rw_laws.proofs.OwnPuts.{Among, all_at}
 use Rattle.rw_laws.proofs.Settled.{balanced_code}
 use Rattle.rw_laws.proofs.Terms.{Sort, given_in, shape_of, term_in, terms_are}
+use Rattle.rw_laws.proofs.Answering.{IsFaulty, answer_code, contents_faulty}
 
 -- ---- an answer of Idle comes of an idle balance
-
-abbrev answer_code : Solved → ℕ
-answer_code IdleAnswer = 0
-answer_code (Puts puts) = 1
-answer_code (Conflict place held found) = 2
-answer_code (OutOfRange place value) = 3
-
-abbrev IsBusy : Option Solved → Type 0
-IsBusy None = Unit {0}
-IsBusy (Some answer) = 1 ≤ answer_code answer
-
-if_busy : (test : Bool) (a b : Option Solved) → IsBusy a → IsBusy b → IsBusy (if test then a else b)
-if_busy true a b x y = x
-if_busy false a b x y = y
-
-or_busy : (a b : Option Solved) → IsBusy a → IsBusy b → IsBusy (or_else a b)
-or_busy None b x y = y
-or_busy (Some answer) b x y = x
-
-past_busy : (evaporation : Bool) (table : Option (List Row)) (past : Option ℤ) → IsBusy (fault_of_past evaporation table past)
-past_busy evaporation table None = tt
-past_busy evaporation table (Some storage) = if_busy (evaporation && not (can_hold table storage)) (Some (OutOfRange 2 storage)) None (omega arith) tt
-
-basis_busy : (table : Option (List Row)) (basis : Basis) → IsBusy (fault_of_basis table basis)
-basis_busy table Nothing = tt
-basis_busy table (Storage storage) = if_busy (can_hold table storage.value) None (Some (OutOfRange 2 storage.value)) tt (omega arith)
-basis_busy table (Elevation elevation) = if_busy (is_some (volume_of table elevation.value)) None (Some (OutOfRange 3 elevation.value)) tt (omega arith)
-
-disagreement_busy : (table : Option (List Row)) (storage elevation : Option Given) → IsBusy (disagreement table storage elevation)
-disagreement_busy table None elevation = tt
-disagreement_busy table (Some storage) None = tt
-disagreement_busy table (Some storage) (Some elevation) =
-    if_busy (storage.number == 0 && elevation.number == 0 && not (agree table storage.value elevation.value)) (Some (Conflict 3 elevation.value _)) None (omega arith) tt
-
-contents_busy : (kind : Kind) (view : View) → IsBusy (fault_of_contents kind view)
-contents_busy (DataObject slots) view = tt
-contents_busy Gage view = tt
-contents_busy Confluence view = tt
-contents_busy Bifurcation view = tt
-contents_busy (Reach lag history local_inflow diversion return_flow) view = tt
-contents_busy (Reservoir initial_storage table local_inflow diversion return_flow evaporation max_release) view =
-    or_busy (fault_of_past evaporation table view.past) _ (past_busy evaporation table view.past)
-    (or_busy (fault_of_basis table (basis_of (given view 2) (given view 3))) _ (basis_busy table (basis_of (given view 2) (given view 3)))
-    (disagreement_busy table (given view 2) (given view 3)))
-contents_busy (WaterUser depletion supply) view = tt
-contents_busy (Canal seepage) view = tt
 
 misfit_busy : (puts : List Put) (misfit : Option Put) → 1 ≤ answer_code (all_or_misfit puts misfit)
 misfit_busy puts None = omega arith
 misfit_busy puts (Some put) = omega arith
 
-idle_of : (fit : Put → Bool) (puts : List Put) (balanced : Balanced) (fault : Option Solved) → IsBusy fault → answer fit puts balanced fault ≡ IdleAnswer → balanced_code balanced ≡ 0
+idle_of : (fit : Put → Bool) (puts : List Put) (balanced : Balanced) (fault : Option Solved) → IsFaulty fault → answer fit puts balanced fault ≡ IdleAnswer → balanced_code balanced ≡ 0
 idle_of fit puts Idle fault busy e = refl
-idle_of fit puts Holds (Some found) busy e = absurd (let code = ap answer_code e in omega (arith, busy, code))
-idle_of fit puts (Solves place value number) (Some found) busy e = absurd (let code = ap answer_code e in omega (arith, busy, code))
-idle_of fit puts (Conflicts place held solved) (Some found) busy e = absurd (let code = ap answer_code e in omega (arith, busy, code))
 idle_of fit puts (Conflicts place held solved) None busy e = absurd (let code = ap answer_code e in omega (arith, code))
-idle_of fit puts Holds None busy e = absurd (let code = ap answer_code e in let some = misfit_busy puts (first_misfit fit puts) in omega (arith, some, code))
-idle_of fit puts (Solves place value number) None busy e = absurd (let code = ap answer_code e in let some = misfit_busy puts (first_misfit fit puts) in omega (arith, some, code))
+idle_of fit puts balanced (Some found) busy e = absurd (let code = ap answer_code e in omega (arith, busy, code))
+idle_of fit puts balanced None busy e = absurd (let code = ap answer_code e in let some = misfit_busy puts (first_misfit fit puts) in omega (arith, some, code))
 
 pub idle_balance : (kind : Kind) (view : View) → solve_of kind view ≡ IdleAnswer → balanced_code (balanced_of kind view) ≡ 0
-idle_balance kind view e = idle_of (fits kind view) (puts_of kind view (balanced_of kind view)) (balanced_of kind view) (fault_of_contents kind view) (contents_busy kind view) e
+idle_balance kind view e = idle_of (fits kind view) (puts_of kind view (balanced_of kind view)) (balanced_of kind view) (fault_of_contents kind view) (contents_faulty kind view) e
 
 -- ---- two terms that aren't given
 

@@ -1,5 +1,5 @@
 -- The puts of a firing that aren't put again: what is written of them is found, and nothing else is.
-use Rattle.rw_laws.proofs.Common.{AllByRecursion, Asked, Bool, Cell, Cells, Content, Denied, Draft, IsSlot, Kept, List, None, PutEnd, Some, Written, [], among_group, ap, ap₂, arith, cond, end_in, false, if◌then◌else◌, inl, inr, is_put_again, is_shared, is_written, known_number, last_ones, last_put, nat_tests, option_or, puts_written, refl, same_turned, subst, sym, together_turned, true, ◌&&◌, ◌==◌, ◌||◌, ◌∙◌, ◌∷◌, ◌≡◌, ◌≢◌}
+use Rattle.rw_laws.proofs.Common.{AllByRecursion, Asked, Bool, Cell, Cells, Content, Draft, IsSlot, List, None, PutEnd, Some, Written, [], among_group, ap, ap₂, arith, cond, end_in, false, if◌then◌else◌, inl, inr, is_put_again, is_shared, is_written, known_number, last_ones, last_put, nat_tests, option_or, puts_written, refl, same_turned, subst, sym, together_turned, true, ◌&&◌, ◌==◌, ◌||◌, ◌∙◌, ◌∷◌, ◌≡◌, ◌≢◌}
 use Rattle.rw_laws.proofs.OwnPuts.{Among}
 
 abbrev pub IsAt : Draft → Asked → Type 0
@@ -100,8 +100,7 @@ module _ (basin : Draft) (cells : Cells) where
 
   not_written : (end : PutEnd) → end ≢ Written → is_written end ≡ false
   not_written Written other = absurd (other refl)
-  not_written Kept other = refl
-  not_written (Denied held) other = refl
+  not_written end other = refl
 
   member_of : (P : Asked → Type 0) (puts : List Asked) (put : Asked) → AllByRecursion P puts → Among puts put → P put
   member_of P [] put all has = absurd has

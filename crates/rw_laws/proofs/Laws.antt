@@ -6,15 +6,16 @@ use Rattle.rw_laws.specs.Left.{Left}
 use Rattle.rw_laws.specs.Priority.{KeepPriority}
 use Rattle.rw_laws.specs.Rules.{AllStandBy}
 use Rattle.rw_laws.proofs.Closed.{closings, stays}
-use Rattle.rw_laws.proofs.Closing.{rules_stand}
+use Rattle.rw_laws.proofs.Closing.{IsWithin, begin_within, next_within, rules_stand}
 use Rattle.rw_laws.proofs.LeftKept.{left_kept}
 use Rattle.rw_laws.proofs.Linked.{links}
 use Rattle.rw_laws.proofs.Settles.{balances}
 use Rattle.rw_laws.proofs.Staying.{same_view}
-use Rattle.rw_laws.proofs.Steps.{run_holds}
+use Rattle.rw_laws.proofs.Along.{along}
 
 pub priority : (basin : Draft) (policy : Policy) (inputs : List (Cell × ℤ)) (log : Log) → IsBasin basin → IsPolicyOf basin policy → IsRun basin policy inputs log → KeepPriority basin log
-priority basin policy inputs log valid promise run = (run_holds Left left_kept basin valid policy promise inputs log run).priority
+priority basin policy inputs log valid promise run =
+    (along basin policy (IsWithin Left basin policy) (next_within Left left_kept basin valid policy promise) inputs log run (begin_within Left left_kept basin valid policy promise inputs)).holds.priority
 
 pub rules : (basin : Draft) (policy : Policy) (inputs : List (Cell × ℤ)) (log before : Log) (step : ℕ) → IsBasin basin → IsPolicyOf basin policy → IsRun basin policy inputs log
     → before_closing step log ≡ Some before → AllStandBy basin policy step before

@@ -1,5 +1,5 @@
 -- A dispatch keeps what it is kept by: which facts of a kind's puts are enough.
-use Rattle.rw_laws.proofs.Common.{All, AllByRecursion, Balanced, Bool, ByObject, Conflicts, Contains, Content, Given, Holds, Idle, IsShare, IsSome, Kind, List, None, Option, Put, Solves, Some, Term, View, [], ap, arith, balanced_of, false, held_by, if◌then◌else◌, inl, inr, is_same_object, known, known_after, map, nat_tests, none-some, number_of, refl, rules, same_Some, settled, subst, sym, true, ℕ, ℤ, ◌==◌, ◌∙◌, ◌∷◌, ◌≡◌, ◌≢◌, ◌≤◌, ◌⊎◌}
+use Rattle.rw_laws.proofs.Common.{All, AllByRecursion, Balanced, Bool, ByObject, Contains, Content, Given, Holds, IsShare, IsSome, Kind, List, None, Option, Put, Solves, Some, Term, View, [], ap, arith, balanced_of, false, held_by, if◌then◌else◌, inl, inr, is_same_object, known, known_after, map, nat_tests, none-some, number_of, refl, rules, same_Some, settled, subst, sym, true, ℕ, ℤ, ◌==◌, ◌∙◌, ◌∷◌, ◌≡◌, ◌≢◌, ◌≤◌, ◌⊎◌}
 use Rattle.rw_laws.specs.Left.{IsGivenUpTo, IsUpTo, Left, Rest, is_own, rest, rests_of}
 use Rattle.rw_laws.specs.Passing.{IsAfter, Passes, content_of}
 use Rattle.rw_laws.proofs.OwnPuts.{Among, all_at, among}
@@ -214,9 +214,6 @@ module _ (kind : Kind) (old : View) (puts : List Put) (facts : DispatchFacts kin
 
   -- what is known of a slot once the balance is settled has no greater a number than what the slot held
   after_falls : (balanced : Balanced) → balanced_of kind old ≡ balanced → (on : ℕ) (content : Content) → known old on ≡ Some content → (known_after old balanced on).number ≤ content.number
-  after_falls Idle is on content there = let same : held_by (known old on) ≡ held_by (Some content) = ap held_by there in let n : (held_by (known old on)).number ≡ content.number = ap (λ (g : Given). g.number) same in omega (arith, n)
-  after_falls Holds is on content there = let same : held_by (known old on) ≡ held_by (Some content) = ap held_by there in let n : (held_by (known old on)).number ≡ content.number = ap (λ (g : Given). g.number) same in omega (arith, n)
-  after_falls (Conflicts place held solved_value) is on content there = let same : held_by (known old on) ≡ held_by (Some content) = ap held_by there in let n : (held_by (known old on)).number ≡ content.number = ap (λ (g : Given). g.number) same in omega (arith, n)
   after_falls (Solves place value number) is on content there = by (place == on) refl
     where
       by : (test : Bool) → (place == on) ≡ test → (if test then record { value = value; number = number } else held_by (known old on)).number ≤ content.number
@@ -224,6 +221,7 @@ module _ (kind : Kind) (old : View) (puts : List Put) (facts : DispatchFacts kin
           let at : place ≡ on = grind (arith, nat_tests, same) in
           number_falls (record { place = place; value = value; number = number; is = is }) content (ap (known old) at ∙ there)
       by false apart = let same : held_by (known old on) ≡ held_by (Some content) = ap held_by there in let n : (held_by (known old on)).number ≡ content.number = ap (λ (g : Given). g.number) same in omega (arith, n)
+  after_falls balanced is on content there = let same : held_by (known old on) ≡ held_by (Some content) = ap held_by there in let n : (held_by (known old on)).number ≡ content.number = ap (λ (g : Given). g.number) same in omega (arith, n)
 
   own_fall : (put : Put) → PutIs kind old put → IsOwnFall old put
   own_fall put (solved is) content there own = number_falls (record { place = put.place; value = put.value; number = put.number; is = is }) content there
@@ -302,9 +300,6 @@ module _ (kind : Kind) (old : View) (puts : List Put) (facts : DispatchFacts kin
         still = let up = up_to_after old new puts after on content there in let most = up.most in let n = held_is in record { content = up.content; is = up.is; most = omega (arith, n, most) }
 
         by : (balanced : Balanced) → balanced_of kind old ≡ balanced → IsUpTo (known_after old balanced on).number (known new on)
-        by Idle is = still
-        by Holds is = still
-        by (Conflicts place held found) is = still
         by (Solves place value number) is = by_place (place == on) refl
           where
             by_place : (test : Bool) → (place == on) ≡ test → IsUpTo (if test then record { value = value; number = number } else held_by (known old on)).number (known new on)
@@ -313,6 +308,7 @@ module _ (kind : Kind) (old : View) (puts : List Put) (facts : DispatchFacts kin
                 let at : place ≡ on = grind (arith, nat_tests, same) in
                 subst (λ p. IsUpTo number (known new p)) at
                 (put_up_to old new puts after (record { place = place; value = value; number = number }) (facts.has_solved (record { place = place; value = value; number = number; is = is })))
+        by balanced is = still
 
     rests_by : (pair : Rest) (content : Content) → Contains (rests_of kind) pair → known new pair.place ≡ Some content → is_own new content ≡ true
         → IsUpTo content.number (known new pair.on)

@@ -1,5 +1,5 @@
 -- What dispatches leave is kept by every event, whatever the kind.
-use Rattle.rw_laws.proofs.Common.{AllByRecursion, Balanced, Basis, Bifurcation, Bool, ByRule, Canal, Conflicts, Confluence, DataObject, Elevation, Gage, Given, Holds, Idle, IsKind, IsStored, Kind, List, None, Nothing, Option, Put, Reach, Request, Reservoir, Row, Solves, Some, Storage, View, WaterUser, [], ap, are_both_zero, arith, balanced_of, basis_of, beside_basis, beside_given, elevation_of, evaporation_of, evaporation_put, false, given, if◌then◌else◌, inl, inr, known_after, level_puts, nat_tests, put_found, refl, release_puts, seepage_put, solved_put, subst, suc, sym, true, user_puts, volume_of, zero, ℕ, ℤ, ◌++◌, ◌<◌, ◌==◌, ◌∙◌, ◌∷◌, ◌≡◌, ◌≢◌, ◌≤◌}
+use Rattle.rw_laws.proofs.Common.{AllByRecursion, Balanced, Basis, Bifurcation, Bool, ByRule, Canal, Confluence, DataObject, Elevation, Gage, Given, IsKind, IsStored, Kind, List, None, Nothing, Option, Put, Reach, Request, Reservoir, Row, Solves, Some, Storage, View, WaterUser, [], ap, are_both_zero, arith, balanced_of, basis_of, beside_basis, beside_given, elevation_of, evaporation_of, evaporation_put, false, given, if◌then◌else◌, inl, inr, known_after, level_puts, nat_tests, put_found, refl, release_puts, seepage_put, solved_put, subst, suc, sym, true, user_puts, volume_of, zero, ℕ, ℤ, ◌++◌, ◌<◌, ◌==◌, ◌∙◌, ◌∷◌, ◌≡◌, ◌≢◌, ◌≤◌}
 use Rattle.rw_laws.specs.Left.{Left}
 use Rattle.rw_laws.proofs.Answering.{Answered, answered}
 use Rattle.rw_laws.proofs.Leaving.{DispatchFacts, Solving, begins, from_left, others, own_falls, own_left, to_left}
@@ -77,28 +77,20 @@ up_both most [] ys a b = b
 up_both most (x ∷ xs) ys a b = (a.0, up_both most xs ys a.1 b)
 
 solved_alone_apart : (balanced : Balanced) → AreApart (solved_put balanced)
-solved_alone_apart Idle = tt
-solved_alone_apart Holds = tt
 solved_alone_apart (Solves place value number) = (tt, tt)
-solved_alone_apart (Conflicts place held found) = tt
+solved_alone_apart balanced = tt
 
 abbrev pub SolvesUpTo : ℕ → Balanced → Type 0
-SolvesUpTo most Idle = Unit {0}
-SolvesUpTo most Holds = Unit {0}
 SolvesUpTo most (Solves place value number) = place ≤ most
-SolvesUpTo most (Conflicts place held found) = Unit {0}
+SolvesUpTo most any = Unit {0}
 
 pub solved_up_to : (most : ℕ) (balanced : Balanced) → SolvesUpTo most balanced → AreUpTo most (solved_put balanced)
-solved_up_to most Idle few = tt
-solved_up_to most Holds few = tt
 solved_up_to most (Solves place value number) few = (few, tt)
-solved_up_to most (Conflicts place held found) few = tt
+solved_up_to most balanced few = tt
 
 low_of : (kind : Kind) (view : View) (most : ℕ) → ((solving : Solving kind view) → solving.place ≤ most) → (balanced : Balanced) → balanced_of kind view ≡ balanced → SolvesUpTo most balanced
-low_of kind view most low Idle is = tt
-low_of kind view most low Holds is = tt
 low_of kind view most low (Solves place value number) is = low (record { place = place; value = value; number = number; is = is })
-low_of kind view most low (Conflicts place held found) is = tt
+low_of kind view most low balanced is = tt
 
 low_sort : (shape : List Sort) (most place : ℕ) → AllByRecursion (λ (s : Sort). s.place ≤ most) shape → (s : Sort) → Among shape s → s.place ≡ place → place ≤ most
 low_sort shape most place all s has there = subst (λ p. p ≤ most) there (all_at (λ (s : Sort). s.place ≤ most) shape s all has)
@@ -111,77 +103,61 @@ low_solving kind view puts most all sound is =
 
 -- ---- a reservoir's
 
-found_up : (place : ℕ) (found : Option ℤ) (number most : ℕ) → place ≤ most → AreUpTo most (put_found place found number)
-found_up place None number most few = tt
-found_up place (Some read) number most few = (few, tt)
+abbrev Each : ℕ → (Put → Type 0) → Type 0
+Each place P = (value : ℤ) (number : ℕ) → P (record { place = place; value = value; number = number })
 
-found_apart : (place : ℕ) (found : Option ℤ) (number other : ℕ) → other ≢ place → ApartFrom other (put_found place found number)
-found_apart place None number other apart = tt
-found_apart place (Some read) number other apart = (apart, tt)
+found_each : (P : Put → Type 0) (place : ℕ) (found : Option ℤ) (number : ℕ) → Each place P → AllByRecursion P (put_found place found number)
+found_each P place None number each = tt
+found_each P place (Some read) number each = (each read number, tt)
 
 found_alone : (place : ℕ) (found : Option ℤ) (number : ℕ) → AreApart (put_found place found number)
 found_alone place None number = tt
 found_alone place (Some read) number = (tt, tt)
 
 module _ (table : Option (List Row)) (storage elevation : Option Given) where
-  basis_up : (basis : Basis) → AreUpTo 3 (beside_basis table basis)
-  basis_up Nothing = tt
-  basis_up (Storage held) = found_up 3 (elevation_of table held.value) held.number 3 (omega arith)
-  basis_up (Elevation held) = found_up 2 (volume_of table held.value) held.number 3 (omega arith)
-
-  basis_apart : (other : ℕ) → other ≢ 2 → other ≢ 3 → (basis : Basis) → ApartFrom other (beside_basis table basis)
-  basis_apart other two three Nothing = tt
-  basis_apart other two three (Storage held) = found_apart 3 (elevation_of table held.value) held.number other three
-  basis_apart other two three (Elevation held) = found_apart 2 (volume_of table held.value) held.number other two
+  basis_each : (P : Put → Type 0) → Each 2 P → Each 3 P → (basis : Basis) → AllByRecursion P (beside_basis table basis)
+  basis_each P two three Nothing = tt
+  basis_each P two three (Storage held) = found_each P 3 (elevation_of table held.value) held.number three
+  basis_each P two three (Elevation held) = found_each P 2 (volume_of table held.value) held.number two
 
   basis_alone : (basis : Basis) → AreApart (beside_basis table basis)
   basis_alone Nothing = tt
   basis_alone (Storage held) = found_alone 3 (elevation_of table held.value) held.number
   basis_alone (Elevation held) = found_alone 2 (volume_of table held.value) held.number
 
-  given_up : (test : Bool) → AreUpTo 3 (if test then [] else beside_basis table (basis_of storage elevation))
-  given_up true = tt
-  given_up false = basis_up (basis_of storage elevation)
-
-  given_apart : (other : ℕ) → other ≢ 2 → other ≢ 3 → (test : Bool) → ApartFrom other (if test then [] else beside_basis table (basis_of storage elevation))
-  given_apart other two three true = tt
-  given_apart other two three false = basis_apart other two three (basis_of storage elevation)
+  given_each : (P : Put → Type 0) → Each 2 P → Each 3 P → (test : Bool) → AllByRecursion P (if test then [] else beside_basis table (basis_of storage elevation))
+  given_each P two three true = tt
+  given_each P two three false = basis_each P two three (basis_of storage elevation)
 
   given_alone : (test : Bool) → AreApart (if test then [] else beside_basis table (basis_of storage elevation))
   given_alone true = tt
   given_alone false = basis_alone (basis_of storage elevation)
 
   level_up_by : (value : ℤ) (number : ℕ) (test : Bool) → AreUpTo 3 (if test then put_found 3 (elevation_of table value) number else beside_given table storage elevation)
-  level_up_by value number true = found_up 3 (elevation_of table value) number 3 (omega arith)
-  level_up_by value number false = given_up (are_both_zero storage elevation)
+  level_up_by value number true = found_each (λ (put : Put). put.place ≤ 3) 3 (elevation_of table value) number (λ v n. omega arith)
+  level_up_by value number false = given_each (λ (put : Put). put.place ≤ 3) (λ v n. omega arith) (λ v n. omega arith) (are_both_zero storage elevation)
 
   level_up : (balanced : Balanced) → AreUpTo 3 (level_puts table storage elevation balanced)
-  level_up Idle = given_up (are_both_zero storage elevation)
-  level_up Holds = given_up (are_both_zero storage elevation)
-  level_up (Conflicts place held found) = given_up (are_both_zero storage elevation)
   level_up (Solves place value number) = level_up_by value number (place == 2)
+  level_up balanced = given_each (λ (put : Put). put.place ≤ 3) (λ v n. omega arith) (λ v n. omega arith) (are_both_zero storage elevation)
 
   level_alone_by : (value : ℤ) (number : ℕ) (test : Bool) → AreApart (if test then put_found 3 (elevation_of table value) number else beside_given table storage elevation)
   level_alone_by value number true = found_alone 3 (elevation_of table value) number
   level_alone_by value number false = given_alone (are_both_zero storage elevation)
 
   level_alone : (balanced : Balanced) → AreApart (level_puts table storage elevation balanced)
-  level_alone Idle = given_alone (are_both_zero storage elevation)
-  level_alone Holds = given_alone (are_both_zero storage elevation)
-  level_alone (Conflicts place held found) = given_alone (are_both_zero storage elevation)
   level_alone (Solves place value number) = level_alone_by value number (place == 2)
+  level_alone balanced = given_alone (are_both_zero storage elevation)
 
   level_apart_by : (place : ℕ) (value : ℤ) (number : ℕ) → place ≤ 2 → (test : Bool) → (place == 2) ≡ test
       → ApartFrom place (if test then put_found 3 (elevation_of table value) number else beside_given table storage elevation)
-  level_apart_by place value number few true is = found_apart 3 (elevation_of table value) number place (λ same. omega (arith, same, few))
-  level_apart_by place value number few false is =
-      given_apart place (λ same. absurd (grind (arith, nat_tests, is, same))) (λ same. omega (arith, same, few)) (are_both_zero storage elevation)
+  level_apart_by place value number few true is = found_each (λ (put : Put). place ≢ put.place) 3 (elevation_of table value) number (λ v n same. omega (arith, same, few))
+  level_apart_by place value number few false is = given_each (λ (put : Put). place ≢ put.place) (λ v n same. absurd (grind (arith, nat_tests, is, same)))
+      (λ v n same. omega (arith, same, few)) (are_both_zero storage elevation)
 
   level_apart : (balanced : Balanced) → SolvesUpTo 2 balanced → AllApart (solved_put balanced) (level_puts table storage elevation balanced)
-  level_apart Idle few = tt
-  level_apart Holds few = tt
-  level_apart (Conflicts place held found) few = tt
   level_apart (Solves place value number) few = (level_apart_by place value number few (place == 2) refl, tt)
+  level_apart balanced few = tt
 
 evaporation_between : (chosen : Bool) (amount : Option ℤ) → AreFrom 3 (evaporation_put chosen amount) × (AreUpTo 8 (evaporation_put chosen amount) × AreApart (evaporation_put chosen amount))
 evaporation_between true amount = ((omega arith, tt), ((omega arith, tt), (tt, tt)))

@@ -1,6 +1,7 @@
 pub mod Common
 pub mod Linked
 pub mod Came
+pub mod Along
 pub mod PutRules
 pub mod Dispatches
 pub mod Apart

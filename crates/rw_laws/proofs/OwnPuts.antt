@@ -1,5 +1,5 @@
 -- What an object's own dispatch leaves in its slots.
-use Rattle.rw_laws.proofs.Common.{AllByRecursion, Asked, Bool, Cell, Cells, Contains, Contains-get_or, Content, Denied, Draft, Event, IsBasin, IsSlot, Kept, List, Log, Look, None, Option, Put, PutEnd, Shared-of, Some, View, Written, [], among_group, ap, arith, asked_by, asked_for, cell_at, cells_of, cond, dispatch_of, end_in, end_of_put, false, get_or, if◌then◌else◌, inl, inr, is_shared, is_written, known, known_in_place, known_number, last_put, length, nat_tests, none-some, option_or, puts_written, recursion_from_All, refl, subst, suc, sym, true, view_of, zero, ℕ, ◌<◌, ◌==◌, ◌∙◌, ◌∷◌, ◌≡◌, ◌≢◌, ◌≤◌, ◌⊎◌}
+use Rattle.rw_laws.proofs.Common.{AllByRecursion, Asked, Bool, Cell, Cells, Contains, Contains-get_or, Content, Denied, Draft, Event, IsBasin, IsSlot, Kept, List, Log, Look, None, Option, Put, PutEnd, Shared-of, Some, View, Written, [], among_group, ap, arith, asked_by, asked_for, cell_at, cells_of, cond, dispatch_of, end_in, end_of_put, false, get_or, if◌then◌else◌, inl, inr, is_shared, is_written, known, known_in_place, known_number, last_put, length, nat_tests, none-some, option_or, puts_written, recursion_from_All, refl, subst, suc, sym, true, view_of, zero, ℕ, ◌++◌, ◌<◌, ◌==◌, ◌∙◌, ◌∷◌, ◌≡◌, ◌≢◌, ◌≤◌, ◌⊎◌}
 use Rattle.rw_laws.specs.Passing.{IsAfter, IsKept, IsWritten}
 use Rattle.rw_laws.proofs.Apart.{one_slot}
 use Rattle.rw_laws.proofs.Dispatches.{AreFine, IsFine, both_all, mapped_all, weaker_all, written_all}
@@ -26,6 +26,15 @@ pub all_at : {A : Type 0} (P : A → Type 0) (xs : List A) (x : A) → AllByRecu
 all_at P [] x all has = absurd has
 all_at P (y ∷ ys) x all (inl is) = subst P is all.0
 all_at P (y ∷ ys) x all (inr later) = all_at P ys x all.1 later
+
+pub among_left : {A : Type 0} (xs ys : List A) (x : A) → Among xs x → Among (xs ++ ys) x
+among_left [] ys x has = absurd has
+among_left (y ∷ xs) ys x (inl same) = inl same
+among_left (y ∷ xs) ys x (inr later) = inr (among_left xs ys x later)
+
+pub among_right : {A : Type 0} (xs ys : List A) (x : A) → Among ys x → Among (xs ++ ys) x
+among_right [] ys x has = has
+among_right (y ∷ xs) ys x has = inr (among_right xs ys x has)
 
 pub contain_all : {A : Type 0} (xs : List A) → AllByRecursion (λ x. Contains xs x) xs
 contain_all xs = recursion_from_All (λ x. Contains xs x) xs (λ k d lt. Contains-get_or xs k d lt)

@@ -1,5 +1,5 @@
 -- The kinds whose terms are slots: all but the reservoir.
-use Rattle.rw_laws.proofs.Common.{All, All-cons, All-nil, AllByRecursion, Balanced, Bifurcation, Bool, ByRule, Canal, Conflicts, Confluence, Contains, Content, Conveys, DataObject, DataSlot, Gage, Given, Holds, Idle, IsShare, IsSome, Kind, List, None, Option, Put, Reach, Request, Solves, Some, Supply, Takes, Term, View, WaterUser, [], ap, arith, balanced_of, false, given, inl, inr, known, known_after, map, nat_tests, none-some, option_map, puts_of, refl, same_Some, seepage_put, solved_put, subst, suc, sym, true, user_puts, zero, ℕ, ℤ, ◌++◌, ◌==◌, ◌∙◌, ◌∷◌, ◌≡◌, ◌≢◌, ◌≤◌, ◌⊎◌}
+use Rattle.rw_laws.proofs.Common.{All, All-cons, All-nil, AllByRecursion, Balanced, Bifurcation, Bool, ByRule, Canal, Confluence, Contains, Content, Conveys, DataObject, DataSlot, Gage, Given, Holds, IsShare, IsSome, Kind, List, None, Option, Put, Reach, Request, Solves, Some, Supply, Takes, Term, View, WaterUser, [], ap, arith, balanced_of, false, given, inl, inr, known, known_after, map, nat_tests, none-some, option_map, puts_of, refl, same_Some, seepage_put, solved_put, subst, suc, sym, true, user_puts, zero, ℕ, ℤ, ◌++◌, ◌==◌, ◌∙◌, ◌∷◌, ◌≡◌, ◌≢◌, ◌≤◌, ◌⊎◌}
 use Rattle.rw_laws.specs.Left.{IsGivenUpTo, Rest, rest, rests_of}
 use Rattle.rw_laws.proofs.Answering.{Answered}
 use Rattle.rw_laws.proofs.Leaving.{DispatchFacts, IsBase, PutIs, Solving, holds_given, rests, solved}
@@ -69,10 +69,8 @@ abbrev pub IsGood : Kind → View → Put → Type 0
 IsGood kind view put = PutIs kind view put × IsApart kind view put
 
 pub solved_good : (kind : Kind) (view : View) (balanced : Balanced) → balanced_of kind view ≡ balanced → AllByRecursion (IsGood kind view) (solved_put balanced)
-solved_good kind view Idle is = tt
-solved_good kind view Holds is = tt
 solved_good kind view (Solves place value number) is = ((solved is, inl is), tt)
-solved_good kind view (Conflicts place held found) is = tt
+solved_good kind view balanced is = tt
 
 abbrev pub of_solving : (kind : Kind) (view : View) → Solving kind view → Put
 of_solving kind view solving = record { place = solving.place; value = solving.value; number = solving.number }
@@ -147,9 +145,6 @@ shares_three a b c x y z = All-cons (λ (term : Term). IsShare term.share) a (b 
 shares_one : (a : Term) → IsShare a.share → All (λ (term : Term). IsShare term.share) (a ∷ [])
 shares_one a x = All-cons (λ (term : Term). IsShare term.share) a [] x (All-nil (λ (term : Term). IsShare term.share))
 
-none_alone : (s : Sort) (pair : Rest) → ⊥ → pair.place ≢ s.place
-none_alone s pair never same = absurd never
-
 two_apart : (first second : Rest) (pair : Rest) → Among (first ∷ second ∷ []) pair → (place : ℕ) → first.place ≢ place → second.place ≢ place → pair.place ≢ place
 two_apart first second pair (inl same) place a b at = a (ap (λ (p : Rest). p.place) same ∙ at)
 two_apart first second pair (inr (inl same)) place a b at = b (ap (λ (p : Rest). p.place) same ∙ at)
@@ -175,67 +170,39 @@ rests_good : (kind : Kind) (view : View) (put : Put) (on : ℕ) → Contains (re
 rests_good kind view put on has number base apart = (rests (record { on = on; has = has; number = number; base = base }), inr apart)
 
 module _ (view : View) (puts : List Put) where
-  pub gage_facts : Answered Gage view puts → DispatchFacts Gage view puts
-  gage_facts is = plain_facts Gage view puts is (record {
-    slots = (refl, (refl, tt));
-    shares = shares_two _ _ tt tt;
-    good = solved_good Gage view (balanced_of Gage view) refl;
-    has = solved_alone Gage view;
-    alone = λ s has pair never same. absurd never;
-    unique = λ pair other never there same. absurd never;
+  -- a kind all of whose puts are solved
+  bare_facts : (kind : Kind) → Answered kind view puts → AllByRecursion (λ (s : Sort). s.source ≡ slot) (shape_of kind) → All (λ (term : Term). IsShare term.share) (map (term_in view) (shape_of kind))
+      → rests_of kind ≡ [] → puts_of kind view (balanced_of kind view) ≡ solved_put (balanced_of kind view) → DispatchFacts kind view puts
+  bare_facts kind is slots shares bare same = plain_facts kind view puts is (record {
+    slots = slots;
+    shares = shares;
+    good = subst (AllByRecursion (IsGood kind view)) (sym same) (solved_good kind view (balanced_of kind view) refl);
+    has = λ solving. subst (λ ps. Among ps (of_solving kind view solving)) (sym same) (solved_alone kind view solving);
+    alone = λ s has pair never at. absurd (subst (λ ps. Among ps pair) bare never);
+    unique = λ pair other never there at. absurd (subst (λ ps. Among ps pair) bare never);
   })
+
+  pub gage_facts : Answered Gage view puts → DispatchFacts Gage view puts
+  gage_facts is = bare_facts Gage is (refl, (refl, tt)) (shares_two _ _ tt tt) refl refl
 
   pub confluence_facts : Answered Confluence view puts → DispatchFacts Confluence view puts
-  confluence_facts is = plain_facts Confluence view puts is (record {
-    slots = (refl, (refl, (refl, tt)));
-    shares = shares_three _ _ _ tt tt tt;
-    good = solved_good Confluence view (balanced_of Confluence view) refl;
-    has = solved_alone Confluence view;
-    alone = λ s has pair never same. absurd never;
-    unique = λ pair other never there same. absurd never;
-  })
+  confluence_facts is = bare_facts Confluence is (refl, (refl, (refl, tt))) (shares_three _ _ _ tt tt tt) refl refl
 
   pub bifurcation_facts : Answered Bifurcation view puts → DispatchFacts Bifurcation view puts
-  bifurcation_facts is = plain_facts Bifurcation view puts is (record {
-    slots = (refl, (refl, (refl, tt)));
-    shares = shares_three _ _ _ tt tt tt;
-    good = solved_good Bifurcation view (balanced_of Bifurcation view) refl;
-    has = solved_alone Bifurcation view;
-    alone = λ s has pair never same. absurd never;
-    unique = λ pair other never there same. absurd never;
-  })
+  bifurcation_facts is = bare_facts Bifurcation is (refl, (refl, (refl, tt))) (shares_three _ _ _ tt tt tt) refl refl
 
   pub reach_facts : (history : List ℤ) (local_inflow diversion return_flow : Bool) → Answered (Reach zero history local_inflow diversion return_flow) view puts
       → DispatchFacts (Reach zero history local_inflow diversion return_flow) view puts
-  reach_facts history local_inflow diversion return_flow is = plain_facts (Reach zero history local_inflow diversion return_flow) view puts is (record {
-    slots = (refl, (refl, tt));
-    shares = shares_two _ _ tt tt;
-    good = solved_good (Reach zero history local_inflow diversion return_flow) view (balanced_of (Reach zero history local_inflow diversion return_flow) view) refl;
-    has = solved_alone (Reach zero history local_inflow diversion return_flow) view;
-    alone = λ s has pair never same. absurd never;
-    unique = λ pair other never there same. absurd never;
-  })
+  reach_facts history local_inflow diversion return_flow is =
+      bare_facts (Reach zero history local_inflow diversion return_flow) is (refl, (refl, tt)) (shares_two _ _ tt tt) refl refl
 
   pub lagged_facts : (lag : ℕ) (history : List ℤ) (local_inflow diversion return_flow : Bool) → Answered (Reach (suc lag) history local_inflow diversion return_flow) view puts
       → DispatchFacts (Reach (suc lag) history local_inflow diversion return_flow) view puts
-  lagged_facts lag history local_inflow diversion return_flow is = plain_facts (Reach (suc lag) history local_inflow diversion return_flow) view puts is (record {
-    slots = (refl, tt);
-    shares = shares_one _ tt;
-    good = solved_good (Reach (suc lag) history local_inflow diversion return_flow) view (balanced_of (Reach (suc lag) history local_inflow diversion return_flow) view) refl;
-    has = solved_alone (Reach (suc lag) history local_inflow diversion return_flow) view;
-    alone = λ s has pair never same. absurd never;
-    unique = λ pair other never there same. absurd never;
-  })
+  lagged_facts lag history local_inflow diversion return_flow is =
+      bare_facts (Reach (suc lag) history local_inflow diversion return_flow) is (refl, tt) (shares_one _ tt) refl refl
 
   pub data_facts : (slots : List DataSlot) → Answered (DataObject slots) view puts → DispatchFacts (DataObject slots) view puts
-  data_facts slots is = plain_facts (DataObject slots) view puts is (record {
-    slots = tt;
-    shares = All-nil (λ (term : Term). IsShare term.share);
-    good = tt;
-    has = λ solving. solved_alone (DataObject slots) view solving;
-    alone = λ s has pair never same. absurd never;
-    unique = λ pair other never there same. absurd never;
-  })
+  data_facts slots is = bare_facts (DataObject slots) is tt (All-nil (λ (term : Term). IsShare term.share)) refl refl
 
   request_facts : (depletion : ℕ) → Answered (WaterUser depletion Request) view puts → DispatchFacts (WaterUser depletion Request) view puts
   request_facts depletion is =

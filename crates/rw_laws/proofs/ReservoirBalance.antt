@@ -7,7 +7,7 @@ use Rattle.rw_laws.proofs.Answering.{Answered}
 use Rattle.rw_laws.proofs.Balancing.{after_value, both_there, same_sides}
 use Rattle.rw_laws.proofs.Leaving.{DispatchFacts}
 use Rattle.rw_laws.proofs.Netting.{net_zero, put_value, rest_value}
-use Rattle.rw_laws.proofs.OwnPuts.{Among}
+use Rattle.rw_laws.proofs.OwnPuts.{Among, among_left, among_right}
 use Rattle.rw_laws.proofs.PlainKinds.{base_in}
 use Rattle.rw_laws.proofs.ReservoirFacts.{agreed, level_held, no_middle, past_elevation, reservoir_facts}
 use Rattle.rw_laws.proofs.Settled.{contains}
@@ -17,15 +17,6 @@ both_of : (a b : Option ℤ) (d : ℤ) → difference a b ≡ Some d → (x : �
 both_of None b d is = absurd (none-some d is)
 both_of (Some x) None d is = absurd (none-some d is)
 both_of (Some x) (Some y) d is = (x, (y, (refl, (refl, same_Some _ _ is))))
-
-left_of : (xs ys : List Put) (put : Put) → Among xs put → Among (xs ++ ys) put
-left_of [] ys put has = absurd has
-left_of (x ∷ xs) ys put (inl same) = inl same
-left_of (x ∷ xs) ys put (inr later) = inr (left_of xs ys put later)
-
-right_of : (xs ys : List Put) (put : Put) → Among ys put → Among (xs ++ ys) put
-right_of [] ys put has = has
-right_of (x ∷ xs) ys put has = inr (right_of xs ys put has)
 
 same_evaporation : (evaporation : Bool) (table : Option (List Row)) (old new : View) → new.past ≡ old.past → known_value new 7 ≡ known_value old 7
     → evaporation_of evaporation table new ≡ evaporation_of evaporation table old
@@ -47,12 +38,12 @@ module _ (initial_storage : ℤ) (table : Option (List Row)) (local_inflow diver
 
   evaporates_there : (put : Put) → Among (evaporation_put evaporation (evaporation_of evaporation table old)) put → Contains puts put
   evaporates_there put has = contains puts put (subst (λ ps. Among ps put) is.same
-      (left_of _ (release_puts max_release (known_after old (balanced_of kind old) 1)) put
-      (right_of (solved_put (balanced_of kind old) ++ level_puts table (given old 2) (given old 3) (balanced_of kind old)) (evaporation_put evaporation (evaporation_of evaporation table old)) put has)))
+      (among_left _ (release_puts max_release (known_after old (balanced_of kind old) 1)) put
+      (among_right (solved_put (balanced_of kind old) ++ level_puts table (given old 2) (given old 3) (balanced_of kind old)) (evaporation_put evaporation (evaporation_of evaporation table old)) put has)))
 
   releases_there : (put : Put) → Among (release_puts max_release (known_after old (balanced_of kind old) 1)) put → Contains puts put
   releases_there put has = contains puts put (subst (λ ps. Among ps put) is.same
-      (right_of ((solved_put (balanced_of kind old) ++ level_puts table (given old 2) (given old 3) (balanced_of kind old)) ++ evaporation_put evaporation (evaporation_of evaporation table old))
+      (among_right ((solved_put (balanced_of kind old) ++ level_puts table (given old 2) (given old 3) (balanced_of kind old)) ++ evaporation_put evaporation (evaporation_of evaporation table old))
       (release_puts max_release (known_after old (balanced_of kind old) 1)) put has))
 
   evaporated_held : (chosen : Bool) (found : Option (List Row)) → evaporation ≡ chosen → table ≡ found → (past evaporates : ℤ) → new.past ≡ Some past

@@ -4,7 +4,7 @@ use Rattle.rw_laws.specs.Left.{IsGivenUpTo, Rest, is_own, rest, rests_of}
 use Rattle.rw_laws.specs.Passing.{IsAfter}
 use Rattle.rw_laws.proofs.Answering.{Answered}
 use Rattle.rw_laws.proofs.Leaving.{DispatchFacts, IsBase, LeftBy, PutIs, Solving, holds_given, plain, rests, solved}
-use Rattle.rw_laws.proofs.OwnPuts.{Among, all_at, among}
+use Rattle.rw_laws.proofs.OwnPuts.{Among, all_at, among, among_left, among_right}
 use Rattle.rw_laws.proofs.PlainKinds.{all_append, base_in, of_solving, shares_three, solved_at, solving_facts}
 use Rattle.rw_laws.proofs.Settled.{balanced_code, contains}
 use Rattle.rw_laws.proofs.Terms.{Sort, Source, contents, given_as, given_in, given_of, given_other, same_given, shape_of, slot, sort, term_in, to_contents}
@@ -43,6 +43,38 @@ basis_cases table (Some s) (Some e) held is = by (nat_le s.number e.number) refl
       lesser = λ other is. let same : s.number ≡ other.number = ap (λ (g : Given). g.number) (same_Some _ _ is) in grind (arith, nat_tests, more, same);
     })
 
+abbrev storage_in : Basis → Option Given
+storage_in (Storage held) = Some held
+storage_in basis = None
+
+abbrev elevation_in : Basis → Option Given
+elevation_in (Elevation held) = Some held
+elevation_in basis = None
+
+storage_from : (s e : Option Given) (held : Given) → basis_of s e ≡ Storage held → s ≡ Some held
+storage_from (Some s) (Some e) held b = by (nat_le s.number e.number) b
+  where
+    by : (test : Bool) → (if test then Storage s else Elevation e) ≡ Storage held → Some s ≡ Some held
+    by true b = ap storage_in b
+    by false b = absurd (none-some held (ap storage_in b))
+storage_from None None held b = ap storage_in b
+storage_from (Some s) None held b = ap storage_in b
+storage_from None (Some e) held b = ap storage_in b
+
+elevation_from : (s e : Option Given) (held : Given) → basis_of s e ≡ Elevation held → e ≡ Some held
+elevation_from (Some s) (Some e) held b = by (nat_le s.number e.number) b
+  where
+    by : (test : Bool) → (if test then Storage s else Elevation e) ≡ Elevation held → Some e ≡ Some held
+    by true b = absurd (none-some held (ap elevation_in b))
+    by false b = ap elevation_in b
+elevation_from None None held b = ap elevation_in b
+elevation_from (Some s) None held b = ap elevation_in b
+elevation_from None (Some e) held b = ap elevation_in b
+
+none_first : (a b : Option Solved) → or_else a b ≡ None → (a ≡ None) × (b ≡ None)
+none_first None b e = (refl, e)
+none_first (Some found) b e = absurd (none-some found (sym e))
+
 module _ (initial_storage : ℤ) (table : Option (List Row)) (local_inflow diversion return_flow evaporation : Bool) (max_release : Option ℤ) where
   abbrev kind : Kind
   kind = Reservoir initial_storage table local_inflow diversion return_flow evaporation max_release
@@ -53,11 +85,11 @@ module _ (initial_storage : ℤ) (table : Option (List Row)) (local_inflow diver
   shares : (view : View) → All (λ (term : Term). IsShare term.share) (map (term_in view) (shape_of kind))
   shares view = shares_three (term_in view (sort Brings 0)) (term_in view (sort Takes 1)) (term_in view stored) tt tt tt
 
-  sorts_in : (s : Sort) → Among (shape_of kind) s → (s ≡ sort Brings 0) ⊎ ((s ≡ sort Takes 1) ⊎ (s ≡ stored))
-  sorts_in s (inl same) = inl (sym same)
-  sorts_in s (inr (inl same)) = inr (inl (sym same))
-  sorts_in s (inr (inr (inl same))) = inr (inr (sym same))
-  sorts_in s (inr (inr (inr never))) = absurd never
+  by_sort : (P : Sort → Type 0) → P (sort Brings 0) → P (sort Takes 1) → P stored → (s : Sort) → Among (shape_of kind) s → P s
+  by_sort P a b c s (inl same) = subst P same a
+  by_sort P a b c s (inr (inl same)) = subst P same b
+  by_sort P a b c s (inr (inr (inl same))) = subst P same c
+  by_sort P a b c s (inr (inr (inr never))) = absurd never
 
   -- ---- what rests on what
 
@@ -112,13 +144,7 @@ module _ (initial_storage : ℤ) (table : Option (List Row)) (local_inflow diver
     low_place solving =
         let at = solved_at kind view puts (shares view) is solving in
         let there = at.there in
-        elim (sorts_in at.at at.has) [
-          | inl e ↦ let p = ap (λ (s : Sort). s.place) e in omega (arith, p, there)
-          | inr rest_e ↦ elim rest_e [
-            | inl e ↦ let p = ap (λ (s : Sort). s.place) e in omega (arith, p, there)
-            | inr e ↦ let p = ap (λ (s : Sort). s.place) e in omega (arith, p, there)
-          ]
-        ]
+        let low = by_sort (λ s. s.place ≤ 2) (omega arith) (omega arith) (omega arith) at.at at.has in omega (arith, low, there)
 
     -- a put of the reservoir
     record Good (put : Put) : Type 0 where
@@ -130,9 +156,6 @@ module _ (initial_storage : ℤ) (table : Option (List Row)) (local_inflow diver
       mid : (put.place ≤ 3) ⊎ (8 ≤ put.place)
 
     solved_is_good : (balanced : Balanced) → balanced_of kind view ≡ balanced → AllByRecursion Good (solved_put balanced)
-    solved_is_good Idle e = tt
-    solved_is_good Holds e = tt
-    solved_is_good (Conflicts place held found) e = tt
     solved_is_good (Solves place value number) e =
         let solving : Solving kind view = record { place = place; value = value; number = number; is = e } in
         let few = low_place solving in (
@@ -146,6 +169,7 @@ module _ (initial_storage : ℤ) (table : Option (List Row)) (local_inflow diver
           },
           tt,
         )
+    solved_is_good balanced e = tt
 
     abbrev basis_code : Basis → ℕ
     basis_code Nothing = 0
@@ -155,14 +179,12 @@ module _ (initial_storage : ℤ) (table : Option (List Row)) (local_inflow diver
     -- where another term is solved, or none, a slot holds what it held
     not_solved : (balanced : Balanced) → balanced_of kind view ≡ balanced → (place : ℕ) → ((solving : Solving kind view) → solving.place ≢ place)
         → known_after view balanced place ≡ held_by (known view place)
-    not_solved Idle e place none = refl
-    not_solved Holds e place none = refl
-    not_solved (Conflicts at held found) e place none = refl
     not_solved (Solves at value number) e place none = by (at == place) refl
       where
         by : (test : Bool) → (at == place) ≡ test → (if test then record { value = value; number = number } else held_by (known view place)) ≡ held_by (known view place)
         by true same = absurd (none (record { place = at; value = value; number = number; is = e }) (grind (arith, nat_tests, same)))
         by false apart = refl
+    not_solved balanced e place none = refl
 
     held_number : (place : ℕ) (held : Given) → given view place ≡ Some held → (content : Content) × ((known view place ≡ Some content) × ((held_by (known view place)).number ≡ held.number))
     held_number place held given_is =
@@ -223,42 +245,6 @@ module _ (initial_storage : ℤ) (table : Option (List Row)) (local_inflow diver
         volume_good read from.number (rows_of table refl from.value read (inr e))
         (sym h.1.1 ∙ sym (ap (λ (g : Given). g.number) (not_solved (balanced_of kind view) refl 3 none_at_three))) (inl (h.0, h.1.0))
         (λ held other. let no : 2 ≡ 1 = sym (ap basis_code at) ∙ ap basis_code other in omega (arith, no)))
-
-    storage_from : (s e : Option Given) (held : Given) → basis_of s e ≡ Storage held → s ≡ Some held
-    storage_from None None held b = absurd (let no : 0 ≡ 1 = ap basis_code b in omega (arith, no))
-    storage_from (Some s) None held b = ap of_basis b
-      where
-        of_basis : Basis → Option Given
-        of_basis (Storage held) = Some held
-        of_basis basis = None
-    storage_from None (Some e) held b = absurd (let no : 2 ≡ 1 = ap basis_code b in omega (arith, no))
-    storage_from (Some s) (Some e) held b = by (nat_le s.number e.number) b
-      where
-        of_basis : Basis → Option Given
-        of_basis (Storage held) = Some held
-        of_basis basis = None
-
-        by : (test : Bool) → (if test then Storage s else Elevation e) ≡ Storage held → Some s ≡ Some held
-        by true b = ap of_basis b
-        by false b = absurd (let no : 2 ≡ 1 = ap basis_code b in omega (arith, no))
-
-    elevation_from : (s e : Option Given) (held : Given) → basis_of s e ≡ Elevation held → e ≡ Some held
-    elevation_from None None held b = absurd (let no : 0 ≡ 2 = ap basis_code b in omega (arith, no))
-    elevation_from (Some s) None held b = absurd (let no : 1 ≡ 2 = ap basis_code b in omega (arith, no))
-    elevation_from None (Some e) held b = ap of_basis b
-      where
-        of_basis : Basis → Option Given
-        of_basis (Elevation held) = Some held
-        of_basis basis = None
-    elevation_from (Some s) (Some e) held b = by (nat_le s.number e.number) b
-      where
-        of_basis : Basis → Option Given
-        of_basis (Elevation held) = Some held
-        of_basis basis = None
-
-        by : (test : Bool) → (if test then Storage s else Elevation e) ≡ Elevation held → Some e ≡ Some held
-        by true b = absurd (let no : 1 ≡ 2 = ap basis_code b in omega (arith, no))
-        by false b = ap of_basis b
 
     given_good : (none : (solving : Solving kind view) → solving.place ≢ 2) → (test : Bool) → are_both_zero storage elevation ≡ test → AllByRecursion Good (if test then [] else beside_basis table (basis_of storage elevation))
     given_good none true zeros = tt
@@ -328,15 +314,6 @@ module _ (initial_storage : ℤ) (table : Option (List Row)) (local_inflow diver
 
     -- ---- the solved term is put, and with it the elevation
 
-    among_left : (xs ys : List Put) (put : Put) → Among xs put → Among (xs ++ ys) put
-    among_left [] ys put has = absurd has
-    among_left (x ∷ xs) ys put (inl same) = inl same
-    among_left (x ∷ xs) ys put (inr later) = inr (among_left xs ys put later)
-
-    among_right : (xs ys : List Put) (put : Put) → Among ys put → Among (xs ++ ys) put
-    among_right [] ys put has = has
-    among_right (x ∷ xs) ys put has = inr (among_right xs ys put has)
-
     solved_there : (solving : Solving kind view) → Among puts (of_solving kind view solving)
     solved_there solving = subst (λ ps. Among ps (of_solving kind view solving)) is.same
         (among_left _ (release_puts max_release (known_after view (balanced_of kind view) 1)) (of_solving kind view solving)
@@ -374,17 +351,28 @@ module _ (initial_storage : ℤ) (table : Option (List Row)) (local_inflow diver
     past_elevation rows at choice past past_is =
         let read = elevation_there rows at past (by (can_hold table past) refl) in (read.0, sym (ap (λ z. elevation_of z past) at) ∙ read.1)
       where
-        first_none : (a b : Option Solved) → or_else a b ≡ None → a ≡ None
-        first_none None b e = refl
-        first_none (Some found) b e = absurd (none-some found (sym e))
-
         no_past_fault : fault_of_past evaporation table view.past ≡ None
-        no_past_fault = first_none (fault_of_past evaporation table view.past) (or_else (fault_of_basis table (basis_of storage elevation)) (disagreement table storage elevation)) is.fine
+        no_past_fault = (none_first (fault_of_past evaporation table view.past) (or_else (fault_of_basis table (basis_of storage elevation)) (disagreement table storage elevation)) is.fine).0
 
         by : (test : Bool) → can_hold table past ≡ test → can_hold table past ≡ true
         by true e = e
         by false e = absurd (none-some (OutOfRange 2 past)
             (sym no_past_fault ∙ ap (fault_of_past evaporation table) past_is ∙ ap₂ (λ (chosen holds : Bool). if chosen && not holds then Some (OutOfRange 2 past) else None) choice e))
+
+    -- with contents that are solved their elevation is put
+    solved_level : (solving : Solving kind view) → solving.place ≡ 2 → (rows : List Row) → table ≡ Some rows
+        → (read : ℤ) × ((elevation_of table solving.value ≡ Some read) × Among puts (record { place = 3; value = read; number = solving.number }))
+    solved_level solving two rows at =
+        let held : is_held kind (of_solving kind view solving) ≡ true = (and_parts _ _ (fit_at (fits kind view) puts (of_solving kind view solving) is.fit (solved_there solving))).0 in
+        let at_two : (solving.place == 2) ≡ true = grind (arith, nat_tests, two) in
+        let holds : can_hold table solving.value ≡ true = sym (ap (λ (test : Bool). if test then can_hold table solving.value else true) at_two) ∙ held in
+        let read = elevation_there rows at solving.value holds in
+        let put : Put = record { place = 3; value = read.0; number = solving.number } in
+        let in_level : Among (level_puts table storage elevation (balanced_of kind view)) put =
+        subst (λ b. Among (level_puts table storage elevation b) put) (sym solving.is)
+        (subst (λ (test : Bool). Among (if test then put_found 3 (elevation_of table solving.value) solving.number else beside_given table storage elevation) put) (sym at_two)
+        (subst (λ found. Among (put_found 3 found solving.number) put) (sym read.1) (inl refl))) in
+        (read.0, (read.1, level_there put in_level))
 
     stored_beside : (solving : Solving kind view) (on : ℕ) → Contains (rests_of kind) (rest solving.place on) → (put : Put) × (Contains puts put × (put.place ≡ on) × (put.number ≡ solving.number))
     stored_beside solving on has = by table refl
@@ -411,29 +399,15 @@ module _ (initial_storage : ℤ) (table : Option (List Row)) (local_inflow diver
             none_bare (inl same) = let differ : 9 ≡ 2 = ap (λ (p : Rest). p.place) same ∙ two in omega (arith, differ)
             none_bare (inr (inl same)) = let differ : 10 ≡ 2 = ap (λ (p : Rest). p.place) same ∙ two in omega (arith, differ)
             none_bare (inr (inr never)) = never
-        by (Some rows) at =
-            let held : is_held kind (of_solving kind view solving) ≡ true = (and_parts _ _ (fit_at (fits kind view) puts (of_solving kind view solving) is.fit (solved_there solving))).0 in
-            let at_two : (solving.place == 2) ≡ true = grind (arith, nat_tests, two) in
-            let holds : can_hold table solving.value ≡ true = sym (ap (λ (test : Bool). if test then can_hold table solving.value else true) at_two) ∙ held in
-            let read = elevation_there rows at solving.value holds in
-            let put : Put = record { place = 3; value = read.0; number = solving.number } in
-            let in_level : Among (level_puts table storage elevation (balanced_of kind view)) put =
-            subst (λ b. Among (level_puts table storage elevation b) put) (sym solving.is)
-            (subst (λ (test : Bool). Among (if test then put_found 3 (elevation_of table solving.value) solving.number else beside_given table storage elevation) put) (sym at_two)
-            (subst (λ found. Among (put_found 3 found solving.number) put) (sym read.1) (inl refl))) in
-            (put, (contains puts put (level_there put in_level), sym three, refl))
+        by (Some rows) at = let level = solved_level solving two rows at in (_, (contains puts _ level.1.1, sym three, refl))
 
     -- ---- contents have no greater a number than the storage that is held
 
     no_fault_basis : (from : Given) → basis_of storage elevation ≡ Elevation from → (read : ℤ) × (volume_of table from.value ≡ Some read)
     no_fault_basis from basis = by (volume_of table from.value) refl
       where
-        first_none : (a b : Option Solved) → or_else a b ≡ None → (a ≡ None) × (b ≡ None)
-        first_none None b e = (refl, e)
-        first_none (Some found) b e = absurd (none-some found (sym e))
-
         no_fault : fault_of_basis table (basis_of storage elevation) ≡ None
-        no_fault = (first_none _ _ (first_none (fault_of_past evaporation table view.past) _ is.fine).1).0
+        no_fault = (none_first _ _ (none_first (fault_of_past evaporation table view.past) _ is.fine).1).0
 
         by : (found : Option ℤ) → volume_of table from.value ≡ found → (read : ℤ) × (volume_of table from.value ≡ Some read)
         by (Some read) e = (read, e)
@@ -468,11 +442,14 @@ module _ (initial_storage : ℤ) (table : Option (List Row)) (local_inflow diver
     not_put place P all apart new after = same_given view new place after.own
         (after.rest place (λ put has. apart put (all_at P puts put all (among puts put has))))
 
-    slot_stays : (place : ℕ) → (place ≡ 0) ⊎ (place ≡ 1) → ((solving : Solving kind view) → place ≢ solving.place) → (new : View) → IsAfter view new puts → given new place ≡ given view place
-    slot_stays place low none new after = not_put place Good all_good (λ put good same. elim good.low [
+    untouched_at : (place : ℕ) → (place ≡ 0) ⊎ (place ≡ 1) → ((solving : Solving kind view) → place ≢ solving.place) → (put : Put) → Contains puts put → put.place ≢ place
+    untouched_at place low none put has same = elim (all_at Good puts put all_good (among puts put has)).low [
       | inl solves ↦ none (record { place = put.place; value = put.value; number = put.number; is = solves }) (sym same)
       | inr far ↦ elim low [ inl e ↦ far.0 (same ∙ e) | inr e ↦ far.1 (same ∙ e) ]
-    ]) new after
+    ]
+
+    slot_stays : (place : ℕ) → (place ≡ 0) ⊎ (place ≡ 1) → ((solving : Solving kind view) → place ≢ solving.place) → (new : View) → IsAfter view new puts → given new place ≡ given view place
+    slot_stays place low none new after = same_given view new place after.own (after.rest place (untouched_at place low none))
 
     contents_stay : (none : NoneStores) (new : View) → IsAfter view new puts → (number : ℕ) → IsGivenUpTo number (contents_by table (basis_of storage elevation))
         → IsGivenUpTo number (contents_by table (basis_of (given new 2) (given new 3)))
@@ -501,39 +478,22 @@ module _ (initial_storage : ℤ) (table : Option (List Row)) (local_inflow diver
         let m = seen.number in omega (arith, n, m)
 
     below_at : LeftBy kind view → (s : Sort) (held : Given) (content : Content) → Among (shape_of kind) s → given_in view s ≡ Some held → known view s.place ≡ Some content → held.number ≤ content.number
-    below_at left s held content (inl same) given_is there = slot_below 0 held content (ap (given_in view) same ∙ given_is) (ap (λ (s : Sort). known view s.place) same ∙ there)
-    below_at left s held content (inr (inl same)) given_is there = slot_below 1 held content (ap (given_in view) same ∙ given_is) (ap (λ (s : Sort). known view s.place) same ∙ there)
-    below_at left s held content (inr (inr (inl same))) given_is there = contents_below left held content (ap (given_in view) same ∙ given_is) (ap (λ (s : Sort). known view s.place) same ∙ there)
-    below_at left s held content (inr (inr (inr never))) given_is there = absurd never
+    below_at left s held content has = by_sort (λ s. given_in view s ≡ Some held → known view s.place ≡ Some content → held.number ≤ content.number)
+        (slot_below 0 held content) (slot_below 1 held content) (contents_below left held content) s has
 
     given_stays : (new : View) → IsAfter view new puts → (s : Sort) → Among (shape_of kind) s → ((solving : Solving kind view) → s.place ≢ solving.place)
         → (number : ℕ) → IsGivenUpTo number (given_in view s) → IsGivenUpTo number (given_in new s)
-    given_stays new after s (inl same) apart number up =
-        let still = slot_stays 0 (inl refl) (λ solving at. apart solving (ap (λ (s : Sort). s.place) (sym same) ∙ at)) new after in
-        subst (λ s. IsGivenUpTo number (given_in new s)) same (subst (IsGivenUpTo number) (sym still) (subst (λ s. IsGivenUpTo number (given_in view s)) (sym same) up))
-    given_stays new after s (inr (inl same)) apart number up =
-        let still = slot_stays 1 (inr refl) (λ solving at. apart solving (ap (λ (s : Sort). s.place) (sym same) ∙ at)) new after in
-        subst (λ s. IsGivenUpTo number (given_in new s)) same (subst (IsGivenUpTo number) (sym still) (subst (λ s. IsGivenUpTo number (given_in view s)) (sym same) up))
-    given_stays new after s (inr (inr (inl same))) apart number up =
-        subst (λ s. IsGivenUpTo number (given_in new s)) same
-        (contents_stay (λ solving at. apart solving (ap (λ (s : Sort). s.place) (sym same) ∙ at)) new after number (subst (λ s. IsGivenUpTo number (given_in view s)) (sym same) up))
-    given_stays new after s (inr (inr (inr never))) apart number up = absurd never
+    given_stays new after s has apart number = by_sort (λ s. ((solving : Solving kind view) → s.place ≢ solving.place) → IsGivenUpTo number (given_in view s) → IsGivenUpTo number (given_in new s))
+        (λ apart. subst (IsGivenUpTo number) (sym (slot_stays 0 (inl refl) apart new after))) (λ apart. subst (IsGivenUpTo number) (sym (slot_stays 1 (inr refl) apart new after)))
+        (λ apart. contents_stay apart new after number) s has apart
 
     abbrev is_slot : Source → Bool
     is_slot slot = true
     is_slot (contents table) = false
 
-    untouched_at : (place : ℕ) → (place ≡ 0) ⊎ (place ≡ 1) → ((solving : Solving kind view) → place ≢ solving.place) → (put : Put) → Contains puts put → put.place ≢ place
-    untouched_at place low none put has same = elim (all_at Good puts put all_good (among puts put has)).low [
-      | inl solves ↦ none (record { place = put.place; value = put.value; number = put.number; is = solves }) (sym same)
-      | inr far ↦ elim low [ inl e ↦ far.0 (same ∙ e) | inr e ↦ far.1 (same ∙ e) ]
-    ]
-
     low_untouched : (s : Sort) → Among (shape_of kind) s → s.source ≡ slot → ((solving : Solving kind view) → s.place ≢ solving.place) → (put : Put) → Contains puts put → put.place ≢ s.place
-    low_untouched s (inl same) source none put has = untouched_at s.place (inl (ap (λ (s : Sort). s.place) (sym same))) none put has
-    low_untouched s (inr (inl same)) source none put has = untouched_at s.place (inr (ap (λ (s : Sort). s.place) (sym same))) none put has
-    low_untouched s (inr (inr (inl same))) source none put has = absurd (let differ : false ≡ true = ap (λ (s : Sort). is_slot s.source) same ∙ ap is_slot source in cc)
-    low_untouched s (inr (inr (inr never))) source none put has = absurd never
+    low_untouched s has = by_sort (λ s. s.source ≡ slot → ((solving : Solving kind view) → s.place ≢ solving.place) → (put : Put) → Contains puts put → put.place ≢ s.place)
+        (λ source. untouched_at 0 (inl refl)) (λ source. untouched_at 1 (inr refl)) (λ source. absurd (let differ : false ≡ true = ap is_slot source in cc)) s has
 
     pub reservoir_facts : DispatchFacts kind view puts
     reservoir_facts = record {
@@ -549,6 +509,14 @@ module _ (initial_storage : ℤ) (table : Option (List Row)) (local_inflow diver
       untouched = low_untouched;
       unique = unique;
     }
+
+    contents_value : (held from : Given) → contents_by table (basis_of storage elevation) ≡ Some held → basis_of storage elevation ≡ Elevation from → (found : ℤ) → volume_of table from.value ≡ Some found
+        → held.value ≡ found
+    contents_value held from given_is basis found found_is = ap value_or (sym given_is ∙ ap (contents_by table) basis) ∙ ap (λ v. unwrap_or v (pos 0)) found_is
+      where
+        value_or : Option Given → ℤ
+        value_or None = pos 0
+        value_or (Some g) = g.value
 
     -- ---- what it holds then
 
@@ -579,9 +547,6 @@ module _ (initial_storage : ℤ) (table : Option (List Row)) (local_inflow diver
           given_there = subst (λ (test : Bool). Among (if test then [] else beside_basis table (basis_of storage elevation)) put) (sym zeros) has
 
           by : (balanced : Balanced) → balanced_of kind view ≡ balanced → Among (level_puts table storage elevation balanced) put
-          by Idle e = given_there
-          by Holds e = given_there
-          by (Conflicts place held found) e = given_there
           by (Solves place value number) e =
               let apart : 2 ≢ place = none (record { place = place; value = value; number = number; is = e }) in
               let differ : (place == 2) ≡ false = other place apart in
@@ -593,6 +558,7 @@ module _ (initial_storage : ℤ) (table : Option (List Row)) (local_inflow diver
                   by_test : (test : Bool) → (place == 2) ≡ test → (place == 2) ≡ false
                   by_test true same = absurd (let at : 2 ≡ place = grind (arith, nat_tests, same) in apart at)
                   by_test false differ = differ
+          by balanced e = given_there
 
       -- the contents that are given are the storage that is held then
       contents_held : (none : NoneStores) (held : Given) → contents_by table (basis_of storage elevation) ≡ Some held → known_value new 2 ≡ Some held.value
@@ -603,15 +569,10 @@ module _ (initial_storage : ℤ) (table : Option (List Row)) (local_inflow diver
             let put : Put = record { place = 2; value = found.0; number = by_elevation.from.number } in
             let in_basis : Among (beside_basis table (basis_of storage elevation)) put =
             subst (λ b. Among (beside_basis table b) put) (sym by_elevation.basis) (subst (λ v. Among (put_found 2 v by_elevation.from.number) put) (sym found.1) (inl refl)) in
-            let value : held.value ≡ found.0 =
-            ap (λ (g : Option Given). value_or g) (sym given_is ∙ ap (contents_by table) by_elevation.basis) ∙ ap (λ v. unwrap_or v (pos 0)) found.1 in
+            let value : held.value ≡ found.0 = contents_value held by_elevation.from given_is by_elevation.basis found.0 found.1 in
             put_held put (beside_there none (not_zeros by_elevation) put in_basis) ∙ ap Some (sym value)
       ]
         where
-          value_or : Option Given → ℤ
-          value_or None = pos 0
-          value_or (Some g) = g.value
-
           not_zeros : ByElevation table storage elevation held → are_both_zero storage elevation ≡ false
           not_zeros e = by storage elevation e.is e.lesser
             where
@@ -625,16 +586,8 @@ module _ (initial_storage : ℤ) (table : Option (List Row)) (local_inflow diver
               by (Some s) (Some p) is lesser = let less = lesser s refl in test_false (s.number == 0) (p.number == 0) (grind (arith, nat_tests, less))
 
       pub agreed : (s : Sort) → Among (shape_of kind) s → ((solving : Solving kind view) → s.place ≢ solving.place) → (g : Given) → given_in view s ≡ Some g → known_value new s.place ≡ Some g.value
-      agreed s (inl same) apart g is_given =
-          subst (λ (s : Sort). known_value new s.place ≡ Some g.value) same
-          (given_held 0 g (ap (given_in view) same ∙ is_given) (untouched_at 0 (inl refl) (λ solving at. apart solving (ap (λ (s : Sort). s.place) (sym same) ∙ at))))
-      agreed s (inr (inl same)) apart g is_given =
-          subst (λ (s : Sort). known_value new s.place ≡ Some g.value) same
-          (given_held 1 g (ap (given_in view) same ∙ is_given) (untouched_at 1 (inr refl) (λ solving at. apart solving (ap (λ (s : Sort). s.place) (sym same) ∙ at))))
-      agreed s (inr (inr (inl same))) apart g is_given =
-          subst (λ (s : Sort). known_value new s.place ≡ Some g.value) same
-          (contents_held (λ solving at. apart solving (ap (λ (s : Sort). s.place) (sym same) ∙ at)) g (ap (given_in view) same ∙ is_given))
-      agreed s (inr (inr (inr never))) apart g is_given = absurd never
+      agreed s has = by_sort (λ s. ((solving : Solving kind view) → s.place ≢ solving.place) → (g : Given) → given_in view s ≡ Some g → known_value new s.place ≡ Some g.value)
+          (λ apart g is_given. given_held 0 g is_given (untouched_at 0 (inl refl) apart)) (λ apart g is_given. given_held 1 g is_given (untouched_at 1 (inr refl) apart)) contents_held s has
 
       -- where the contents weren't solved they were given
       contents_given : (none : NoneStores) → (held : Given) × (contents_by table (basis_of storage elevation) ≡ Some held)
@@ -660,28 +613,16 @@ module _ (initial_storage : ℤ) (table : Option (List Row)) (local_inflow diver
           -- the contents were solved
           solved_two : (solving : Solving kind view) → solving.place ≡ 2 → (read : ℤ) × ((known_value new 3 ≡ Some read) × ((elev_of rows stores ≡ Some read) ⊎ (vol_of rows read ≡ Some stores)))
           solved_two solving two =
-              let held : is_held kind (of_solving kind view solving) ≡ true = (and_parts _ _ (fit_at (fits kind view) puts (of_solving kind view solving) is.fit (solved_there solving))).0 in
-              let at_two : (solving.place == 2) ≡ true = grind (arith, nat_tests, two) in
-              let holds : can_hold table solving.value ≡ true = sym (ap (λ (test : Bool). if test then can_hold table solving.value else true) at_two) ∙ held in
-              let read = elevation_there rows at solving.value holds in
-              let put : Put = record { place = 3; value = read.0; number = solving.number } in
-              let in_level : Among (level_puts table storage elevation (balanced_of kind view)) put =
-              subst (λ b. Among (level_puts table storage elevation b) put) (sym solving.is)
-              (subst (λ (test : Bool). Among (if test then put_found 3 (elevation_of table solving.value) solving.number else beside_given table storage elevation) put) (sym at_two)
-              (subst (λ found. Among (put_found 3 found solving.number) put) (sym read.1) (inl refl))) in
+              let level = solved_level solving two rows at in
               let value : known_value new 2 ≡ Some solving.value = ap (known_value new) (sym two) ∙ put_held (of_solving kind view solving) (solved_there solving) in
               let same : solving.value ≡ stores = same_Some _ _ (sym value ∙ held_storage) in
-              (read.0, (put_held put (level_there put in_level), inl (as_rows stores read.0 (ap (elevation_of table) (sym same) ∙ read.1))))
-
-          first_none : (a b : Option Solved) → or_else a b ≡ None → (a ≡ None) × (b ≡ None)
-          first_none None b e = (refl, e)
-          first_none (Some found) b e = absurd (none-some found (sym e))
+              (level.0, (put_held _ level.1.1, inl (as_rows stores level.0 (ap (elevation_of table) (sym same) ∙ level.1.0))))
 
           no_basis_fault : fault_of_basis table (basis_of storage elevation) ≡ None
-          no_basis_fault = (first_none (fault_of_basis table (basis_of storage elevation)) (disagreement table storage elevation) (first_none (fault_of_past evaporation table view.past) (or_else (fault_of_basis table (basis_of storage elevation)) (disagreement table storage elevation)) is.fine).1).0
+          no_basis_fault = (none_first (fault_of_basis table (basis_of storage elevation)) (disagreement table storage elevation) (none_first (fault_of_past evaporation table view.past) (or_else (fault_of_basis table (basis_of storage elevation)) (disagreement table storage elevation)) is.fine).1).0
 
           no_disagreement : disagreement table storage elevation ≡ None
-          no_disagreement = (first_none (fault_of_basis table (basis_of storage elevation)) (disagreement table storage elevation) (first_none (fault_of_past evaporation table view.past) (or_else (fault_of_basis table (basis_of storage elevation)) (disagreement table storage elevation)) is.fine).1).1
+          no_disagreement = (none_first (fault_of_basis table (basis_of storage elevation)) (disagreement table storage elevation) (none_first (fault_of_past evaporation table view.past) (or_else (fault_of_basis table (basis_of storage elevation)) (disagreement table storage elevation)) is.fine).1).1
 
           holds_basis : (held : Given) → basis_of storage elevation ≡ Storage held → can_hold table held.value ≡ true
           holds_basis held basis = by_hold (can_hold table held.value) refl
@@ -753,13 +694,6 @@ module _ (initial_storage : ℤ) (table : Option (List Row)) (local_inflow diver
               let found = no_fault_basis e.from e.basis in
               let value : held.value ≡ found.0 = contents_value held e.from given_is e.basis found.0 found.1 in
               (e.from.value, (at_three, inr (sym (ap (λ z. volume_of z e.from.value) at) ∙ found.1 ∙ ap Some (sym value ∙ same))))
-            where
-              value_or : Option Given → ℤ
-              value_or None = pos 0
-              value_or (Some g) = g.value
-
-              contents_value : (held from : Given) → contents_by table (basis_of storage elevation) ≡ Some held → basis_of storage elevation ≡ Elevation from → (found : ℤ) → volume_of table from.value ≡ Some found → held.value ≡ found
-              contents_value held from given_is basis found found_is = ap value_or (sym given_is ∙ ap (contents_by table) basis) ∙ ap (λ v. unwrap_or v (pos 0)) found_is
 
           given_two : (none : NoneStores) → (read : ℤ) × ((known_value new 3 ≡ Some read) × ((elev_of rows stores ≡ Some read) ⊎ (vol_of rows read ≡ Some stores)))
           given_two none =

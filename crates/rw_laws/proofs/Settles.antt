@@ -1,15 +1,14 @@
 -- Where a timestep is closed no object waits, and each is balanced.
-use Rattle.rw_laws.proofs.Common.{All, AllByRecursion, Asked, Bifurcation, Bool, ByRule, CanAsk, Canal, Cell, Cells, Confluence, DataObject, DividesByZero, Done, Draft, EndsOutside, Event, Fire, FireEnd, Firing, Gage, IsBasin, IsFault, IsKind, IsPolicyOf, IsRun, Kind, Leads, List, Log, None, Object, Option, Policy, Put, Puts, Reach, Request, Reservoir, Some, Standing, Unknown, View, WaterUser, Written, [], ap, arith, asked_by, asked_for, asked_of_rule, before_closing, cells_of, code_of, cond, dispatch_of, end_in, ended, ends_wait, false, fault, fired, first_of, first_waiting, idle, if◌then◌else◌, inl, inr, inside, is_closing, is_data, is_put_at, is_some, last_ones, length, looks_at, looks_of, nat_le, nat_tests, none-some, not, numbers, object_at, opened, option_map, option_or, over, placed, puts_written, refl, rests, same_Some, since, slice_get, slice_get_within, solve_of, solved_by, standing, subst, suc, sym, times, times-numbers, times-waiting, true, unwrap_or, value_in, view_of, waiting, wakes, written_by, zero, ℕ, ℤ, ◌&&◌, ◌+◌, ◌-◌, ◌==◌, ◌∙◌, ◌∷◌, ◌≡◌, ◌≤◌, ◌⊎◌}
+use Rattle.rw_laws.proofs.Common.{All, AllByRecursion, Asked, Bifurcation, Bool, ByRule, CanAsk, Canal, Cell, Cells, Confluence, DataObject, Done, Draft, Event, Fire, FireEnd, Firing, Gage, IsBasin, IsFault, IsKind, IsPolicyOf, IsRun, Kind, List, Log, None, Object, Option, Policy, Put, Puts, Reach, Request, Reservoir, Some, Standing, Unknown, View, WaterUser, Written, [], ap, arith, asked_by, asked_for, asked_of_rule, before_closing, cells_of, code_of, cond, dispatch_of, end_in, ended, ends_wait, false, fault, fired, first_of, first_waiting, idle, if◌then◌else◌, inl, inr, inside, is_data, is_put_at, is_some, last_ones, length, looks_at, looks_of, nat_le, nat_tests, none-some, not, numbers, object_at, opened, option_map, option_or, over, placed, puts_written, refl, rests, same_Some, since, slice_get, slice_get_within, solve_of, solved_by, standing, standing-placed, subst, suc, sym, times, times-numbers, times-waiting, true, unwrap_or, value_in, view_of, waiting, wakes, written_by, zero, ℕ, ℤ, ◌&&◌, ◌+◌, ◌-◌, ◌==◌, ◌∙◌, ◌∷◌, ◌≡◌, ◌≤◌, ◌⊎◌}
 use Rattle.rw_method.specs.declared.solved.Solved.TheVariants.{Idle}
-use Rattle.rw_run.specs.Log.{given}
 use Rattle.rw_laws.specs.Balances.{AllBalanced, IsBalanced}
 use Rattle.rw_laws.specs.Left.{Left}
 use Rattle.rw_laws.specs.Passing.{IsAfter}
 use Rattle.rw_laws.proofs.Agenda.{due_is_rule}
-use Rattle.rw_laws.proofs.Answering.{answered}
+use Rattle.rw_laws.proofs.Answering.{Answered, answered}
 use Rattle.rw_laws.proofs.Balancing.{bifurcation_balanced, by_rule_balanced, canal_balanced, confluence_balanced, gage_balanced, lagged_balanced, reach_balanced, request_balanced}
-use Rattle.rw_laws.proofs.Came.{Came, Closes, asks, came, closes, ends, fires, opens}
-use Rattle.rw_laws.proofs.Closing.{IsWithin, begin_within, closing_of, next_within}
+use Rattle.rw_laws.proofs.Came.{Came, Closes, asks, closes, ends, fires, opens}
+use Rattle.rw_laws.proofs.Closing.{IsWithin, begin_within, next_within}
 use Rattle.rw_laws.proofs.Dispatches.{Asked_of, Solves, asked_of, idles, mapped_all, solves, stops, weaker_all, written_all}
 use Rattle.rw_laws.proofs.Idling.{idle_balanced}
 use Rattle.rw_laws.proofs.LeftKept.{dispatch_facts, left_kept}
@@ -19,42 +18,30 @@ use Rattle.rw_laws.proofs.Staying.{AreLater, past_stays, view_stays}
 use Rattle.rw_laws.proofs.Steps.{KindIs, LeftIn}
 use Rattle.rw_laws.proofs.Told.{IsWriting}
 use Rattle.rw_laws.proofs.Writings.{IsRulePut, fired_writings, is_object_of, object_puts}
+use Rattle.rw_laws.proofs.Along.{all_closed}
+use Rattle.rw_laws.proofs.Leaving.{DispatchFacts}
 
 -- a dispatch that answers puts leaves its object balanced
 pub solved_balanced : (kind : Kind) (old new : View) (puts : List Put) → IsKind kind → solve_of kind old ≡ Puts puts → IsAfter old new puts → new.past ≡ old.past → IsBalanced kind new
-solved_balanced (DataObject slots) old new puts sound answers after past = tt
-solved_balanced Gage old new puts sound answers after past =
-    let is = answered Gage old puts answers in gage_balanced old puts new after is (dispatch_facts Gage old puts sound is)
-solved_balanced Confluence old new puts sound answers after past =
-    let is = answered Confluence old puts answers in confluence_balanced old puts new after is (dispatch_facts Confluence old puts sound is)
-solved_balanced Bifurcation old new puts sound answers after past =
-    let is = answered Bifurcation old puts answers in bifurcation_balanced old puts new after is (dispatch_facts Bifurcation old puts sound is)
-solved_balanced (Reach zero history local_inflow diversion return_flow) old new puts sound answers after past =
-    let is = answered (Reach zero history local_inflow diversion return_flow) old puts answers in
-    reach_balanced old puts new after history local_inflow diversion return_flow is (dispatch_facts (Reach zero history local_inflow diversion return_flow) old puts sound is) sound
-solved_balanced (Reach (suc lag) history local_inflow diversion return_flow) old new puts sound answers after past =
-    let is = answered (Reach (suc lag) history local_inflow diversion return_flow) old puts answers in
-    lagged_balanced old puts new after lag history local_inflow diversion return_flow is (dispatch_facts (Reach (suc lag) history local_inflow diversion return_flow) old puts sound is) sound past
-solved_balanced (Reservoir initial_storage table local_inflow diversion return_flow evaporation max_release) old new puts sound answers after past =
-    reservoir_balanced initial_storage table local_inflow diversion return_flow evaporation max_release old puts sound
-    (answered (Reservoir initial_storage table local_inflow diversion return_flow evaporation max_release) old puts answers) new after past
-solved_balanced (WaterUser depletion Request) old new puts sound answers after past =
-    let is = answered (WaterUser depletion Request) old puts answers in request_balanced old puts new after depletion is (dispatch_facts (WaterUser depletion Request) old puts sound is) sound
-solved_balanced (WaterUser depletion ByRule) old new puts sound answers after past =
-    let is = answered (WaterUser depletion ByRule) old puts answers in by_rule_balanced old puts new after depletion is (dispatch_facts (WaterUser depletion ByRule) old puts sound is)
-solved_balanced (Canal seepage) old new puts sound answers after past =
-    let is = answered (Canal seepage) old puts answers in canal_balanced old puts new after seepage is (dispatch_facts (Canal seepage) old puts sound is)
+solved_balanced kind old new puts sound answers after past = by kind sound (answered kind old puts answers) (dispatch_facts kind old puts sound (answered kind old puts answers))
+  where
+    by : (kind : Kind) → IsKind kind → Answered kind old puts → DispatchFacts kind old puts → IsBalanced kind new
+    by (DataObject slots) sound is facts = tt
+    by Gage sound is facts = gage_balanced old puts new after is facts
+    by Confluence sound is facts = confluence_balanced old puts new after is facts
+    by Bifurcation sound is facts = bifurcation_balanced old puts new after is facts
+    by (Reach zero history local_inflow diversion return_flow) sound is facts = reach_balanced old puts new after history local_inflow diversion return_flow is facts sound
+    by (Reach (suc lag) history local_inflow diversion return_flow) sound is facts = lagged_balanced old puts new after lag history local_inflow diversion return_flow is facts sound past
+    by (Reservoir initial_storage table local_inflow diversion return_flow evaporation max_release) sound is facts =
+        reservoir_balanced initial_storage table local_inflow diversion return_flow evaporation max_release old puts sound is new after past
+    by (WaterUser depletion Request) sound is facts = request_balanced old puts new after depletion is facts sound
+    by (WaterUser depletion ByRule) sound is facts = by_rule_balanced old puts new after depletion is facts
+    by (Canal seepage) sound is facts = canal_balanced old puts new after seepage is facts
 
 -- nothing is asked of a data object
 data_balanced : (kind : Kind) (view : View) → (code_of kind == 0) ≡ true → IsBalanced kind view
 data_balanced (DataObject slots) view e = tt
-data_balanced Gage view e = absurd (cc)
-data_balanced Confluence view e = absurd (cc)
-data_balanced Bifurcation view e = absurd (cc)
-data_balanced (Reach lag history local_inflow diversion return_flow) view e = absurd (cc)
-data_balanced (Reservoir initial_storage table local_inflow diversion return_flow evaporation max_release) view e = absurd (cc)
-data_balanced (WaterUser depletion supply) view e = absurd (cc)
-data_balanced (Canal seepage) view e = absurd (cc)
+data_balanced kind view e = absurd (cc)
 
 code_same : (found : Option Object) (kind : Kind) → option_map (λ (found : Object). found.kind) found ≡ Some kind → unwrap_or (option_map (λ (found : Object). code_of found.kind) found) 0 ≡ code_of kind
 code_same None kind is = absurd (none-some kind is)
@@ -190,8 +177,6 @@ module _ (basin : Draft) (valid : IsBasin basin) (policy : Policy) (promise : Is
 
   ended_settled : (log : Log) (step rule : ℕ) (fire : Fire) (end : FireEnd) → SettledIn basin log step → 1 ≤ rule → All (CanAsk basin) fire.puts
       → SettledAt basin (ended basin (cells_of basin log) rule step fire end ∷ log) (standing (ended basin (cells_of basin log) rule step fire end ∷ log))
-  ended_settled log step rule fire DividesByZero before first asked = tt
-  ended_settled log step rule fire (EndsOutside value) before first asked = tt
   ended_settled log step rule fire Unknown before first asked =
       fired_settled log step rule (record {
         rule = rule;
@@ -212,6 +197,7 @@ module _ (basin : Draft) (valid : IsBasin basin) (policy : Policy) (promise : Is
         written = puts_written (cells_of basin log) (last_ones basin (asked_of_rule basin rule step fire.puts));
         count = fire.count;
       }) refl before (fired_writings basin policy step rule step (cells_of basin log) fire Done first asked)
+  ended_settled log step rule fire end before first asked = tt
 
   -- ---- events
 
@@ -277,33 +263,9 @@ module _ (basin : Draft) (valid : IsBasin basin) (policy : Policy) (promise : Is
   closes_balanced log event within at settled object kind is =
       let here : SettledIn basin log at.step = subst (SettledAt basin log) at.stands settled in here object kind is (no_since log object kind is at.none_waits)
 
-  abbrev AllClosed : Log → Type 0
-  AllClosed log = (step : ℕ) (before : Log) → before_closing step log ≡ Some before → AllBalanced basin step (cells_of basin before)
-
-  next_closed : (log : Log) (event : Event) → IsWithin Left basin policy log → SettledAt basin log (standing log) → Came basin policy log event → AllClosed log → AllClosed (event ∷ log)
-  next_closed log event within settled comes all step before is = by (is_closing step event) refl is
-    where
-      by : (test : Bool) → is_closing step event ≡ test → (if test then Some log else before_closing step log) ≡ Some before → AllBalanced basin step (cells_of basin before)
-      by true here is = subst (λ l. AllBalanced basin step (cells_of basin l)) (same_Some _ _ is)
-          (closing_of Left left_kept basin valid policy promise (λ at log. SettledAt basin log (standing log) → AllBalanced basin at (cells_of basin log)) closes_balanced log event step within comes here settled)
-      by false there is = all step before is
-
-  lead_closed : (old : Log) (events : List Event) (new : Log) → Leads basin policy old events new → IsWithin Left basin policy old → SettledAt basin old (standing old) → AllClosed old → AllClosed new
-  lead_closed old [] new leads within settled all = subst AllClosed (sym leads) all
-  lead_closed old (event ∷ events) new leads within settled all =
-      let comes = came basin policy old event leads.0 in
-      lead_closed (event ∷ old) events new leads.1 (next_within Left left_kept basin valid policy promise old event within comes) (next_settled old event within settled comes)
-      (next_closed old event within settled comes all)
-
-  begin_settled : (log : Log) (inputs : List (Cell × ℤ)) → standing log ≡ rests 0 → SettledAt basin (placed log inputs) (standing (placed log inputs))
-  begin_settled log [] stands = subst (SettledAt basin log) (sym stands) tt
-  begin_settled log (input ∷ inputs) stands = begin_settled (given input.0 input.1 ∷ log) inputs refl
-
-  begin_closed : (log : Log) (inputs : List (Cell × ℤ)) → AllClosed log → AllClosed (placed log inputs)
-  begin_closed log [] all = all
-  begin_closed log (input ∷ inputs) all = begin_closed (given input.0 input.1 ∷ log) inputs all
-
-  pub balances : (inputs : List (Cell × ℤ)) (log : Log) → IsRun basin policy inputs log → (step : ℕ) (before : Log) → before_closing step log ≡ Some before → AllBalanced basin step (cells_of basin before)
-  balances inputs log run =
-      lead_closed (placed [] inputs) run.events log run.leads (begin_within Left left_kept basin valid policy promise inputs) (begin_settled [] inputs refl)
-      (begin_closed [] inputs (λ step before is. absurd (none-some before is)))
+  pub balances : (inputs : List (Cell × ℤ)) (log : Log) → IsRun basin policy inputs log → (step : ℕ) (before : Log) → before_closing step log ≡ Some before
+      → AllBalanced basin step (cells_of basin before)
+  balances inputs log run = all_closed basin policy (λ log. IsWithin Left basin policy log × SettledAt basin log (standing log))
+      (λ log event comes both. (next_within Left left_kept basin valid policy promise log event comes both.0, next_settled log event both.0 both.1 comes))
+      (λ step log. AllBalanced basin step (cells_of basin log)) (λ log event both at. closes_balanced log event both.0 at both.1) inputs log run
+      (begin_within Left left_kept basin valid policy promise inputs, subst (SettledAt basin (placed [] inputs)) (sym (standing-placed [] inputs refl)) tt)

@@ -1,11 +1,11 @@
 -- What holds of every log of a run: priority is kept, and each object's slots are as dispatches leave them.
-use Rattle.rw_laws.proofs.Common.{All, All-nil, AllByRecursion, Bool, ByObject, CanAsk, Cell, Cells, Contains, Content, DividesByZero, Done, Draft, EndsOutside, Event, Fire, FireEnd, Firing, Input, IsBasin, IsFault, IsKind, IsPolicyOf, IsRun, Kind, Leads, List, Log, None, Object, Policy, Put, Puts, Rule, Some, Standing, Unknown, View, Writer, [], ap, arith, asked_for, cell_at, cells_of, closed, dispatch_of, ended, false, fault, fired, idle, if◌then◌else◌, inl, input_content, inr, inside, is_same_object, is_shared, known, last_put, looks_of, nat_tests, none-some, object_at, opened, option_map, option_or, over, placed, puts_written, refl, rests, same_Some, solve_of, standing, subst, sym, true, value_in, view_of, written_by, ℕ, ℤ, ◌+◌, ◌<◌, ◌==◌, ◌∙◌, ◌∷◌, ◌≡◌, ◌≤◌}
+use Rattle.rw_laws.proofs.Common.{All, All-nil, AllByRecursion, Bool, ByObject, CanAsk, Cell, Cells, Contains, Content, DividesByZero, Done, Draft, EndsOutside, Event, Fire, FireEnd, Firing, IsBasin, IsFault, IsKind, IsPolicyOf, Kind, List, Log, None, Object, Policy, Put, Puts, Rule, Some, Standing, Unknown, View, Writer, [], ap, arith, asked_for, cell_at, cells_of, closed, dispatch_of, ended, false, fault, fired, idle, if◌then◌else◌, inl, input_content, inr, inside, is_same_object, is_shared, known, last_put, looks_of, nat_tests, none-some, object_at, opened, option_map, option_or, over, placed, puts_written, refl, rests, same_Some, solve_of, standing, subst, sym, true, value_in, view_of, written_by, ℕ, ℤ, ◌+◌, ◌<◌, ◌==◌, ◌∙◌, ◌∷◌, ◌≡◌, ◌≤◌}
 use Rattle.rw_run.specs.Log.{given}
 use Rattle.rw_laws.proofs.Agenda.{due_is_rule}
 use Rattle.rw_laws.specs.Left.{is_own}
 use Rattle.rw_laws.specs.Passing.{IsAfter, Passes}
 use Rattle.rw_laws.specs.Priority.{IsNoWeaker, KeepPriority, KeepsPriority}
-use Rattle.rw_laws.proofs.Came.{Came, Closes, Fires, Opens, asks, came, closes, ends, fires, opens}
+use Rattle.rw_laws.proofs.Came.{Came, Closes, Fires, Opens, asks, closes, ends, fires, opens}
 use Rattle.rw_laws.proofs.Dispatches.{Asked_of, Solves, asked_of, idles, solves, stops, weaker_all}
 use Rattle.rw_laws.proofs.OwnPuts.{own_after}
 use Rattle.rw_laws.proofs.Told.{AreTold, IsTold, IsWriting, keeps_priority, told_after}
@@ -60,17 +60,15 @@ told_later : (step later : ℕ) (cells : Cells) → step ≤ later → AreTold s
 told_later step later cells le told cell content held = by content.writer (told cell content held)
   where
     by : (writer : Writer) → IsTold step cell.step.0 content.number writer → IsTold later cell.step.0 content.number writer
-    by Input is = is
-    by (Rule rule) is = is
     by (ByObject object) is = omega (arith, is, le)
+    by writer is = is
 
 told_same : (step : ℕ) (old new : Cells) → ((cell : Cell) → new cell ≡ old cell) → AreTold step old → AreTold step new
 told_same step old new same told cell content held = told cell content (sym (same cell) ∙ held)
 
 not_yet : (step object at number : ℕ) (writer : Writer) → step < at → IsTold step at number writer → is_same_object writer (ByObject (record { 0 = object })) ≡ false
-not_yet step object at number Input later told = refl
-not_yet step object at number (Rule rule) later told = refl
 not_yet step object at number (ByObject other) later told = absurd (omega (arith, told, later))
+not_yet step object at number writer later told = refl
 
 by_rule : (object rule : ℕ) (writer : Writer) → writer ≡ Rule (record { 0 = rule }) → is_same_object writer (ByObject (record { 0 = object })) ≡ false
 by_rule object rule writer is = ap (λ w. is_same_object w (ByObject (record { 0 = object }))) is
@@ -237,11 +235,3 @@ module _ (L : Kind → View → Type 0) (kept : IsKept L) (basin : Draft) (valid
 
   pub begin_holds : (inputs : List (Cell × ℤ)) → Holds L basin (placed [] inputs)
   begin_holds inputs = placed_holds [] inputs (record { priority = tt; told = λ cell content held. absurd (none-some content held); left = tt }) refl
-
-  lead_holds : (old : Log) (events : List Event) (new : Log) → Leads basin policy old events new → Holds L basin old → Holds L basin new
-  lead_holds old [] new leads holds = subst (Holds L basin) (sym leads) holds
-  lead_holds old (event ∷ events) new leads holds =
-      lead_holds (event ∷ old) events new leads.1 (next_holds old event holds (came basin policy old event leads.0))
-
-  pub run_holds : (inputs : List (Cell × ℤ)) (log : Log) → IsRun basin policy inputs log → Holds L basin log
-  run_holds inputs log run = lead_holds (placed [] inputs) run.events log run.leads (begin_holds inputs)

@@ -1,5 +1,5 @@
 -- The puts that firings and dispatches write.
-use Rattle.rw_laws.proofs.Common.{All, AllByRecursion, Asked, Bool, ByObject, CanAsk, Cell, Cells, Content, DividesByZero, Done, Draft, EndsOutside, Fire, FireEnd, Input, IsBasin, IsKind, IsPutOf, IsSlot, IsSome, IsSound, Kind, List, None, Object, Option, Policy, Put, Puts, Rule, RulePut, Some, Unknown, View, Writer, Written, [], ap, arith, asked_by, asked_by_rule, asked_for, asked_of_rule, cell_at, content_in, end_in, end_of_put, ended, false, get_or-map-range_with_len, get_or_from_slice_get, has_slot, if◌then◌else◌, inl, inr, is_put_again, is_same_object, known, known_in_place, last_ones, map, nat_le, nat_tests, none-some, object_at, option_and_then, option_map, puts_written, recursion_from_All, refl, same_Some, slice_get, slice_get_within, slot_in, slot_in_place, solve-puts, solve_of, subst, sym, true, unwrap_or, view_of, written_by, ℕ, ◌+◌, ◌-◌, ◌<◌, ◌∙◌, ◌∷◌, ◌≡◌, ◌≤◌}
+use Rattle.rw_laws.proofs.Common.{All, AllByRecursion, Asked, Bool, ByObject, CanAsk, Cell, Cells, Content, Done, Draft, Fire, FireEnd, Input, IsBasin, IsKind, IsPutOf, IsSlot, IsSome, IsSound, Kind, List, None, Object, Option, Policy, Put, Puts, Rule, RulePut, Some, View, Writer, Written, [], ap, arith, asked_by, asked_by_rule, asked_for, asked_of_rule, cell_at, content_in, end_in, end_of_put, ended, false, get_or-map-range_with_len, get_or_from_slice_get, has_slot, if◌then◌else◌, inl, inr, is_put_again, is_same_object, known, known_in_place, last_ones, map, nat_le, nat_tests, none-some, object_at, option_and_then, option_map, puts_written, recursion_from_All, refl, same_Some, slice_get, slice_get_within, slot_in, slot_in_place, solve-puts, solve_of, subst, sym, true, unwrap_or, view_of, written_by, ℕ, ◌+◌, ◌-◌, ◌<◌, ◌∙◌, ◌∷◌, ◌≡◌, ◌≤◌}
 use Rattle.rw_laws.specs.Left.{is_own}
 use Rattle.rw_laws.proofs.Dispatches.{filtered_all, mapped_all, weaker_all, written_all}
 use Rattle.rw_laws.proofs.PutRules.{was_written}
@@ -50,14 +50,12 @@ rule_writing basin latest rule step cells first put (end, is) = record {
 
 pub fired_writings : (basin : Draft) (policy : Policy) (latest rule step : ℕ) (cells : Cells) (fire : Fire) (end : FireEnd) → 1 ≤ rule
     → All (CanAsk basin) fire.puts → AllByRecursion (λ put. IsWriting basin latest cells put × IsRulePut basin rule step put) (written_by (ended basin cells rule step fire end))
-fired_writings basin policy latest rule step cells fire DividesByZero first asks = tt
-fired_writings basin policy latest rule step cells fire (EndsOutside value) first asks = tt
-fired_writings basin policy latest rule step cells fire Unknown first asks = tt
 fired_writings basin policy latest rule step cells fire Done first asks =
     weaker_all (λ put. (end_in cells put ≡ Written) × IsRulePut basin rule step put) (λ put. IsWriting basin latest cells put × IsRulePut basin rule step put)
     (puts_written cells (last_ones basin (asked_of_rule basin rule step fire.puts))) (λ put both. (rule_writing basin latest rule step cells first put both, both.1))
     (written_all (IsRulePut basin rule step) cells (last_ones basin (asked_of_rule basin rule step fire.puts))
     (last_all (IsRulePut basin rule step) basin (asked_of_rule basin rule step fire.puts) (asked_rule_all basin rule step fire.puts asks)))
+fired_writings basin policy latest rule step cells fire end first asks = tt
 
 -- ---- an object has a number, and its parameters are in range
 

@@ -47,12 +47,12 @@ pub fn every_run()
         → IsRunOf basin log run → KeepsLaws basin policy log run }
 {}
 
-/// So does what `run_all` comes to, by verified code and whatever the inputs.
+/// So does what `run_all` comes to, by verified code and whatever the inputs, of the very log that it comes to.
 pub fn every_run_of_code()
     ensures { (basin : Draft) (policy : Accepted) (inputs : Inputs) (run : Run)
         → IsBasin basin → verified basin policy.blocks ≡ Ok policy
-        → ComesTo basin (policy_in basin policy) inputs run
-        → (log : Log) × KeepsLaws basin (policy_in basin policy) log run }
+        → (comes : ComesTo basin (policy_in basin policy) inputs run)
+        → KeepsLaws basin (policy_in basin policy) comes.log run }
 {
     every_run();
     code_keeps_promises();
@@ -60,6 +60,7 @@ pub fn every_run_of_code()
 }
 
 /// All cells of a link group are held alike after any log.
+#[tactic(auto, using(crate::proofs::Linked::links))]
 pub fn links()
     ensures { (basin : Draft) (log : Log) → AreLinked basin (cells_of basin log) }
 {}

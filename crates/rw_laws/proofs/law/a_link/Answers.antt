@@ -4,9 +4,3 @@ use Rattle.rw_laws.proofs.law.a_link.Goals as goal
 
 pub returns-clause-run : goal.returns-clause-run
 returns-clause-run c = record { events = across_run; leads = (refl, (refl, (refl, (refl, (refl, (refl, refl)))))); end = omega arith }
-
-pub returns-clause-first : goal.returns-clause-first
-returns-clause-first c = refl
-
-pub returns-clause-second : goal.returns-clause-second
-returns-clause-second c = refl

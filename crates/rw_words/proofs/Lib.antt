@@ -1,0 +1,4 @@
+pub mod Simple
+pub mod Paths
+pub mod Plain
+pub mod Worked

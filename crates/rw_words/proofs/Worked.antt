@@ -1,0 +1,75 @@
+-- The worked rows, by what the definition computes.
+use Rattle.rw_base.proofs.Common.{refl}
+use Rattle.clap.proofs.OnLiterals.{clap_on_literals}
+use Rattle.rw_words.specs.Worked.{AskForNothing, AskWithOptions}
+
+pub ask_with_options : AskWithOptions
+unfolding clap_on_literals
+ask_with_options = record {
+  run = refl;
+  simulate = refl;
+  check = refl;
+  compile = refl;
+  behind = refl;
+  before = refl;
+  between = refl;
+  in_simulate = refl;
+  attached = refl;
+  attached_option = refl;
+  attached_equals = refl;
+  hyphen_of_edits = refl;
+  hyphen = refl;
+  ended = refl;
+  ended_between = refl;
+  ended_last = refl;
+  ended_twice = refl;
+  command_again = refl;
+  equals = refl;
+}
+
+pub ask_for_nothing : AskForNothing
+unfolding clap_on_literals
+ask_for_nothing = record {
+  none = refl;
+  lone = refl;
+  too_few = refl;
+  too_many = refl;
+  too_many_in_simulate = refl;
+  too_many_behind = refl;
+  unknown = refl;
+  begun = refl;
+  capital = refl;
+  help = refl;
+  help_of_run = refl;
+  help_flag = refl;
+  short_help = refl;
+  version = refl;
+  short_help_of_run = refl;
+  help_flag_of_run = refl;
+  option_first = refl;
+  ended_first = refl;
+  option_begun = refl;
+  option_capital = refl;
+  single_hyphen = refl;
+  negative = refl;
+  edits_of_simulate = refl;
+  flags_of_check = refl;
+  trace_of_compile = refl;
+  flags_twice = refl;
+  trace_twice = refl;
+  edits_twice = refl;
+  edits_again = refl;
+  flag_with_value = refl;
+  flag_with_empty_value = refl;
+  edits_without_value = refl;
+  edits_before_flag = refl;
+  edits_negative = refl;
+  edits_ended = refl;
+  edits_ended_before = refl;
+  edits_empty = refl;
+  empty = refl;
+  empty_first = refl;
+  empty_path = refl;
+  empty_edits = refl;
+  empty_ended = refl;
+}

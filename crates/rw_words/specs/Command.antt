@@ -1,0 +1,75 @@
+-- The command that the words ask for.
+use Rattle.std.specs.Prelude.{List, [], ◌∷◌, length, map, codes, string_bytes, String, Option, None, Some, option_and_then, option_map, Bool, false, if◌then◌else◌, ◌==◌}
+use Rattle.std.specs.List.{list_any}
+use Rattle.std.specs.Option.{option_map_or}
+use Rattle.std.specs.Str.{bytes_eq}
+use Rattle.std.specs.declared.alloc.Global.{Global}
+use Rattle.clap.specs.Words.{Row, fault_of, first_of, subcommand_of}
+use Rattle.rw_words.specs.Job.{Text, job_named, wants}
+use Rattle.rw_words.specs.Program.{program}
+use Rattle.rw_words.specs.declared.job.Job.{Job}
+use Rattle.rw_words.specs.declared.command.Command.{Command as Named}
+
+-- a job, the paths that it wants, in its order, and the options that were given
+pub record Command : Type 0 where
+  pub job : Job
+  pub paths : List Text
+  pub edits : Option Text
+  pub flags : Bool
+  pub trace : Bool
+
+-- the words, as bytes
+abbrev pub texts_of : List (String Global) → List Text
+texts_of words = map string_bytes words
+
+-- ---- one command
+
+abbrev pub is_empty : Text → Bool
+is_empty text = length text == 0
+
+-- the paths of these names
+abbrev pub paths_in : List Row → List Text → Option (List Text)
+paths_in rows [] = Some []
+paths_in rows (name ∷ rest) =
+    option_and_then (λ path. option_map (λ paths. path ∷ paths) (paths_in rows rest)) (first_of name rows)
+
+-- a flag was given
+abbrev pub is_given : List Row → Text → Bool
+is_given rows name = option_map_or (λ text. bytes_eq text (codes "true")) (first_of name rows) false
+
+-- the command of a job, by what `clap` found. `--edits=` names no file
+abbrev pub command_in : List Row → Job → Option Command
+command_in rows job =
+    if option_map_or is_empty (first_of (codes "edits") rows) false then None
+    else option_map (λ paths. record {
+      job = job;
+      paths = paths;
+      edits = first_of (codes "edits") rows;
+      flags = is_given rows (codes "flags");
+      trace = is_given rows (codes "trace");
+    }) (paths_in rows (wants job))
+
+abbrev pub command_named : Text × List Row → Option Command
+command_named found = option_and_then (command_in found.1) (job_named found.0)
+
+-- ---- all words
+
+-- what `clap` finds, where it takes the words
+abbrev pub taken : List Text → Option (Text × List Row)
+taken words = if length (fault_of program words) == 0 then subcommand_of program words else None
+
+-- what the words ask for, or that they ask for nothing. An empty word is refused wherever it stands
+abbrev pub command_of : List Text → Option Command
+command_of words = if list_any is_empty words then None else option_and_then command_named (taken words)
+
+-- ---- what was read
+
+-- the command that was read, in these terms
+abbrev pub seen : Named → Command
+seen named = record {
+  job = named.job;
+  paths = map (λ path. path.now) named.paths.items;
+  edits = option_map (λ path. path.now) named.edits;
+  flags = named.flags;
+  trace = named.trace;
+}

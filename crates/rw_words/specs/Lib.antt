@@ -1,0 +1,5 @@
+pub mod Job
+pub mod Program
+pub mod Command
+pub mod Plain
+pub mod Worked

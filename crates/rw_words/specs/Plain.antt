@@ -1,0 +1,31 @@
+-- Words that ask for a command with no option.
+use Rattle.std.specs.Prelude.{◌≡◌, ◌≢◌, ◌≤◌, ◌∷◌, [], List, length, slice_index, None, Some, false}
+use Rattle.rw_words.specs.Command.{Command, command_of}
+use Rattle.rw_words.specs.Job.{Text, name_of}
+use Rattle.rw_words.specs.declared.job.Job.{Job}
+use Rattle.rw_words.specs.declared.job.Job.TheVariants.{Run, Simulate, Check, Compile}
+
+-- a word that isn't empty and isn't an option, which begins with `-`
+pub record IsPath (word : Text) : Type 0 where
+  pub some : 1 ≤ length word
+  pub no_option : slice_index word 0 ≢ 45
+
+abbrev pub plain : Job → List Text → Command
+plain job paths = record {
+  job = job;
+  paths = paths;
+  edits = None;
+  flags = false;
+  trace = false;
+}
+
+-- the name of a job and its paths ask for it
+pub record PlainWords : Type 0 where
+  pub run : (model policy inputs : Text) → IsPath model → IsPath policy → IsPath inputs
+      → command_of (name_of Run ∷ model ∷ policy ∷ inputs ∷ []) ≡ Some (plain Run (model ∷ policy ∷ inputs ∷ []))
+  pub simulate : (model inputs : Text) → IsPath model → IsPath inputs
+      → command_of (name_of Simulate ∷ model ∷ inputs ∷ []) ≡ Some (plain Simulate (model ∷ inputs ∷ []))
+  pub check : (model policy : Text) → IsPath model → IsPath policy
+      → command_of (name_of Check ∷ model ∷ policy ∷ []) ≡ Some (plain Check (model ∷ policy ∷ []))
+  pub compile : (model rules : Text) → IsPath model → IsPath rules
+      → command_of (name_of Compile ∷ model ∷ rules ∷ []) ≡ Some (plain Compile (model ∷ rules ∷ []))

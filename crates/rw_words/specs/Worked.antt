@@ -1,0 +1,123 @@
+-- What some words ask for, worked out by hand from the sentences of docs/FORMATS.md. A row is a line of words.
+use Rattle.std.specs.Prelude.{◌≡◌, ◌==◌, List, ℕ, [], ◌∷◌, codes, true, None, Some, if◌then◌else◌}
+use Rattle.rw_words.specs.Command.{Command, command_of}
+use Rattle.rw_words.specs.Job.{Text}
+use Rattle.rw_words.specs.Plain.{plain}
+use Rattle.rw_words.specs.declared.job.Job.TheVariants.{Run, Simulate, Check, Compile}
+
+-- ---- a line of words
+
+abbrev pub before_words : ℕ → List Text → List Text
+before_words c [] = (c ∷ []) ∷ []
+before_words c (word ∷ rest) = (c ∷ word) ∷ rest
+
+-- the words of a line, with a space between them
+abbrev pub words_of : Text → List Text
+words_of [] = [] ∷ []
+words_of (c ∷ rest) = if c == 32 then [] ∷ words_of rest else before_words c (words_of rest)
+
+-- ---- commands
+
+-- `run m p i`
+abbrev pub runs : Command
+runs = plain Run (codes "m" ∷ codes "p" ∷ codes "i" ∷ [])
+
+-- `simulate m i`
+abbrev pub simulates : Command
+simulates = plain Simulate (codes "m" ∷ codes "i" ∷ [])
+
+-- with a file of edits
+abbrev pub edited : Text → Command → Command
+edited path command = record command { edits = Some path }
+
+abbrev pub flagged : Command → Command
+flagged command = record command { flags = true }
+
+abbrev pub traced : Command → Command
+traced command = record command { trace = true }
+
+abbrev pub AskFor : Text → Command → Type 0
+AskFor line command = command_of (words_of line) ≡ Some command
+
+abbrev pub Nothing : Text → Type 0
+Nothing line = command_of (words_of line) ≡ None
+
+-- ---- rows
+
+pub record AskWithOptions : Type 0 where
+  pub run : AskFor (codes "run m p i") runs
+  pub simulate : AskFor (codes "simulate m i") simulates
+  pub check : AskFor (codes "check m p") (plain Check (codes "m" ∷ codes "p" ∷ []))
+  pub compile : AskFor (codes "compile m r") (plain Compile (codes "m" ∷ codes "r" ∷ []))
+  -- options stand anywhere behind the command's name
+  pub behind : AskFor (codes "run m p i --edits e --flags --trace") (traced (flagged (edited (codes "e") runs)))
+  pub before : AskFor (codes "run --trace --edits e m p i") (traced (edited (codes "e") runs))
+  pub between : AskFor (codes "run m --flags p --edits e i") (flagged (edited (codes "e") runs))
+  pub in_simulate : AskFor (codes "simulate --flags m --trace i") (traced (flagged simulates))
+  -- the value of an option stands behind it or behind `=`
+  pub attached : AskFor (codes "run m p i --edits=e") (edited (codes "e") runs)
+  pub attached_option : AskFor (codes "run m p i --edits=--x") (edited (codes "--x") runs)
+  pub attached_equals : AskFor (codes "run m p i --edits==") (edited (codes "=") runs)
+  pub hyphen_of_edits : AskFor (codes "run m p i --edits -") (edited (codes "-") runs)
+  -- `-` alone is a path
+  pub hyphen : AskFor (codes "simulate - i") (plain Simulate (codes "-" ∷ codes "i" ∷ []))
+  -- behind `--` no word is an option
+  pub ended : AskFor (codes "simulate -- --flags -x") (plain Simulate (codes "--flags" ∷ codes "-x" ∷ []))
+  pub ended_between : AskFor (codes "simulate --flags m -- --trace")
+      (flagged (plain Simulate (codes "m" ∷ codes "--trace" ∷ [])))
+  pub ended_last : AskFor (codes "simulate m i --") simulates
+  pub ended_twice : AskFor (codes "simulate -- -- i") (plain Simulate (codes "--" ∷ codes "i" ∷ []))
+  -- the name of a command is a path behind another
+  pub command_again : AskFor (codes "simulate run check") (plain Simulate (codes "run" ∷ codes "check" ∷ []))
+  -- a path holds what it holds
+  pub equals : AskFor (codes "simulate a=b i") (plain Simulate (codes "a=b" ∷ codes "i" ∷ []))
+
+pub record AskForNothing : Type 0 where
+  pub none : command_of [] ≡ None
+  pub lone : Nothing (codes "run")
+  pub too_few : Nothing (codes "run m p")
+  pub too_many : Nothing (codes "run m p i e")
+  pub too_many_in_simulate : Nothing (codes "simulate m i --flags x")
+  pub too_many_behind : Nothing (codes "simulate m i -- x")
+  -- no command is spelt so
+  pub unknown : Nothing (codes "m p i")
+  pub begun : Nothing (codes "sim m i")
+  pub capital : Nothing (codes "Simulate m i")
+  pub help : Nothing (codes "help")
+  pub help_of_run : Nothing (codes "help run")
+  pub help_flag : Nothing (codes "--help")
+  pub short_help : Nothing (codes "-h")
+  pub version : Nothing (codes "--version")
+  pub short_help_of_run : Nothing (codes "run m p i -h")
+  pub help_flag_of_run : Nothing (codes "run m p i --help")
+  -- nothing stands before the command
+  pub option_first : Nothing (codes "--flags run m p i")
+  pub ended_first : Nothing (codes "-- run m p i")
+  -- no option is spelt so, or not of this command
+  pub option_begun : Nothing (codes "run m p i --flag")
+  pub option_capital : Nothing (codes "run m p i --Flags")
+  pub single_hyphen : Nothing (codes "run m p i -flags")
+  pub negative : Nothing (codes "simulate -5 i")
+  pub edits_of_simulate : Nothing (codes "simulate m i --edits e")
+  pub flags_of_check : Nothing (codes "check m p --flags")
+  pub trace_of_compile : Nothing (codes "compile m r --trace")
+  -- an option stands once
+  pub flags_twice : Nothing (codes "run m p i --flags --flags")
+  pub trace_twice : Nothing (codes "simulate --trace m --trace i")
+  pub edits_twice : Nothing (codes "run m p i --edits=a --edits=b")
+  pub edits_again : Nothing (codes "run --edits a m p i --edits a")
+  -- a flag has no value, and `--edits` has one, which is no option
+  pub flag_with_value : Nothing (codes "run m p i --flags=true")
+  pub flag_with_empty_value : Nothing (codes "run m p i --trace=")
+  pub edits_without_value : Nothing (codes "run m p i --edits")
+  pub edits_before_flag : Nothing (codes "run m p i --edits --flags")
+  pub edits_negative : Nothing (codes "run m p i --edits -5")
+  pub edits_ended : Nothing (codes "run m p i --edits --")
+  pub edits_ended_before : Nothing (codes "run m p i --edits -- e")
+  pub edits_empty : Nothing (codes "run m p i --edits=")
+  -- an empty word, between two spaces or at an end
+  pub empty : Nothing []
+  pub empty_first : Nothing (codes " run m p i")
+  pub empty_path : Nothing (codes "run  p i")
+  pub empty_edits : Nothing (codes "run m p i --edits ")
+  pub empty_ended : Nothing (codes "simulate m -- ")

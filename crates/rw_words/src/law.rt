@@ -1,0 +1,30 @@
+//! What the definitions come to in plain words. Each law is the `ensures` of a function that does nothing.
+ghost use Rattle.std.specs.Prelude.{◌≡◌, IsTrue, List, None, Some, length};
+ghost use Rattle.std.specs.List.{list_any};
+ghost use Rattle.rw_words.specs.Command.{Command, command_of, is_empty};
+ghost use Rattle.rw_words.specs.Job.{Text, wants};
+ghost use Rattle.rw_words.specs.Plain.{PlainWords};
+ghost use Rattle.rw_words.specs.Worked.{AskWithOptions, AskForNothing};
+
+/// The name of a job and its paths ask for it with no option, where no path is empty or begins with `-`.
+pub fn plain_words()
+    ensures { PlainWords }
+{}
+
+/// What is asked for has a path for each that its job wants.
+#[tactic(auto, using(crate::proofs::Paths::words_paths))]
+pub fn one_path_each()
+    ensures { (words : List Text) (command : Command) → command_of words ≡ Some command
+        → length command.paths ≡ length (wants command.job) }
+{}
+
+/// Where a word is empty, nothing is asked for.
+pub fn empty_words()
+    ensures { (words : List Text) → IsTrue (list_any is_empty words) → command_of words ≡ None }
+{}
+
+/// What some words ask for.
+pub fn worked_words()
+    ensures asked { AskWithOptions }
+    ensures nothing { AskForNothing }
+{}

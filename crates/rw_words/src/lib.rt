@@ -1,0 +1,13 @@
+//! The words of the command line. They are read with `clap`, as a command with one level of subcommands, and what they ask
+//! for is a function of the words, `command_of` (`specs/Command.antt`). `read_words` answers it, or that they ask for
+//! nothing; want of memory is its one other answer.
+#![tactic(auto)]
+
+mod command;
+mod job;
+mod law;
+mod program;
+
+pub use command::{Command, read_words};
+pub use job::Job;
+pub use law::{empty_words, one_path_each, plain_words, worked_words};
