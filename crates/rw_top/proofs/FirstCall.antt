@@ -7,7 +7,7 @@ use Rattle.rw_run.specs.Next.{no_rules}
 use Rattle.rw_top.specs.Sections.{AreSections}
 use Rattle.rw_top.proofs.SectionLemmas.{one_grown}
 use Rattle.rw_top.specs.FirstCall.{IsFirstCall}
-use Rattle.rw_top.specs.declared.command.Job.TheVariants.{Simulate}
+use Rattle.rw_words.specs.declared.job.Job.TheVariants.{Simulate}
 use Rattle.rw_top.specs.declared.refusal.File.TheVariants.{Inputs}
 use Rattle.rw_top.proofs.CommandLemmas.{of_command}
 use Rattle.rw_top.proofs.Findings.{one_basin, same_text}

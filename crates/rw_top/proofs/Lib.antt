@@ -1,6 +1,5 @@
 mod Common
 pub mod CommandLemmas
-pub mod WordsLemmas
 pub mod OneReading
 pub mod OneText
 pub mod Findings

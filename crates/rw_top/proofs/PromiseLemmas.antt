@@ -1,8 +1,9 @@
 -- A call that wrote its run, or was refused, keeps the promise.
 use Rattle.rw_top.proofs.Common.{Asks, Call, Cause, Command, Fault, Files, IsTextOf, Job, List, None, Promise, Refusal, RefusedCommand, RefusedWords, RunEnd, Settled, Some, WasRefused, WritesAll, Wrote, arith, inl, inr, status_of, status_of_end, ℕ, ◌∙◌, ◌≡◌, ◌≤◌}
-use Rattle.rw_top.specs.declared.command.Job.TheVariants.{Simulate, Check, Compile, Run}
-use Rattle.rw_top.specs.declared.refusal.Refusal.TheVariants.{Words}
-use Rattle.rw_top.proofs.CommandLemmas.{of_command}
+use Rattle.rw_words.specs.declared.job.Job.TheVariants.{Simulate, Check, Compile, Run}
+use Rattle.rw_top.specs.declared.refusal.Refusal.TheVariants.{Words, NoMemory}
+use Rattle.rw_top.specs.Promise.{UnreadWords}
+use Rattle.rw_top.proofs.CommandLemmas.{asks_clash, of_command}
 use Rattle.rw_top.proofs.DueLemmas.{complete, due, none_due}
 
 at_most_1 : (end : RunEnd) → status_of_end end ≤ 1
@@ -21,6 +22,7 @@ at_least_2 why = omega arith
 
 was_refused : (call : Call) (why : Refusal) → RefusedCommand call why → WasRefused call why
 was_refused call Words was = let tells : None ≡ Some was.cause.0.reason = was.cause.0.tells in absurd cc
+was_refused call NoMemory was = inr was
 was_refused call why was = was
 
 module _ (call : Call) (held : (path : List ℕ) → call.shelf.after.holds path ≡ call.shelf.before.holds path) where
@@ -30,7 +32,7 @@ module _ (call : Call) (held : (path : List ℕ) → call.shelf.after.holds path
       record {
         done = λ below. wrote;
         refused = λ above. absurd (omega (arith, low, above));
-        words = λ nothing. absurd (nothing wrote.command wrote.asked);
+        words = λ nothing. absurd (asks_clash call.words wrote.command nothing wrote.asked);
         due = λ command asks reason found honest.
             let wrote_all = of_command call.words wrote.command command wrote.asked asks
             (λ it. WritesAll it call.shelf.before.holds call.out status) wrote.text in
@@ -43,9 +45,19 @@ module _ (call : Call) (held : (path : List ℕ) → call.shelf.after.holds path
   promised_words status is was = record {
     done = λ below. absurd (omega arith);
     refused = λ above. (Words, is, was);
-    words = λ nothing. is;
-    due = λ command asks reason found honest. absurd (was.nothing command asks);
-    complete = λ command asks accepted calm. absurd (was.nothing command asks);
+    words = λ nothing. inl is;
+    due = λ command asks reason found honest. absurd (asks_clash call.words command was.nothing asks);
+    complete = λ command asks accepted calm. absurd (asks_clash call.words command was.nothing asks);
+    held = held;
+  }
+
+  pub promised_memory : (status : ℕ) → status ≡ 5 → UnreadWords call → Promise call status
+  promised_memory status is was = record {
+    done = λ below. absurd (omega arith);
+    refused = λ above. (NoMemory, is, inl was);
+    words = λ nothing. inr is;
+    due = λ command asks reason found honest. inr is;
+    complete = λ command asks accepted calm. inr is;
     held = held;
   }
 
@@ -57,7 +69,7 @@ module _ (call : Call) (held : (path : List ℕ) → call.shelf.after.holds path
       record {
         done = λ below. absurd (omega arith);
         refused = λ above. (why, is, was_refused call why was);
-        words = λ nothing. absurd (nothing was.command was.asked);
+        words = λ nothing. absurd (asks_clash call.words was.command nothing was.asked);
         due = λ command asks reason found honest.
             rw is (due command call.shelf call.out why (cause command asks) reason found honest);
         complete = λ command asks accepted calm.

@@ -9,7 +9,7 @@ use Rattle.rw_run.specs.Next.{no_rules}
 use Rattle.rw_top.specs.Policy.{Policy as Rules}
 use Rattle.rw_top.specs.RunText.{IsRulesText}
 use Rattle.rw_top.specs.Written.{Appends, AppendsFront, IsFrontOf, IsOne, Stops, batches_in}
-use Rattle.rw_top.specs.declared.command.Job.TheVariants.{Simulate, Run}
+use Rattle.rw_words.specs.declared.job.Job.TheVariants.{Simulate, Run}
 use Rattle.rw_top.specs.declared.refusal.Refusal.TheVariants.{CannotWrite, NoMemory}
 
 -- what stays has grown by nothing

@@ -14,7 +14,7 @@ use Rattle.rw_inputs.specs.Inputs.{Inputs as Given}
 use Rattle.rpl_code.specs.Spelling.{spelt}
 use Rattle.rw_top.specs.Budgets.{check_text}
 use Rattle.rw_top.specs.Policy.{BadCode, RulesRefusal, BadRules, BadBlocks, Policy as Rules, Ruleset, Code, code_of, is_code}
-use Rattle.rw_top.specs.declared.command.Job.TheVariants.{Simulate, Check, Compile, Run}
+use Rattle.rw_words.specs.declared.job.Job.TheVariants.{Simulate, Check, Compile, Run}
 use Rattle.rw_top.specs.declared.refusal.File.TheVariants.{Policy as PolicyFile, Inputs as InputsFile}
 use Rattle.rw_top.specs.declared.refusal.Refusal.TheVariants.{Words, CannotRead, CannotWrite, NoMemory}
 use Rattle.rw_top.proofs.CauseLemmas.{told_status}
@@ -115,9 +115,10 @@ module _ (call : Call) where
   by_words why is was = absurd (omega (arith, is))
 
   -- each other status is that of a command
-  by_command : (why : Refusal) → status_of why ≢ 2 → WasRefused call why → RefusedCommand call why
-  by_command Words other was = absurd (other refl)
-  by_command why other was = was
+  by_command : (why : Refusal) → status_of why ≢ 2 → status_of why ≢ 5 → WasRefused call why → RefusedCommand call why
+  by_command Words words memory was = absurd (words refl)
+  by_command NoMemory words memory was = absurd (memory refl)
+  by_command why words memory was = was
 
   by_read : (why : Refusal) → 3 ≡ status_of why → RefusedCommand call why
       → AskFor call.words (λ command. (file : File) × FailsToRead command call.shelf file)
@@ -139,9 +140,10 @@ module _ (call : Call) where
   by_reason why high was =
       let told = was.cause.0 in (was.command, was.asked, (told.reason, told_status why told.reason told.tells, told.found))
 
-  by_memory : (why : Refusal) → 5 ≡ status_of why → RefusedCommand call why
-      → AskFor call.words (λ command. WritesSections command call.shelf.before.holds call.out)
-  by_memory NoMemory is was = (was.command, was.asked, was.cause)
+  by_memory : (why : Refusal) → 5 ≡ status_of why → WasRefused call why
+      → (call.out.after.contents ≡ call.out.before.contents) ⊎ AskFor call.words (λ command. WritesSections command call.shelf.before.holds call.out)
+  by_memory NoMemory is (inl was) = inl was.still
+  by_memory NoMemory is (inr was) = inr (was.command, was.asked, was.cause)
   by_memory why is was = absurd (omega (arith, is))
 
   untouched_by : (why : Refusal) → status_of why ≢ 4 → status_of why ≢ 5 → WasRefused call why
@@ -152,26 +154,26 @@ module _ (call : Call) where
   untouched_by why written memory was = was.cause.1
 
   -- the command that is refused, where the status isn't 2
-  of_status : (status : ℕ) → 3 ≤ status → Promise call status → (why : Refusal) × (status ≡ status_of why) × RefusedCommand call why
-  of_status status high promise =
+  of_status : (status : ℕ) → 3 ≤ status → status ≢ 5 → Promise call status → (why : Refusal) × (status ≡ status_of why) × RefusedCommand call why
+  of_status status high memory promise =
       let refused = promise.refused (omega (arith, high)) in
-      (refused.0, refused.1, by_command refused.0 (omega (arith, high, refused.1)) refused.2)
+      (refused.0, refused.1, by_command refused.0 (omega (arith, high, refused.1)) (λ is. memory (refused.1 ∙ is)) refused.2)
 
   pub words : Promise call 2 → AskNothing call.words
   words promise = let refused = promise.refused (omega arith) in by_words refused.0 refused.1 refused.2
 
   pub read_fault : Promise call 3 → AskFor call.words (λ command. (file : File) × FailsToRead command call.shelf file)
-  read_fault promise = let refused = of_status 3 (omega arith) promise in by_read refused.0 refused.1 refused.2
+  read_fault promise = let refused = of_status 3 (omega arith) (omega arith) promise in by_read refused.0 refused.1 refused.2
 
   pub write : Promise call 4
       → AskFor call.words (λ command. WritesFront command call.shelf.before.holds call.out) × Rose call.out.before.faults call.out.after.faults
-  write promise = let refused = of_status 4 (omega arith) promise in by_write refused.0 refused.1 refused.2
+  write promise = let refused = of_status 4 (omega arith) (omega arith) promise in by_write refused.0 refused.1 refused.2
 
   -- from 6 on, the reason that was found
   reason_of_status : (status : ℕ) → 6 ≤ status → Promise call status
       → AskFor call.words (λ command. (reason : Reason) × (status ≡ status_by reason) × WasFound command call.shelf reason)
   reason_of_status status high promise =
-      let refused = of_status status (omega (arith, high)) promise in
+      let refused = of_status status (omega (arith, high)) (omega (arith, high)) promise in
       let there = by_reason refused.0 (omega (arith, high, refused.1)) refused.2 in
       (there.0, there.1, (there.2.0, refused.1 ∙ there.2.1, there.2.2))
 
@@ -223,8 +225,9 @@ module _ (call : Call) where
   pub too_long : Promise call 10 → AskFor call.words (λ command. (file : File) × FindsTooLong command call.shelf file)
   too_long promise = let there = reason_of_status 10 (omega arith) promise in (there.0, there.1, long_file there.0 there.2.0 there.2.1 there.2.2)
 
-  pub sections : Promise call 5 → AskFor call.words (λ command. WritesSections command call.shelf.before.holds call.out)
-  sections promise = let refused = of_status 5 (omega arith) promise in by_memory refused.0 refused.1 refused.2
+  pub sections : Promise call 5 → (call.out.after.contents ≡ call.out.before.contents)
+      ⊎ AskFor call.words (λ command. WritesSections command call.shelf.before.holds call.out)
+  sections promise = let refused = promise.refused (omega arith) in by_memory refused.0 refused.1 refused.2
 
   pub untouched : (status : ℕ) → Promise call status → 2 ≤ status → status ≢ 4 → status ≢ 5
       → call.out.after.contents ≡ call.out.before.contents

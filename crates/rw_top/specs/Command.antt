@@ -1,24 +1,14 @@
--- The words of the command line, and the command that they ask for.
-use Rattle.std.specs.Prelude.{◌≡◌, ◌≢◌, ℕ, suc, ◌≤◌, ◌==◌, List, [], ◌∷◌, length, map, codes, slice_index, slice_index_or, string_bytes, String, Option, Some, None, option_map, IsSome, Bool, true, false, All, if◌then◌else◌}
-use Rattle.std.specs.declared.alloc.Global.{Global}
+-- The command that the words ask for, and the files that it reads.
+use Rattle.std.specs.Prelude.{◌≡◌, ℕ, suc, ◌==◌, List, [], ◌∷◌, slice_index_or, Option, Some, None, option_map, IsSome, Bool, true, false, if◌then◌else◌}
+use Rattle.rw_words.specs.declared.job.Job.{Job}
+use Rattle.rw_words.specs.declared.job.Job.TheVariants.{Simulate, Check, Compile, Run}
+use Rattle.rw_words.specs.Command.{Command, command_of as asked_by, seen}
+use Rattle.rw_words.specs.Plain.{plain}
 use Rattle.rw_top.specs.declared.refusal.File.{File}
 use Rattle.rw_top.specs.declared.refusal.File.TheVariants.{Model, Policy, Inputs, Edits}
-use Rattle.rw_top.specs.declared.command.Job.{Job}
-use Rattle.rw_top.specs.declared.command.Job.TheVariants.{Simulate, Check, Compile, Run}
 use Rattle.rw_top.specs.declared.command.Command.{Command as Named}
 
--- the words, as bytes
-abbrev pub texts_of : List (String Global) → List (List ℕ)
-texts_of words = map string_bytes words
-
 -- ---- jobs
-
--- the word that asks for a job
-abbrev pub name_of : Job → List ℕ
-name_of Simulate = codes "simulate"
-name_of Check = codes "check"
-name_of Compile = codes "compile"
-name_of Run = codes "run"
 
 -- the files that it reads, in the order in which the words name them
 abbrev pub files_of : Job → List File
@@ -50,17 +40,7 @@ place_in (first ∷ rest) file = if order first == order file then Some 0 else o
 
 -- ---- commands
 
--- a job, the paths of the files that it reads, and that of edits where they are given
-pub record Command : Type 0 where
-  pub job : Job
-  pub paths : List (List ℕ)
-  pub edits : Option (List ℕ)
-
--- the words that ask for it
-abbrev pub words_of : Command → List (List ℕ)
-words_of command = name_of command.job ∷ command.paths
-
--- the path of a file that its job reads. Where the word is missing it is empty, and so can't name a file
+-- the path of a file that its job reads. Where the word is missing it is empty
 abbrev pub named_path : Command → File → Option (List ℕ)
 named_path command file = option_map (λ place. slice_index_or command.paths place []) (place_in (files_of command.job) file)
 
@@ -73,21 +53,13 @@ path_of command file = named_path command file
 abbrev pub Names : Command → File → Type 0
 Names command file = IsSome (path_of command file)
 
--- a word that can name a file: it isn't empty, and isn't an option, which begins with `-`
-pub record IsPath (word : List ℕ) : Type 0 where
-  pub some : 1 ≤ length word
-  pub no_option : slice_index word 0 ≢ 45
-
--- the words ask for the command, which has a path for each file and no edits, and its paths can name files
-pub record Asks (words : List (List ℕ)) (command : Command) : Type 0 where
-  pub are : words ≡ words_of command
-  pub each : length command.paths ≡ length (files_of command.job)
-  pub plain : command.edits ≡ None
-  pub paths : All IsPath command.paths
+-- the words ask for the command
+abbrev pub Asks : List (List ℕ) → Command → Type 0
+Asks words command = asked_by words ≡ Some command
 
 -- they ask for none
 abbrev pub AskNothing : List (List ℕ) → Type 0
-AskNothing words = (command : Command) → ¬ Asks words command
+AskNothing words = asked_by words ≡ None
 
 -- they ask for a command of which this holds
 abbrev pub AskFor : List (List ℕ) → (Command → Type 0) → Type 0
@@ -95,8 +67,8 @@ AskFor words P = (command : Command) × Asks words command × P command
 
 -- the run of a model from inputs
 abbrev pub simulates : List ℕ → List ℕ → Command
-simulates model inputs = record { job = Simulate; paths = model ∷ inputs ∷ []; edits = None }
+simulates model inputs = plain Simulate (model ∷ inputs ∷ [])
 
 -- the command that was read, in these terms
 abbrev pub command_of : Named → Command
-command_of named = record { job = named.job; paths = texts_of named.paths.now; edits = option_map (λ path. path.now) named.edits }
+command_of named = seen named.words

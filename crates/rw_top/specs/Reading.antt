@@ -11,7 +11,8 @@ use Rattle.rw_inputs.specs.Refusal.{InputRefusal}
 use Rattle.rw_inputs.specs.Inputs.{Inputs as Given}
 use Rattle.rw_inputs.specs.Reading.{Reads, Refuses}
 use Rattle.rw_io.specs.Outside.{Change, Holds, ShelfView}
-use Rattle.rw_top.specs.Command.{Command, Names, order, path_of, takes_code}
+use Rattle.rw_top.specs.Command.{Names, order, path_of, takes_code}
+use Rattle.rw_words.specs.Command.{Command}
 use Rattle.rw_top.specs.Policy.{is_code, IsPolicyOf, Policy as Rules, PolicyRefusal, RefusesText}
 use Rattle.rw_top.specs.declared.refusal.File.{File}
 use Rattle.rw_top.specs.declared.refusal.File.TheVariants.{Model, Policy, Inputs, Edits}

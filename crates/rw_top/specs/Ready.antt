@@ -8,13 +8,14 @@ use Rattle.rw_model.specs.Draft.{Draft}
 use Rattle.rpl_tree.specs.Seen.{rules_of}
 use Rattle.rpl_types.specs.Judged.{judged}
 use Rattle.rpl_verify.specs.Verified.{verified}
-use Rattle.rw_top.specs.declared.command.Job.{Job}
+use Rattle.rw_words.specs.declared.job.Job.{Job}
 use Rattle.rw_top.specs.declared.files.Behind.{Behind}
 use Rattle.rw_top.specs.declared.files.Files.{Files}
 use Rattle.rw_top.specs.declared.policy.Policy.{Policy as Held}
 use Rattle.rw_top.specs.declared.refusal.File.TheVariants.{Policy, Inputs, Edits}
 use Rattle.rw_io.specs.Outside.{Holds}
-use Rattle.rw_top.specs.Command.{Command, files_of, place_in}
+use Rattle.rw_top.specs.Command.{files_of, place_in}
+use Rattle.rw_words.specs.Command.{Command}
 use Rattle.rw_top.specs.Policy.{IsPolicyOf}
 use Rattle.rw_top.specs.Reading.{ReadsEdits, ReadsInputs, ReadsPolicy, SaysAt}
 use Rattle.rw_top.specs.Seen.{policy_of}

@@ -3,7 +3,7 @@ use Rattle.std.specs.Prelude.{ℕ}
 use Rattle.rw_inputs.specs.Refusal.{InputRefusal}
 use Rattle.rw_model_toml.specs.Refusal.{ModelRefusal}
 use Rattle.rw_io.specs.Outside.{Change, Holds, ShelfView}
-use Rattle.rw_top.specs.Command.{Command}
+use Rattle.rw_words.specs.Command.{Command}
 use Rattle.rw_top.specs.Policy.{PolicyRefusal, BadRules, BadBlocks}
 use Rattle.rw_top.specs.Reading.{HoldsTooLong, IsHonestUpTo, RefusesEdits, RefusesInputs, RefusesModel, RefusesPolicy}
 use Rattle.rw_top.specs.declared.refusal.File.{File}

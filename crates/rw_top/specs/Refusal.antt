@@ -16,7 +16,8 @@ use Rattle.rpl_parse.specs.Parsing.{refusal_of as refusal_of_grammar}
 use Rattle.rpl_types.specs.Judged.{refusal}
 use Rattle.rpl_code.specs.Answers.{refusal_of as refusal_of_code}
 use Rattle.rpl_verify.specs.Fits.{refusal as block_refusal}
-use Rattle.rw_top.specs.Command.{Command, path_of}
+use Rattle.rw_top.specs.Command.{path_of}
+use Rattle.rw_words.specs.Command.{Command}
 use Rattle.rw_top.specs.Policy.{Unread, Misfit, PolicyRefusal, BadRules, BadBlocks, RefusesText, BadGrammar, BadNode}
 use Rattle.rw_top.specs.Reason.{Reason, BadModel, BadPolicy, BadInputs, BadEdits, LongFile, IsFound}
 use Rattle.rw_top.specs.Reading.{HoldsTooLong, Reaches}

@@ -9,15 +9,15 @@ use Rattle.rw_run.specs.declared.run.RunEnd.{RunEnd}
 use Rattle.rw_run.specs.declared.run.RunEnd.TheVariants.{Settled, Fault}
 use Rattle.rpl_code.specs.Spelling.{spelt}
 use Rattle.rw_top.specs.Budgets.{check_text}
-use Rattle.rw_top.specs.Command.{Command}
+use Rattle.rw_words.specs.Command.{Command}
 use Rattle.rw_top.specs.Policy.{code_of}
 use Rattle.rw_top.specs.Reading.{AreRead, Files}
 use Rattle.rw_top.specs.RunText.{IsRulesText, IsRunText}
 use Rattle.rw_top.specs.Sections.{AreFirstSections, AreSections, joined}
 use Rattle.rw_top.specs.declared.refusal.Refusal.{Refusal}
 use Rattle.rw_top.specs.declared.refusal.Refusal.TheVariants.{CannotWrite, NoMemory}
-use Rattle.rw_top.specs.declared.command.Job.{Job}
-use Rattle.rw_top.specs.declared.command.Job.TheVariants.{Simulate, Check, Compile, Run}
+use Rattle.rw_words.specs.declared.job.Job.{Job}
+use Rattle.rw_words.specs.declared.job.Job.TheVariants.{Simulate, Check, Compile, Run}
 
 -- the status of a run that was written: 0 where it settled
 abbrev pub status_of_end : RunEnd → ℕ

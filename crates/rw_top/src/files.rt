@@ -80,12 +80,7 @@ fn judge_for(
         (IsMadeOf (reads_code (command_of command.now) text.now) basin.now text.now)
         (IsPolicyRefusal (reads_code (command_of command.now) text.now) basin.now text.now) }
 {
-    judge_policy(
-        alloc,
-        basin,
-        text,
-        command.job.takes_code() && is_code(text),
-    )
+    judge_policy(alloc, basin, text, command.takes_code() && is_code(text))
 }
 
 // Reads and judges the policy, where the command names one, for the basin of its model.

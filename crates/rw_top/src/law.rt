@@ -22,7 +22,8 @@ ghost use Rattle.rpl_compile.specs.Budgets.{budgets_of};
 ghost use Rattle.rpl_compile.specs.Translate.{translate};
 ghost use Rattle.rw_top.specs.Budgets.{budget_in, check_text, rules_in};
 ghost use Rattle.rw_top.specs.Call.{Call};
-ghost use Rattle.rw_top.specs.Command.{AskFor, AskNothing, Asks, Command, order, simulates};
+ghost use Rattle.rw_top.specs.Command.{AskFor, AskNothing, Asks, order, simulates};
+ghost use Rattle.rw_words.specs.Command.{Command};
 ghost use Rattle.rw_top.specs.FirstCall.{IsFirstCall};
 ghost use Rattle.rw_top.specs.Policy.{BadCode, RulesRefusal, BadRules, BadBlocks, Policy, Ruleset, Code, IsPolicyOf};
 ghost use Rattle.rw_top.specs.Promise.{Promise, WroteCheck, WroteCode, WroteRules, WroteRun};
@@ -119,7 +120,8 @@ pub fn statuses()
     ensures too_long { (call : Call) → Promise call 10
         → AskFor call.words (λ command. (file : File) × FindsTooLong command call.shelf file) }
     ensures sections { (call : Call) → Promise call 5
-        → AskFor call.words (λ command. WritesSections command call.shelf.before.holds call.out) }
+        → (call.out.after.contents ≡ call.out.before.contents)
+        ⊎ AskFor call.words (λ command. WritesSections command call.shelf.before.holds call.out) }
     ensures untouched { (call : Call) (status : ℕ) → Promise call status → 2 ≤ status
         → status ≢ 4 → status ≢ 5 → call.out.after.contents ≡ call.out.before.contents }
 {}

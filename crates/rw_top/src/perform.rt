@@ -5,12 +5,12 @@ ghost use Rattle.rw_top.specs.Command.{command_of};
 ghost use Rattle.rw_top.specs.Ready.{AreReady};
 ghost use Rattle.rw_top.specs.Refusal.{Cause};
 ghost use Rattle.rw_top.specs.Seen.{files_seen};
-ghost use Rattle.rw_top.specs.declared.command.Job.TheVariants as J;
+ghost use Rattle.rw_words.specs.declared.job.Job.TheVariants as J;
 ghost use Rattle.rw_top.specs.Written.{Appends, IsOne, Stops, WritesAll, status_of_end};
 
 use crate::Refusal;
 use crate::check::budgets;
-use crate::command::{Command, Job};
+use crate::command::Command;
 use crate::compile::code_text;
 use crate::files::{Files, read_files};
 use crate::sections::write_sections;
@@ -21,6 +21,7 @@ use rw_engine::RunEnd;
 use rw_inputs::Batch;
 use rw_io::{Shelf, Sink, WriteFault, write_all};
 use rw_method::Catalogue;
+use rw_words::Job;
 use std::alloc::Global;
 
 // The status of a run that was written.
@@ -190,7 +191,7 @@ pub(crate) fn perform<S: Shelf, K: Sink, L: Ledger>(
         Ok(files) => files,
         Err(refusal) => return Err(refusal),
     };
-    match write_job(alloc, command.job, files, methods, predefs, steps, out) {
+    match write_job(alloc, command.job(), files, methods, predefs, steps, out) {
         Ok(status) => Ok(status),
         Err(refusal) => Err(refusal),
     }
