@@ -1,5 +1,5 @@
 -- A text that grows part by part.
-use Rattle.rw_base.proofs.Common.{◌≡◌, ℕ, ◌+◌, List, ◌++◌, sym, ap, ◌∙◌, append_assoc, suc-eq-add-one}
+use Rattle.rw_base.proofs.Common.{◌≡◌, ℕ, ◌+◌, List, ◌∷◌, ◌++◌, Some, sym, ap, ◌∙◌, drop, drop-cons, suc, append_assoc, suc-eq-add-one, slice_get, slice_get_within, get_or_from_slice_get}
 use Rattle.rw_report.specs.Section.{for_each}
 
 -- two parts, one after the other
@@ -14,3 +14,15 @@ next words before front text new is added =
     both front text new (for_each words before) (words (before + 1)) is added
     ∙ ap (λ n. front ++ (for_each words before ++ words n)) (sym e)
     ∙ ap (λ n. front ++ for_each words n) e
+
+-- what is left of a text once its first part is written
+pub written : (text new part rest whole : List ℕ) → text ++ (part ++ rest) ≡ whole → new ≡ text ++ part → new ++ rest ≡ whole
+written text new part rest whole left is = ap (λ t. t ++ rest) is ∙ append_assoc text part rest ∙ left
+
+-- the item in a place is the first of those from there on
+pub here : {A : Type 0} (items : List A) (place : ℕ) (item : A) → slice_get items place ≡ Some item
+    → drop place items ≡ item ∷ drop (place + 1) items
+here items place item is =
+    drop-cons items place item (slice_get_within items place item is)
+    ∙ ap (λ x. x ∷ drop (suc place) items) (get_or_from_slice_get items place item item is)
+    ∙ ap (λ n. item ∷ drop n items) (suc-eq-add-one place)

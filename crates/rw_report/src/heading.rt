@@ -117,8 +117,8 @@ fn push_rule_limit(
     Ok(())
 }
 
-// Appends what happened.
-fn push_fault(text: &mut String, basin: &Basin, fault: RunFault) -> Result<(), NoMemory>
+/// Appends what happened.
+pub(crate) fn push_fault(text: &mut String, basin: &Basin, fault: RunFault) -> Result<(), NoMemory>
     ensures { OnOk result (string_bytes text.new ≡ string_bytes text.old ++ fault_words basin.now fault) }
 {
     match fault {

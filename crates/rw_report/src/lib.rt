@@ -1,12 +1,19 @@
-//! The text of a section of the output: how the run of a batch ended, and a table of what every slot held at each
-//! timestep that was closed. `section` answers exactly the text that `specs/Section.antt` defines, for any run that closed
-//! no more timesteps than the basin has, and want of memory is its one other answer. Each cell is read once, and takes no
-//! memory but its place in the text.
+//! The texts of a run. `section` answers how the run of a batch ended, and a table of what every slot held at each timestep
+//! that was closed; `whole_section` also tells which timesteps were run again, who wrote each value, and what happened,
+//! where it is asked. `why` answers how one cell came to what it holds. Each answers exactly the text that `specs/` defines,
+//! for any run that closed no more timesteps than the basin has, and want of memory is its one other answer. Each cell and
+//! each line of a trace is read once, and takes no memory but its place in the text.
 #![tactic(auto)]
 
+mod cell;
+mod flags;
 mod heading;
+pub mod law;
+mod lines;
 mod names;
+mod numbers;
 mod table;
 mod whole;
 
-pub use whole::section;
+pub use cell::why;
+pub use whole::{section, whole_section};

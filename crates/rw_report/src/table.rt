@@ -1,12 +1,12 @@
 ghost use Rattle.std.specs.Prelude.{◌≡◌, ◌≤◌, ◌++◌, OnOk, string_bytes, codes, option_map, length};
-ghost use Rattle.std.specs.Fmt.{decimal, signed_decimal};
+ghost use Rattle.std.specs.Fmt.{decimal};
 ghost use Rattle.rw_calendar.specs.Stamps.{end_of, stamp_text};
 ghost use Rattle.rw_model.specs.declared.content.Content.{Content};
 ghost use Rattle.rw_series.specs.Series.{held};
 ghost use Rattle.rw_report.specs.Section.{columns, for_slots, row, rows, slot_words, value_words, values_in};
 
 use crate::names::push_slot;
-use itoa::Buffer;
+use crate::numbers::push_number;
 use rw_base::{Cell, NoMemory, SlotNo, StepNo};
 use rw_model::{Basin, Content};
 use rw_series::Series;
@@ -21,8 +21,8 @@ fn push_name(text: &mut String, basin: &Basin, slot: SlotNo) -> Result<(), NoMem
     push_slot(text, basin, slot)
 }
 
-// Appends a comma and the name of each slot.
-fn push_names(text: &mut String, basin: &Basin) -> Result<(), NoMemory>
+/// Appends a comma and the name of each slot.
+pub(crate) fn push_names(text: &mut String, basin: &Basin) -> Result<(), NoMemory>
     ensures { OnOk result (string_bytes text.new ≡ string_bytes text.old ++ for_slots basin.now (λ slot. codes "," ++ slot_words basin.now slot)) }
 {
     for before in 0..basin.slot_count() {
@@ -38,14 +38,6 @@ pub(crate) fn push_columns(text: &mut String, basin: &Basin) -> Result<(), NoMem
     text.push_str("step,stamp")?;
     push_names(text, basin)?;
     text.push_str("\n")?;
-    Ok(())
-}
-
-fn push_number(text: &mut String, number: i64) -> Result<(), NoMemory>
-    ensures { OnOk result (string_bytes text.new ≡ string_bytes text.old ++ signed_decimal number) }
-{
-    let mut buffer = Buffer::new();
-    text.push_str(buffer.format(number))?;
     Ok(())
 }
 
