@@ -218,7 +218,7 @@ unwritten command shelf out why still cause = (cause, still)
 
 -- and one after something was
 pub job_cause : (command : Command) (shelf : Change ShelfView) (out : Change SinkView) (files : Files)
-    → AreRead command shelf.before.holds files → (why : Refusal) → Stops command.job files out why → Cause command shelf out why
+    → AreRead command shelf.before.holds files → (why : Refusal) → Stops command.job command.flags command.trace files out why → Cause command shelf out why
 job_cause command shelf out files read CannotWrite stops = ((files, read, stops.0), stops.1)
 job_cause command shelf out files read NoMemory (inl still) = inl still
 job_cause command shelf out files read NoMemory (inr some) = inr (files, read, some)

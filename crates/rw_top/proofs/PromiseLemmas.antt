@@ -2,6 +2,7 @@
 use Rattle.rw_top.proofs.Common.{Asks, Call, Cause, Command, Fault, Files, IsTextOf, Job, List, None, Promise, Refusal, RefusedCommand, RefusedWords, RunEnd, Settled, Some, WasRefused, WritesAll, Wrote, arith, inl, inr, status_of, status_of_end, ℕ, ◌∙◌, ◌≡◌, ◌≤◌}
 use Rattle.rw_words.specs.declared.job.Job.TheVariants.{Simulate, Check, Compile, Run}
 use Rattle.rw_top.specs.declared.refusal.Refusal.TheVariants.{Words, NoMemory}
+use Rattle.rw_base.proofs.Common.{Bool}
 use Rattle.rw_top.specs.Promise.{UnreadWords}
 use Rattle.rw_top.proofs.CommandLemmas.{asks_clash, of_command}
 use Rattle.rw_top.proofs.DueLemmas.{complete, due, none_due}
@@ -10,11 +11,11 @@ at_most_1 : (end : RunEnd) → status_of_end end ≤ 1
 at_most_1 Settled = omega arith
 at_most_1 (Fault why) = omega arith
 
-status_at_most_1 : (job : Job) (files : Files) (status : ℕ) (texts : List (List ℕ)) → IsTextOf job files status texts → status ≤ 1
-status_at_most_1 Simulate files status texts is = let most = at_most_1 is.0 in omega (arith, most, is.1)
-status_at_most_1 Check files status texts is = omega (arith, is.0)
-status_at_most_1 Compile files status texts is = omega (arith, is.0)
-status_at_most_1 Run files status texts is = let most = at_most_1 is.0 in omega (arith, most, is.1)
+status_at_most_1 : (job : Job) (flags trace : Bool) (files : Files) (status : ℕ) (texts : List (List ℕ)) → IsTextOf job flags trace files status texts → status ≤ 1
+status_at_most_1 Simulate flags trace files status texts is = let most = at_most_1 is.0 in omega (arith, most, is.1)
+status_at_most_1 Check flags trace files status texts is = omega (arith, is.0)
+status_at_most_1 Compile flags trace files status texts is = omega (arith, is.0)
+status_at_most_1 Run flags trace files status texts is = let most = at_most_1 is.0 in omega (arith, most, is.1)
 
 at_least_2 : (why : Refusal) → 2 ≤ status_of why
 at_least_2 Words = omega arith
@@ -28,7 +29,7 @@ was_refused call why was = was
 module _ (call : Call) (held : (path : List ℕ) → call.shelf.after.holds path ≡ call.shelf.before.holds path) where
   pub promised_text : (status : ℕ) → Wrote call status → Promise call status
   promised_text status wrote =
-      let low = status_at_most_1 wrote.command.job wrote.text.0 status wrote.text.2.texts wrote.text.2.is in
+      let low = status_at_most_1 wrote.command.job wrote.command.flags wrote.command.trace wrote.text.0 status wrote.text.2.texts wrote.text.2.is in
       record {
         done = λ below. wrote;
         refused = λ above. absurd (omega (arith, low, above));

@@ -1,6 +1,6 @@
 -- Sections that are written one behind another.
 use Rattle.rw_top.proofs.Common.{Change, Err, Files, GrowsBy, GrowsBy-trans, IsRunText, IsSomeAnd, Job, List, MatchResult, None, Ok, Option, PrefixGrew, PrefixGrew-right, Refusal, Result, RunEnd, SinkView, Some, [], ap, change, inr, refl, status_of_end, subst, sym, ℕ, ◌++◌, ◌+◌, ◌∙◌, ◌∷◌, ◌≡◌}
-use Rattle.rw_base.proofs.Common.{All, append-nil, append_assoc, arith}
+use Rattle.rw_base.proofs.Common.{All, Bool, append-nil, append_assoc, arith}
 use Rattle.std.proofs.lemmas.List.Elements.{All-head, All-tail}
 use Rattle.rw_inputs.specs.Edits.{Batch, after_batch}
 use Rattle.rw_inputs.specs.Inputs.{Inputs, value_at}
@@ -100,42 +100,42 @@ module _ (IsSection : ℕ → Inputs → RunEnd → List ℕ → Type 0) where
 -- ---- of a job
 
 -- one text that was made
-pub made_whole : (job : Job) (files : Files) (out : Change SinkView) (status : ℕ) (text : List ℕ) → IsOne job files status text
-    → GrowsBy out.before.contents out.after.contents text → Appends job files out status
-made_whole job files out status text one grew =
+pub made_whole : (job : Job) (flags trace : Bool) (files : Files) (out : Change SinkView) (status : ℕ) (text : List ℕ) → IsOne job flags trace files status text
+    → GrowsBy out.before.contents out.after.contents text → Appends job flags trace files out status
+made_whole job flags trace files out status text one grew =
     record { texts = text ∷ []; is = one.0; grew = grown out.before.contents out.after.contents text grew }
 
-pub made_front : (job : Job) (files : Files) (out : Change SinkView) (status : ℕ) (text : List ℕ) → IsOne job files status text
-    → PrefixGrew out.before.contents out.after.contents text → AppendsFront job files out
-made_front job files out status text one grew = record { done = []; text = text; is = one.1; grew = grew }
+pub made_front : (job : Job) (flags trace : Bool) (files : Files) (out : Change SinkView) (status : ℕ) (text : List ℕ) → IsOne job flags trace files status text
+    → PrefixGrew out.before.contents out.after.contents text → AppendsFront job flags trace files out
+made_front job flags trace files out status text one grew = record { done = []; text = text; is = one.1; grew = grew }
 
 -- a run without rules
-pub one_run : (files : Files) (inputs : Inputs) (end : RunEnd) (status : ℕ) (text : List ℕ) → files.inputs ≡ Some inputs
-    → status ≡ status_of_end end → IsRunText files.basin no_rules 0 inputs end text → IsOne Simulate files status text
-one_run files inputs end status text there same is = (
-  (end, same, subst (λ o. IsSomeAnd o (λ i. AreSections (IsRunText files.basin no_rules) 0 i [] end (text ∷ []))) (sym there) (text, refl, is)),
-  subst (λ o. IsSomeAnd o (λ i. AreFirstSections (IsRunText files.basin no_rules) 0 i [] (text ∷ []))) (sym there) (end, is),
+pub one_run : (flags trace : Bool) (files : Files) (inputs : Inputs) (end : RunEnd) (status : ℕ) (text : List ℕ) → files.inputs ≡ Some inputs
+    → status ≡ status_of_end end → IsRunText files.basin no_rules flags trace 0 inputs end text → IsOne Simulate flags trace files status text
+one_run flags trace files inputs end status text there same is = (
+  (end, same, subst (λ o. IsSomeAnd o (λ i. AreSections (IsRunText files.basin no_rules flags trace) 0 i [] end (text ∷ []))) (sym there) (text, refl, is)),
+  subst (λ o. IsSomeAnd o (λ i. AreFirstSections (IsRunText files.basin no_rules flags trace) 0 i [] (text ∷ []))) (sym there) (end, is),
 )
 
 -- runs by rules
-module _ (files : Files) (policy : Rules) (inputs : Inputs) (out : Change SinkView) (has_policy : files.policy ≡ Some policy)
+module _ (flags trace : Bool) (files : Files) (policy : Rules) (inputs : Inputs) (out : Change SinkView) (has_policy : files.policy ≡ Some policy)
     (has_inputs : files.inputs ≡ Some inputs) where
   with_both : (P : Rules → Inputs → Type 0) → P policy inputs → IsSomeAnd files.policy (λ p. IsSomeAnd files.inputs (P p))
   with_both P is =
       subst (λ o. IsSomeAnd o (λ p. IsSomeAnd files.inputs (P p))) (sym has_policy) (subst (λ o. IsSomeAnd o (P policy)) (sym has_inputs) is)
 
   pub rules_appended : (end : RunEnd) (status : ℕ) → status ≡ status_of_end end
-      → AppendsAll (IsRulesText files.basin policy) 0 inputs (batches_in files) out end → Appends Run files out status
+      → AppendsAll (IsRulesText files.basin policy flags trace) 0 inputs (batches_in files) out end → Appends Run flags trace files out status
   rules_appended end status same all = record {
     texts = all.texts;
-    is = (end, same, with_both (λ p i. AreSections (IsRulesText files.basin p) 0 i (batches_in files) end all.texts) all.are);
+    is = (end, same, with_both (λ p i. AreSections (IsRulesText files.basin p flags trace) 0 i (batches_in files) end all.texts) all.are);
     grew = all.grew;
   }
 
-  front : (texts : List (List ℕ)) → AreFirstSections (IsRulesText files.basin policy) 0 inputs (batches_in files) texts → IsFrontOf Run files texts
-  front texts are = with_both (λ p i. AreFirstSections (IsRulesText files.basin p) 0 i (batches_in files) texts) are
+  front : (texts : List (List ℕ)) → AreFirstSections (IsRulesText files.basin policy flags trace) 0 inputs (batches_in files) texts → IsFrontOf Run flags trace files texts
+  front texts are = with_both (λ p i. AreFirstSections (IsRulesText files.basin p flags trace) 0 i (batches_in files) texts) are
 
-  pub rules_stopped : (why : Refusal) → StopsAmong (IsRulesText files.basin policy) 0 inputs (batches_in files) out why → Stops Run files out why
+  pub rules_stopped : (why : Refusal) → StopsAmong (IsRulesText files.basin policy flags trace) 0 inputs (batches_in files) out why → Stops Run flags trace files out why
   rules_stopped NoMemory stops = inr (record { runs = refl; texts = stops.texts; are = front stops.texts stops.are; grew = stops.grew })
   rules_stopped CannotWrite stops =
       (record { done = stops.done; text = stops.text; is = front (stops.done ++ stops.text ∷ []) stops.are; grew = stops.grew }, stops.rose)

@@ -38,7 +38,7 @@ module _ (call : Call) (command : Command) (asked : Asks call.words command) (fi
   one text is = one_grown call.out.before.contents call.out.after.contents texts text is grew
 
   wrote_run : (end : RunEnd) (inputs : Option Given) → SaysAt command InputsFile inputs (ReadsInputs command holds files.basin)
-      → IsSomeAnd inputs (λ given. AreSections (IsRunText files.basin no_rules) 0 given [] end texts) → WroteRun call end
+      → IsSomeAnd inputs (λ given. AreSections (IsRunText files.basin no_rules command.flags command.trace) 0 given [] end texts) → WroteRun call end
   wrote_run end None says is = absurd is
   wrote_run end (Some inputs) says is =
       record { command = command; asked = asked; basin = files.basin; inputs = inputs; read = says; text = is.0; is = is.2; grew = one is.0 is.1 }
@@ -47,7 +47,7 @@ module _ (call : Call) (command : Command) (asked : Asks call.words command) (fi
       → SaysAt command PolicyFile policy (ReadsPolicy command holds files.basin)
       → SaysAt command InputsFile inputs (ReadsInputs command holds files.basin)
       → IsSomeAnd policy (λ rules. IsSomeAnd inputs (λ given.
-      AreSections (IsRulesText files.basin rules) 0 given (batches_in files) end texts)) → WroteRules call end
+      AreSections (IsRulesText files.basin rules command.flags command.trace) 0 given (batches_in files) end texts)) → WroteRules call end
   wrote_rules end None inputs rules says is = absurd is
   wrote_rules end (Some policy) None rules says is = absurd is
   wrote_rules end (Some policy) (Some inputs) rules says is = record {
@@ -81,7 +81,7 @@ module _ (call : Call) (command : Command) (asked : Asks call.words command) (fi
       let as_code : reads_code command says.text ≡ true = says.is.0 in
       absurd (one_kind _ as_code (ap (λ j. takes_code j && is_code says.text) job))
 
-  settled_by : (job : Job) → command.job ≡ job → IsTextOf job files 0 texts → WroteRun call Settled ⊎ WroteRules call Settled ⊎ WroteCheck call ⊎ WroteCode call
+  settled_by : (job : Job) → command.job ≡ job → IsTextOf job command.flags command.trace files 0 texts → WroteRun call Settled ⊎ WroteRules call Settled ⊎ WroteCheck call ⊎ WroteCode call
   settled_by Simulate job is = inl (settles (WroteRun call) is.0 is.1 (wrote_run is.0 files.inputs read.inputs is.2))
   settled_by Check job is = inr (inr (inl (wrote_check files.policy read.policy is.1)))
   settled_by Compile job is = inr (inr (inr (wrote_code job files.policy read.policy is.1)))
@@ -91,7 +91,7 @@ module _ (call : Call) (command : Command) (asked : Asks call.words command) (fi
   abbrev WroteFault : RunEnd → Type 0
   WroteFault end = WroteRun call end ⊎ WroteRules call end
 
-  faulted_by : (job : Job) → IsTextOf job files 1 texts → (why : RunFault) × (WroteRun call (Fault why) ⊎ WroteRules call (Fault why))
+  faulted_by : (job : Job) → IsTextOf job command.flags command.trace files 1 texts → (why : RunFault) × (WroteRun call (Fault why) ⊎ WroteRules call (Fault why))
   faulted_by Simulate is = faults WroteFault is.0 is.1 (inl (wrote_run is.0 files.inputs read.inputs is.2))
   faulted_by Run is = faults WroteFault is.0 is.1 (inr (wrote_rules is.0 files.policy files.inputs read.policy read.inputs is.2))
   faulted_by Check is = absurd (omega (arith, is.0))

@@ -91,7 +91,7 @@ pub record WroteRun (call : Call) (end : RunEnd) : Type 0 where
   pub inputs : Given
   pub read : ReadsInputs command call.shelf.before.holds basin inputs
   pub text : List ℕ
-  pub is : IsRunText basin no_rules 0 inputs end text
+  pub is : IsRunText basin no_rules command.flags command.trace 0 inputs end text
   pub grew : GrowsBy call.out.before.contents call.out.after.contents text
 
 -- the sections of runs by a policy that is accepted, after each batch of edits, of which the last one ends so
@@ -106,7 +106,7 @@ pub record WroteRules (call : Call) (end : RunEnd) : Type 0 where
   pub edits : Option (List Batch)
   pub edited : SaysAt command Edits edits (ReadsEdits command call.shelf.before.holds basin)
   pub texts : List (List ℕ)
-  pub are : AreSections (IsRulesText basin policy) 0 inputs (unwrap_or edits []) end texts
+  pub are : AreSections (IsRulesText basin policy command.flags command.trace) 0 inputs (unwrap_or edits []) end texts
   pub grew : GrowsBy call.out.before.contents call.out.after.contents (joined texts)
 
 -- the budgets of a policy that is accepted

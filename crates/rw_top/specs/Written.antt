@@ -1,5 +1,5 @@
 -- What a call appends to a stream.
-use Rattle.std.specs.Prelude.{◌≡◌, ℕ, ◌⊎◌, List, [], ◌∷◌, ◌++◌, IsSomeAnd, unwrap_or}
+use Rattle.std.specs.Prelude.{◌≡◌, ℕ, Bool, ◌⊎◌, List, [], ◌∷◌, ◌++◌, IsSomeAnd, unwrap_or}
 use Rattle.rw_io.specs.Causes.{Rose}
 use Rattle.rw_io.specs.Known.{GrowsBy, PrefixGrew}
 use Rattle.rw_io.specs.Outside.{Change, Holds, SinkView}
@@ -29,57 +29,57 @@ abbrev pub batches_in : Files → List Batch
 batches_in files = unwrap_or files.edits []
 
 -- the sections of a job's text by what its files say, and the status with which it is written. A text that isn't of runs is one section
-abbrev pub IsTextOf : Job → Files → ℕ → List (List ℕ) → Type 0
-IsTextOf Simulate files status texts =
+abbrev pub IsTextOf : Job → (flags trace : Bool) → Files → ℕ → List (List ℕ) → Type 0
+IsTextOf Simulate flags trace files status texts =
     (end : RunEnd) × (status ≡ status_of_end end)
-    × IsSomeAnd files.inputs (λ inputs. AreSections (IsRunText files.basin no_rules) 0 inputs [] end texts)
-IsTextOf Check files status texts = (status ≡ 0) × IsSomeAnd files.policy (λ policy. texts ≡ check_text policy ∷ [])
-IsTextOf Compile files status texts = (status ≡ 0) × IsSomeAnd files.policy (λ policy. texts ≡ spelt (code_of policy) ∷ [])
-IsTextOf Run files status texts =
+    × IsSomeAnd files.inputs (λ inputs. AreSections (IsRunText files.basin no_rules flags trace) 0 inputs [] end texts)
+IsTextOf Check flags trace files status texts = (status ≡ 0) × IsSomeAnd files.policy (λ policy. texts ≡ check_text policy ∷ [])
+IsTextOf Compile flags trace files status texts = (status ≡ 0) × IsSomeAnd files.policy (λ policy. texts ≡ spelt (code_of policy) ∷ [])
+IsTextOf Run flags trace files status texts =
     (end : RunEnd) × (status ≡ status_of_end end) × IsSomeAnd files.policy (λ policy.
-    IsSomeAnd files.inputs (λ inputs. AreSections (IsRulesText files.basin policy) 0 inputs (batches_in files) end texts))
+    IsSomeAnd files.inputs (λ inputs. AreSections (IsRulesText files.basin policy flags trace) 0 inputs (batches_in files) end texts))
 
 -- the first sections of it
-abbrev pub IsFrontOf : Job → Files → List (List ℕ) → Type 0
-IsFrontOf Simulate files texts =
-    IsSomeAnd files.inputs (λ inputs. AreFirstSections (IsRunText files.basin no_rules) 0 inputs [] texts)
-IsFrontOf Check files texts = IsSomeAnd files.policy (λ policy. texts ≡ check_text policy ∷ [])
-IsFrontOf Compile files texts = IsSomeAnd files.policy (λ policy. texts ≡ spelt (code_of policy) ∷ [])
-IsFrontOf Run files texts =
+abbrev pub IsFrontOf : Job → (flags trace : Bool) → Files → List (List ℕ) → Type 0
+IsFrontOf Simulate flags trace files texts =
+    IsSomeAnd files.inputs (λ inputs. AreFirstSections (IsRunText files.basin no_rules flags trace) 0 inputs [] texts)
+IsFrontOf Check flags trace files texts = IsSomeAnd files.policy (λ policy. texts ≡ check_text policy ∷ [])
+IsFrontOf Compile flags trace files texts = IsSomeAnd files.policy (λ policy. texts ≡ spelt (code_of policy) ∷ [])
+IsFrontOf Run flags trace files texts =
     IsSomeAnd files.policy (λ policy.
-    IsSomeAnd files.inputs (λ inputs. AreFirstSections (IsRulesText files.basin policy) 0 inputs (batches_in files) texts))
+    IsSomeAnd files.inputs (λ inputs. AreFirstSections (IsRulesText files.basin policy flags trace) 0 inputs (batches_in files) texts))
 
 -- ---- what a job appends
 
 -- all sections
-pub record Appends (job : Job) (files : Files) (out : Change SinkView) (status : ℕ) : Type 0 where
+pub record Appends (job : Job) (flags trace : Bool) (files : Files) (out : Change SinkView) (status : ℕ) : Type 0 where
   pub texts : List (List ℕ)
-  pub is : IsTextOf job files status texts
+  pub is : IsTextOf job flags trace files status texts
   pub grew : GrowsBy out.before.contents out.after.contents (joined texts)
 
 -- some whole sections, and a front of the next one
-pub record AppendsFront (job : Job) (files : Files) (out : Change SinkView) : Type 0 where
+pub record AppendsFront (job : Job) (flags trace : Bool) (files : Files) (out : Change SinkView) : Type 0 where
   pub done : List (List ℕ)
   pub text : List ℕ
-  pub is : IsFrontOf job files (done ++ text ∷ [])
+  pub is : IsFrontOf job flags trace files (done ++ text ∷ [])
   pub grew : PrefixGrew out.before.contents out.after.contents (joined done ++ text)
 
 -- the first sections of a run, each whole
-pub record AppendsSections (job : Job) (files : Files) (out : Change SinkView) : Type 0 where
+pub record AppendsSections (job : Job) (flags trace : Bool) (files : Files) (out : Change SinkView) : Type 0 where
   pub runs : job ≡ Run
   pub texts : List (List ℕ)
-  pub are : IsFrontOf job files texts
+  pub are : IsFrontOf job flags trace files texts
   pub grew : GrowsBy out.before.contents out.after.contents (joined texts)
 
 -- why not all are
-abbrev pub Stops : Job → Files → Change SinkView → Refusal → Type 0
-Stops job files out CannotWrite = AppendsFront job files out × Rose out.before.faults out.after.faults
-Stops job files out NoMemory = (out.after.contents ≡ out.before.contents) ⊎ AppendsSections job files out
-Stops job files out why = ⊥
+abbrev pub Stops : Job → (flags trace : Bool) → Files → Change SinkView → Refusal → Type 0
+Stops job flags trace files out CannotWrite = AppendsFront job flags trace files out × Rose out.before.faults out.after.faults
+Stops job flags trace files out NoMemory = (out.after.contents ≡ out.before.contents) ⊎ AppendsSections job flags trace files out
+Stops job flags trace files out why = ⊥
 
 -- a text is the one section of the job's
-abbrev pub IsOne : Job → Files → ℕ → List ℕ → Type 0
-IsOne job files status text = IsTextOf job files status (text ∷ []) × IsFrontOf job files (text ∷ [])
+abbrev pub IsOne : Job → (flags trace : Bool) → Files → ℕ → List ℕ → Type 0
+IsOne job flags trace files status text = IsTextOf job flags trace files status (text ∷ []) × IsFrontOf job flags trace files (text ∷ [])
 
 -- ---- what a command appends
 
@@ -89,16 +89,16 @@ OfFiles command holds P = (files : Files) × AreRead command holds files × P fi
 
 -- the whole text of the command was appended
 abbrev pub WritesAll : Command → Holds → Change SinkView → ℕ → Type 0
-WritesAll command holds out status = OfFiles command holds (λ files. Appends command.job files out status)
+WritesAll command holds out status = OfFiles command holds (λ files. Appends command.job command.flags command.trace files out status)
 
 -- a front of it was appended
 abbrev pub WritesFront : Command → Holds → Change SinkView → Type 0
-WritesFront command holds out = OfFiles command holds (λ files. AppendsFront command.job files out)
+WritesFront command holds out = OfFiles command holds (λ files. AppendsFront command.job command.flags command.trace files out)
 
 -- nothing was appended, or the first sections of a run
 abbrev pub WritesSections : Command → Holds → Change SinkView → Type 0
 WritesSections command holds out =
-    (out.after.contents ≡ out.before.contents) ⊎ OfFiles command holds (λ files. AppendsSections command.job files out)
+    (out.after.contents ≡ out.before.contents) ⊎ OfFiles command holds (λ files. AppendsSections command.job command.flags command.trace files out)
 
 -- a front of the line was appended, and all of it unless the sink's count rose
 pub record Tells (err : Change SinkView) (line : List ℕ) : Type 0 where

@@ -36,13 +36,6 @@ pub(crate) struct Command<'w> {
 }
 
 impl<'w> Command<'w> {
-    /// What is done with the files.
-    pub(crate) fn job(&self) -> Job
-        ensures { result ≡ self.now.words.job }
-    {
-        self.words.job
-    }
-
     /// Whether its policy may be code.
     pub(crate) fn takes_code(&self) -> bool
         ensures { result ≡ takes_code self.now.words.job }

@@ -1,5 +1,5 @@
 //! What the definitions of this crate speak of is one thing. Each law is the `ensures` of a function that does nothing.
-ghost use Rattle.std.specs.Prelude.{◌≡◌, ◌≢◌, ◌≤◌, ◌↔◌, ◌⊎◌, ℕ, ℤ, Bool, List, Option, None, IsSome};
+ghost use Rattle.std.specs.Prelude.{◌≡◌, ◌≢◌, ◌≤◌, ◌↔◌, ◌⊎◌, ℕ, ℤ, Bool, false, List, Option, None, IsSome};
 ghost use Rattle.rw_plain_reservoir.specs.FirstForm.{FirstModel, IsFirstForm, IsFirstFlows};
 ghost use Rattle.rw_plain_reservoir.specs.Table.{IsFirstText};
 ghost use Rattle.rw_io.specs.Causes.{Rose};
@@ -37,6 +37,7 @@ ghost use Rattle.rw_top.specs.declared.refusal.File.{File};
 use rpl_compile::accepted::compiled_budgets;
 use rw_model_toml::law::files_are_basins;
 use rw_plain_reservoir::law::first_text;
+use rw_report::law::texts_of_runs;
 use rw_run::law::one_run;
 
 /// A text is read as inputs in one way, and isn't refused where it is read.
@@ -50,11 +51,12 @@ pub fn one_inputs()
 
 /// A basin, a policy and inputs have one run, which has one end and one text in each section's place, and all that counts of inputs are their values.
 pub fn one_text()
-    ensures { (basin : Draft) (policy : RunPolicy) (number : ℕ) (inputs others : Inputs)
+    ensures { (basin : Draft) (policy : RunPolicy) (flags trace : Bool) (number : ℕ)
+        (inputs others : Inputs)
         (end other : RunEnd) (text more : List ℕ)
         → ((slot step : ℕ) → value_at inputs slot step ≡ value_at others slot step)
-        → IsRunText basin policy number inputs end text
-        → IsRunText basin policy number others other more
+        → IsRunText basin policy flags trace number inputs end text
+        → IsRunText basin policy flags trace number others other more
         → (end ≡ other) × (text ≡ more) }
 {
     one_run();
@@ -66,11 +68,12 @@ pub fn first_form()
     ensures { (basin : Draft) (model : FirstModel) (inputs : Inputs) (inflows outflows : List ℤ)
         → IsBasin basin → IsFirstForm basin model
         → IsFirstFlows inputs model.run.count inflows outflows
-        → (end : RunEnd) (text : List ℕ) → IsRunText basin no_rules 0 inputs end text
+        → (end : RunEnd) (text : List ℕ) → IsRunText basin no_rules false false 0 inputs end text
         → (fault : Option ℤ) × IsFirstText model inflows outflows fault text
         × ((fault ≡ None) ↔ (end ≡ Settled)) }
 {
     first_text();
+    texts_of_runs();
 }
 
 /// A call asks for such a run where its words do, the shelf tells both files, and these are read as the reservoir and its

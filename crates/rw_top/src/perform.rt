@@ -1,4 +1,4 @@
-ghost use Rattle.std.specs.Prelude.{◌≡◌, ℕ, List, [], map, option_map, unwrap_or, IfErr, IfOk, MatchResult};
+ghost use Rattle.std.specs.Prelude.{◌≡◌, ℕ, Bool, List, [], map, option_map, unwrap_or, IfErr, IfOk, MatchResult};
 ghost use Rattle.rw_io.specs.Outside.{change};
 ghost use Rattle.rw_method.specs.Catalogue.{AreInOrder};
 ghost use Rattle.rw_top.specs.Command.{command_of};
@@ -40,23 +40,36 @@ fn simulate<L: Ledger>(
     files: &Files,
     methods: &Catalogue,
     predefs: &Predefs,
+    flags: bool,
+    trace: bool,
     steps: &mut Steps<L>,
 ) -> Result<(Vec<u8>, u8), NoMemory>
     requires order { AreInOrder (map (λ b. code (b.vtable, b.value)) methods.now.methods.items) }
     requires ready { AreReady J.Simulate files.now }
-    ensures { IfOk result (λ pair. IsOne J.Simulate (files_seen files.now) pair.1 pair.0.items) }
+    ensures { IfOk result
+        (λ pair. IsOne J.Simulate flags trace (files_seen files.now) pair.1 pair.0.items) }
 {
     let Some(inputs) = &files.inputs else {
         unreachable!();
     };
-    let (text, end) = text_without_rules(alloc, &files.basin, methods, predefs, inputs, steps)?;
+    let (text, end) = text_without_rules(
+        alloc,
+        &files.basin,
+        methods,
+        predefs,
+        flags,
+        trace,
+        inputs,
+        steps,
+    )?;
     Ok((text, status_of_run(&end)))
 }
 
 // The budgets of the policy of the files, and the status with which they are written.
 fn check(alloc: Global, files: &Files) -> Result<(Vec<u8>, u8), NoMemory>
     requires ready { AreReady J.Check files.now }
-    ensures { IfOk result (λ pair. IsOne J.Check (files_seen files.now) pair.1 pair.0.items) }
+    ensures { (flags trace : Bool) → IfOk result
+        (λ pair. IsOne J.Check flags trace (files_seen files.now) pair.1 pair.0.items) }
 {
     let Some(policy) = &files.policy else {
         unreachable!();
@@ -67,7 +80,8 @@ fn check(alloc: Global, files: &Files) -> Result<(Vec<u8>, u8), NoMemory>
 // The code of the policy of the files, and the status with which it is written.
 fn compile(alloc: Global, files: &Files) -> Result<(Vec<u8>, u8), NoMemory>
     requires ready { AreReady J.Compile files.now }
-    ensures { IfOk result (λ pair. IsOne J.Compile (files_seen files.now) pair.1 pair.0.items) }
+    ensures { (flags trace : Bool) → IfOk result
+        (λ pair. IsOne J.Compile flags trace (files_seen files.now) pair.1 pair.0.items) }
 {
     let Some(policy) = &files.policy else {
         unreachable!();
@@ -78,14 +92,17 @@ fn compile(alloc: Global, files: &Files) -> Result<(Vec<u8>, u8), NoMemory>
 // Writes a text that was made, unless memory was wanting for it.
 fn write_made<K: Sink>(
     job: Job,
+    flags: bool,
+    trace: bool,
     _files: &Files,
     made: Result<(Vec<u8>, u8), NoMemory>,
     out: &mut K,
 ) -> Result<u8, Refusal>
-    requires { IfOk made (λ pair. IsOne job (files_seen _files.now) pair.1 pair.0.items) }
+    requires { IfOk made
+        (λ pair. IsOne job flags trace (files_seen _files.now) pair.1 pair.0.items) }
     ensures { MatchResult result
-        (Appends job (files_seen _files.now) (change (K.seen out.old) (K.seen out.new)))
-        (Stops job (files_seen _files.now) (change (K.seen out.old) (K.seen out.new))) }
+        (Appends job flags trace (files_seen _files.now) (change (K.seen out.old) (K.seen out.new)))
+        (Stops job flags trace (files_seen _files.now) (change (K.seen out.old) (K.seen out.new))) }
 {
     let (text, status) = match made {
         Ok(pair) => pair,
@@ -113,14 +130,16 @@ fn run<K: Sink, L: Ledger>(
     files: Files,
     methods: &Catalogue,
     predefs: &Predefs,
+    flags: bool,
+    trace: bool,
     steps: &mut Steps<L>,
     out: &mut K,
 ) -> Result<u8, Refusal>
     requires order { AreInOrder (map (λ b. code (b.vtable, b.value)) methods.now.methods.items) }
     requires ready { AreReady J.Run files }
     ensures { MatchResult result
-        (Appends J.Run (files_seen files) (change (K.seen out.old) (K.seen out.new)))
-        (Stops J.Run (files_seen files) (change (K.seen out.old) (K.seen out.new))) }
+        (Appends J.Run flags trace (files_seen files) (change (K.seen out.old) (K.seen out.new)))
+        (Stops J.Run flags trace (files_seen files) (change (K.seen out.old) (K.seen out.new))) }
 {
     let Files {
         basin,
@@ -136,7 +155,7 @@ fn run<K: Sink, L: Ledger>(
     };
     let batches = batches_of(&edits);
     match write_sections(
-        alloc, &basin, methods, policy, predefs, 0, inputs, batches, steps, out,
+        alloc, &basin, methods, policy, predefs, flags, trace, 0, inputs, batches, steps, out,
     ) {
         Ok(end) => Ok(status_of_run(&end)),
         Err(refusal) => Err(refusal),
@@ -150,23 +169,25 @@ fn write_job<K: Sink, L: Ledger>(
     files: Files,
     methods: &Catalogue,
     predefs: &Predefs,
+    flags: bool,
+    trace: bool,
     steps: &mut Steps<L>,
     out: &mut K,
 ) -> Result<u8, Refusal>
     requires order { AreInOrder (map (λ b. code (b.vtable, b.value)) methods.now.methods.items) }
     requires ready { AreReady job files }
     ensures { MatchResult result
-        (Appends job (files_seen files) (change (K.seen out.old) (K.seen out.new)))
-        (Stops job (files_seen files) (change (K.seen out.old) (K.seen out.new))) }
+        (Appends job flags trace (files_seen files) (change (K.seen out.old) (K.seen out.new)))
+        (Stops job flags trace (files_seen files) (change (K.seen out.old) (K.seen out.new))) }
 {
     match job {
         Job::Simulate => {
-            let made = simulate(alloc, &files, methods, predefs, steps);
-            write_made(job, &files, made, out)
+            let made = simulate(alloc, &files, methods, predefs, flags, trace, steps);
+            write_made(job, flags, trace, &files, made, out)
         }
-        Job::Check => write_made(job, &files, check(alloc, &files), out),
-        Job::Compile => write_made(job, &files, compile(alloc, &files), out),
-        Job::Run => run(alloc, files, methods, predefs, steps, out),
+        Job::Check => write_made(job, flags, trace, &files, check(alloc, &files), out),
+        Job::Compile => write_made(job, flags, trace, &files, compile(alloc, &files), out),
+        Job::Run => run(alloc, files, methods, predefs, flags, trace, steps, out),
     }
 }
 
@@ -191,7 +212,10 @@ pub(crate) fn perform<S: Shelf, K: Sink, L: Ledger>(
         Ok(files) => files,
         Err(refusal) => return Err(refusal),
     };
-    match write_job(alloc, command.job(), files, methods, predefs, steps, out) {
+    let (job, flags, trace) = (command.words.job, command.words.flags, command.words.trace);
+    match write_job(
+        alloc, job, files, methods, predefs, flags, trace, steps, out,
+    ) {
         Ok(status) => Ok(status),
         Err(refusal) => Err(refusal),
     }

@@ -35,6 +35,8 @@ fn text_by_verified<L: Ledger>(
     methods: &Catalogue,
     policy: &Verified,
     predefs: &Predefs,
+    flags: bool,
+    trace: bool,
     number: u32,
     inputs: &Inputs,
     steps: &mut Steps<L>,
@@ -43,12 +45,13 @@ fn text_by_verified<L: Ledger>(
     requires fits { verified basin.now policy.now.blocks ≡ Ok policy.now }
     requires inputs { IsInputsOf basin.now inputs.now }
     ensures { IfOk result (λ pair. IsRulesText basin.now
-        (Code policy.now.blocks policy.now.budgets) number inputs.now pair.1 pair.0.items) }
+        (Code policy.now.blocks policy.now.budgets)
+        flags trace number inputs.now pair.1 pair.0.items) }
 {
     answered_code_is_safe();
     firings_are_verified();
     let written = text_by_code(
-        alloc, basin, methods, policy, predefs, number, inputs, steps,
+        alloc, basin, methods, policy, predefs, flags, trace, number, inputs, steps,
     )?;
     Ok(written)
 }
@@ -60,6 +63,8 @@ fn text_by_ruleset<L: Ledger>(
     methods: &Catalogue,
     typed: &Typed,
     predefs: &Predefs,
+    flags: bool,
+    trace: bool,
     number: u32,
     inputs: &Inputs,
     steps: &mut Steps<L>,
@@ -68,7 +73,7 @@ fn text_by_ruleset<L: Ledger>(
     requires fits { IsOk (judged basin.now (rules_of typed.now.rules)) }
     requires inputs { IsInputsOf basin.now inputs.now }
     ensures { IfOk result (λ pair. IsRulesText basin.now (Ruleset (rules_of typed.now.rules))
-        number inputs.now pair.1 pair.0.items) }
+        flags trace number inputs.now pair.1 pair.0.items) }
 {
     accepted();
     bounds();
@@ -77,7 +82,9 @@ fn text_by_ruleset<L: Ledger>(
     firings_of_rules_are_verified();
     let _rules = typed.rules();
     let code = compile(alloc, typed, basin)?;
-    let written = text_by_code(alloc, basin, methods, &code, predefs, number, inputs, steps)?;
+    let written = text_by_code(
+        alloc, basin, methods, &code, predefs, flags, trace, number, inputs, steps,
+    )?;
     Ok(written)
 }
 
@@ -88,6 +95,8 @@ pub(crate) fn text_by_policy<L: Ledger>(
     methods: &Catalogue,
     policy: &Policy,
     predefs: &Predefs,
+    flags: bool,
+    trace: bool,
     number: u32,
     inputs: &Inputs,
     steps: &mut Steps<L>,
@@ -96,14 +105,16 @@ pub(crate) fn text_by_policy<L: Ledger>(
     requires fits { IsFit basin.now policy.now }
     requires inputs { IsInputsOf basin.now inputs.now }
     ensures { IfOk result (λ pair. IsRulesText basin.now (policy_of policy.now)
-        number inputs.now pair.1 pair.0.items) }
+        flags trace number inputs.now pair.1 pair.0.items) }
 {
     match policy {
         Policy::Ruleset(typed) => {
-            text_by_ruleset(alloc, basin, methods, typed, predefs, number, inputs, steps)
+            text_by_ruleset(
+                alloc, basin, methods, typed, predefs, flags, trace, number, inputs, steps,
+            )
         }
         Policy::Code(code) => text_by_verified(
-            alloc, basin, methods, code, predefs, number, inputs, steps,
+            alloc, basin, methods, code, predefs, flags, trace, number, inputs, steps,
         ),
     }
 }

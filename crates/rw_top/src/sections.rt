@@ -29,6 +29,8 @@ fn write_section<K: Sink, L: Ledger>(
     methods: &Catalogue,
     policy: &Policy,
     predefs: &Predefs,
+    flags: bool,
+    trace: bool,
     number: u32,
     inputs: &Inputs,
     steps: &mut Steps<L>,
@@ -38,13 +40,13 @@ fn write_section<K: Sink, L: Ledger>(
     requires fits { IsFit basin.now policy.now }
     requires inputs { IsInputsOf basin.now inputs.now }
     ensures { MatchResult result
-        (AppendsOne (IsRulesText basin.now (policy_of policy.now)) number inputs.now
-        (change (K.seen out.old) (K.seen out.new)))
-        (StopsAtOne (IsRulesText basin.now (policy_of policy.now)) number inputs.now
-        (change (K.seen out.old) (K.seen out.new))) }
+        (AppendsOne (IsRulesText basin.now (policy_of policy.now) flags trace)
+        number inputs.now (change (K.seen out.old) (K.seen out.new)))
+        (StopsAtOne (IsRulesText basin.now (policy_of policy.now) flags trace)
+        number inputs.now (change (K.seen out.old) (K.seen out.new))) }
 {
     let (text, end) = match text_by_policy(
-        alloc, basin, methods, policy, predefs, number, inputs, steps,
+        alloc, basin, methods, policy, predefs, flags, trace, number, inputs, steps,
     ) {
         Ok(pair) => pair,
         Err(NoMemory) => return Err(Refusal::NoMemory),
@@ -84,6 +86,8 @@ pub(crate) fn write_sections<K: Sink, L: Ledger>(
     methods: &Catalogue,
     policy: &Policy,
     predefs: &Predefs,
+    flags: bool,
+    trace: bool,
     number: u32,
     inputs: Inputs,
     batches: &[Batch],
@@ -96,13 +100,13 @@ pub(crate) fn write_sections<K: Sink, L: Ledger>(
     requires batches { All (IsBatch basin.now) batches.now }
     requires few { number + length batches.now ≤ 64 }
     ensures { MatchResult result
-        (AppendsAll (IsRulesText basin.now (policy_of policy.now)) number inputs batches.now
-        (change (K.seen out.old) (K.seen out.new)))
-        (StopsAmong (IsRulesText basin.now (policy_of policy.now)) number inputs batches.now
-        (change (K.seen out.old) (K.seen out.new))) }
+        (AppendsAll (IsRulesText basin.now (policy_of policy.now) flags trace)
+        number inputs batches.now (change (K.seen out.old) (K.seen out.new)))
+        (StopsAmong (IsRulesText basin.now (policy_of policy.now) flags trace)
+        number inputs batches.now (change (K.seen out.old) (K.seen out.new))) }
 {
     let end = match write_section(
-        alloc, basin, methods, policy, predefs, number, &inputs, steps, out,
+        alloc, basin, methods, policy, predefs, flags, trace, number, &inputs, steps, out,
     ) {
         Ok(end) => end,
         Err(refusal) => return Err(refusal),
@@ -116,6 +120,8 @@ pub(crate) fn write_sections<K: Sink, L: Ledger>(
                 methods,
                 policy,
                 predefs,
+                flags,
+                trace,
                 number + 1,
                 edited,
                 rest,

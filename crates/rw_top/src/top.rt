@@ -22,16 +22,16 @@ use std::alloc::Global;
 ///
 /// `simulate MODEL INPUTS` reads both files from the shelf, runs the basin that they describe, each object by the method
 /// of its kind, and writes the table to `out`. The methods are one for each kind, in the order of the kinds' numbers. The
-/// status is 0 where the run settled and 1 where it ended in a fault. `check MODEL POLICY` reads both files, judges the
-/// ruleset, or the code where the policy's first line is `CODE 1`, with the basin, and writes what a firing of each rule
-/// comes to at most. The status is 0. `compile MODEL RULES` reads both files, judges the ruleset with the basin, and writes
-/// the text of its code. The status is 0. `run MODEL POLICY INPUTS` reads the three files, runs the basin as `simulate` does,
-/// and lets the rules of the policy fire, by the functions that they call. With `--edits FILE` it reads batches of edits, too, and
-/// writes one section more after each batch: the run from the inputs as they are then. Its statuses 0 and 1 are those of
-/// `simulate`, by the last section.
+/// status is 0 where the run settled and 1 where it ended in a fault. `run MODEL POLICY INPUTS` reads the three files, runs the
+/// basin as `simulate` does, and lets the rules of the policy fire, by the functions that they call. With `--edits FILE` it reads
+/// batches of edits, too, and writes one section more after each batch: that of the run from the inputs as they are then. Each
+/// section is written as soon as it is made. The status is that of the last section. With `--flags` either writes who put each
+/// value, with `--trace` what happened. `check MODEL POLICY` reads both files, judges the ruleset, or the code where the policy's
+/// first line is `CODE 1`, with the basin, and writes what a firing of each rule comes to at most. The status is 0. `compile MODEL
+/// RULES` reads both files, judges the ruleset with the basin, and writes the text of its code. The status is 0.
 ///
 /// With each other status one line on `err` says why: 2 the words, 3 a file that can't be read, 4 an output that can't be
-/// written, 5 want of memory, 6 the model, 7 the ruleset, 8 the inputs, 9 the code, 10 a file of more than 16,777,216
+/// written, 5 want of memory, 6 the model, 7 the ruleset, 8 the inputs or the edits, 9 the code, 10 a file of more than 16,777,216
 /// bytes. A failure of `err` changes no status.
 pub fn basin_main<S: Shelf, K: Sink, E: Sink, L: Ledger>(
     alloc: Global,
