@@ -88,7 +88,7 @@ const RUNS: &[(&[u8], Simulation<'static>)] = &[
 fn first_unmet(alloc: Global, rows: &[(&[u8], Simulation<'_>)]) -> Result<Option<usize>, NoMemory> {
     for k in 0..rows.len() {
         let (policy, want) = rows[k];
-        if !runs_by(alloc, &RUN, policy, want)? {
+        if !runs_by(alloc, &RUN, policy, b"", want)? {
             return Ok(Some(k));
         }
     }
@@ -102,9 +102,68 @@ fn rules_fire_in_runs(rt: HostRuntime) -> Result<(), Fail> {
             rt.alloc(),
             &["run", "m.toml", "i.csv"],
             CAP_AND_BASE,
+            b"",
             TOO_FEW_WORDS
         )?
     );
     none_is_wrong(&rt, first_unmet(rt.alloc(), RUNS)?);
+    Ok(())
+}
+
+// Another 30 flow in, and so the dam lets out 30 more.
+const EDITED: Simulation<'static> = Simulation {
+    model: MODEL,
+    inputs: INFLOW,
+    status: 0,
+    out: Whole(
+        b"# batch 0 settled\nstep,stamp,Dam.Inflow,Dam.Outflow,Dam.Storage\n1,2020-01-02T00:00,100,80,1020\n# batch 1 settled\nstep,stamp,Dam.Inflow,Dam.Outflow,Dam.Storage\n1,2020-01-02T00:00,130,110,1020\n",
+    ),
+    err: Whole(b""),
+};
+
+const NO_EDITS: Simulation<'static> = Simulation {
+    model: MODEL,
+    inputs: INFLOW,
+    status: 8,
+    out: Whole(b""),
+    err: Whole(b"basin: edits: row 2 column 1: batch order\n"),
+};
+
+const EDITS: &[(&[u8], Simulation<'static>)] = &[
+    (b"batch,slot,step,value\n", CAPPED),
+    (b"batch,slot,step,value\n1,Dam.Inflow,1,130\n", EDITED),
+    (b"batch,slot,step,value\n2,Dam.Inflow,1,130\n", NO_EDITS),
+];
+
+// The first of the edits, counted from 0, with which the run doesn't come to what is wanted.
+fn first_unedited(
+    alloc: Global,
+    rows: &[(&[u8], Simulation<'_>)],
+) -> Result<Option<usize>, NoMemory> {
+    let words = ["run", "m.toml", "p.rpl", "i.csv", "--edits", "e.csv"];
+    for k in 0..rows.len() {
+        let (edits, want) = rows[k];
+        if !runs_by(alloc, &words, CAP_AND_BASE, edits, want)? {
+            return Ok(Some(k));
+        }
+    }
+    Ok(None)
+}
+
+const TOLD: Simulation<'static> = Simulation {
+    model: MODEL,
+    inputs: INFLOW,
+    status: 0,
+    out: Whole(
+        b"# batch 0 settled\nstep,stamp,Dam.Inflow,Dam.Outflow,Dam.Storage\n1,2020-01-02T00:00,100,80,1020\n# flags\nstep,Dam.Inflow,Dam.Outflow,Dam.Storage\n1,I0,O1,R1\n# trace\nopen 1\nidle Dam\nfire 2 done 2\n  Dam.Outflow 1 50 R2\nsolve Dam\n  Dam.Storage 1 1050 O2\nfire 1 done 6\n  Dam.Storage 1 1020 R1\nsolve Dam\n  Dam.Outflow 1 80 O1\nfire 1 done 6\nclose 1\n",
+    ),
+    err: Whole(b""),
+};
+
+#[test]
+fn edits_flags_and_traces_are_told(rt: HostRuntime) -> Result<(), Fail> {
+    none_is_wrong(&rt, first_unedited(rt.alloc(), EDITS)?);
+    let words = ["run", "--flags", "m.toml", "p.rpl", "i.csv", "--trace"];
+    assert!(rt; runs_by(rt.alloc(), &words, CAP_AND_BASE, b"", TOLD)?);
     Ok(())
 }

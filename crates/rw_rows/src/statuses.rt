@@ -199,15 +199,17 @@ fn is_met(
     comes_to(alloc, words, &mut ends, want)
 }
 
-/// Whether `run` by this policy comes to what is wanted.
+/// Whether these words, with this policy and these edits, come to what is wanted.
 pub(crate) fn runs_by(
     alloc: Global,
     words: &[&str],
     policy: &[u8],
+    edits: &[u8],
     want: Simulation<'_>,
 ) -> Result<bool, NoMemory> {
     let mut files = files(alloc, want.model, want.inputs)?;
     files.push(file(alloc, "p.rpl", policy)?)?;
+    files.push(file(alloc, "e.csv", edits)?)?;
     let mut ends = ends_of(alloc, files, Failing::Nothing)?;
     comes_to(alloc, words, &mut ends, want)
 }

@@ -1,5 +1,5 @@
 -- Causes as the code comes to them, step by step.
-use Rattle.rw_top.proofs.Common.{BadInputs, BadModel, BadPolicy, Cause, Change, Checked, Command, Declared, Err, FILE_MAX, File, FileCause, Holds, IsErrOf, IsPolicyRefusal, IsReading, IsSomeAnd, IsTooLong, List, LongFile, MatchResult, None, NoneFell, Ok, Option, Reaches, ReadsPolicy, Reason, Refusal, Result, Rose, ShelfView, SinkView, Some, WasFound, ap, arith, change, checked, false, inr, option_map, path_of, reason_of, refl, refusal_after, status_by, status_of, subst, sym, true, with_types, ℕ, ◌<◌, ◌∙◌, ◌≡◌}
+use Rattle.rw_top.proofs.Common.{AreRead, BadEdits, BadInputs, BadModel, BadPolicy, Cause, Change, Checked, Command, Declared, Err, FILE_MAX, File, FileCause, Files, Holds, IsErrOf, IsPolicyRefusal, IsReading, IsSomeAnd, IsTooLong, List, LongFile, MatchResult, None, NoneFell, Ok, Option, Reaches, ReadsPolicy, Reason, Refusal, Result, Rose, ShelfView, SinkView, Some, WasFound, ap, arith, change, checked, false, inl, inr, option_map, path_of, reason_of, refl, refusal_after, status_by, status_of, subst, sym, true, with_types, ℕ, ◌<◌, ◌∙◌, ◌≡◌}
 use Rattle.rw_inputs.specs.Refusal.{refused_at}
 use Rattle.rw_io.specs.declared.whole_file.ReadEnd.{ReadEnd}
 use Rattle.rw_io.specs.declared.whole_file.ReadEnd.TheVariants.{ReadFault, TooLong as EndTooLong, NoMemory as EndNoMemory}
@@ -24,9 +24,13 @@ use Rattle.rpl_verify.specs.Resolved.{resolved_code}
 use Rattle.rpl_verify.specs.Verified.{Accepted, verified, with_budgets}
 use Rattle.rpl_types.specs.Nodes.{Types as NodeTypes}
 use Rattle.rw_top.specs.Policy.{Unread, Misfit, Policy, BadRules, BadBlocks, BadGrammar, BadNode, IsRulesetOf, RefusesNode}
+use Rattle.rw_top.specs.Reading.{ReadsModel, WasRead, reads_code}
+use Rattle.rw_top.specs.Refusal.{TellsReason}
+use Rattle.rw_top.specs.declared.refusal.File.TheVariants.{Policy as PolicyFile}
+use Rattle.rw_top.specs.Written.{Stops}
 use Rattle.rw_top.specs.Ready.{IsMadeOf}
 use Rattle.rw_top.specs.declared.policy.Policy.TheVariants as Held
-use Rattle.rw_top.specs.declared.refusal.Refusal.TheVariants.{CannotRead, CannotWrite, NoMemory, Model, Grammar, Types, Code, Block as BlockAt, Inputs, TooLong}
+use Rattle.rw_top.specs.declared.refusal.Refusal.TheVariants.{CannotRead, CannotWrite, NoMemory, Model, Grammar, Types, Code, Block as BlockAt, Inputs, Edits, TooLong}
 
 -- a fault that doesn't tell nothing tells why
 pub tells_why : {R : Type 0} (told : Option R) → ¬ (told ≡ None) → (why : R) × (told ≡ Some why)
@@ -48,6 +52,7 @@ told_status (Code fault) reason tells = told_by (λ bad. BadPolicy (BadBlocks (U
 told_status (BlockAt kind block place) reason tells =
     let same : BadPolicy (BadBlocks (Misfit (block_refusal kind block place))) ≡ reason = cc in ap status_by same
 told_status (Inputs kind row column) reason tells = let same : BadInputs (refused_at kind row column) ≡ reason = cc in ap status_by same
+told_status (Edits kind row column) reason tells = let same : BadEdits (refused_at kind row column) ≡ reason = cc in ap status_by same
 told_status (TooLong file) reason tells = let same : LongFile file ≡ reason = cc in ap status_by same
 told_status why reason tells = absurd cc
 
@@ -144,6 +149,28 @@ its_code basin text blocks code spells is =
       fits = ap (verified basin) (sym same.0) ∙ is;
     }
 
+-- a reason that is told is a cause
+told_cause : (command : Command) (shelf : Change ShelfView) (why : Refusal) → TellsReason command shelf why → FileCause command shelf why
+told_cause command shelf (CannotRead file) told = let tells : None ≡ Some told.reason = told.tells in absurd cc
+told_cause command shelf NoMemory told = tt
+told_cause command shelf why told = told
+
+-- why a policy is refused
+pub policy_cause : (command : Command) (shelf : Change ShelfView) (basin : Draft) (text : List ℕ)
+    → ReadsModel command shelf.before.holds basin → WasRead command shelf.before.holds PolicyFile text
+    → (why : Refusal) → IsPolicyRefusal (reads_code command text) basin text why → FileCause command shelf why
+policy_cause command shelf basin text model read why (inl is) = no_memory command shelf why is
+policy_cause command shelf basin text model read why (inr bad) =
+    told_cause command shelf why (record {
+      reason = BadPolicy bad.0;
+      tells = bad.1;
+      found = record { basin = basin; model = model; text = text; read = read; is = bad.2 };
+    })
+
+-- no count fell from first to last
+pub none_fell : {first later last : List ℕ → ℕ} → NoneFell first later → NoneFell later last → NoneFell first last
+none_fell before after path = let one = before path in let other = after path in omega (arith, one, other)
+
 -- faults that are counted from earlier on
 rose_since : (first later now : ShelfView) (o : Option (List ℕ)) → NoneFell first.faults later.faults
     → IsSomeAnd o (λ path. Rose (later.faults path) (now.faults path))
@@ -186,4 +213,13 @@ found_later P command first later now (Err why) same fell cause = cause_earlier 
 pub unwritten : (command : Command) (shelf : Change ShelfView) (out : Change SinkView) (why : Refusal)
     → out.after.contents ≡ out.before.contents → FileCause command shelf why → Cause command shelf out why
 unwritten command shelf out CannotWrite still cause = let tells : None ≡ Some cause.reason = cause.tells in absurd cc
+unwritten command shelf out NoMemory still cause = inl still
 unwritten command shelf out why still cause = (cause, still)
+
+-- and one after something was
+pub job_cause : (command : Command) (shelf : Change ShelfView) (out : Change SinkView) (files : Files)
+    → AreRead command shelf.before.holds files → (why : Refusal) → Stops command.job command.flags command.trace files out why → Cause command shelf out why
+job_cause command shelf out files read CannotWrite stops = ((files, read, stops.0), stops.1)
+job_cause command shelf out files read NoMemory (inl still) = inl still
+job_cause command shelf out files read NoMemory (inr some) = inr (files, read, some)
+job_cause command shelf out files read why stops = absurd stops

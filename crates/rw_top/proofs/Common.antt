@@ -19,15 +19,16 @@ pub use Rattle.rw_run.specs.declared.run.RunEnd.{RunEnd}
 pub use Rattle.rw_series.specs.Series.{Series, held}
 pub use Rattle.rw_top.specs.Budgets.{counts_line, functions_in, line_if, rule_line, rules_in}
 pub use Rattle.rw_top.specs.Call.{Call}
-pub use Rattle.rw_top.specs.Command.{AskFor, AskNothing, Asks, Command, IsPath, Names, command_of, files_of, name_of, order, path_of, place_in, simulates, takes_code, texts_of, words_of}
+pub use Rattle.rw_top.specs.Command.{AskFor, AskNothing, Asks, Names, command_of, files_of, order, path_of, place_in, simulates, takes_code}
+pub use Rattle.rw_words.specs.Command.{Command}
 pub use Rattle.rw_top.specs.Promise.{Promise, RefusedCommand, RefusedWords, WasRefused, Wrote, WroteCheck, WroteCode, WroteRun}
 pub use Rattle.rw_top.specs.Reading.{Accepts, AcceptsAll, AreRead, Files, HoldsTooLong, IsHonest, IsHonestOfAll, IsHonestUpTo, IsTextAt, IsTooLong, Reaches, ReadsInputs, ReadsModel, ReadsPolicy, RefusesInputs, RefusesModel, RefusesPolicy, SaysAt, WasRead, reads_code}
-pub use Rattle.rw_top.specs.Reason.{BadInputs, BadModel, BadPolicy, IsFound, IsHonestFor, LongFile, Reason, file_of, policy_status, status_by}
+pub use Rattle.rw_top.specs.Reason.{BadEdits, BadInputs, BadModel, BadPolicy, IsFound, IsHonestFor, LongFile, Reason, file_of, policy_status, status_by}
 pub use Rattle.rw_top.specs.Refusal.{Cause, EndsWith, FailsToRead, FileCause, FindsTooLong, IsPolicyRefusal, WasFound, reason_of, refusal_after, status_of}
 pub use Rattle.rw_top.specs.RunText.{IsRunText, text_of}
 pub use Rattle.rw_top.specs.Seen.{files_seen, policy_of}
-pub use Rattle.rw_top.specs.Written.{HasText, IsTextOf, Tells, WritesAll, WritesFront, status_of_end}
-pub use Rattle.rw_top.specs.declared.command.Job.{Job}
+pub use Rattle.rw_top.specs.Written.{IsTextOf, Tells, WritesAll, WritesFront, status_of_end}
+pub use Rattle.rw_words.specs.declared.job.Job.{Job}
 pub use Rattle.rw_top.specs.declared.refusal.File.{File}
 pub use Rattle.rw_top.specs.declared.refusal.Refusal.{Refusal}
 pub use Rattle.std.proofs.Common.{All, IsErrOf, drop}

@@ -1,5 +1,5 @@
 -- A refusal that is due is given, and none is given that isn't.
-use Rattle.rw_top.proofs.Common.{AcceptsAll, Cause, Change, Command, EndsWith, FailsToRead, File, HasText, Holds, IfSome, IsFound, IsHonest, IsHonestFor, IsHonestOfAll, IsHonestUpTo, IsSome, IsSomeAnd, List, LongFile, None, Option, Reason, Refusal, Rose, ShelfView, SinkView, Some, WasFound, cases_lt, file_of, inl, inr, order, path_of, refl, status_by, status_of, ℕ, ◌∙◌, ◌≡◌}
+use Rattle.rw_top.proofs.Common.{AcceptsAll, AreRead, Cause, Change, Command, EndsWith, FailsToRead, File, Files, Holds, IfSome, IsFound, IsHonest, IsHonestFor, IsHonestOfAll, IsHonestUpTo, IsSome, IsSomeAnd, List, LongFile, None, Option, Reason, Refusal, Rose, ShelfView, SinkView, Some, WasFound, cases_lt, file_of, inl, inr, order, path_of, refl, status_by, status_of, ℕ, ◌∙◌, ◌≡◌}
 use Rattle.rw_top.specs.declared.refusal.Refusal.TheVariants.{CannotRead, CannotWrite, NoMemory}
 use Rattle.rw_top.proofs.CauseLemmas.{told_status}
 use Rattle.rw_top.proofs.Findings.{IsToldUpTo, accepts_read, names, not_found, one_reason}
@@ -32,19 +32,19 @@ module _ (command : Command) (shelf : Change ShelfView) where
       ]
 
   -- where the text was written, nothing had to be refused
-  pub none_due : (status : ℕ) (text : List ℕ) → HasText command shelf.before.holds status text
+  pub none_due : (files : Files) → AreRead command shelf.before.holds files
       → (reason : Reason) → IsFound command shelf.before.holds reason
       → IsHonestFor command shelf reason → ⊥
-  none_due status text is reason found honest =
+  none_due files read reason found honest =
       not_found command shelf.before.holds reason (told_by (file_of reason) honest)
-      (accepts_read command shelf.before.holds is.files is.read (file_of reason) (names command shelf.before.holds reason found)) found
+      (accepts_read command shelf.before.holds files read (file_of reason) (names command shelf.before.holds reason found)) found
 
   module _ (out : Change SinkView) where
     -- what has to be refused is
     pub due : (why : Refusal) → Cause command shelf out why → (reason : Reason) → IsFound command shelf.before.holds reason
         → IsHonestFor command shelf reason → EndsWith (status_by reason) (status_of why)
     due (CannotRead file) cause reason found honest = absurd (no_fault file cause.0 reason found honest)
-    due CannotWrite cause reason found honest = absurd (none_due cause.0.status cause.0.text cause.0.is reason found honest)
+    due CannotWrite cause reason found honest = absurd (none_due cause.0.0 cause.0.1 reason found honest)
     due NoMemory cause reason found honest = inr refl
     due why cause reason found honest =
         let other = is_found cause.0.reason cause.0.found in

@@ -1,5 +1,6 @@
 -- What has to be refused of a call that keeps its promise, in terms of what its shelf tells.
-use Rattle.rw_top.proofs.Common.{AcceptsAll, Asks, BadInputs, BadModel, BadPolicy, Call, Change, Command, File, HoldsTooLong, IfSome, InputRefusal, IsHonest, IsSome, List, LongFile, ModelRefusal, None, Option, Promise, RefusesInputs, RefusesModel, RefusesPolicy, Rose, ShelfView, Some, arith, order, path_of, ℕ, ◌≡◌, ◌≤◌, ◌⊎◌}
+use Rattle.rw_top.proofs.Common.{AcceptsAll, Asks, BadEdits, BadInputs, BadModel, BadPolicy, Call, Change, Command, File, HoldsTooLong, IfSome, InputRefusal, IsHonest, IsSome, List, LongFile, ModelRefusal, None, Option, Promise, RefusesInputs, RefusesModel, RefusesPolicy, Rose, ShelfView, Some, arith, order, path_of, ℕ, ◌≡◌, ◌≤◌, ◌⊎◌}
+use Rattle.rw_top.specs.Reading.{RefusesEdits}
 use Rattle.rw_top.specs.Told.{AreTold}
 use Rattle.rw_top.specs.declared.refusal.File.TheVariants.{Model}
 use Rattle.rw_top.specs.Policy.{BadCode, RulesRefusal, BadRules, BadBlocks}
@@ -12,10 +13,10 @@ honest_at : (shelf : Change ShelfView) (o : Option (List ℕ)) → IfSome o (IsG
 honest_at shelf None good = tt
 honest_at shelf (Some path) good = record { told = good.0; stands = good.1 }
 
--- the last file is the third
-at_most_2 : (file : File) → order file ≤ 2
-at_most_2 Model = omega arith
-at_most_2 file = omega arith
+-- the last file is the fourth
+at_most_3 : (file : File) → order file ≤ 3
+at_most_3 Model = omega arith
+at_most_3 file = omega arith
 
 module _ (call : Call) (status : ℕ) (command : Command) where
   honest : (upto : ℕ) → AreTold command call.shelf upto → (file : File) → order file ≤ upto → IfSome (path_of command file) (IsHonest call.shelf)
@@ -37,13 +38,17 @@ module _ (call : Call) (status : ℕ) (command : Command) where
       → RefusesInputs command call.shelf.before.holds why → AreTold command call.shelf 2 → (status ≡ 8) ⊎ (status ≡ 5)
   of_inputs why promise asks found good = promise.due command asks (BadInputs why) found (honest 2 good)
 
+  pub of_edits : (why : InputRefusal) → Promise call status → Asks call.words command
+      → RefusesEdits command call.shelf.before.holds why → AreTold command call.shelf 3 → (status ≡ 8) ⊎ (status ≡ 5)
+  of_edits why promise asks found good = promise.due command asks (BadEdits why) found (honest 3 good)
+
   pub of_long : (file : File) → Promise call status → Asks call.words command
       → HoldsTooLong command call.shelf.before.holds file → AreTold command call.shelf (order file) → (status ≡ 10) ⊎ (status ≡ 5)
   of_long file promise asks found good = promise.due command asks (LongFile file) found (honest (order file) good)
 
   pub of_none : Promise call status → Asks call.words command → AcceptsAll command call.shelf.before.holds
-      → AreTold command call.shelf 2 → ¬ Rose call.out.before.faults call.out.after.faults
+      → AreTold command call.shelf 3 → ¬ Rose call.out.before.faults call.out.after.faults
       → (status ≤ 1) ⊎ (status ≡ 5)
   of_none promise asks accepted good calm =
       promise.complete command asks accepted
-      (record { honest = λ file. honest 2 good file (at_most_2 file); stands = calm })
+      (record { honest = λ file. honest 3 good file (at_most_3 file); stands = calm })

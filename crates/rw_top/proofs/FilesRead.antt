@@ -1,11 +1,14 @@
 -- Files that were read one after the other.
 use Rattle.rw_top.proofs.Common.{AreRead, Command, Files, Holds, IfSome, List, None, Option, Reaches, ReadsInputs, ReadsModel, ReadsPolicy, SaysAt, Some, option_map, policy_of, subst, ℕ, ◌≡◌}
+use Rattle.rw_inputs.specs.Edits.{Batch}
 use Rattle.rw_inputs.specs.Inputs.{Inputs as Given}
 use Rattle.rw_model.specs.Draft.{Draft}
+use Rattle.rw_top.specs.declared.files.Behind.{Behind}
 use Rattle.rw_top.specs.declared.policy.Policy.{Policy as Held}
-use Rattle.rw_top.specs.declared.refusal.File.TheVariants.{Policy, Inputs}
-use Rattle.rw_top.specs.Ready.{IsFit, IsReadAs}
-use Rattle.rw_top.proofs.Findings.{reaches_inputs, reaches_later}
+use Rattle.rw_top.specs.declared.refusal.File.TheVariants.{Policy, Inputs, Edits}
+use Rattle.rw_top.specs.Reading.{ReadsEdits}
+use Rattle.rw_top.specs.Ready.{AreBehind, AreEdits, AreReadAs, IsFit, IsReadAs}
+use Rattle.rw_top.proofs.Findings.{reaches_edits, reaches_inputs, reaches_later}
 
 -- the policy that was read, in the definitions' terms
 seen_policy : (command : Command) (holds : Holds) (basin : Draft) (found : Option Held) → SaysAt command Policy found (IsReadAs command holds basin)
@@ -18,6 +21,18 @@ pub policy_fits : (command : Command) (holds : Holds) (basin : Draft) (found : O
 policy_fits command holds basin None says = tt
 policy_fits command holds basin (Some policy) says = says.fits
 
+-- and the edits
+seen_edits : {A : Type 0} (command : Command) (holds : Holds) (basin : Draft) (found : Option A) (items : A → List Batch)
+    → SaysAt command Edits found (λ x. AreReadAs command holds basin (items x))
+    → SaysAt command Edits (option_map items found) (ReadsEdits command holds basin)
+seen_edits command holds basin None items says = says
+seen_edits command holds basin (Some x) items says = says.are
+
+pub edits_fit : {A : Type 0} (command : Command) (holds : Holds) (basin : Draft) (found : Option A) (items : A → List Batch)
+    → SaysAt command Edits found (λ x. AreReadAs command holds basin (items x)) → IfSome found (λ x. AreEdits basin (items x))
+edits_fit command holds basin None items says = tt
+edits_fit command holds basin (Some x) items says = record { fit = says.fit; few = says.few }
+
 -- behind the policy stand the inputs, of a shelf that holds the same
 pub inputs_reached : (command : Command) (holds now : Holds) → ((path : List ℕ) → now path ≡ holds path)
     → (basin : Draft) (policy : Option Held) → ReadsModel command holds basin
@@ -27,19 +42,44 @@ inputs_reached command holds now same basin policy model says =
     (reaches_inputs command holds basin (option_map policy_of policy) model
     (seen_policy command holds basin policy says))
 
-abbrev files_with : Draft → Option Held → Option Given → Files
-files_with basin policy inputs = record { basin = basin; policy = option_map policy_of policy; inputs = inputs }
+-- and behind these the edits
+pub edits_reached : (command : Command) (holds now : Holds) → ((path : List ℕ) → now path ≡ holds path)
+    → (basin : Draft) (policy : Option Held) (inputs : Option Given) → ReadsModel command holds basin
+    → SaysAt command Policy policy (IsReadAs command holds basin)
+    → SaysAt command Inputs inputs (ReadsInputs command holds basin) → Reaches command now Edits
+edits_reached command holds now same basin policy inputs model rules given =
+    reaches_later command holds now same Edits
+    (reaches_edits command holds basin (option_map policy_of policy) inputs model
+    (seen_policy command holds basin policy rules) given)
+
+-- edits that were read later, of a shelf that holds the same
+pub edits_earlier : {A : Type 0} (command : Command) (holds now : Holds) → ((path : List ℕ) → now path ≡ holds path)
+    → (basin : Draft) (found : Option A) (items : A → List Batch)
+    → SaysAt command Edits found (λ x. AreReadAs command now basin (items x))
+    → SaysAt command Edits found (λ x. AreReadAs command holds basin (items x))
+edits_earlier command holds now same basin found items says =
+    let one : now ≡ holds = λ i path. same path i in
+    subst (λ h. SaysAt command Edits found (λ x. AreReadAs command h basin (items x))) one says
+
+abbrev files_with : Draft → Behind → Files
+files_with basin behind = record {
+  basin = basin;
+  policy = option_map policy_of behind.policy;
+  inputs = behind.inputs;
+  edits = option_map (λ batches. batches.items) behind.edits;
+}
 
 -- all files of a command
 pub all_read : (command : Command) (holds now : Holds) → ((path : List ℕ) → now path ≡ holds path)
-    → (basin : Draft) (policy : Option Held) (inputs : Option Given) → ReadsModel command holds basin
-    → SaysAt command Policy policy (IsReadAs command now basin)
-    → SaysAt command Inputs inputs (ReadsInputs command now basin) → AreRead command holds (files_with basin policy inputs)
-all_read command holds now same basin policy inputs model rules given =
+    → (basin : Draft) (behind : Behind) → ReadsModel command holds basin
+    → AreBehind command now basin behind → AreRead command holds (files_with basin behind)
+all_read command holds now same basin behind model others =
     let one : now ≡ holds = λ i path. same path i in
     record {
       model = model;
-      policy = subst (λ h. SaysAt command Policy (option_map policy_of policy) (ReadsPolicy command h basin)) one
-          (seen_policy command now basin policy rules);
-      inputs = subst (λ h. SaysAt command Inputs inputs (ReadsInputs command h basin)) one given;
+      policy = subst (λ h. SaysAt command Policy (option_map policy_of behind.policy) (ReadsPolicy command h basin)) one
+          (seen_policy command now basin behind.policy others.policy);
+      inputs = subst (λ h. SaysAt command Inputs behind.inputs (ReadsInputs command h basin)) one others.inputs;
+      edits = subst (λ h. SaysAt command Edits (option_map (λ batches. batches.items) behind.edits) (ReadsEdits command h basin)) one
+          (seen_edits command now basin behind.edits (λ batches. batches.items) others.edits);
     }

@@ -1,10 +1,13 @@
 -- What is found of a file is one thing, where the shelf tells what its path holds: the file is accepted, or refused with
 -- one status, or too long.
-use Rattle.rw_top.proofs.Common.{Accepts, AcceptsAll, AreRead, BadInputs, BadModel, BadPolicy, Command, Err, FILE_MAX, File, Files, Holds, HoldsTooLong, IfSome, InputRefusal, IsFound, IsSome, IsSomeAnd, IsTextAt, IsTooLong, List, LongFile, ModelRefusal, Names, None, Ok, Option, Reaches, ReadsInputs, ReadsModel, ReadsPolicy, Reason, Refuses, RefusesInputs, RefusesModel, RefusesPolicy, SaysAt, Some, WasRead, ap, arith, cases_lt, file_of, inl, inr, length, model_of, order, path_of, policy_status, reads_code, refl, status_by, subst, sym, ℕ, ◌<◌, ◌∙◌, ◌≡◌, ◌≤◌, ◌⊎◌}
+use Rattle.rw_top.proofs.Common.{Accepts, AcceptsAll, AreRead, BadEdits, BadInputs, BadModel, BadPolicy, Command, Err, FILE_MAX, File, Files, Holds, HoldsTooLong, IfSome, InputRefusal, IsFound, IsSome, IsSomeAnd, IsTextAt, IsTooLong, List, LongFile, ModelRefusal, Names, None, Ok, Option, Reaches, ReadsInputs, ReadsModel, ReadsPolicy, Reason, Refuses, RefusesInputs, RefusesModel, RefusesPolicy, SaysAt, Some, WasRead, ap, ap₂, arith, cases_lt, file_of, inl, inr, length, model_of, order, path_of, policy_status, reads_code, refl, status_by, subst, sym, ℕ, ◌<◌, ◌∙◌, ◌≡◌, ◌≤◌, ◌⊎◌}
 use Rattle.rw_model.specs.Draft.{Draft}
+use Rattle.rw_inputs.specs.EditRows.{edits_of}
+use Rattle.rw_inputs.specs.Edits.{Batch}
 use Rattle.rw_inputs.specs.Inputs.{Inputs as Given}
+use Rattle.rw_top.specs.Reading.{ReadsEdits, RefusesEdits}
 use Rattle.rw_top.specs.Policy.{Policy as Rules, PolicyRefusal, RefusesText}
-use Rattle.rw_top.specs.declared.refusal.File.TheVariants.{Model, Policy, Inputs}
+use Rattle.rw_top.specs.declared.refusal.File.TheVariants.{Model, Policy, Inputs, Edits}
 use Rattle.rw_top.proofs.CommandLemmas.{is_there}
 use Rattle.rw_top.proofs.OneReading.{one_policy_status, policy_clash, refuses_clash}
 
@@ -47,6 +50,7 @@ one_file : (a b : File) → order a ≡ order b → a ≡ b
 one_file Model Model same = refl
 one_file Policy Policy same = refl
 one_file Inputs Inputs same = refl
+one_file Edits Edits same = refl
 one_file a b same = absurd (omega (arith, same))
 
 -- the shelf tells of that file, and of each that is read before it
@@ -79,6 +83,15 @@ module _ (command : Command) (holds : Holds) where
       let there : Refuses b h.text why = subst (λ t. Refuses b t why) text (subst (λ d. Refuses d r.text why) basin r.are) in
       refuses_clash b h.text i why h.are there
 
+  -- nor are edits
+  edits_clash : (why : InputRefusal) (b : Draft) (batches : List Batch)
+      → IsTold command holds Model → IsTold command holds Edits
+      → RefusesEdits command holds why → ReadsEdits command holds b batches → ⊥
+  edits_clash why b batches model edits r h =
+      let basin = one_basin r.basin b model r.model h.model in
+      let text = same_text command holds Edits r.text h.text edits r.read h.read in
+      let both : Err why ≡ Ok batches = sym r.are ∙ ap₂ edits_of basin text ∙ h.are in cc
+
   -- nor is a policy
   refused_policy : (why : PolicyRefusal) (b : Draft) (rules : Rules)
       → IsTold command holds Model → IsTold command holds Policy
@@ -95,18 +108,21 @@ module _ (command : Command) (holds : Holds) where
   IsBad Model status = (status ≡ 6) × ((why : ModelRefusal) × RefusesModel command holds why)
   IsBad Policy status = (why : PolicyRefusal) × (status ≡ policy_status why) × RefusesPolicy command holds why
   IsBad Inputs status = (status ≡ 8) × ((why : InputRefusal) × RefusesInputs command holds why)
+  IsBad Edits status = (status ≡ 8) × ((why : InputRefusal) × RefusesEdits command holds why)
 
   accepted_text : (file : File) → Accepts command holds file
       → (text : List ℕ) × WasRead command holds file text
   accepted_text Model accepted = (accepted.1.text, accepted.1.read)
   accepted_text Policy accepted = (accepted.2.text, accepted.2.read)
   accepted_text Inputs accepted = (accepted.2.text, accepted.2.read)
+  accepted_text Edits accepted = (accepted.2.text, accepted.2.read)
 
   bad_text : (file : File) (status : ℕ) → IsBad file status
       → (text : List ℕ) × WasRead command holds file text
   bad_text Model status bad = (bad.1.1.text, bad.1.1.read)
   bad_text Policy status bad = (bad.2.text, bad.2.read)
   bad_text Inputs status bad = (bad.1.1.text, bad.1.1.read)
+  bad_text Edits status bad = (bad.1.1.text, bad.1.1.read)
 
   one_status : (file : File) (a b : ℕ) → IsToldUpTo command holds file → IsBad file a → IsBad file b → a ≡ b
   one_status Model a b told bad other = bad.0 ∙ sym other.0
@@ -115,6 +131,7 @@ module _ (command : Command) (holds : Holds) where
       bad.1 ∙ one_policy_status (reads_code command other.2.text) bad.2.basin other.2.basin other.2.text bad.0 other.0
       (subst (λ t. RefusesText (reads_code command t) bad.2.basin t bad.0) text bad.2.is) other.2.is ∙ sym other.1
   one_status Inputs a b told bad other = bad.0 ∙ sym other.0
+  one_status Edits a b told bad other = bad.0 ∙ sym other.0
 
   bad_clash : (file : File) (status : ℕ) → IsToldUpTo command holds file
       → Accepts command holds file → IsBad file status → ⊥
@@ -124,6 +141,8 @@ module _ (command : Command) (holds : Holds) where
       refused_policy bad.0 accepted.0 accepted.1 (told Model (omega arith)) (told Policy (omega arith)) bad.2 accepted.2
   bad_clash Inputs status told accepted bad =
       inputs_clash bad.1.0 accepted.0 accepted.1 (told Model (omega arith)) (told Inputs (omega arith)) bad.1.1 accepted.2
+  bad_clash Edits status told accepted bad =
+      edits_clash bad.1.0 accepted.0 accepted.1 (told Model (omega arith)) (told Edits (omega arith)) bad.1.1 accepted.2
 
   -- what is found of a file that isn't accepted, and the status that it brings
   abbrev Finding : File → ℕ → Type 0
@@ -150,9 +169,10 @@ module _ (command : Command) (holds : Holds) where
   finding (BadModel why) found = inl (refl, (why, found))
   finding (BadPolicy why) found = inl (why, refl, found)
   finding (BadInputs why) found = inl (refl, (why, found))
+  finding (BadEdits why) found = inl (refl, (why, found))
   finding (LongFile file) found = inr (found, refl)
 
-  -- behind a model that is read stands the policy, and behind both the inputs
+  -- behind a model that is read stands the policy, behind both the inputs, and behind these the edits
   pub reaches_model : Reaches command holds Model
   reaches_model earlier named before = absurd (omega (arith, before))
 
@@ -160,6 +180,7 @@ module _ (command : Command) (holds : Holds) where
   reaches_policy basin model Model named before = (basin, model)
   reaches_policy basin model Policy named before = absurd (omega (arith, before))
   reaches_policy basin model Inputs named before = absurd (omega (arith, before))
+  reaches_policy basin model Edits named before = absurd (omega (arith, before))
 
   policy_there : (basin : Draft) (policy : Option Rules) → SaysAt command Policy policy (ReadsPolicy command holds basin)
       → Names command Policy → Accepts command holds Policy
@@ -171,6 +192,20 @@ module _ (command : Command) (holds : Holds) where
   reaches_inputs basin policy model says Model named before = (basin, model)
   reaches_inputs basin policy model says Policy named before = policy_there basin policy says named
   reaches_inputs basin policy model says Inputs named before = absurd (omega (arith, before))
+  reaches_inputs basin policy model says Edits named before = absurd (omega (arith, before))
+
+  inputs_there : (basin : Draft) (inputs : Option Given) → SaysAt command Inputs inputs (ReadsInputs command holds basin)
+      → Names command Inputs → Accepts command holds Inputs
+  inputs_there basin None says named = absurd (not_named (path_of command Inputs) says named)
+  inputs_there basin (Some inputs) says named = (basin, inputs, says)
+
+  pub reaches_edits : (basin : Draft) (policy : Option Rules) (inputs : Option Given) → ReadsModel command holds basin
+      → SaysAt command Policy policy (ReadsPolicy command holds basin)
+      → SaysAt command Inputs inputs (ReadsInputs command holds basin) → Reaches command holds Edits
+  reaches_edits basin policy inputs model rules given Model named before = (basin, model)
+  reaches_edits basin policy inputs model rules given Policy named before = policy_there basin policy rules named
+  reaches_edits basin policy inputs model rules given Inputs named before = inputs_there basin inputs given named
+  reaches_edits basin policy inputs model rules given Edits named before = absurd (omega (arith, before))
 
   -- and of a shelf that holds the same
   pub reaches_later : (now : Holds) → ((path : List ℕ) → now path ≡ holds path) → (file : File) → Reaches command holds file
@@ -178,28 +213,31 @@ module _ (command : Command) (holds : Holds) where
   reaches_later now same file reached =
       let one : now ≡ holds = λ i path. same path i in subst (λ h. Reaches command h file) (sym one) reached
 
-  inputs_there : (basin : Draft) (inputs : Option Given) → SaysAt command Inputs inputs (ReadsInputs command holds basin)
-      → Names command Inputs → Accepts command holds Inputs
-  inputs_there basin None says named = absurd (not_named (path_of command Inputs) says named)
-  inputs_there basin (Some inputs) says named = (basin, inputs, says)
+  edits_there : (basin : Draft) (edits : Option (List Batch)) → SaysAt command Edits edits (ReadsEdits command holds basin)
+      → Names command Edits → Accepts command holds Edits
+  edits_there basin None says named = absurd (not_named (path_of command Edits) says named)
+  edits_there basin (Some batches) says named = (basin, batches, says)
 
   -- where the files of the command are read, each of them is accepted
   pub accepts_read : (files : Files) → AreRead command holds files → AcceptsAll command holds
   accepts_read files read Model named = (files.basin, read.model)
   accepts_read files read Policy named = policy_there files.basin files.policy read.policy named
   accepts_read files read Inputs named = inputs_there files.basin files.inputs read.inputs named
+  accepts_read files read Edits named = edits_there files.basin files.edits read.edits named
 
   -- the file of a reason is read
   pub names : (reason : Reason) → IsFound command holds reason → Names command (file_of reason)
   names (BadModel why) found = is_there (path_of command Model) (IsTextAt holds found.text) found.read
   names (BadPolicy why) found = is_there (path_of command Policy) (IsTextAt holds found.text) found.read
   names (BadInputs why) found = is_there (path_of command Inputs) (IsTextAt holds found.text) found.read
+  names (BadEdits why) found = is_there (path_of command Edits) (IsTextAt holds found.text) found.read
   names (LongFile file) found = is_there (path_of command file) (IsTooLong holds) found.longer
 
   reached : (reason : Reason) → IsFound command holds reason → Reaches command holds (file_of reason)
   reached (BadModel why) found = reaches_model
   reached (BadPolicy why) found = reaches_policy found.basin found.model
   reached (BadInputs why) found = found.reached
+  reached (BadEdits why) found = found.reached
   reached (LongFile file) found = found.reached
 
   -- where the file of a reason is accepted, the reason isn't found

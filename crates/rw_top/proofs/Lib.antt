@@ -1,6 +1,5 @@
 mod Common
 pub mod CommandLemmas
-pub mod WordsLemmas
 pub mod OneReading
 pub mod OneText
 pub mod Findings
@@ -15,3 +14,5 @@ pub mod CheckedPolicies
 pub mod FirstCall
 pub mod FilesRead
 pub mod RulesText
+pub mod SectionLemmas
+pub mod FewBatches

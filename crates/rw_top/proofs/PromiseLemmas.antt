@@ -1,19 +1,21 @@
 -- A call that wrote its run, or was refused, keeps the promise.
 use Rattle.rw_top.proofs.Common.{Asks, Call, Cause, Command, Fault, Files, IsTextOf, Job, List, None, Promise, Refusal, RefusedCommand, RefusedWords, RunEnd, Settled, Some, WasRefused, WritesAll, Wrote, arith, inl, inr, status_of, status_of_end, ℕ, ◌∙◌, ◌≡◌, ◌≤◌}
-use Rattle.rw_top.specs.declared.command.Job.TheVariants.{Simulate, Check, Compile, Run}
-use Rattle.rw_top.specs.declared.refusal.Refusal.TheVariants.{Words}
-use Rattle.rw_top.proofs.CommandLemmas.{of_command}
+use Rattle.rw_words.specs.declared.job.Job.TheVariants.{Simulate, Check, Compile, Run}
+use Rattle.rw_top.specs.declared.refusal.Refusal.TheVariants.{Words, NoMemory}
+use Rattle.rw_base.proofs.Common.{Bool}
+use Rattle.rw_top.specs.Promise.{UnreadWords}
+use Rattle.rw_top.proofs.CommandLemmas.{asks_clash, of_command}
 use Rattle.rw_top.proofs.DueLemmas.{complete, due, none_due}
 
 at_most_1 : (end : RunEnd) → status_of_end end ≤ 1
 at_most_1 Settled = omega arith
 at_most_1 (Fault why) = omega arith
 
-status_at_most_1 : (job : Job) (files : Files) (status : ℕ) (text : List ℕ) → IsTextOf job files status text → status ≤ 1
-status_at_most_1 Simulate files status text is = let most = at_most_1 is.0 in omega (arith, most, is.1)
-status_at_most_1 Check files status text is = omega (arith, is.0)
-status_at_most_1 Compile files status text is = omega (arith, is.0)
-status_at_most_1 Run files status text is = let most = at_most_1 is.0 in omega (arith, most, is.1)
+status_at_most_1 : (job : Job) (flags trace : Bool) (files : Files) (status : ℕ) (texts : List (List ℕ)) → IsTextOf job flags trace files status texts → status ≤ 1
+status_at_most_1 Simulate flags trace files status texts is = let most = at_most_1 is.0 in omega (arith, most, is.1)
+status_at_most_1 Check flags trace files status texts is = omega (arith, is.0)
+status_at_most_1 Compile flags trace files status texts is = omega (arith, is.0)
+status_at_most_1 Run flags trace files status texts is = let most = at_most_1 is.0 in omega (arith, most, is.1)
 
 at_least_2 : (why : Refusal) → 2 ≤ status_of why
 at_least_2 Words = omega arith
@@ -21,20 +23,21 @@ at_least_2 why = omega arith
 
 was_refused : (call : Call) (why : Refusal) → RefusedCommand call why → WasRefused call why
 was_refused call Words was = let tells : None ≡ Some was.cause.0.reason = was.cause.0.tells in absurd cc
+was_refused call NoMemory was = inr was
 was_refused call why was = was
 
 module _ (call : Call) (held : (path : List ℕ) → call.shelf.after.holds path ≡ call.shelf.before.holds path) where
   pub promised_text : (status : ℕ) → Wrote call status → Promise call status
   promised_text status wrote =
-      let low = status_at_most_1 wrote.command.job wrote.text.is.files status wrote.text.text wrote.text.is.is in
+      let low = status_at_most_1 wrote.command.job wrote.command.flags wrote.command.trace wrote.text.0 status wrote.text.2.texts wrote.text.2.is in
       record {
         done = λ below. wrote;
         refused = λ above. absurd (omega (arith, low, above));
-        words = λ nothing. absurd (nothing wrote.command wrote.asked);
+        words = λ nothing. absurd (asks_clash call.words wrote.command nothing wrote.asked);
         due = λ command asks reason found honest.
             let wrote_all = of_command call.words wrote.command command wrote.asked asks
             (λ it. WritesAll it call.shelf.before.holds call.out status) wrote.text in
-            absurd (none_due command call.shelf status wrote_all.text wrote_all.is reason found honest);
+            absurd (none_due command call.shelf wrote_all.0 wrote_all.1 reason found honest);
         complete = λ command asks accepted calm. inl low;
         held = held;
       }
@@ -43,9 +46,19 @@ module _ (call : Call) (held : (path : List ℕ) → call.shelf.after.holds path
   promised_words status is was = record {
     done = λ below. absurd (omega arith);
     refused = λ above. (Words, is, was);
-    words = λ nothing. is;
-    due = λ command asks reason found honest. absurd (was.nothing command asks);
-    complete = λ command asks accepted calm. absurd (was.nothing command asks);
+    words = λ nothing. inl is;
+    due = λ command asks reason found honest. absurd (asks_clash call.words command was.nothing asks);
+    complete = λ command asks accepted calm. absurd (asks_clash call.words command was.nothing asks);
+    held = held;
+  }
+
+  pub promised_memory : (status : ℕ) → status ≡ 5 → UnreadWords call → Promise call status
+  promised_memory status is was = record {
+    done = λ below. absurd (omega arith);
+    refused = λ above. (NoMemory, is, inl was);
+    words = λ nothing. inr is;
+    due = λ command asks reason found honest. inr is;
+    complete = λ command asks accepted calm. inr is;
     held = held;
   }
 
@@ -57,7 +70,7 @@ module _ (call : Call) (held : (path : List ℕ) → call.shelf.after.holds path
       record {
         done = λ below. absurd (omega arith);
         refused = λ above. (why, is, was_refused call why was);
-        words = λ nothing. absurd (nothing was.command was.asked);
+        words = λ nothing. absurd (asks_clash call.words was.command nothing was.asked);
         due = λ command asks reason found honest.
             rw is (due command call.shelf call.out why (cause command asks) reason found honest);
         complete = λ command asks accepted calm.

@@ -1,15 +1,20 @@
 -- What each status says of a call that keeps its promise.
-use Rattle.rw_top.proofs.Common.{AskFor, AskNothing, Asks, BadInputs, BadModel, BadPolicy, AreRead, Call, Command, FailsToRead, Fault, File, Files, FindsTooLong, GrowsBy, Holds, InputRefusal, IsRunText, IsSomeAnd, IsTextOf, Job, None, Option, ReadsInputs, ReadsPolicy, SaysAt, Some, List, LongFile, ModelRefusal, Promise, Reason, Refusal, RefusedCommand, RefusesInputs, RefusesModel, RefusesPolicy, Rose, RunEnd, Settled, WasFound, WasRefused, WritesFront, WroteCheck, WroteCode, WroteRun, ap, arith, false, inl, inr, reads_code, refl, status_by, status_of, status_of_end, subst, takes_code, true, ℕ, ◌∙◌, ◌≡◌, ◌≢◌, ◌≤◌, ◌⊎◌}
+use Rattle.rw_top.proofs.Common.{AskFor, AskNothing, Asks, BadEdits, BadInputs, BadModel, BadPolicy, AreRead, Call, Command, FailsToRead, Fault, File, Files, FindsTooLong, GrowsBy, Holds, InputRefusal, IsRunText, IsSomeAnd, IsTextOf, Job, None, Option, ReadsInputs, ReadsPolicy, SaysAt, Some, List, LongFile, ModelRefusal, Promise, Reason, Refusal, RefusedCommand, RefusesInputs, RefusesModel, RefusesPolicy, Rose, RunEnd, Settled, WasFound, WasRefused, WritesFront, WroteCheck, WroteCode, WroteRun, [], ap, arith, false, inl, inr, reads_code, refl, status_by, status_of, status_of_end, subst, takes_code, true, ℕ, ◌∙◌, ◌∷◌, ◌≡◌, ◌≢◌, ◌≤◌, ◌⊎◌}
 use Rattle.rw_run.specs.Next.{no_rules}
 use Rattle.rw_run.specs.declared.fault.RunFault.{RunFault}
 use Rattle.rw_top.specs.Promise.{WroteRules}
+use Rattle.rw_top.specs.Reading.{RefusesEdits}
+use Rattle.rpl_compile.specs.Translate.{translate}
 use Rattle.rw_top.specs.RunText.{IsRulesText}
+use Rattle.rw_top.specs.Sections.{AreSections, joined}
+use Rattle.rw_top.specs.Written.{WritesSections, batches_in}
+use Rattle.rw_top.proofs.SectionLemmas.{one_grown}
 use Rattle.rw_base.proofs.Common.{◌&&◌}
 use Rattle.rw_inputs.specs.Inputs.{Inputs as Given}
 use Rattle.rpl_code.specs.Spelling.{spelt}
 use Rattle.rw_top.specs.Budgets.{check_text}
 use Rattle.rw_top.specs.Policy.{BadCode, RulesRefusal, BadRules, BadBlocks, Policy as Rules, Ruleset, Code, code_of, is_code}
-use Rattle.rw_top.specs.declared.command.Job.TheVariants.{Simulate, Check, Compile, Run}
+use Rattle.rw_words.specs.declared.job.Job.TheVariants.{Simulate, Check, Compile, Run}
 use Rattle.rw_top.specs.declared.refusal.File.TheVariants.{Policy as PolicyFile, Inputs as InputsFile}
 use Rattle.rw_top.specs.declared.refusal.Refusal.TheVariants.{Words, CannotRead, CannotWrite, NoMemory}
 use Rattle.rw_top.proofs.CauseLemmas.{told_status}
@@ -24,21 +29,25 @@ faults P Settled is wrote = absurd (omega (arith, is))
 faults P (Fault why) is wrote = (why, wrote)
 
 module _ (call : Call) (command : Command) (asked : Asks call.words command) (files : Files)
-    (read : AreRead command call.shelf.before.holds files) (text : List ℕ)
-    (grew : GrowsBy call.out.before.contents call.out.after.contents text) where
+    (read : AreRead command call.shelf.before.holds files) (texts : List (List ℕ))
+    (grew : GrowsBy call.out.before.contents call.out.after.contents (joined texts)) where
   abbrev holds : Holds
   holds = call.shelf.before.holds
 
+  one : (text : List ℕ) → texts ≡ text ∷ [] → GrowsBy call.out.before.contents call.out.after.contents text
+  one text is = one_grown call.out.before.contents call.out.after.contents texts text is grew
+
   wrote_run : (end : RunEnd) (inputs : Option Given) → SaysAt command InputsFile inputs (ReadsInputs command holds files.basin)
-      → IsSomeAnd inputs (λ given. IsRunText files.basin no_rules given end text) → WroteRun call end
+      → IsSomeAnd inputs (λ given. AreSections (IsRunText files.basin no_rules command.flags command.trace) 0 given [] end texts) → WroteRun call end
   wrote_run end None says is = absurd is
   wrote_run end (Some inputs) says is =
-      record { command = command; asked = asked; basin = files.basin; inputs = inputs; read = says; text = text; is = is; grew = grew }
+      record { command = command; asked = asked; basin = files.basin; inputs = inputs; read = says; text = is.0; is = is.2; grew = one is.0 is.1 }
 
   wrote_rules : (end : RunEnd) (policy : Option Rules) (inputs : Option Given)
       → SaysAt command PolicyFile policy (ReadsPolicy command holds files.basin)
       → SaysAt command InputsFile inputs (ReadsInputs command holds files.basin)
-      → IsSomeAnd policy (λ rules. IsSomeAnd inputs (λ given. IsRulesText files.basin rules given end text)) → WroteRules call end
+      → IsSomeAnd policy (λ rules. IsSomeAnd inputs (λ given.
+      AreSections (IsRulesText files.basin rules command.flags command.trace) 0 given (batches_in files) end texts)) → WroteRules call end
   wrote_rules end None inputs rules says is = absurd is
   wrote_rules end (Some policy) None rules says is = absurd is
   wrote_rules end (Some policy) (Some inputs) rules says is = record {
@@ -49,31 +58,30 @@ module _ (call : Call) (command : Command) (asked : Asks call.words command) (fi
     rules = rules;
     inputs = inputs;
     read = says;
-    text = text;
-    is = is;
+    edits = files.edits;
+    edited = read.edits;
+    texts = texts;
+    are = is;
     grew = grew;
   }
 
-  abbrev Grew : List ℕ → Type 0
-  Grew written = GrowsBy call.out.before.contents call.out.after.contents written
-
   wrote_check : (policy : Option Rules) → SaysAt command PolicyFile policy (ReadsPolicy command holds files.basin)
-      → IsSomeAnd policy (λ rules. text ≡ check_text rules) → WroteCheck call
+      → IsSomeAnd policy (λ rules. texts ≡ check_text rules ∷ []) → WroteCheck call
   wrote_check None says is = absurd is
   wrote_check (Some policy) says is =
-      record { command = command; asked = asked; basin = files.basin; policy = policy; read = says; grew = subst Grew is grew }
+      record { command = command; asked = asked; basin = files.basin; policy = policy; read = says; grew = one (check_text policy) is }
 
   -- what is compiled is a ruleset
   wrote_code : command.job ≡ Compile → (policy : Option Rules) → SaysAt command PolicyFile policy (ReadsPolicy command holds files.basin)
-      → IsSomeAnd policy (λ rules. text ≡ spelt (code_of rules)) → WroteCode call
+      → IsSomeAnd policy (λ rules. texts ≡ spelt (code_of rules) ∷ []) → WroteCode call
   wrote_code job None says is = absurd is
   wrote_code job (Some (Ruleset rules)) says is =
-      record { command = command; asked = asked; basin = files.basin; rules = rules; read = says; grew = subst Grew is grew }
+      record { command = command; asked = asked; basin = files.basin; rules = rules; read = says; grew = one (spelt (translate rules)) is }
   wrote_code job (Some (Code blocks budgets)) says is =
       let as_code : reads_code command says.text ≡ true = says.is.0 in
       absurd (one_kind _ as_code (ap (λ j. takes_code j && is_code says.text) job))
 
-  settled_by : (job : Job) → command.job ≡ job → IsTextOf job files 0 text → WroteRun call Settled ⊎ WroteRules call Settled ⊎ WroteCheck call ⊎ WroteCode call
+  settled_by : (job : Job) → command.job ≡ job → IsTextOf job command.flags command.trace files 0 texts → WroteRun call Settled ⊎ WroteRules call Settled ⊎ WroteCheck call ⊎ WroteCode call
   settled_by Simulate job is = inl (settles (WroteRun call) is.0 is.1 (wrote_run is.0 files.inputs read.inputs is.2))
   settled_by Check job is = inr (inr (inl (wrote_check files.policy read.policy is.1)))
   settled_by Compile job is = inr (inr (inr (wrote_code job files.policy read.policy is.1)))
@@ -83,7 +91,7 @@ module _ (call : Call) (command : Command) (asked : Asks call.words command) (fi
   abbrev WroteFault : RunEnd → Type 0
   WroteFault end = WroteRun call end ⊎ WroteRules call end
 
-  faulted_by : (job : Job) → IsTextOf job files 1 text → (why : RunFault) × (WroteRun call (Fault why) ⊎ WroteRules call (Fault why))
+  faulted_by : (job : Job) → IsTextOf job command.flags command.trace files 1 texts → (why : RunFault) × (WroteRun call (Fault why) ⊎ WroteRules call (Fault why))
   faulted_by Simulate is = faults WroteFault is.0 is.1 (inl (wrote_run is.0 files.inputs read.inputs is.2))
   faulted_by Run is = faults WroteFault is.0 is.1 (inr (wrote_rules is.0 files.policy files.inputs read.policy read.inputs is.2))
   faulted_by Check is = absurd (omega (arith, is.0))
@@ -92,14 +100,14 @@ module _ (call : Call) (command : Command) (asked : Asks call.words command) (fi
 pub settled : (call : Call) → Promise call 0 → WroteRun call Settled ⊎ WroteRules call Settled ⊎ WroteCheck call ⊎ WroteCode call
 settled call promise =
     let wrote = promise.done (omega arith) in
-    let is = wrote.text.is in
-    settled_by call wrote.command wrote.asked is.files is.read wrote.text.text wrote.text.grew wrote.command.job refl is.is
+    let appends = wrote.text.2 in
+    settled_by call wrote.command wrote.asked wrote.text.0 wrote.text.1 appends.texts appends.grew wrote.command.job refl appends.is
 
 pub faulted : (call : Call) → Promise call 1 → (why : RunFault) × (WroteRun call (Fault why) ⊎ WroteRules call (Fault why))
 faulted call promise =
     let wrote = promise.done (omega arith) in
-    let is = wrote.text.is in
-    faulted_by call wrote.command wrote.asked is.files is.read wrote.text.text wrote.text.grew wrote.command.job is.is
+    let appends = wrote.text.2 in
+    faulted_by call wrote.command wrote.asked wrote.text.0 wrote.text.1 appends.texts appends.grew wrote.command.job appends.is
 
 module _ (call : Call) where
   by_words : (why : Refusal) → 2 ≡ status_of why → WasRefused call why → AskNothing call.words
@@ -107,9 +115,10 @@ module _ (call : Call) where
   by_words why is was = absurd (omega (arith, is))
 
   -- each other status is that of a command
-  by_command : (why : Refusal) → status_of why ≢ 2 → WasRefused call why → RefusedCommand call why
-  by_command Words other was = absurd (other refl)
-  by_command why other was = was
+  by_command : (why : Refusal) → status_of why ≢ 2 → status_of why ≢ 5 → WasRefused call why → RefusedCommand call why
+  by_command Words words memory was = absurd (words refl)
+  by_command NoMemory words memory was = absurd (memory refl)
+  by_command why words memory was = was
 
   by_read : (why : Refusal) → 3 ≡ status_of why → RefusedCommand call why
       → AskFor call.words (λ command. (file : File) × FailsToRead command call.shelf file)
@@ -131,32 +140,40 @@ module _ (call : Call) where
   by_reason why high was =
       let told = was.cause.0 in (was.command, was.asked, (told.reason, told_status why told.reason told.tells, told.found))
 
-  untouched_by : (why : Refusal) → status_of why ≢ 4 → WasRefused call why → call.out.after.contents ≡ call.out.before.contents
-  untouched_by Words other was = was.still
-  untouched_by CannotWrite other was = absurd (other refl)
-  untouched_by why other was = was.cause.1
+  by_memory : (why : Refusal) → 5 ≡ status_of why → WasRefused call why
+      → (call.out.after.contents ≡ call.out.before.contents) ⊎ AskFor call.words (λ command. WritesSections command call.shelf.before.holds call.out)
+  by_memory NoMemory is (inl was) = inl was.still
+  by_memory NoMemory is (inr was) = inr (was.command, was.asked, was.cause)
+  by_memory why is was = absurd (omega (arith, is))
+
+  untouched_by : (why : Refusal) → status_of why ≢ 4 → status_of why ≢ 5 → WasRefused call why
+      → call.out.after.contents ≡ call.out.before.contents
+  untouched_by Words written memory was = was.still
+  untouched_by CannotWrite written memory was = absurd (written refl)
+  untouched_by NoMemory written memory was = absurd (memory refl)
+  untouched_by why written memory was = was.cause.1
 
   -- the command that is refused, where the status isn't 2
-  of_status : (status : ℕ) → 3 ≤ status → Promise call status → (why : Refusal) × (status ≡ status_of why) × RefusedCommand call why
-  of_status status high promise =
+  of_status : (status : ℕ) → 3 ≤ status → status ≢ 5 → Promise call status → (why : Refusal) × (status ≡ status_of why) × RefusedCommand call why
+  of_status status high memory promise =
       let refused = promise.refused (omega (arith, high)) in
-      (refused.0, refused.1, by_command refused.0 (omega (arith, high, refused.1)) refused.2)
+      (refused.0, refused.1, by_command refused.0 (omega (arith, high, refused.1)) (λ is. memory (refused.1 ∙ is)) refused.2)
 
   pub words : Promise call 2 → AskNothing call.words
   words promise = let refused = promise.refused (omega arith) in by_words refused.0 refused.1 refused.2
 
   pub read_fault : Promise call 3 → AskFor call.words (λ command. (file : File) × FailsToRead command call.shelf file)
-  read_fault promise = let refused = of_status 3 (omega arith) promise in by_read refused.0 refused.1 refused.2
+  read_fault promise = let refused = of_status 3 (omega arith) (omega arith) promise in by_read refused.0 refused.1 refused.2
 
   pub write : Promise call 4
       → AskFor call.words (λ command. WritesFront command call.shelf.before.holds call.out) × Rose call.out.before.faults call.out.after.faults
-  write promise = let refused = of_status 4 (omega arith) promise in by_write refused.0 refused.1 refused.2
+  write promise = let refused = of_status 4 (omega arith) (omega arith) promise in by_write refused.0 refused.1 refused.2
 
   -- from 6 on, the reason that was found
   reason_of_status : (status : ℕ) → 6 ≤ status → Promise call status
       → AskFor call.words (λ command. (reason : Reason) × (status ≡ status_by reason) × WasFound command call.shelf reason)
   reason_of_status status high promise =
-      let refused = of_status status (omega (arith, high)) promise in
+      let refused = of_status status (omega (arith, high)) (omega (arith, high)) promise in
       let there = by_reason refused.0 (omega (arith, high, refused.1)) refused.2 in
       (there.0, there.1, (there.2.0, refused.1 ∙ there.2.1, there.2.2))
 
@@ -178,8 +195,9 @@ module _ (call : Call) where
   bad_code command reason is found = absurd (omega (arith, is))
 
   bad_inputs : (command : Command) (reason : Reason) → 8 ≡ status_by reason → WasFound command call.shelf reason
-      → (why : InputRefusal) × RefusesInputs command call.shelf.before.holds why
-  bad_inputs command (BadInputs fault) is found = (fault, found)
+      → (why : InputRefusal) × (RefusesInputs command call.shelf.before.holds why ⊎ RefusesEdits command call.shelf.before.holds why)
+  bad_inputs command (BadInputs why) is found = (why, inl found)
+  bad_inputs command (BadEdits why) is found = (why, inr found)
   bad_inputs command (BadPolicy (BadRules why)) is found = absurd (omega (arith, is))
   bad_inputs command (BadPolicy (BadBlocks why)) is found = absurd (omega (arith, is))
   bad_inputs command reason is found = absurd (omega (arith, is))
@@ -200,12 +218,19 @@ module _ (call : Call) where
   pub code : Promise call 9 → AskFor call.words (λ command. (why : BadCode) × RefusesPolicy command call.shelf.before.holds (BadBlocks why))
   code promise = let there = reason_of_status 9 (omega arith) promise in (there.0, there.1, bad_code there.0 there.2.0 there.2.1 there.2.2)
 
-  pub inputs : Promise call 8 → AskFor call.words (λ command. (why : InputRefusal) × RefusesInputs command call.shelf.before.holds why)
+  pub inputs : Promise call 8 → AskFor call.words (λ command. (why : InputRefusal)
+      × (RefusesInputs command call.shelf.before.holds why ⊎ RefusesEdits command call.shelf.before.holds why))
   inputs promise = let there = reason_of_status 8 (omega arith) promise in (there.0, there.1, bad_inputs there.0 there.2.0 there.2.1 there.2.2)
 
   pub too_long : Promise call 10 → AskFor call.words (λ command. (file : File) × FindsTooLong command call.shelf file)
   too_long promise = let there = reason_of_status 10 (omega arith) promise in (there.0, there.1, long_file there.0 there.2.0 there.2.1 there.2.2)
 
-  pub untouched : (status : ℕ) → Promise call status → 2 ≤ status → status ≢ 4 → call.out.after.contents ≡ call.out.before.contents
-  untouched status promise low other =
-      let refused = promise.refused low in untouched_by refused.0 (λ is. other (refused.1 ∙ is)) refused.2
+  pub sections : Promise call 5 → (call.out.after.contents ≡ call.out.before.contents)
+      ⊎ AskFor call.words (λ command. WritesSections command call.shelf.before.holds call.out)
+  sections promise = let refused = promise.refused (omega arith) in by_memory refused.0 refused.1 refused.2
+
+  pub untouched : (status : ℕ) → Promise call status → 2 ≤ status → status ≢ 4 → status ≢ 5
+      → call.out.after.contents ≡ call.out.before.contents
+  untouched status promise low written memory =
+      let refused = promise.refused low in
+      untouched_by refused.0 (λ is. written (refused.1 ∙ is)) (λ is. memory (refused.1 ∙ is)) refused.2

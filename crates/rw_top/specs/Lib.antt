@@ -5,6 +5,7 @@ pub mod Reading
 pub mod Told
 pub mod Reason
 pub mod RunText
+pub mod Sections
 pub mod Budgets
 pub mod Seen
 pub mod Ready

@@ -19,10 +19,11 @@ use Rattle.rpl_code.specs.declared.fault.CodeFault.{CodeFault}
 use Rattle.rpl_code.specs.declared.fault.CodeFault.TheVariants as C
 use Rattle.rpl_verify.specs.declared.verify_kind.VerifyKind.{VerifyKind}
 use Rattle.rpl_verify.specs.declared.verify_kind.VerifyKind.TheVariants as V
-use Rattle.rw_top.specs.Command.{Command, path_of}
+use Rattle.rw_top.specs.Command.{path_of}
+use Rattle.rw_words.specs.Command.{Command}
 use Rattle.rw_top.specs.declared.refusal.File.{File}
 use Rattle.rw_top.specs.declared.refusal.Refusal.{Refusal}
-use Rattle.rw_top.specs.declared.refusal.Refusal.TheVariants.{Words, CannotRead, CannotWrite, NoMemory, Model, Grammar, Types, Code, Block, Inputs, TooLong}
+use Rattle.rw_top.specs.declared.refusal.Refusal.TheVariants.{Words, CannotRead, CannotWrite, NoMemory, Model, Grammar, Types, Code, Block, Inputs, Edits, TooLong}
 
 -- what is wrong with what the basin is built of
 abbrev pub build_words : BuildFault → List ℕ
@@ -147,6 +148,12 @@ inputs_line kind row column =
     (codes "basin: inputs: row " ++ decimal row)
     ++ ((codes " column " ++ decimal column) ++ ((codes ": " ++ input_words kind) ++ codes "\n"))
 
+-- the line on edits that are refused
+abbrev pub edits_line : InputKind → ℕ → ℕ → List ℕ
+edits_line kind row column =
+    (codes "basin: edits: row " ++ decimal row)
+    ++ ((codes " column " ++ decimal column) ++ ((codes ": " ++ input_words kind) ++ codes "\n"))
+
 -- the line on words that ask for nothing
 abbrev pub words_line : List ℕ
 words_line = codes "basin: words refused\n"
@@ -172,5 +179,6 @@ line_of command (Types kind declaration node) = types_line kind declaration node
 line_of command (Code fault) = code_line fault
 line_of command (Block kind block place) = block_line kind block place
 line_of command (Inputs kind row column) = inputs_line kind row column
+line_of command (Edits kind row column) = edits_line kind row column
 line_of command (TooLong file) =
     (codes "basin: too long " ++ told_path command file) ++ codes "\n"

@@ -1,7 +1,8 @@
 -- What is promised of each call of the program.
-use Rattle.std.specs.Prelude.{◌≡◌, ◌⊎◌, ℕ, ◌≤◌, List}
+use Rattle.std.specs.Prelude.{◌≡◌, ◌⊎◌, ℕ, ◌≤◌, List, [], Option, unwrap_or}
 use Rattle.rw_io.specs.Causes.{Rose}
 use Rattle.rw_io.specs.Known.{GrowsBy}
+use Rattle.rw_inputs.specs.Edits.{Batch}
 use Rattle.rw_inputs.specs.Inputs.{Inputs as Given}
 use Rattle.rw_model.specs.Draft.{Draft}
 use Rattle.rw_run.specs.Next.{no_rules}
@@ -11,16 +12,19 @@ use Rattle.rpl_code.specs.Spelling.{spelt}
 use Rattle.rpl_compile.specs.Translate.{translate}
 use Rattle.rw_top.specs.Budgets.{check_text}
 use Rattle.rw_top.specs.Call.{Call}
-use Rattle.rw_top.specs.Command.{AskNothing, Asks, Command}
+use Rattle.rw_top.specs.Command.{AskNothing, Asks}
+use Rattle.rw_words.specs.Command.{Command}
 use Rattle.rw_top.specs.Policy.{Policy as Rules, Ruleset}
 use Rattle.rw_top.specs.Reason.{Reason, IsFound, IsHonestFor, status_by}
-use Rattle.rw_top.specs.Lines.{line_of, words_line}
-use Rattle.rw_top.specs.Reading.{AcceptsAll, IsHonestOfAll, ReadsInputs, ReadsPolicy}
+use Rattle.rw_top.specs.Lines.{line_of, memory_line, words_line}
+use Rattle.rw_top.specs.Reading.{AcceptsAll, IsHonestOfAll, ReadsEdits, ReadsInputs, ReadsPolicy, SaysAt}
 use Rattle.rw_top.specs.Refusal.{Cause, EndsWith, status_of}
 use Rattle.rw_top.specs.RunText.{IsRulesText, IsRunText}
+use Rattle.rw_top.specs.Sections.{AreSections, joined}
 use Rattle.rw_top.specs.Written.{Tells, WritesAll}
+use Rattle.rw_top.specs.declared.refusal.File.TheVariants.{Edits}
 use Rattle.rw_top.specs.declared.refusal.Refusal.{Refusal}
-use Rattle.rw_top.specs.declared.refusal.Refusal.TheVariants.{Words}
+use Rattle.rw_top.specs.declared.refusal.Refusal.TheVariants.{Words, NoMemory}
 
 -- exactly the text of the command was written, with this status, and nothing on the error stream
 pub record Wrote (call : Call) (status : ℕ) : Type 0 where
@@ -35,6 +39,11 @@ pub record RefusedWords (call : Call) : Type 0 where
   pub still : call.out.after.contents ≡ call.out.before.contents
   pub told : Tells call.err words_line
 
+-- memory was wanting before the words were read, and the line that says so is all that was written
+pub record UnreadWords (call : Call) : Type 0 where
+  pub still : call.out.after.contents ≡ call.out.before.contents
+  pub told : Tells call.err memory_line
+
 -- the command that the words ask for is refused for this, which has its cause, and was told in its line
 pub record RefusedCommand (call : Call) (why : Refusal) : Type 0 where
   pub command : Command
@@ -45,6 +54,7 @@ pub record RefusedCommand (call : Call) (why : Refusal) : Type 0 where
 -- the call is refused for this
 abbrev pub WasRefused : Call → Refusal → Type 0
 WasRefused call Words = RefusedWords call
+WasRefused call NoMemory = UnreadWords call ⊎ RefusedCommand call NoMemory
 WasRefused call why = RefusedCommand call why
 
 -- no file of the command had a fault, and the output had none
@@ -58,8 +68,8 @@ pub record Promise (call : Call) (status : ℕ) : Type 0 where
   pub done : status ≤ 1 → Wrote call status
   -- and each other status only with a refusal
   pub refused : 2 ≤ status → (why : Refusal) × (status ≡ status_of why) × WasRefused call why
-  -- words that ask for nothing are refused
-  pub words : AskNothing call.words → status ≡ 2
+  -- words that ask for nothing are refused, unless memory is wanting
+  pub words : AskNothing call.words → EndsWith 2 status
   -- what has to be refused of a command is, of an honest shelf, unless memory is wanting
   pub due : (command : Command) → Asks call.words command
       → (reason : Reason) → IsFound command call.shelf.before.holds reason
@@ -81,10 +91,10 @@ pub record WroteRun (call : Call) (end : RunEnd) : Type 0 where
   pub inputs : Given
   pub read : ReadsInputs command call.shelf.before.holds basin inputs
   pub text : List ℕ
-  pub is : IsRunText basin no_rules inputs end text
+  pub is : IsRunText basin no_rules command.flags command.trace 0 inputs end text
   pub grew : GrowsBy call.out.before.contents call.out.after.contents text
 
--- a run by a policy that is accepted, which ends so, and its text
+-- the sections of runs by a policy that is accepted, after each batch of edits, of which the last one ends so
 pub record WroteRules (call : Call) (end : RunEnd) : Type 0 where
   pub command : Command
   pub asked : Asks call.words command
@@ -93,9 +103,11 @@ pub record WroteRules (call : Call) (end : RunEnd) : Type 0 where
   pub rules : ReadsPolicy command call.shelf.before.holds basin policy
   pub inputs : Given
   pub read : ReadsInputs command call.shelf.before.holds basin inputs
-  pub text : List ℕ
-  pub is : IsRulesText basin policy inputs end text
-  pub grew : GrowsBy call.out.before.contents call.out.after.contents text
+  pub edits : Option (List Batch)
+  pub edited : SaysAt command Edits edits (ReadsEdits command call.shelf.before.holds basin)
+  pub texts : List (List ℕ)
+  pub are : AreSections (IsRulesText basin policy command.flags command.trace) 0 inputs (unwrap_or edits []) end texts
+  pub grew : GrowsBy call.out.before.contents call.out.after.contents (joined texts)
 
 -- the budgets of a policy that is accepted
 pub record WroteCheck (call : Call) : Type 0 where

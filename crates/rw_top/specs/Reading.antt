@@ -5,14 +5,17 @@ use Rattle.rw_io.specs.declared.whole_file.TheConstants.{FILE_MAX}
 use Rattle.rw_model.specs.Draft.{Draft}
 use Rattle.rw_model_toml.specs.Model.{model_of}
 use Rattle.rw_model_toml.specs.Refusal.{ModelRefusal}
+use Rattle.rw_inputs.specs.EditRows.{edits_of}
+use Rattle.rw_inputs.specs.Edits.{Batch}
 use Rattle.rw_inputs.specs.Refusal.{InputRefusal}
 use Rattle.rw_inputs.specs.Inputs.{Inputs as Given}
 use Rattle.rw_inputs.specs.Reading.{Reads, Refuses}
 use Rattle.rw_io.specs.Outside.{Change, Holds, ShelfView}
-use Rattle.rw_top.specs.Command.{Command, Names, order, path_of, takes_code}
+use Rattle.rw_top.specs.Command.{Names, order, path_of, takes_code}
+use Rattle.rw_words.specs.Command.{Command}
 use Rattle.rw_top.specs.Policy.{is_code, IsPolicyOf, Policy as Rules, PolicyRefusal, RefusesText}
 use Rattle.rw_top.specs.declared.refusal.File.{File}
-use Rattle.rw_top.specs.declared.refusal.File.TheVariants.{Model, Policy, Inputs}
+use Rattle.rw_top.specs.declared.refusal.File.TheVariants.{Model, Policy, Inputs, Edits}
 
 -- the text is all that the path holds, where that is told, and no longer than a file may be
 pub record IsTextAt (holds : Holds) (text path : List ℕ) : Type 0 where
@@ -51,13 +54,21 @@ pub record ReadsInputs (command : Command) (holds : Holds) (basin : Draft) (inpu
   pub read : WasRead command holds Inputs text
   pub are : Reads basin text inputs
 
+-- the command names a model of this basin, and these batches of edits for it
+pub record ReadsEdits (command : Command) (holds : Holds) (basin : Draft) (batches : List Batch) : Type 0 where
+  pub model : ReadsModel command holds basin
+  pub text : List ℕ
+  pub read : WasRead command holds Edits text
+  pub are : edits_of basin text ≡ Ok batches
+
 -- ---- all files of a command
 
--- what they say: the basin of its model, and the policy and the inputs, where it names them
+-- what they say: the basin of its model, and the policy, the inputs and the edits, where it names them
 pub record Files : Type 0 where
   pub basin : Draft
   pub policy : Option Rules
   pub inputs : Option Given
+  pub edits : Option (List Batch)
 
 -- a file that the command doesn't read says nothing, and any other is this
 abbrev pub SaysAt : {A : Type 0} → Command → File → Option A → (A → Type 0) → Type 0
@@ -68,6 +79,7 @@ pub record AreRead (command : Command) (holds : Holds) (files : Files) : Type 0 
   pub model : ReadsModel command holds files.basin
   pub policy : SaysAt command Policy files.policy (ReadsPolicy command holds files.basin)
   pub inputs : SaysAt command Inputs files.inputs (ReadsInputs command holds files.basin)
+  pub edits : SaysAt command Edits files.edits (ReadsEdits command holds files.basin)
 
 -- the file is accepted
 abbrev pub Accepts : Command → Holds → File → Type 0
@@ -76,6 +88,8 @@ Accepts command holds Policy =
     (basin : Draft) × (policy : Rules) × ReadsPolicy command holds basin policy
 Accepts command holds Inputs =
     (basin : Draft) × (inputs : Given) × ReadsInputs command holds basin inputs
+Accepts command holds Edits =
+    (basin : Draft) × (batches : List Batch) × ReadsEdits command holds basin batches
 
 -- every file that the command reads is
 abbrev pub AcceptsAll : Command → Holds → Type 0
@@ -110,6 +124,15 @@ pub record RefusesInputs (command : Command) (holds : Holds) (why : InputRefusal
   pub text : List ℕ
   pub read : WasRead command holds Inputs text
   pub are : Refuses basin text why
+
+-- the command names a model, edits are reached, and are refused for this
+pub record RefusesEdits (command : Command) (holds : Holds) (why : InputRefusal) : Type 0 where
+  pub basin : Draft
+  pub model : ReadsModel command holds basin
+  pub reached : Reaches command holds Edits
+  pub text : List ℕ
+  pub read : WasRead command holds Edits text
+  pub are : edits_of basin text ≡ Err why
 
 -- the file is reached, and holds more than a file may, where that is told
 pub record HoldsTooLong (command : Command) (holds : Holds) (file : File) : Type 0 where

@@ -1,18 +1,23 @@
 -- What is known of the files of a command before its text is made.
-use Rattle.std.specs.Prelude.{◌≡◌, ℕ, Bool, List, Ok, IsOk, IsSome, IsSomeAnd}
+use Rattle.std.specs.Prelude.{◌≡◌, ℕ, ◌≤◌, Bool, List, length, Ok, IfSome, IsOk, IsSome, IsSomeAnd}
+use Rattle.std.specs.List.{All}
+use Rattle.rw_inputs.specs.EditRows.{edits_of}
+use Rattle.rw_inputs.specs.Edits.{Batch, IsBatch}
 use Rattle.rw_inputs.specs.Inputs.{IsInputsOf}
 use Rattle.rw_model.specs.Draft.{Draft}
 use Rattle.rpl_tree.specs.Seen.{rules_of}
 use Rattle.rpl_types.specs.Judged.{judged}
 use Rattle.rpl_verify.specs.Verified.{verified}
-use Rattle.rw_top.specs.declared.command.Job.{Job}
+use Rattle.rw_words.specs.declared.job.Job.{Job}
+use Rattle.rw_top.specs.declared.files.Behind.{Behind}
 use Rattle.rw_top.specs.declared.files.Files.{Files}
 use Rattle.rw_top.specs.declared.policy.Policy.{Policy as Held}
-use Rattle.rw_top.specs.declared.refusal.File.TheVariants.{Policy, Inputs}
+use Rattle.rw_top.specs.declared.refusal.File.TheVariants.{Policy, Inputs, Edits}
 use Rattle.rw_io.specs.Outside.{Holds}
-use Rattle.rw_top.specs.Command.{Command, files_of, place_in}
+use Rattle.rw_top.specs.Command.{files_of, place_in}
+use Rattle.rw_words.specs.Command.{Command}
 use Rattle.rw_top.specs.Policy.{IsPolicyOf}
-use Rattle.rw_top.specs.Reading.{ReadsPolicy}
+use Rattle.rw_top.specs.Reading.{ReadsEdits, ReadsInputs, ReadsPolicy, SaysAt}
 use Rattle.rw_top.specs.Seen.{policy_of}
 
 -- a policy was judged with the basin, or verified for it, and accepted
@@ -30,7 +35,31 @@ pub record IsReadAs (command : Command) (holds : Holds) (basin : Draft) (policy 
   pub is : ReadsPolicy command holds basin (policy_of policy)
   pub fits : IsFit basin policy
 
--- the files that the job reads are there, the policy is accepted for the basin, and the inputs are made for it
+-- the batches that were made of a text are those that it gives, and are of the basin
+pub record AreMadeOf (basin : Draft) (text : List ℕ) (batches : List Batch) : Type 0 where
+  pub are : edits_of basin text ≡ Ok batches
+  pub fit : All (IsBatch basin) batches
+  pub few : length batches ≤ 64
+
+-- the batches that were read are those that the command names, and are of the basin
+pub record AreReadAs (command : Command) (holds : Holds) (basin : Draft) (batches : List Batch) : Type 0 where
+  pub are : ReadsEdits command holds basin batches
+  pub fit : All (IsBatch basin) batches
+  pub few : length batches ≤ 64
+
+-- batches of the basin, not too many of them
+pub record AreEdits (basin : Draft) (batches : List Batch) : Type 0 where
+  pub fit : All (IsBatch basin) batches
+  pub few : length batches ≤ 64
+
+-- the files behind the model were read, and this is what they say
+pub record AreBehind (command : Command) (holds : Holds) (basin : Draft) (behind : Behind) : Type 0 where
+  pub policy : SaysAt command Policy behind.policy (IsReadAs command holds basin)
+  pub inputs : SaysAt command Inputs behind.inputs (ReadsInputs command holds basin)
+  pub edits : SaysAt command Edits behind.edits (λ batches. AreReadAs command holds basin batches.items)
+
+-- the files that the job reads are there, the policy is accepted for the basin, and the inputs and the edits are made for it
 pub record AreReady (job : Job) (files : Files) : Type 0 where
   pub policy : IsSome (place_in (files_of job) Policy) → IsSomeAnd files.policy (IsFit files.basin)
   pub inputs : IsSome (place_in (files_of job) Inputs) → IsSomeAnd files.inputs (IsInputsOf files.basin)
+  pub edits : IfSome files.edits (λ batches. AreEdits files.basin batches.items)

@@ -3,17 +3,18 @@ use Rattle.std.specs.Prelude.{ℕ}
 use Rattle.rw_inputs.specs.Refusal.{InputRefusal}
 use Rattle.rw_model_toml.specs.Refusal.{ModelRefusal}
 use Rattle.rw_io.specs.Outside.{Change, Holds, ShelfView}
-use Rattle.rw_top.specs.Command.{Command}
+use Rattle.rw_words.specs.Command.{Command}
 use Rattle.rw_top.specs.Policy.{PolicyRefusal, BadRules, BadBlocks}
-use Rattle.rw_top.specs.Reading.{HoldsTooLong, IsHonestUpTo, RefusesInputs, RefusesModel, RefusesPolicy}
+use Rattle.rw_top.specs.Reading.{HoldsTooLong, IsHonestUpTo, RefusesEdits, RefusesInputs, RefusesModel, RefusesPolicy}
 use Rattle.rw_top.specs.declared.refusal.File.{File}
-use Rattle.rw_top.specs.declared.refusal.File.TheVariants.{Model, Policy, Inputs}
+use Rattle.rw_top.specs.declared.refusal.File.TheVariants.{Model, Policy, Inputs, Edits}
 
--- its model, its policy, its inputs, or a file that is too long
+-- its model, its policy, its inputs, its edits, or a file that is too long
 pub data Reason : Type 0 where
   BadModel : ModelRefusal → Reason
   BadPolicy : PolicyRefusal → Reason
   BadInputs : InputRefusal → Reason
+  BadEdits : InputRefusal → Reason
   LongFile : File → Reason
 
 -- the status of a call whose policy is refused for this
@@ -26,6 +27,7 @@ abbrev pub status_by : Reason → ℕ
 status_by (BadModel why) = 6
 status_by (BadPolicy why) = policy_status why
 status_by (BadInputs why) = 8
+status_by (BadEdits why) = 8
 status_by (LongFile file) = 10
 
 -- the file of which it is found
@@ -33,6 +35,7 @@ abbrev pub file_of : Reason → File
 file_of (BadModel why) = Model
 file_of (BadPolicy why) = Policy
 file_of (BadInputs why) = Inputs
+file_of (BadEdits why) = Edits
 file_of (LongFile file) = file
 
 -- it is found, of a command and what the shelf holds
@@ -40,6 +43,7 @@ abbrev pub IsFound : Command → Holds → Reason → Type 0
 IsFound command holds (BadModel why) = RefusesModel command holds why
 IsFound command holds (BadPolicy why) = RefusesPolicy command holds why
 IsFound command holds (BadInputs why) = RefusesInputs command holds why
+IsFound command holds (BadEdits why) = RefusesEdits command holds why
 IsFound command holds (LongFile file) = HoldsTooLong command holds file
 
 -- the shelf is honest of each file that is read up to there

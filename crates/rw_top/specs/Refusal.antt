@@ -9,20 +9,22 @@ use Rattle.rw_model.specs.Draft.{Draft}
 use Rattle.rw_model_toml.specs.Fault.{refusal_of}
 use Rattle.rw_model_toml.specs.Model.{model_of}
 use Rattle.rw_model_toml.specs.Refusal.{ModelRefusal}
+use Rattle.rw_inputs.specs.EditRows.{edits_of}
 use Rattle.rw_inputs.specs.Reading.{Refuses}
 use Rattle.rw_inputs.specs.Refusal.{InputRefusal, refused_at}
 use Rattle.rpl_parse.specs.Parsing.{refusal_of as refusal_of_grammar}
 use Rattle.rpl_types.specs.Judged.{refusal}
 use Rattle.rpl_code.specs.Answers.{refusal_of as refusal_of_code}
 use Rattle.rpl_verify.specs.Fits.{refusal as block_refusal}
-use Rattle.rw_top.specs.Command.{Command, path_of}
+use Rattle.rw_top.specs.Command.{path_of}
+use Rattle.rw_words.specs.Command.{Command}
 use Rattle.rw_top.specs.Policy.{Unread, Misfit, PolicyRefusal, BadRules, BadBlocks, RefusesText, BadGrammar, BadNode}
-use Rattle.rw_top.specs.Reason.{Reason, BadModel, BadPolicy, BadInputs, LongFile, IsFound}
+use Rattle.rw_top.specs.Reason.{Reason, BadModel, BadPolicy, BadInputs, BadEdits, LongFile, IsFound}
 use Rattle.rw_top.specs.Reading.{HoldsTooLong, Reaches}
-use Rattle.rw_top.specs.Written.{WritesFront}
+use Rattle.rw_top.specs.Written.{WritesFront, WritesSections}
 use Rattle.rw_top.specs.declared.refusal.File.{File}
 use Rattle.rw_top.specs.declared.refusal.Refusal.{Refusal}
-use Rattle.rw_top.specs.declared.refusal.Refusal.TheVariants.{Words, CannotRead, CannotWrite, NoMemory, Model, Grammar, Types, Code, Block, Inputs, TooLong}
+use Rattle.rw_top.specs.declared.refusal.Refusal.TheVariants.{Words, CannotRead, CannotWrite, NoMemory, Model, Grammar, Types, Code, Block, Inputs, Edits, TooLong}
 
 abbrev pub status_of : Refusal → ℕ
 status_of Words = 2
@@ -35,6 +37,7 @@ status_of (Types kind declaration node) = 7
 status_of (Code fault) = 9
 status_of (Block kind block place) = 9
 status_of (Inputs kind row column) = 8
+status_of (Edits kind row column) = 8
 status_of (TooLong file) = 10
 
 -- the reason that a refusal tells, if it tells one
@@ -45,6 +48,7 @@ reason_of (Types kind declaration node) = Some (BadPolicy (BadRules (BadNode (re
 reason_of (Code fault) = option_map (λ why. BadPolicy (BadBlocks (Unread why))) (refusal_of_code fault)
 reason_of (Block kind block place) = Some (BadPolicy (BadBlocks (Misfit (block_refusal kind block place))))
 reason_of (Inputs kind row column) = Some (BadInputs (refused_at kind row column))
+reason_of (Edits kind row column) = Some (BadEdits (refused_at kind row column))
 reason_of (TooLong file) = Some (LongFile file)
 reason_of why = None
 
@@ -86,10 +90,12 @@ FileCause command shelf (CannotRead file) = FailsToRead command shelf file
 FileCause command shelf NoMemory = ⊤
 FileCause command shelf why = TellsReason command shelf why
 
--- why the command is refused; but for a failed write, nothing was written
+-- why the command is refused. After a failed write a front of its text was written, after want of memory the first sections of a run
+-- or nothing, and else nothing
 abbrev pub Cause : Command → Change ShelfView → Change SinkView → Refusal → Type 0
 Cause command shelf out CannotWrite =
     WritesFront command shelf.before.holds out × Rose out.before.faults out.after.faults
+Cause command shelf out NoMemory = WritesSections command shelf.before.holds out
 Cause command shelf out why = FileCause command shelf why × (out.after.contents ≡ out.before.contents)
 
 -- why the bytes of a model's file give no basin
@@ -101,6 +107,11 @@ IsModelRefusal text why =
 abbrev pub IsInputRefusal : Draft → List ℕ → Refusal → Type 0
 IsInputRefusal basin text why =
     (why ≡ NoMemory) ⊎ ((bad : InputRefusal) × (reason_of why ≡ Some (BadInputs bad)) × Refuses basin text bad)
+
+-- why the bytes of an edits file give no batches for the basin
+abbrev pub IsEditRefusal : Draft → List ℕ → Refusal → Type 0
+IsEditRefusal basin text why =
+    (why ≡ NoMemory) ⊎ ((bad : InputRefusal) × (reason_of why ≡ Some (BadEdits bad)) × (edits_of basin text ≡ Err bad))
 
 -- why the bytes of a policy's file, which are read as code or as a ruleset, give no policy for the basin
 abbrev pub IsPolicyRefusal : Bool → Draft → List ℕ → Refusal → Type 0

@@ -1,30 +1,31 @@
 -- The text of a run.
-use Rattle.std.specs.Prelude.{◌≡◌, ℕ, List}
+use Rattle.std.specs.Prelude.{◌≡◌, ℕ, Bool, List, None}
 use Rattle.rw_model.specs.Draft.{Draft}
 use Rattle.rw_inputs.specs.Inputs.{Inputs}
 use Rattle.rw_inputs.specs.Givens.{givens}
 use Rattle.rw_run.specs.declared.run.RunEnd.{RunEnd}
-use Rattle.rw_run.specs.Log.{Log, cells_of}
+use Rattle.rw_run.specs.Log.{Log}
 use Rattle.rw_run.specs.Next.{Policy}
 use Rattle.rw_run.specs.Runs.{IsRun}
-use Rattle.rw_run.specs.RunOf.{end_of, last_closed}
-use Rattle.rw_report.specs.Section.{section_of, values_in}
+use Rattle.rw_run.specs.RunOf.{end_of}
+use Rattle.rw_report.specs.Outcome.{outcome_by}
+use Rattle.rw_report.specs.Whole.{whole_of}
 use Rattle.rpl_tree.specs.Budget.{Budget}
 use Rattle.rpl_verify.specs.Budget.{AreAccepted}
 use Rattle.rpl_policy.specs.Firings.{AreVerified}
 use Rattle.rpl_policy.specs.Policy.{policy_of_code, policy_of_rules}
 use Rattle.rw_top.specs.Policy.{Policy as Rules, Ruleset, Code, code_of}
 
--- the section of a log, before any batch of edits
-abbrev pub text_of : Draft → Log → List ℕ
-text_of basin log = section_of basin 0 (end_of log) (last_closed log) (values_in (cells_of basin log))
+-- the section of a log, with this number, and with flags and trace where they are asked for
+abbrev pub text_of : Draft → (flags trace : Bool) → ℕ → Log → List ℕ
+text_of basin flags trace number log = whole_of basin number (outcome_by basin log) None flags trace
 
--- the text of the run of a basin by a policy, from its inputs, and how the run ends
-pub record IsRunText (basin : Draft) (policy : Policy) (inputs : Inputs) (end : RunEnd) (text : List ℕ) : Type 0 where
+-- the section of this number, of the run of a basin by a policy from inputs, and how the run ends
+pub record IsRunText (basin : Draft) (policy : Policy) (flags trace : Bool) (number : ℕ) (inputs : Inputs) (end : RunEnd) (text : List ℕ) : Type 0 where
   pub log : Log
   pub run : IsRun basin policy (givens basin inputs) log
   pub end_is : end ≡ end_of log
-  pub text_is : text ≡ text_of basin log
+  pub text_is : text ≡ text_of basin flags trace number log
 
 -- ---- by the policy of a file
 
@@ -39,7 +40,7 @@ pub record IsVerifiedRun (basin : Draft) (policy : Rules) (log : Log) : Type 0 w
   pub accepted : AreAccepted basin (code_of policy) budgets
   pub firings : AreVerified basin (code_of policy) budgets log
 
--- the text of the run by it, in which each firing is verified
-pub record IsRulesText (basin : Draft) (policy : Rules) (inputs : Inputs) (end : RunEnd) (text : List ℕ) : Type 0 where
-  pub run_text : IsRunText basin (policy_in_run basin policy) inputs end text
+-- the section of the run by it, in which each firing is verified
+pub record IsRulesText (basin : Draft) (policy : Rules) (flags trace : Bool) (number : ℕ) (inputs : Inputs) (end : RunEnd) (text : List ℕ) : Type 0 where
+  pub run_text : IsRunText basin (policy_in_run basin policy) flags trace number inputs end text
   pub verified : IsVerifiedRun basin policy run_text.log

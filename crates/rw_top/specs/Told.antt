@@ -2,7 +2,8 @@
 use Rattle.std.specs.Prelude.{ℕ, ◌≤◌, IfSome, IsSome}
 use Rattle.rw_io.specs.Causes.{Rose}
 use Rattle.rw_io.specs.Outside.{Change, ShelfView}
-use Rattle.rw_top.specs.Command.{Command, order, path_of}
+use Rattle.rw_top.specs.Command.{order, path_of}
+use Rattle.rw_words.specs.Command.{Command}
 use Rattle.rw_top.specs.declared.refusal.File.{File}
 
 -- each file that is read up to this place in their order is told, and had no fault

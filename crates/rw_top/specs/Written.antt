@@ -1,53 +1,104 @@
 -- What a call appends to a stream.
-use Rattle.std.specs.Prelude.{◌≡◌, ℕ, ◌⊎◌, List, IsSomeAnd}
+use Rattle.std.specs.Prelude.{◌≡◌, ℕ, Bool, ◌⊎◌, List, [], ◌∷◌, ◌++◌, IsSomeAnd, unwrap_or}
 use Rattle.rw_io.specs.Causes.{Rose}
 use Rattle.rw_io.specs.Known.{GrowsBy, PrefixGrew}
 use Rattle.rw_io.specs.Outside.{Change, Holds, SinkView}
+use Rattle.rw_inputs.specs.Edits.{Batch}
 use Rattle.rw_run.specs.Next.{no_rules}
 use Rattle.rw_run.specs.declared.run.RunEnd.{RunEnd}
 use Rattle.rw_run.specs.declared.run.RunEnd.TheVariants.{Settled, Fault}
 use Rattle.rpl_code.specs.Spelling.{spelt}
 use Rattle.rw_top.specs.Budgets.{check_text}
-use Rattle.rw_top.specs.Command.{Command}
+use Rattle.rw_words.specs.Command.{Command}
 use Rattle.rw_top.specs.Policy.{code_of}
 use Rattle.rw_top.specs.Reading.{AreRead, Files}
 use Rattle.rw_top.specs.RunText.{IsRulesText, IsRunText}
-use Rattle.rw_top.specs.declared.command.Job.{Job}
-use Rattle.rw_top.specs.declared.command.Job.TheVariants.{Simulate, Check, Compile, Run}
+use Rattle.rw_top.specs.Sections.{AreFirstSections, AreSections, joined}
+use Rattle.rw_top.specs.declared.refusal.Refusal.{Refusal}
+use Rattle.rw_top.specs.declared.refusal.Refusal.TheVariants.{CannotWrite, NoMemory}
+use Rattle.rw_words.specs.declared.job.Job.{Job}
+use Rattle.rw_words.specs.declared.job.Job.TheVariants.{Simulate, Check, Compile, Run}
 
 -- the status of a run that was written: 0 where it settled
 abbrev pub status_of_end : RunEnd → ℕ
 status_of_end Settled = 0
 status_of_end (Fault why) = 1
 
--- the text of a job by what its files say, and the status with which it is written
-abbrev pub IsTextOf : Job → Files → ℕ → List ℕ → Type 0
-IsTextOf Simulate files status text =
-    (end : RunEnd) × (status ≡ status_of_end end) × IsSomeAnd files.inputs (λ inputs. IsRunText files.basin no_rules inputs end text)
-IsTextOf Check files status text = (status ≡ 0) × IsSomeAnd files.policy (λ policy. text ≡ check_text policy)
-IsTextOf Compile files status text = (status ≡ 0) × IsSomeAnd files.policy (λ policy. text ≡ spelt (code_of policy))
-IsTextOf Run files status text =
-    (end : RunEnd) × (status ≡ status_of_end end) × IsSomeAnd files.policy (λ policy.
-    IsSomeAnd files.inputs (λ inputs. IsRulesText files.basin policy inputs end text))
+-- the batches of edits that the files give
+abbrev pub batches_in : Files → List Batch
+batches_in files = unwrap_or files.edits []
 
--- the files of the command are read, and this is what it writes, with this status
-pub record HasText (command : Command) (holds : Holds) (status : ℕ) (text : List ℕ) : Type 0 where
-  pub files : Files
-  pub read : AreRead command holds files
-  pub is : IsTextOf command.job files status text
+-- the sections of a job's text by what its files say, and the status with which it is written. A text that isn't of runs is one section
+abbrev pub IsTextOf : Job → (flags trace : Bool) → Files → ℕ → List (List ℕ) → Type 0
+IsTextOf Simulate flags trace files status texts =
+    (end : RunEnd) × (status ≡ status_of_end end)
+    × IsSomeAnd files.inputs (λ inputs. AreSections (IsRunText files.basin no_rules flags trace) 0 inputs [] end texts)
+IsTextOf Check flags trace files status texts = (status ≡ 0) × IsSomeAnd files.policy (λ policy. texts ≡ check_text policy ∷ [])
+IsTextOf Compile flags trace files status texts = (status ≡ 0) × IsSomeAnd files.policy (λ policy. texts ≡ spelt (code_of policy) ∷ [])
+IsTextOf Run flags trace files status texts =
+    (end : RunEnd) × (status ≡ status_of_end end) × IsSomeAnd files.policy (λ policy.
+    IsSomeAnd files.inputs (λ inputs. AreSections (IsRulesText files.basin policy flags trace) 0 inputs (batches_in files) end texts))
+
+-- the first sections of it
+abbrev pub IsFrontOf : Job → (flags trace : Bool) → Files → List (List ℕ) → Type 0
+IsFrontOf Simulate flags trace files texts =
+    IsSomeAnd files.inputs (λ inputs. AreFirstSections (IsRunText files.basin no_rules flags trace) 0 inputs [] texts)
+IsFrontOf Check flags trace files texts = IsSomeAnd files.policy (λ policy. texts ≡ check_text policy ∷ [])
+IsFrontOf Compile flags trace files texts = IsSomeAnd files.policy (λ policy. texts ≡ spelt (code_of policy) ∷ [])
+IsFrontOf Run flags trace files texts =
+    IsSomeAnd files.policy (λ policy.
+    IsSomeAnd files.inputs (λ inputs. AreFirstSections (IsRulesText files.basin policy flags trace) 0 inputs (batches_in files) texts))
+
+-- ---- what a job appends
+
+-- all sections
+pub record Appends (job : Job) (flags trace : Bool) (files : Files) (out : Change SinkView) (status : ℕ) : Type 0 where
+  pub texts : List (List ℕ)
+  pub is : IsTextOf job flags trace files status texts
+  pub grew : GrowsBy out.before.contents out.after.contents (joined texts)
+
+-- some whole sections, and a front of the next one
+pub record AppendsFront (job : Job) (flags trace : Bool) (files : Files) (out : Change SinkView) : Type 0 where
+  pub done : List (List ℕ)
+  pub text : List ℕ
+  pub is : IsFrontOf job flags trace files (done ++ text ∷ [])
+  pub grew : PrefixGrew out.before.contents out.after.contents (joined done ++ text)
+
+-- the first sections of a run, each whole
+pub record AppendsSections (job : Job) (flags trace : Bool) (files : Files) (out : Change SinkView) : Type 0 where
+  pub runs : job ≡ Run
+  pub texts : List (List ℕ)
+  pub are : IsFrontOf job flags trace files texts
+  pub grew : GrowsBy out.before.contents out.after.contents (joined texts)
+
+-- why not all are
+abbrev pub Stops : Job → (flags trace : Bool) → Files → Change SinkView → Refusal → Type 0
+Stops job flags trace files out CannotWrite = AppendsFront job flags trace files out × Rose out.before.faults out.after.faults
+Stops job flags trace files out NoMemory = (out.after.contents ≡ out.before.contents) ⊎ AppendsSections job flags trace files out
+Stops job flags trace files out why = ⊥
+
+-- a text is the one section of the job's
+abbrev pub IsOne : Job → (flags trace : Bool) → Files → ℕ → List ℕ → Type 0
+IsOne job flags trace files status text = IsTextOf job flags trace files status (text ∷ []) × IsFrontOf job flags trace files (text ∷ [])
+
+-- ---- what a command appends
+
+-- the files of the command are read, and of what they say this holds
+abbrev pub OfFiles : Command → Holds → (Files → Type 0) → Type 0
+OfFiles command holds P = (files : Files) × AreRead command holds files × P files
 
 -- the whole text of the command was appended
-pub record WritesAll (command : Command) (holds : Holds) (out : Change SinkView) (status : ℕ) : Type 0 where
-  pub text : List ℕ
-  pub is : HasText command holds status text
-  pub grew : GrowsBy out.before.contents out.after.contents text
+abbrev pub WritesAll : Command → Holds → Change SinkView → ℕ → Type 0
+WritesAll command holds out status = OfFiles command holds (λ files. Appends command.job command.flags command.trace files out status)
 
 -- a front of it was appended
-pub record WritesFront (command : Command) (holds : Holds) (out : Change SinkView) : Type 0 where
-  pub status : ℕ
-  pub text : List ℕ
-  pub is : HasText command holds status text
-  pub grew : PrefixGrew out.before.contents out.after.contents text
+abbrev pub WritesFront : Command → Holds → Change SinkView → Type 0
+WritesFront command holds out = OfFiles command holds (λ files. AppendsFront command.job command.flags command.trace files out)
+
+-- nothing was appended, or the first sections of a run
+abbrev pub WritesSections : Command → Holds → Change SinkView → Type 0
+WritesSections command holds out =
+    (out.after.contents ≡ out.before.contents) ⊎ OfFiles command holds (λ files. AppendsSections command.job command.flags command.trace files out)
 
 -- a front of the line was appended, and all of it unless the sink's count rose
 pub record Tells (err : Change SinkView) (line : List ℕ) : Type 0 where

@@ -5,25 +5,26 @@ ghost use Rattle.rw_io.specs.Outside.{change};
 ghost use Rattle.rw_top.specs.Command.{command_of, path_of};
 ghost use Rattle.rw_top.specs.Reading.{AreRead, Reaches, ReadsInputs, ReadsModel, SaysAt, WasRead, reads_code};
 ghost use Rattle.rw_top.specs.Refusal.{FileCause, IsPolicyRefusal};
-ghost use Rattle.rw_top.specs.Ready.{IsFit, IsMadeOf, IsReadAs};
+ghost use Rattle.rw_top.specs.Ready.{AreBehind, AreEdits, AreReadAs, IsFit, IsMadeOf, IsReadAs};
 ghost use Rattle.rw_top.specs.Seen.{files_seen};
 ghost use Rattle.rw_top.specs.declared.refusal.File.TheVariants as F;
 
 use crate::command::Command;
-use crate::judging::{is_code, judge_inputs, judge_model, judge_policy};
+use crate::judging::{is_code, judge_edits, judge_inputs, judge_model, judge_policy};
 use crate::policy::Policy;
 use crate::{File, Refusal};
-use rw_inputs::Inputs;
+use rw_inputs::{Batch, Inputs};
 use rw_io::{Shelf, read_all};
 use rw_model::Basin;
 use std::alloc::Global;
 
-/// What the files of a command say: the policy and the inputs, where it names them.
+/// What the files of a command say: the policy, the inputs and the edits, where it names them.
 #[derive(Drop)]
 pub(crate) struct Files {
     pub(crate) basin: Basin,
     pub(crate) policy: Option<Policy>,
     pub(crate) inputs: Option<Inputs>,
+    pub(crate) edits: Option<Vec<Batch>>,
 }
 
 // The whole of a file that the command reads, where each file before it is accepted.
@@ -79,12 +80,7 @@ fn judge_for(
         (IsMadeOf (reads_code (command_of command.now) text.now) basin.now text.now)
         (IsPolicyRefusal (reads_code (command_of command.now) text.now) basin.now text.now) }
 {
-    judge_policy(
-        alloc,
-        basin,
-        text,
-        command.job.takes_code() && is_code(text),
-    )
+    judge_policy(alloc, basin, text, command.takes_code() && is_code(text))
 }
 
 // Reads and judges the policy, where the command names one, for the basin of its model.
@@ -126,6 +122,7 @@ fn read_given<S: Shelf>(
         (ReadsInputs (command_of command.now) (S.seen shelf.old).holds basin.now))
         (FileCause (command_of command.now) (change (S.seen shelf.old) (S.seen shelf.new))) }
     ensures held { (p : List ℕ) → (S.seen shelf.new).holds p ≡ (S.seen shelf.old).holds p }
+    ensures later { NoneFell (S.seen shelf.old).faults (S.seen shelf.new).faults }
 {
     let Some(path) = command.path(File::Inputs) else {
         return Ok(None);
@@ -139,7 +136,34 @@ fn read_given<S: Shelf>(
     }
 }
 
-// Reads and judges the files behind the model.
+// Reads and judges the edits, where the command names them, for the basin of its model.
+fn read_changes<S: Shelf>(
+    alloc: Global,
+    command: &Command<'_>,
+    basin: &Basin,
+    shelf: &mut S,
+) -> Result<Option<Vec<Batch>>, Refusal>
+    requires model { ReadsModel (command_of command.now) (S.seen shelf.old).holds basin.now }
+    requires reached { Reaches (command_of command.now) (S.seen shelf.old).holds F.Edits }
+    ensures read { MatchResult result (λ found. SaysAt (command_of command.now) F.Edits found
+        (λ batches. AreReadAs (command_of command.now)
+        (S.seen shelf.old).holds basin.now batches.items))
+        (FileCause (command_of command.now) (change (S.seen shelf.old) (S.seen shelf.new))) }
+    ensures held { (p : List ℕ) → (S.seen shelf.new).holds p ≡ (S.seen shelf.old).holds p }
+{
+    let Some(path) = command.path(File::Edits) else {
+        return Ok(None);
+    };
+    match read_file(alloc, command, File::Edits, path, shelf) {
+        Ok(text) => match judge_edits(alloc, basin, &text) {
+            Ok(batches) => Ok(Some(batches)),
+            Err(refusal) => Err(refusal),
+        },
+        Err(refusal) => Err(refusal),
+    }
+}
+
+// Reads and judges the policy and the inputs.
 fn read_behind<S: Shelf>(
     alloc: Global,
     command: &Command<'_>,
@@ -153,6 +177,7 @@ fn read_behind<S: Shelf>(
         (ReadsInputs (command_of command.now) (S.seen shelf.old).holds basin.now))
         (FileCause (command_of command.now) (change (S.seen shelf.old) (S.seen shelf.new))) }
     ensures held { (p : List ℕ) → (S.seen shelf.new).holds p ≡ (S.seen shelf.old).holds p }
+    ensures later { NoneFell (S.seen shelf.old).faults (S.seen shelf.new).faults }
 {
     let policy = match read_policy(alloc, command, basin, shelf) {
         Ok(policy) => policy,
@@ -164,7 +189,43 @@ fn read_behind<S: Shelf>(
     }
 }
 
-/// Reads and judges the files of the command: its model, its policy and its inputs, in this order, where it names them.
+// What the files behind the model say.
+#[derive(Drop)]
+struct Behind {
+    policy: Option<Policy>,
+    inputs: Option<Inputs>,
+    edits: Option<Vec<Batch>>,
+}
+
+// Reads and judges the files behind the model: the policy, the inputs and the edits.
+fn read_others<S: Shelf>(
+    alloc: Global,
+    command: &Command<'_>,
+    basin: &Basin,
+    shelf: &mut S,
+) -> Result<Behind, Refusal>
+    requires model { ReadsModel (command_of command.now) (S.seen shelf.old).holds basin.now }
+    ensures read { MatchResult result
+        (AreBehind (command_of command.now) (S.seen shelf.old).holds basin.now)
+        (FileCause (command_of command.now) (change (S.seen shelf.old) (S.seen shelf.new))) }
+    ensures held { (p : List ℕ) → (S.seen shelf.new).holds p ≡ (S.seen shelf.old).holds p }
+{
+    let (policy, inputs) = match read_behind(alloc, command, basin, shelf) {
+        Ok(pair) => pair,
+        Err(refusal) => return Err(refusal),
+    };
+    match read_changes(alloc, command, basin, shelf) {
+        Ok(edits) => Ok(Behind {
+            policy,
+            inputs,
+            edits,
+        }),
+        Err(refusal) => Err(refusal),
+    }
+}
+
+/// Reads and judges the files of the command: its model, its policy, its inputs and its edits, in this order, where it names
+/// them.
 pub(crate) fn read_files<S: Shelf>(
     alloc: Global,
     command: &Command<'_>,
@@ -174,17 +235,20 @@ pub(crate) fn read_files<S: Shelf>(
         (λ files. AreRead (command_of command.now) (S.seen shelf.old).holds (files_seen files))
         (FileCause (command_of command.now) (change (S.seen shelf.old) (S.seen shelf.new))) }
     ensures fits { IfOk result (λ files. IfSome files.policy (IsFit files.basin)) }
+    ensures edits { IfOk result (λ files. IfSome files.edits
+        (λ batches. AreEdits files.basin batches.items)) }
     ensures held { (p : List ℕ) → (S.seen shelf.new).holds p ≡ (S.seen shelf.old).holds p }
 {
     let basin = match read_basin(alloc, command, shelf) {
         Ok(basin) => basin,
         Err(refusal) => return Err(refusal),
     };
-    match read_behind(alloc, command, &basin, shelf) {
-        Ok((policy, inputs)) => Ok(Files {
+    match read_others(alloc, command, &basin, shelf) {
+        Ok(behind) => Ok(Files {
             basin,
-            policy,
-            inputs,
+            policy: behind.policy,
+            inputs: behind.inputs,
+            edits: behind.edits,
         }),
         Err(refusal) => Err(refusal),
     }

@@ -15,9 +15,9 @@ ghost use Rattle.rw_model.specs.Draft.{Draft};
 ghost use Rattle.rw_model_toml.specs.Fault.{IsWhy};
 ghost use Rattle.rw_model_toml.specs.Model.{model_of};
 ghost use Rattle.rw_top.specs.Policy.{RefusesBlock, RefusesNode, is_code};
-ghost use Rattle.rw_top.specs.Ready.{IsMadeOf};
+ghost use Rattle.rw_top.specs.Ready.{AreMadeOf, IsMadeOf};
 ghost use Rattle.rw_top.specs.declared.policy.Policy.TheVariants as Held;
-ghost use Rattle.rw_top.specs.Refusal.{IsInputRefusal, IsModelRefusal, IsPolicyRefusal};
+ghost use Rattle.rw_top.specs.Refusal.{IsEditRefusal, IsInputRefusal, IsModelRefusal, IsPolicyRefusal};
 
 use crate::Refusal;
 use crate::policy::Policy;
@@ -26,7 +26,7 @@ use rpl_parse::{ParseFault, parse};
 use rpl_tree::ParsedRules;
 use rpl_types::{TypeFault, Typed, check};
 use rpl_verify::{Verified, VerifyFault, verify};
-use rw_inputs::{InputFault, Inputs, read_inputs};
+use rw_inputs::{Batch, InputFault, Inputs, read_edits, read_inputs};
 use rw_model::Basin;
 use rw_model_toml::{ModelFault, read_model};
 use std::alloc::Global;
@@ -59,6 +59,18 @@ pub(crate) fn judge_inputs(alloc: Global, basin: &Basin, text: &[u8]) -> Result<
         Ok(inputs) => Ok(inputs),
         Err(InputFault::NoMemory) => Err(Refusal::NoMemory),
         Err(InputFault::Refused { kind, row, column }) => Err(Refusal::Inputs(kind, row, column)),
+    }
+}
+
+/// The batches of edits of a text, for the basin.
+pub(crate) fn judge_edits(alloc: Global, basin: &Basin, text: &[u8]) -> Result<Vec<Batch>, Refusal>
+    ensures { MatchResult result (λ batches. AreMadeOf basin.now text.now batches.items)
+        (IsEditRefusal basin.now text.now) }
+{
+    match read_edits(alloc, basin, text) {
+        Ok(batches) => Ok(batches),
+        Err(InputFault::NoMemory) => Err(Refusal::NoMemory),
+        Err(InputFault::Refused { kind, row, column }) => Err(Refusal::Edits(kind, row, column)),
     }
 }
 

@@ -1,5 +1,5 @@
 //! What the definitions of this crate speak of is one thing. Each law is the `ensures` of a function that does nothing.
-ghost use Rattle.std.specs.Prelude.{◌≡◌, ◌≢◌, ◌≤◌, ◌↔◌, ◌⊎◌, ℕ, ℤ, Bool, List, Option, None, IsSome};
+ghost use Rattle.std.specs.Prelude.{◌≡◌, ◌≢◌, ◌≤◌, ◌↔◌, ◌⊎◌, ℕ, ℤ, Bool, false, List, Option, None, IsSome};
 ghost use Rattle.rw_plain_reservoir.specs.FirstForm.{FirstModel, IsFirstForm, IsFirstFlows};
 ghost use Rattle.rw_plain_reservoir.specs.Table.{IsFirstText};
 ghost use Rattle.rw_io.specs.Causes.{Rose};
@@ -22,20 +22,22 @@ ghost use Rattle.rpl_compile.specs.Budgets.{budgets_of};
 ghost use Rattle.rpl_compile.specs.Translate.{translate};
 ghost use Rattle.rw_top.specs.Budgets.{budget_in, check_text, rules_in};
 ghost use Rattle.rw_top.specs.Call.{Call};
-ghost use Rattle.rw_top.specs.Command.{AskFor, AskNothing, Asks, Command, order, simulates};
+ghost use Rattle.rw_top.specs.Command.{AskFor, AskNothing, Asks, order, simulates};
+ghost use Rattle.rw_words.specs.Command.{Command};
 ghost use Rattle.rw_top.specs.FirstCall.{IsFirstCall};
 ghost use Rattle.rw_top.specs.Policy.{BadCode, RulesRefusal, BadRules, BadBlocks, Policy, Ruleset, Code, IsPolicyOf};
 ghost use Rattle.rw_top.specs.Promise.{Promise, WroteCheck, WroteCode, WroteRules, WroteRun};
-ghost use Rattle.rw_top.specs.Reading.{AcceptsAll, HoldsTooLong, ReadsInputs, RefusesInputs, RefusesModel, RefusesPolicy};
+ghost use Rattle.rw_top.specs.Reading.{AcceptsAll, HoldsTooLong, ReadsInputs, RefusesEdits, RefusesInputs, RefusesModel, RefusesPolicy};
 ghost use Rattle.rw_top.specs.Refusal.{FailsToRead, FindsTooLong};
 ghost use Rattle.rw_top.specs.Told.{AreTold};
-ghost use Rattle.rw_top.specs.Written.{WritesFront};
+ghost use Rattle.rw_top.specs.Written.{WritesFront, WritesSections};
 ghost use Rattle.rw_top.specs.RunText.{IsRunText};
 ghost use Rattle.rw_top.specs.declared.refusal.File.{File};
 
 use rpl_compile::accepted::compiled_budgets;
 use rw_model_toml::law::files_are_basins;
 use rw_plain_reservoir::law::first_text;
+use rw_report::law::texts_of_runs;
 use rw_run::law::one_run;
 
 /// A text is read as inputs in one way, and isn't refused where it is read.
@@ -47,12 +49,14 @@ pub fn one_inputs()
         → Reads basin text inputs → ¬ Refuses basin text why }
 {}
 
-/// A basin, a policy and inputs have one run, which has one end and one text, and all that counts of inputs are their values.
+/// A basin, a policy and inputs have one run, which has one end and one text in each section's place, and all that counts of inputs are their values.
 pub fn one_text()
-    ensures { (basin : Draft) (policy : RunPolicy) (inputs others : Inputs)
+    ensures { (basin : Draft) (policy : RunPolicy) (flags trace : Bool) (number : ℕ)
+        (inputs others : Inputs)
         (end other : RunEnd) (text more : List ℕ)
         → ((slot step : ℕ) → value_at inputs slot step ≡ value_at others slot step)
-        → IsRunText basin policy inputs end text → IsRunText basin policy others other more
+        → IsRunText basin policy flags trace number inputs end text
+        → IsRunText basin policy flags trace number others other more
         → (end ≡ other) × (text ≡ more) }
 {
     one_run();
@@ -64,11 +68,12 @@ pub fn first_form()
     ensures { (basin : Draft) (model : FirstModel) (inputs : Inputs) (inflows outflows : List ℤ)
         → IsBasin basin → IsFirstForm basin model
         → IsFirstFlows inputs model.run.count inflows outflows
-        → (end : RunEnd) (text : List ℕ) → IsRunText basin no_rules inputs end text
+        → (end : RunEnd) (text : List ℕ) → IsRunText basin no_rules false false 0 inputs end text
         → (fault : Option ℤ) × IsFirstText model inflows outflows fault text
         × ((fault ≡ None) ↔ (end ≡ Settled)) }
 {
     first_text();
+    texts_of_runs();
 }
 
 /// A call asks for such a run where its words do, the shelf tells both files, and these are read as the reservoir and its
@@ -91,7 +96,8 @@ pub fn first_call()
     files_are_basins();
 }
 
-/// What each status says of a call that keeps its promise. 5 says nothing: want of memory may always come.
+/// What each status says of a call that keeps its promise. Want of memory, 5, may always come. Then nothing was written, or, of a
+/// command that runs a policy, the first sections, each whole.
 pub fn statuses()
     ensures settled { (call : Call) → Promise call 0
         → WroteRun call Settled ⊎ WroteRules call Settled ⊎ WroteCheck call ⊎ WroteCode call }
@@ -112,11 +118,15 @@ pub fn statuses()
     ensures code { (call : Call) → Promise call 9 → AskFor call.words (λ command. (why : BadCode)
         × RefusesPolicy command call.shelf.before.holds (BadBlocks why)) }
     ensures inputs { (call : Call) → Promise call 8 → AskFor call.words
-        (λ command. (why : InputRefusal) × RefusesInputs command call.shelf.before.holds why) }
+        (λ command. (why : InputRefusal) × (RefusesInputs command call.shelf.before.holds why
+        ⊎ RefusesEdits command call.shelf.before.holds why)) }
     ensures too_long { (call : Call) → Promise call 10
         → AskFor call.words (λ command. (file : File) × FindsTooLong command call.shelf file) }
-    ensures untouched { (call : Call) (status : ℕ) → Promise call status → 2 ≤ status → status ≢ 4
-        → call.out.after.contents ≡ call.out.before.contents }
+    ensures sections { (call : Call) → Promise call 5
+        → (call.out.after.contents ≡ call.out.before.contents)
+        ⊎ AskFor call.words (λ command. WritesSections command call.shelf.before.holds call.out) }
+    ensures untouched { (call : Call) (status : ℕ) → Promise call status → 2 ≤ status
+        → status ≢ 4 → status ≢ 5 → call.out.after.contents ≡ call.out.before.contents }
 {}
 
 /// What has to be refused of a command is, with its status, unless memory was wanting: where the shelf tells the files up to the one
@@ -143,6 +153,11 @@ pub fn dues()
         → RefusesInputs command call.shelf.before.holds why
         → AreTold command call.shelf 2
         → (status ≡ 8) ⊎ (status ≡ 5) }
+    ensures edits { (call : Call) (status : ℕ) (command : Command) (why : InputRefusal)
+        → Promise call status → Asks call.words command
+        → RefusesEdits command call.shelf.before.holds why
+        → AreTold command call.shelf 3
+        → (status ≡ 8) ⊎ (status ≡ 5) }
     ensures long { (call : Call) (status : ℕ) (command : Command) (file : File)
         → Promise call status → Asks call.words command
         → HoldsTooLong command call.shelf.before.holds file
@@ -151,7 +166,7 @@ pub fn dues()
     ensures none { (call : Call) (status : ℕ) (command : Command)
         → Promise call status → Asks call.words command
         → AcceptsAll command call.shelf.before.holds
-        → AreTold command call.shelf 2 → ¬ Rose call.out.before.faults call.out.after.faults
+        → AreTold command call.shelf 3 → ¬ Rose call.out.before.faults call.out.after.faults
         → (status ≤ 1) ⊎ (status ≡ 5) }
 {}
 

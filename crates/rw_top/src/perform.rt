@@ -1,25 +1,27 @@
-ghost use Rattle.std.specs.Prelude.{◌≡◌, ℕ, List, map, IfErr, IfOk, MatchResult};
+ghost use Rattle.std.specs.Prelude.{◌≡◌, ℕ, Bool, List, [], map, option_map, unwrap_or, IfErr, IfOk, MatchResult};
 ghost use Rattle.rw_io.specs.Outside.{change};
 ghost use Rattle.rw_method.specs.Catalogue.{AreInOrder};
 ghost use Rattle.rw_top.specs.Command.{command_of};
 ghost use Rattle.rw_top.specs.Ready.{AreReady};
-ghost use Rattle.rw_top.specs.Refusal.{Cause, FileCause};
+ghost use Rattle.rw_top.specs.Refusal.{Cause};
 ghost use Rattle.rw_top.specs.Seen.{files_seen};
-ghost use Rattle.rw_top.specs.declared.command.Job.TheVariants as J;
-ghost use Rattle.rw_top.specs.Written.{HasText, IsTextOf, WritesAll, status_of_end};
+ghost use Rattle.rw_words.specs.declared.job.Job.TheVariants as J;
+ghost use Rattle.rw_top.specs.Written.{Appends, IsOne, Stops, WritesAll, status_of_end};
 
 use crate::Refusal;
 use crate::check::budgets;
-use crate::command::{Command, Job};
+use crate::command::Command;
 use crate::compile::code_text;
 use crate::files::{Files, read_files};
-use crate::run::text_by_policy;
+use crate::sections::write_sections;
 use crate::simulate::text_without_rules;
 use rpl_predef::Predefs;
 use rw_base::{Ledger, NoMemory, Steps};
 use rw_engine::RunEnd;
+use rw_inputs::Batch;
 use rw_io::{Shelf, Sink, WriteFault, write_all};
 use rw_method::Catalogue;
+use rw_words::Job;
 use std::alloc::Global;
 
 // The status of a run that was written.
@@ -38,23 +40,36 @@ fn simulate<L: Ledger>(
     files: &Files,
     methods: &Catalogue,
     predefs: &Predefs,
+    flags: bool,
+    trace: bool,
     steps: &mut Steps<L>,
 ) -> Result<(Vec<u8>, u8), NoMemory>
     requires order { AreInOrder (map (λ b. code (b.vtable, b.value)) methods.now.methods.items) }
     requires ready { AreReady J.Simulate files.now }
-    ensures { IfOk result (λ pair. IsTextOf J.Simulate (files_seen files.now) pair.1 pair.0.items) }
+    ensures { IfOk result
+        (λ pair. IsOne J.Simulate flags trace (files_seen files.now) pair.1 pair.0.items) }
 {
     let Some(inputs) = &files.inputs else {
         unreachable!();
     };
-    let (text, end) = text_without_rules(alloc, &files.basin, methods, predefs, inputs, steps)?;
+    let (text, end) = text_without_rules(
+        alloc,
+        &files.basin,
+        methods,
+        predefs,
+        flags,
+        trace,
+        inputs,
+        steps,
+    )?;
     Ok((text, status_of_run(&end)))
 }
 
 // The budgets of the policy of the files, and the status with which they are written.
 fn check(alloc: Global, files: &Files) -> Result<(Vec<u8>, u8), NoMemory>
     requires ready { AreReady J.Check files.now }
-    ensures { IfOk result (λ pair. IsTextOf J.Check (files_seen files.now) pair.1 pair.0.items) }
+    ensures { (flags trace : Bool) → IfOk result
+        (λ pair. IsOne J.Check flags trace (files_seen files.now) pair.1 pair.0.items) }
 {
     let Some(policy) = &files.policy else {
         unreachable!();
@@ -65,7 +80,8 @@ fn check(alloc: Global, files: &Files) -> Result<(Vec<u8>, u8), NoMemory>
 // The code of the policy of the files, and the status with which it is written.
 fn compile(alloc: Global, files: &Files) -> Result<(Vec<u8>, u8), NoMemory>
     requires ready { AreReady J.Compile files.now }
-    ensures { IfOk result (λ pair. IsTextOf J.Compile (files_seen files.now) pair.1 pair.0.items) }
+    ensures { (flags trace : Bool) → IfOk result
+        (λ pair. IsOne J.Compile flags trace (files_seen files.now) pair.1 pair.0.items) }
 {
     let Some(policy) = &files.policy else {
         unreachable!();
@@ -73,71 +89,105 @@ fn compile(alloc: Global, files: &Files) -> Result<(Vec<u8>, u8), NoMemory>
     Ok((code_text(alloc, policy, &files.basin)?, 0))
 }
 
-// The table of the run of the files by their policy, and the status with which it is written.
-fn run<L: Ledger>(
-    alloc: Global,
-    files: &Files,
-    methods: &Catalogue,
-    predefs: &Predefs,
-    steps: &mut Steps<L>,
-) -> Result<(Vec<u8>, u8), NoMemory>
-    requires order { AreInOrder (map (λ b. code (b.vtable, b.value)) methods.now.methods.items) }
-    requires ready { AreReady J.Run files.now }
-    ensures { IfOk result (λ pair. IsTextOf J.Run (files_seen files.now) pair.1 pair.0.items) }
-{
-    let Some(policy) = &files.policy else {
-        unreachable!();
-    };
-    let Some(inputs) = &files.inputs else {
-        unreachable!();
-    };
-    let (text, end) = text_by_policy(alloc, &files.basin, methods, policy, predefs, inputs, steps)?;
-    Ok((text, status_of_run(&end)))
-}
-
-// The text of a job by what its files say, and the status with which it is written.
-fn text_by<L: Ledger>(
-    alloc: Global,
+// Writes a text that was made, unless memory was wanting for it.
+fn write_made<K: Sink>(
     job: Job,
-    files: &Files,
-    methods: &Catalogue,
-    predefs: &Predefs,
-    steps: &mut Steps<L>,
-) -> Result<(Vec<u8>, u8), NoMemory>
-    requires order { AreInOrder (map (λ b. code (b.vtable, b.value)) methods.now.methods.items) }
-    requires ready { AreReady job files.now }
-    ensures { IfOk result (λ pair. IsTextOf job (files_seen files.now) pair.1 pair.0.items) }
+    flags: bool,
+    trace: bool,
+    _files: &Files,
+    made: Result<(Vec<u8>, u8), NoMemory>,
+    out: &mut K,
+) -> Result<u8, Refusal>
+    requires { IfOk made
+        (λ pair. IsOne job flags trace (files_seen _files.now) pair.1 pair.0.items) }
+    ensures { MatchResult result
+        (Appends job flags trace (files_seen _files.now) (change (K.seen out.old) (K.seen out.new)))
+        (Stops job flags trace (files_seen _files.now) (change (K.seen out.old) (K.seen out.new))) }
 {
-    match job {
-        Job::Simulate => simulate(alloc, files, methods, predefs, steps),
-        Job::Check => check(alloc, files),
-        Job::Compile => compile(alloc, files),
-        Job::Run => run(alloc, files, methods, predefs, steps),
+    let (text, status) = match made {
+        Ok(pair) => pair,
+        Err(NoMemory) => return Err(Refusal::NoMemory),
+    };
+    match write_all(out, &text) {
+        Ok(()) => Ok(status),
+        Err(WriteFault) => Err(Refusal::CannotWrite),
     }
 }
 
-// The text of the command, and the status with which it is written.
-fn text_of<S: Shelf, L: Ledger>(
+// The batches of edits, where there are any.
+fn batches_of(edits: &Option<Vec<Batch>>) -> &[Batch]
+    ensures { result.now ≡ unwrap_or (option_map (λ batches. batches.items) edits.now) [] }
+{
+    match edits {
+        Some(batches) => batches,
+        None => &[],
+    }
+}
+
+// Writes the sections of the runs of the files by their policy.
+fn run<K: Sink, L: Ledger>(
     alloc: Global,
-    command: &Command<'_>,
-    shelf: &mut S,
+    files: Files,
     methods: &Catalogue,
     predefs: &Predefs,
+    flags: bool,
+    trace: bool,
     steps: &mut Steps<L>,
-) -> Result<(Vec<u8>, u8), Refusal>
+    out: &mut K,
+) -> Result<u8, Refusal>
     requires order { AreInOrder (map (λ b. code (b.vtable, b.value)) methods.now.methods.items) }
-    ensures text { MatchResult result (λ pair. HasText (command_of command.now)
-        (S.seen shelf.old).holds pair.1 pair.0.items)
-        (FileCause (command_of command.now) (change (S.seen shelf.old) (S.seen shelf.new))) }
-    ensures held { (p : List ℕ) → (S.seen shelf.new).holds p ≡ (S.seen shelf.old).holds p }
+    requires ready { AreReady J.Run files }
+    ensures { MatchResult result
+        (Appends J.Run flags trace (files_seen files) (change (K.seen out.old) (K.seen out.new)))
+        (Stops J.Run flags trace (files_seen files) (change (K.seen out.old) (K.seen out.new))) }
 {
-    let files = match read_files(alloc, command, shelf) {
-        Ok(files) => files,
-        Err(refusal) => return Err(refusal),
+    let Files {
+        basin,
+        policy,
+        inputs,
+        edits,
+    } = files;
+    let Some(policy) = &policy else {
+        unreachable!();
     };
-    match text_by(alloc, command.job, &files, methods, predefs, steps) {
-        Ok(pair) => Ok(pair),
-        Err(NoMemory) => Err(Refusal::NoMemory),
+    let Some(inputs) = inputs else {
+        unreachable!();
+    };
+    let batches = batches_of(&edits);
+    match write_sections(
+        alloc, &basin, methods, policy, predefs, flags, trace, 0, inputs, batches, steps, out,
+    ) {
+        Ok(end) => Ok(status_of_run(&end)),
+        Err(refusal) => Err(refusal),
+    }
+}
+
+// Writes the text of a job by what its files say, and answers the status of that.
+fn write_job<K: Sink, L: Ledger>(
+    alloc: Global,
+    job: Job,
+    files: Files,
+    methods: &Catalogue,
+    predefs: &Predefs,
+    flags: bool,
+    trace: bool,
+    steps: &mut Steps<L>,
+    out: &mut K,
+) -> Result<u8, Refusal>
+    requires order { AreInOrder (map (λ b. code (b.vtable, b.value)) methods.now.methods.items) }
+    requires ready { AreReady job files }
+    ensures { MatchResult result
+        (Appends job flags trace (files_seen files) (change (K.seen out.old) (K.seen out.new)))
+        (Stops job flags trace (files_seen files) (change (K.seen out.old) (K.seen out.new))) }
+{
+    match job {
+        Job::Simulate => {
+            let made = simulate(alloc, &files, methods, predefs, flags, trace, steps);
+            write_made(job, flags, trace, &files, made, out)
+        }
+        Job::Check => write_made(job, flags, trace, &files, check(alloc, &files), out),
+        Job::Compile => write_made(job, flags, trace, &files, compile(alloc, &files), out),
+        Job::Run => run(alloc, files, methods, predefs, flags, trace, steps, out),
     }
 }
 
@@ -158,12 +208,15 @@ pub(crate) fn perform<S: Shelf, K: Sink, L: Ledger>(
         (change (S.seen shelf.old) (S.seen shelf.new)) (change (K.seen out.old) (K.seen out.new))) }
     ensures held { (p : List ℕ) → (S.seen shelf.new).holds p ≡ (S.seen shelf.old).holds p }
 {
-    let (text, status) = match text_of(alloc, command, shelf, methods, predefs, steps) {
-        Ok(pair) => pair,
+    let files = match read_files(alloc, command, shelf) {
+        Ok(files) => files,
         Err(refusal) => return Err(refusal),
     };
-    match write_all(out, &text) {
-        Ok(()) => Ok(status),
-        Err(WriteFault) => Err(Refusal::CannotWrite),
+    let (job, flags, trace) = (command.words.job, command.words.flags, command.words.trace);
+    match write_job(
+        alloc, job, files, methods, predefs, flags, trace, steps, out,
+    ) {
+        Ok(status) => Ok(status),
+        Err(refusal) => Err(refusal),
     }
 }

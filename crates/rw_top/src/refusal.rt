@@ -14,6 +14,7 @@ pub enum File {
     Model,
     Policy,
     Inputs,
+    Edits,
 }
 
 /// Why the text of a command isn't written, or not wholly.
@@ -39,6 +40,8 @@ pub enum Refusal {
     Block(VerifyKind, u32, u32),
     /// The inputs are refused: what is wrong, in which row and column.
     Inputs(InputKind, u32, u8),
+    /// The edits are refused: what is wrong, in which row and column.
+    Edits(InputKind, u32, u8),
     /// More bytes were given of that file than a file may hold.
     TooLong(File),
 }
@@ -61,6 +64,7 @@ impl Refusal {
             Refusal::Code(_) => 9,
             Refusal::Block(_, _, _) => 9,
             Refusal::Inputs(_, _, _) => 8,
+            Refusal::Edits(_, _, _) => 8,
             Refusal::TooLong(_) => 10,
         }
     }

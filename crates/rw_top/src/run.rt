@@ -35,6 +35,9 @@ fn text_by_verified<L: Ledger>(
     methods: &Catalogue,
     policy: &Verified,
     predefs: &Predefs,
+    flags: bool,
+    trace: bool,
+    number: u32,
     inputs: &Inputs,
     steps: &mut Steps<L>,
 ) -> Result<(Vec<u8>, RunEnd), NoMemory>
@@ -42,11 +45,14 @@ fn text_by_verified<L: Ledger>(
     requires fits { verified basin.now policy.now.blocks ≡ Ok policy.now }
     requires inputs { IsInputsOf basin.now inputs.now }
     ensures { IfOk result (λ pair. IsRulesText basin.now
-        (Code policy.now.blocks policy.now.budgets) inputs.now pair.1 pair.0.items) }
+        (Code policy.now.blocks policy.now.budgets)
+        flags trace number inputs.now pair.1 pair.0.items) }
 {
     answered_code_is_safe();
     firings_are_verified();
-    let written = text_by_code(alloc, basin, methods, policy, predefs, inputs, steps)?;
+    let written = text_by_code(
+        alloc, basin, methods, policy, predefs, flags, trace, number, inputs, steps,
+    )?;
     Ok(written)
 }
 
@@ -57,6 +63,9 @@ fn text_by_ruleset<L: Ledger>(
     methods: &Catalogue,
     typed: &Typed,
     predefs: &Predefs,
+    flags: bool,
+    trace: bool,
+    number: u32,
     inputs: &Inputs,
     steps: &mut Steps<L>,
 ) -> Result<(Vec<u8>, RunEnd), NoMemory>
@@ -64,7 +73,7 @@ fn text_by_ruleset<L: Ledger>(
     requires fits { IsOk (judged basin.now (rules_of typed.now.rules)) }
     requires inputs { IsInputsOf basin.now inputs.now }
     ensures { IfOk result (λ pair. IsRulesText basin.now (Ruleset (rules_of typed.now.rules))
-        inputs.now pair.1 pair.0.items) }
+        flags trace number inputs.now pair.1 pair.0.items) }
 {
     accepted();
     bounds();
@@ -73,7 +82,9 @@ fn text_by_ruleset<L: Ledger>(
     firings_of_rules_are_verified();
     let _rules = typed.rules();
     let code = compile(alloc, typed, basin)?;
-    let written = text_by_code(alloc, basin, methods, &code, predefs, inputs, steps)?;
+    let written = text_by_code(
+        alloc, basin, methods, &code, predefs, flags, trace, number, inputs, steps,
+    )?;
     Ok(written)
 }
 
@@ -84,6 +95,9 @@ pub(crate) fn text_by_policy<L: Ledger>(
     methods: &Catalogue,
     policy: &Policy,
     predefs: &Predefs,
+    flags: bool,
+    trace: bool,
+    number: u32,
     inputs: &Inputs,
     steps: &mut Steps<L>,
 ) -> Result<(Vec<u8>, RunEnd), NoMemory>
@@ -91,12 +105,16 @@ pub(crate) fn text_by_policy<L: Ledger>(
     requires fits { IsFit basin.now policy.now }
     requires inputs { IsInputsOf basin.now inputs.now }
     ensures { IfOk result (λ pair. IsRulesText basin.now (policy_of policy.now)
-        inputs.now pair.1 pair.0.items) }
+        flags trace number inputs.now pair.1 pair.0.items) }
 {
     match policy {
         Policy::Ruleset(typed) => {
-            text_by_ruleset(alloc, basin, methods, typed, predefs, inputs, steps)
+            text_by_ruleset(
+                alloc, basin, methods, typed, predefs, flags, trace, number, inputs, steps,
+            )
         }
-        Policy::Code(code) => text_by_verified(alloc, basin, methods, code, predefs, inputs, steps),
+        Policy::Code(code) => text_by_verified(
+            alloc, basin, methods, code, predefs, flags, trace, number, inputs, steps,
+        ),
     }
 }

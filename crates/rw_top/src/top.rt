@@ -1,19 +1,20 @@
 ghost use Rattle.std.specs.Prelude.{◌≡◌, ℕ, List, map};
 ghost use Rattle.rw_method.specs.Catalogue.{AreInOrder};
-ghost use Rattle.rw_top.specs.Command.{texts_of};
+ghost use Rattle.rw_words.specs.Command.{texts_of};
 ghost use Rattle.rw_io.specs.Outside.{change};
 ghost use Rattle.rw_top.specs.Promise.{Promise};
 ghost use Rattle.rw_top.specs.Lines.{memory_line};
 ghost use Rattle.rw_top.specs.Written.{Tells};
 
 use crate::Refusal;
-use crate::command::read_words;
+use crate::command::Command;
 use crate::perform::perform;
 use crate::tell::{tell, tell_memory, tell_words};
 use rpl_predef::Predefs;
-use rw_base::{Ledger, Steps};
+use rw_base::{Ledger, NoMemory, Steps};
 use rw_io::{Shelf, Sink};
 use rw_method::Catalogue;
+use rw_words::read_words;
 use std::alloc::Global;
 
 /// Does what the words ask for, and answers the status with which a program ends. The words don't include the
@@ -21,14 +22,16 @@ use std::alloc::Global;
 ///
 /// `simulate MODEL INPUTS` reads both files from the shelf, runs the basin that they describe, each object by the method
 /// of its kind, and writes the table to `out`. The methods are one for each kind, in the order of the kinds' numbers. The
-/// status is 0 where the run settled and 1 where it ended in a fault. `check MODEL POLICY` reads both files, judges the
-/// ruleset, or the code where the policy's first line is `CODE 1`, with the basin, and writes what a firing of each rule
-/// comes to at most. The status is 0. `compile MODEL RULES` reads both files, judges the ruleset with the basin, and writes
-/// the text of its code. The status is 0. `run MODEL POLICY INPUTS` reads the three files, runs the basin as `simulate` does,
-/// and lets the rules of the policy fire, by the functions that they call. Its statuses 0 and 1 are those of `simulate`.
+/// status is 0 where the run settled and 1 where it ended in a fault. `run MODEL POLICY INPUTS` reads the three files, runs the
+/// basin as `simulate` does, and lets the rules of the policy fire, by the functions that they call. With `--edits FILE` it reads
+/// batches of edits, too, and writes one section more after each batch: that of the run from the inputs as they are then. Each
+/// section is written as soon as it is made. The status is that of the last section. With `--flags` either writes who put each
+/// value, with `--trace` what happened. `check MODEL POLICY` reads both files, judges the ruleset, or the code where the policy's
+/// first line is `CODE 1`, with the basin, and writes what a firing of each rule comes to at most. The status is 0. `compile MODEL
+/// RULES` reads both files, judges the ruleset with the basin, and writes the text of its code. The status is 0.
 ///
 /// With each other status one line on `err` says why: 2 the words, 3 a file that can't be read, 4 an output that can't be
-/// written, 5 want of memory, 6 the model, 7 the ruleset, 8 the inputs, 9 the code, 10 a file of more than 16,777,216
+/// written, 5 want of memory, 6 the model, 7 the ruleset, 8 the inputs or the edits, 9 the code, 10 a file of more than 16,777,216
 /// bytes. A failure of `err` changes no status.
 pub fn basin_main<S: Shelf, K: Sink, E: Sink, L: Ledger>(
     alloc: Global,
@@ -48,9 +51,16 @@ pub fn basin_main<S: Shelf, K: Sink, E: Sink, L: Ledger>(
       err = change (E.seen err.old) (E.seen err.new);
     }) result }
 {
-    let Some(command) = read_words(words) else {
-        tell_words(err);
-        return Refusal::Words.status();
+    let command = match read_words(alloc, words) {
+        Ok(Some(words)) => Command { words },
+        Ok(None) => {
+            tell_words(err);
+            return Refusal::Words.status();
+        }
+        Err(NoMemory) => {
+            tell_memory(err);
+            return Refusal::NoMemory.status();
+        }
     };
     match perform(alloc, &command, shelf, out, methods, predefs, steps) {
         Ok(status) => status,

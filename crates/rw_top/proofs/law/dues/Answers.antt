@@ -13,6 +13,9 @@ returns-clause-code c = due.of_code
 pub returns-clause-inputs : goal.returns-clause-inputs
 returns-clause-inputs c = due.of_inputs
 
+pub returns-clause-edits : goal.returns-clause-edits
+returns-clause-edits c = due.of_edits
+
 pub returns-clause-long : goal.returns-clause-long
 returns-clause-long c = due.of_long
 

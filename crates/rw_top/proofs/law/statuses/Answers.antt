@@ -28,6 +28,9 @@ returns-clause-inputs c = λ call. status.inputs call
 pub returns-clause-too_long : goal.returns-clause-too_long
 returns-clause-too_long c = λ call. status.too_long call
 
+pub returns-clause-sections : goal.returns-clause-sections
+returns-clause-sections c = λ call. status.sections call
+
 pub returns-clause-untouched : goal.returns-clause-untouched
 returns-clause-untouched c = λ call. status.untouched call
 

@@ -21,7 +21,7 @@ returns g c =
     let bounded : AreBounded rules =
     subst (λ (r : ParsedRules). AreBounded (rules_of r)) c.rules-rules.ensures.rules
     (c.bounds.ensures.all c.rules-rules.result.now c.rules-rules.ensures.ruleset) in
-    by_ruleset basin rules c.in_ok-code.code.blocks c.args.inputs.now _ _ c.in_ok-code.ensures.code
+    by_ruleset basin rules c.in_ok-code.code.blocks c.args.flags c.args.trace c.args.number c.args.inputs.now _ _ c.in_ok-code.ensures.code
     (c.compiled_budgets.ensures basin rules typed bounded.rules bounded.functions)
     (λ log. (c.policies_have_runs.ensures.same basin rules inputs log typed bounded.rules bounded.functions).1)
     (λ log run. c.firings_of_rules_are_verified.ensures basin rules inputs log typed bounded.rules bounded.functions run)

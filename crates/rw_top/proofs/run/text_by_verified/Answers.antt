@@ -7,6 +7,6 @@ returns g c =
     let basin = c.args.basin.now in
     let code = c.args.policy.now in
     let accepted = c.answered_code_is_safe.ensures.accepted basin code.blocks code c.requires.fits in
-    by_code basin code c.args.inputs.now _ _ accepted
+    by_code basin code c.args.flags c.args.trace c.args.number c.args.inputs.now _ _ accepted
     (λ log run. c.firings_are_verified.ensures basin code.blocks code.budgets (givens basin c.args.inputs.now) log accepted run)
     c.in_ok-written.ensures

@@ -20,3 +20,6 @@ returns-in-Types g c = rw c.in-Types.is c.tell_types.ensures
 
 pub returns-in-Block : goal.returns-in-Block
 returns-in-Block g c = rw c.in-Block.is c.tell_block.ensures
+
+pub returns-in-Edits : goal.returns-in-Edits
+returns-in-Edits g c = rw c.in-Edits.is c.tell_edits.ensures

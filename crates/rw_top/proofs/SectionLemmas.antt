@@ -1,0 +1,142 @@
+-- Sections that are written one behind another.
+use Rattle.rw_top.proofs.Common.{Change, Err, Files, GrowsBy, GrowsBy-trans, IsRunText, IsSomeAnd, Job, List, MatchResult, None, Ok, Option, PrefixGrew, PrefixGrew-right, Refusal, Result, RunEnd, SinkView, Some, [], ap, change, inr, refl, status_of_end, subst, sym, ℕ, ◌++◌, ◌+◌, ◌∙◌, ◌∷◌, ◌≡◌}
+use Rattle.rw_base.proofs.Common.{All, Bool, append-nil, append_assoc, arith}
+use Rattle.std.proofs.lemmas.List.Elements.{All-head, All-tail}
+use Rattle.rw_inputs.specs.Edits.{Batch, after_batch}
+use Rattle.rw_inputs.specs.Inputs.{Inputs, value_at}
+use Rattle.rw_top.specs.Sections.{AppendsAll, AppendsFirst, AppendsOne, AreFirstSections, AreSections, StopsAmong, StopsAtOne, joined}
+use Rattle.rw_run.specs.Next.{no_rules}
+use Rattle.rw_top.specs.Policy.{Policy as Rules}
+use Rattle.rw_top.specs.RunText.{IsRulesText}
+use Rattle.rw_top.specs.Written.{Appends, AppendsFront, IsFrontOf, IsOne, Stops, batches_in}
+use Rattle.rw_words.specs.declared.job.Job.TheVariants.{Simulate, Run}
+use Rattle.rw_top.specs.declared.refusal.Refusal.TheVariants.{CannotWrite, NoMemory}
+
+-- what stays has grown by nothing
+pub still : (old now : Option (List ℕ)) → now ≡ old → GrowsBy old now []
+still old None same = tt
+still None (Some now) same = absurd cc
+still (Some before) (Some now) same = let one : now ≡ before = cc in one ∙ sym (append-nil before)
+
+-- a text with nothing behind it
+grown : (old now : Option (List ℕ)) (text : List ℕ) → GrowsBy old now text → GrowsBy old now (text ++ [])
+grown old now text grew = subst (λ t. GrowsBy old now t) (sym (append-nil text)) grew
+
+-- one text alone
+pub one_grown : (old now : Option (List ℕ)) (texts : List (List ℕ)) (text : List ℕ) → texts ≡ text ∷ []
+    → GrowsBy old now (joined texts) → GrowsBy old now text
+one_grown old now texts text one grew = subst (λ t. GrowsBy old now t) (ap joined one ∙ append-nil text) grew
+
+-- what holds of all holds behind the first
+pub rest_of : {A : Type 0} (P : A → Type 0) (all : List A) (first : A) (rest : List A) → all ≡ first ∷ rest → All P all → All P rest
+rest_of P all first rest is holds = All-tail P first rest (subst (All P) is holds)
+
+pub first_of_all : {A : Type 0} (P : A → Type 0) (all : List A) (first : A) (rest : List A) → all ≡ first ∷ rest → All P all → P first
+first_of_all P all first rest is holds = All-head P first rest (subst (All P) is holds)
+
+module _ (IsSection : ℕ → Inputs → RunEnd → List ℕ → Type 0) where
+  -- the section is the last one
+  pub last_section : (number : ℕ) (inputs : Inputs) (out : Change SinkView) (end : RunEnd)
+      → AppendsOne IsSection number inputs out end → AppendsAll IsSection number inputs [] out end
+  last_section number inputs out end one =
+      record { texts = one.text ∷ []; are = (one.text, refl, one.is); grew = grown out.before.contents out.after.contents one.text one.grew }
+
+  -- it stops at the first one
+  pub stops_here : (number : ℕ) (inputs : Inputs) (batches : List Batch) (out : Change SinkView) (why : Refusal)
+      → StopsAtOne IsSection number inputs out why → StopsAmong IsSection number inputs batches out why
+  stops_here number inputs batches out NoMemory stops =
+      record { texts = []; are = tt; grew = still out.before.contents out.after.contents stops }
+  stops_here number inputs batches out CannotWrite stops =
+      record { done = []; text = stops.1; are = (stops.0, stops.2); grew = stops.3; rose = stops.4 }
+  stops_here number inputs batches out why stops = absurd stops
+
+  -- memory is wanting behind it
+  pub stops_behind : (number : ℕ) (inputs : Inputs) (batches : List Batch) (out : Change SinkView) (end : RunEnd)
+      → AppendsOne IsSection number inputs out end → AppendsFirst IsSection number inputs batches out
+  stops_behind number inputs batches out end one =
+      record { texts = one.text ∷ []; are = (end, one.is); grew = grown out.before.contents out.after.contents one.text one.grew }
+
+  module _ (number : ℕ) (inputs edited : Inputs) (batch : Batch) (batches : List Batch) (old now after : SinkView) (end : RunEnd)
+      (one : AppendsOne IsSection number inputs (change old now) end)
+      (values : value_at edited ≡ after_batch batch (value_at inputs)) where
+    -- more sections follow
+    pub more_sections : (last : RunEnd) → AppendsAll IsSection (number + 1) edited batches (change now after) last
+        → AppendsAll IsSection number inputs (batch ∷ batches) (change old after) last
+    more_sections last more = record {
+      texts = one.text ∷ more.texts;
+      are = (end, one.text, more.texts, refl, one.is, (edited, values, more.are));
+      grew = GrowsBy-trans old.contents now.contents after.contents one.text (joined more.texts) one.grew more.grew;
+    }
+
+    first_with : (texts : List (List ℕ)) → AreFirstSections IsSection (number + 1) edited batches texts
+        → AreFirstSections IsSection number inputs (batch ∷ batches) (one.text ∷ texts)
+    first_with [] are = (end, one.is)
+    first_with (text ∷ texts) are = ((end, one.is), (edited, values, are))
+
+    -- or it stops among those
+    pub stops_later : (why : Refusal) → StopsAmong IsSection (number + 1) edited batches (change now after) why
+        → StopsAmong IsSection number inputs (batch ∷ batches) (change old after) why
+    stops_later NoMemory stops = record {
+      texts = one.text ∷ stops.texts;
+      are = first_with stops.texts stops.are;
+      grew = GrowsBy-trans old.contents now.contents after.contents one.text (joined stops.texts) one.grew stops.grew;
+    }
+    stops_later CannotWrite stops = record {
+      done = one.text ∷ stops.done;
+      text = stops.text;
+      are = first_with (stops.done ++ stops.text ∷ []) stops.are;
+      grew = subst (λ t. PrefixGrew old.contents after.contents t) (sym (append_assoc one.text (joined stops.done) stops.text))
+          (PrefixGrew-right old.contents now.contents after.contents one.text (joined stops.done ++ stops.text) one.grew stops.grew);
+      rose = let least = one.later in let rose = stops.rose in omega (arith, least, rose);
+    }
+    stops_later why stops = absurd stops
+
+    pub goes_on : (result : Result RunEnd Refusal)
+        → MatchResult result (AppendsAll IsSection (number + 1) edited batches (change now after)) (StopsAmong IsSection (number + 1) edited batches (change now after))
+        → MatchResult result (AppendsAll IsSection number inputs (batch ∷ batches) (change old after)) (StopsAmong IsSection number inputs (batch ∷ batches) (change old after))
+    goes_on (Ok last) more = more_sections last more
+    goes_on (Err why) stops = stops_later why stops
+
+-- ---- of a job
+
+-- one text that was made
+pub made_whole : (job : Job) (flags trace : Bool) (files : Files) (out : Change SinkView) (status : ℕ) (text : List ℕ) → IsOne job flags trace files status text
+    → GrowsBy out.before.contents out.after.contents text → Appends job flags trace files out status
+made_whole job flags trace files out status text one grew =
+    record { texts = text ∷ []; is = one.0; grew = grown out.before.contents out.after.contents text grew }
+
+pub made_front : (job : Job) (flags trace : Bool) (files : Files) (out : Change SinkView) (status : ℕ) (text : List ℕ) → IsOne job flags trace files status text
+    → PrefixGrew out.before.contents out.after.contents text → AppendsFront job flags trace files out
+made_front job flags trace files out status text one grew = record { done = []; text = text; is = one.1; grew = grew }
+
+-- a run without rules
+pub one_run : (flags trace : Bool) (files : Files) (inputs : Inputs) (end : RunEnd) (status : ℕ) (text : List ℕ) → files.inputs ≡ Some inputs
+    → status ≡ status_of_end end → IsRunText files.basin no_rules flags trace 0 inputs end text → IsOne Simulate flags trace files status text
+one_run flags trace files inputs end status text there same is = (
+  (end, same, subst (λ o. IsSomeAnd o (λ i. AreSections (IsRunText files.basin no_rules flags trace) 0 i [] end (text ∷ []))) (sym there) (text, refl, is)),
+  subst (λ o. IsSomeAnd o (λ i. AreFirstSections (IsRunText files.basin no_rules flags trace) 0 i [] (text ∷ []))) (sym there) (end, is),
+)
+
+-- runs by rules
+module _ (flags trace : Bool) (files : Files) (policy : Rules) (inputs : Inputs) (out : Change SinkView) (has_policy : files.policy ≡ Some policy)
+    (has_inputs : files.inputs ≡ Some inputs) where
+  with_both : (P : Rules → Inputs → Type 0) → P policy inputs → IsSomeAnd files.policy (λ p. IsSomeAnd files.inputs (P p))
+  with_both P is =
+      subst (λ o. IsSomeAnd o (λ p. IsSomeAnd files.inputs (P p))) (sym has_policy) (subst (λ o. IsSomeAnd o (P policy)) (sym has_inputs) is)
+
+  pub rules_appended : (end : RunEnd) (status : ℕ) → status ≡ status_of_end end
+      → AppendsAll (IsRulesText files.basin policy flags trace) 0 inputs (batches_in files) out end → Appends Run flags trace files out status
+  rules_appended end status same all = record {
+    texts = all.texts;
+    is = (end, same, with_both (λ p i. AreSections (IsRulesText files.basin p flags trace) 0 i (batches_in files) end all.texts) all.are);
+    grew = all.grew;
+  }
+
+  front : (texts : List (List ℕ)) → AreFirstSections (IsRulesText files.basin policy flags trace) 0 inputs (batches_in files) texts → IsFrontOf Run flags trace files texts
+  front texts are = with_both (λ p i. AreFirstSections (IsRulesText files.basin p flags trace) 0 i (batches_in files) texts) are
+
+  pub rules_stopped : (why : Refusal) → StopsAmong (IsRulesText files.basin policy flags trace) 0 inputs (batches_in files) out why → Stops Run flags trace files out why
+  rules_stopped NoMemory stops = inr (record { runs = refl; texts = stops.texts; are = front stops.texts stops.are; grew = stops.grew })
+  rules_stopped CannotWrite stops =
+      (record { done = stops.done; text = stops.text; is = front (stops.done ++ stops.text ∷ []) stops.are; grew = stops.grew }, stops.rose)
+  rules_stopped why stops = absurd stops

@@ -1,0 +1,13 @@
+use Rattle.rw_top.proofs.Common.{IfOk, files_seen, subst, sym}
+use Rattle.rw_top.specs.Written.{IsOne}
+use Rattle.rw_top.proofs.perform.write_job.Goals as goal
+
+pub write_made-requires-in-Check : goal.write_made-requires-in-Check
+write_made-requires-in-Check g c =
+    subst (λ job. IfOk c.check.result (λ pair. IsOne job c.args.flags c.args.trace (files_seen c.args.files) pair.1 pair.0.items)) (sym c.in-Check.is)
+    (c.check.ensures c.args.flags c.args.trace)
+
+pub write_made-requires-in-Compile : goal.write_made-requires-in-Compile
+write_made-requires-in-Compile g c =
+    subst (λ job. IfOk c.compile.result (λ pair. IsOne job c.args.flags c.args.trace (files_seen c.args.files) pair.1 pair.0.items)) (sym c.in-Compile.is)
+    (c.compile.ensures c.args.flags c.args.trace)

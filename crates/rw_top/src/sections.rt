@@ -1,0 +1,134 @@
+// The sections of a run by a policy, each written as soon as it is made.
+ghost use Rattle.std.specs.Prelude.{◌≡◌, ◌≤◌, ◌+◌, [], ◌∷◌, length, map, IfOk, MatchOption, MatchResult};
+ghost use Rattle.std.specs.List.{All};
+ghost use Rattle.rw_inputs.specs.Edits.{IsBatch, after_batch};
+ghost use Rattle.rw_inputs.specs.Inputs.{IsInputsOf, value_at};
+ghost use Rattle.rw_io.specs.Outside.{change};
+ghost use Rattle.rw_method.specs.Catalogue.{AreInOrder};
+ghost use Rattle.rw_top.specs.Ready.{IsFit};
+ghost use Rattle.rw_top.specs.RunText.{IsRulesText};
+ghost use Rattle.rw_top.specs.Sections.{AppendsAll, AppendsOne, StopsAmong, StopsAtOne};
+ghost use Rattle.rw_top.specs.Seen.{policy_of};
+
+use crate::Refusal;
+use crate::policy::Policy;
+use crate::run::text_by_policy;
+use rpl_predef::Predefs;
+use rw_base::{Ledger, NoMemory, Steps};
+use rw_engine::RunEnd;
+use rw_inputs::{Batch, Inputs, apply};
+use rw_io::{Sink, WriteFault, write_all};
+use rw_method::Catalogue;
+use rw_model::Basin;
+use std::alloc::Global;
+
+// Writes the section of the run from inputs, and answers how the run ended.
+fn write_section<K: Sink, L: Ledger>(
+    alloc: Global,
+    basin: &Basin,
+    methods: &Catalogue,
+    policy: &Policy,
+    predefs: &Predefs,
+    flags: bool,
+    trace: bool,
+    number: u32,
+    inputs: &Inputs,
+    steps: &mut Steps<L>,
+    out: &mut K,
+) -> Result<RunEnd, Refusal>
+    requires order { AreInOrder (map (λ b. code (b.vtable, b.value)) methods.now.methods.items) }
+    requires fits { IsFit basin.now policy.now }
+    requires inputs { IsInputsOf basin.now inputs.now }
+    ensures { MatchResult result
+        (AppendsOne (IsRulesText basin.now (policy_of policy.now) flags trace)
+        number inputs.now (change (K.seen out.old) (K.seen out.new)))
+        (StopsAtOne (IsRulesText basin.now (policy_of policy.now) flags trace)
+        number inputs.now (change (K.seen out.old) (K.seen out.new))) }
+{
+    let (text, end) = match text_by_policy(
+        alloc, basin, methods, policy, predefs, flags, trace, number, inputs, steps,
+    ) {
+        Ok(pair) => pair,
+        Err(NoMemory) => return Err(Refusal::NoMemory),
+    };
+    match write_all(out, &text) {
+        Ok(()) => Ok(end),
+        Err(WriteFault) => Err(Refusal::CannotWrite),
+    }
+}
+
+// The inputs after a batch, which take the place of those before it.
+fn changed(alloc: Global, basin: &Basin, inputs: Inputs, batch: &Batch) -> Result<Inputs, NoMemory>
+    requires inputs { IsInputsOf basin.now inputs }
+    requires batch { IsBatch basin.now batch.now }
+    ensures values { IfOk result (λ edited. value_at edited
+        ≡ after_batch batch.now (value_at inputs)) }
+    ensures made { IfOk result (IsInputsOf basin.now) }
+{
+    apply(alloc, basin, &inputs, batch)
+}
+
+// The first batch, and those behind it.
+fn first_of(batches: &[Batch]) -> Option<(&Batch, &[Batch])>
+    ensures { MatchOption result (batches.entry.now ≡ [])
+        (λ pair. batches.entry.now ≡ pair.0.now ∷ pair.1.now) }
+{
+    match batches {
+        [] => None,
+        [batch, rest @ ..] => Some((batch, rest)),
+    }
+}
+
+/// Writes a section for inputs and one after each batch of edits, and answers how the run of the last one ended.
+pub(crate) fn write_sections<K: Sink, L: Ledger>(
+    alloc: Global,
+    basin: &Basin,
+    methods: &Catalogue,
+    policy: &Policy,
+    predefs: &Predefs,
+    flags: bool,
+    trace: bool,
+    number: u32,
+    inputs: Inputs,
+    batches: &[Batch],
+    steps: &mut Steps<L>,
+    out: &mut K,
+) -> Result<RunEnd, Refusal>
+    requires order { AreInOrder (map (λ b. code (b.vtable, b.value)) methods.now.methods.items) }
+    requires fits { IsFit basin.now policy.now }
+    requires inputs { IsInputsOf basin.now inputs }
+    requires batches { All (IsBatch basin.now) batches.now }
+    requires few { number + length batches.now ≤ 64 }
+    ensures { MatchResult result
+        (AppendsAll (IsRulesText basin.now (policy_of policy.now) flags trace)
+        number inputs batches.now (change (K.seen out.old) (K.seen out.new)))
+        (StopsAmong (IsRulesText basin.now (policy_of policy.now) flags trace)
+        number inputs batches.now (change (K.seen out.old) (K.seen out.new))) }
+{
+    let end = match write_section(
+        alloc, basin, methods, policy, predefs, flags, trace, number, &inputs, steps, out,
+    ) {
+        Ok(end) => end,
+        Err(refusal) => return Err(refusal),
+    };
+    match first_of(batches) {
+        None => Ok(end),
+        Some((batch, rest)) => match changed(alloc, basin, inputs, batch) {
+            Ok(edited) => write_sections(
+                alloc,
+                basin,
+                methods,
+                policy,
+                predefs,
+                flags,
+                trace,
+                number + 1,
+                edited,
+                rest,
+                steps,
+                out,
+            ),
+            Err(NoMemory) => Err(Refusal::NoMemory),
+        },
+    }
+}
