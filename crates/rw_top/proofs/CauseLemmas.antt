@@ -30,7 +30,7 @@ use Rattle.rw_top.specs.declared.refusal.File.TheVariants.{Policy as PolicyFile}
 use Rattle.rw_top.specs.Written.{Stops}
 use Rattle.rw_top.specs.Ready.{IsMadeOf}
 use Rattle.rw_top.specs.declared.policy.Policy.TheVariants as Held
-use Rattle.rw_top.specs.declared.refusal.Refusal.TheVariants.{CannotRead, CannotWrite, NoMemory, Model, Grammar, Types, Code, Block as BlockAt, Inputs, Edits, TooLong}
+use Rattle.rw_top.specs.declared.refusal.Refusal.TheVariants.{CannotRead, CannotWrite, NoMemory, Model, Grammar, Types, Code, Block as BlockAt, Inputs, Edits, NoCell, TooLong}
 
 -- a fault that doesn't tell nothing tells why
 pub tells_why : {R : Type 0} (told : Option R) → ¬ (told ≡ None) → (why : R) × (told ≡ Some why)
@@ -153,6 +153,7 @@ its_code basin text blocks code spells is =
 told_cause : (command : Command) (shelf : Change ShelfView) (why : Refusal) → TellsReason command shelf why → FileCause command shelf why
 told_cause command shelf (CannotRead file) told = let tells : None ≡ Some told.reason = told.tells in absurd cc
 told_cause command shelf NoMemory told = tt
+told_cause command shelf NoCell told = let tells : None ≡ Some told.reason = told.tells in absurd cc
 told_cause command shelf why told = told
 
 -- why a policy is refused
@@ -188,6 +189,7 @@ since : (command : Command) (first later now : ShelfView) (why : Refusal) → No
 since command first later now (CannotRead file) fell cause =
     record { reached = cause.reached; rose = rose_since first later now (path_of command file) fell cause.rose }
 since command first later now NoMemory fell cause = tt
+since command first later now NoCell fell cause = cause
 since command first later now why fell cause =
     record { reason = cause.reason; tells = cause.tells; found = since_reason command first later now cause.reason cause.found }
 

@@ -5,6 +5,7 @@
 //! and one line that says so.
 #![tactic(auto)]
 
+mod cell;
 mod check;
 mod command;
 mod compile;
@@ -20,6 +21,7 @@ mod sections;
 mod simulate;
 mod tell;
 mod top;
+mod why;
 
 pub use refusal::{File, Refusal};
 pub use rw_base::{Blank, Ledger, Steps};
