@@ -1,5 +1,5 @@
 -- Causes as the code comes to them, step by step.
-use Rattle.rw_top.proofs.Common.{AreRead, BadEdits, BadInputs, BadModel, BadPolicy, Cause, Change, Checked, Command, Declared, Err, FILE_MAX, File, FileCause, Files, Holds, IsErrOf, IsPolicyRefusal, IsReading, IsSomeAnd, IsTooLong, List, LongFile, MatchResult, None, NoneFell, Ok, Option, Reaches, ReadsPolicy, Reason, Refusal, Result, Rose, ShelfView, SinkView, Some, WasFound, ap, arith, change, checked, false, inl, inr, option_map, path_of, reason_of, refl, refusal_after, status_by, status_of, subst, sym, true, with_types, ℕ, ◌<◌, ◌∙◌, ◌≡◌}
+use Rattle.rw_top.proofs.Common.{AreRead, BadEdits, BadInputs, BadModel, BadPolicy, Cause, Change, Checked, Command, Declared, Err, FILE_MAX, File, FileCause, Files, Holds, IsErrOf, IsPolicyRefusal, IsReading, IsSomeAnd, IsTooLong, List, LongFile, MatchResult, None, NoneFell, Ok, Option, Reaches, Reason, Refusal, Result, Rose, ShelfView, SinkView, Some, WasFound, ap, arith, change, checked, false, inl, inr, option_map, path_of, reason_of, refl, refusal_after, status_by, status_of, subst, sym, true, with_types, ℕ, ◌<◌, ◌∙◌, ◌≡◌}
 use Rattle.rw_inputs.specs.Refusal.{refused_at}
 use Rattle.rw_io.specs.declared.whole_file.ReadEnd.{ReadEnd}
 use Rattle.rw_io.specs.declared.whole_file.ReadEnd.TheVariants.{ReadFault, TooLong as EndTooLong, NoMemory as EndNoMemory}
@@ -23,7 +23,7 @@ use Rattle.rpl_verify.specs.Fits.{Refusal as BlockRefusal, refusal as block_refu
 use Rattle.rpl_verify.specs.Resolved.{resolved_code}
 use Rattle.rpl_verify.specs.Verified.{Accepted, verified, with_budgets}
 use Rattle.rpl_types.specs.Nodes.{Types as NodeTypes}
-use Rattle.rw_top.specs.Policy.{Unread, Misfit, Policy, BadRules, BadBlocks, BadGrammar, BadNode, IsRulesetOf, RefusesNode}
+use Rattle.rw_top.specs.Policy.{Unread, Misfit, BadRules, BadBlocks, BadGrammar, BadNode, IsRulesetOf, RefusesNode}
 use Rattle.rw_top.specs.Reading.{ReadsModel, WasRead, reads_code}
 use Rattle.rw_top.specs.Refusal.{TellsReason}
 use Rattle.rw_top.specs.declared.refusal.File.TheVariants.{Policy as PolicyFile}

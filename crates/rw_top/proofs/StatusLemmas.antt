@@ -1,5 +1,5 @@
 -- What each status says of a call that keeps its promise.
-use Rattle.rw_top.proofs.Common.{AskFor, AskNothing, Asks, BadEdits, BadInputs, BadModel, BadPolicy, AreRead, Call, Command, FailsToRead, Fault, File, Files, FindsTooLong, GrowsBy, Holds, InputRefusal, IsRunText, IsSomeAnd, IsTextOf, Job, None, Option, ReadsInputs, ReadsPolicy, SaysAt, Some, List, LongFile, ModelRefusal, Promise, Reason, Refusal, RefusedCommand, RefusesInputs, RefusesModel, RefusesPolicy, Rose, RunEnd, Settled, WasFound, WasRefused, WritesFront, WroteCheck, WroteCode, WroteRun, [], ap, arith, false, inl, inr, reads_code, refl, status_by, status_of, status_of_end, subst, takes_code, true, ℕ, ◌∙◌, ◌∷◌, ◌≡◌, ◌≢◌, ◌≤◌, ◌⊎◌}
+use Rattle.rw_top.proofs.Common.{AskFor, AskNothing, Asks, BadEdits, BadInputs, BadModel, BadPolicy, AreRead, Call, Command, FailsToRead, Fault, File, Files, FindsTooLong, GrowsBy, Holds, InputRefusal, IsRunText, IsSomeAnd, IsTextOf, Job, None, Option, ReadsInputs, ReadsPolicy, SaysAt, Some, List, LongFile, ModelRefusal, Promise, Reason, Refusal, RefusedCommand, RefusesInputs, RefusesModel, RefusesPolicy, Rose, RunEnd, Settled, WasFound, WasRefused, WritesFront, WroteCheck, WroteCode, WroteRun, [], ap, arith, inl, inr, reads_code, refl, status_by, status_of, status_of_end, takes_code, true, ℕ, ◌∙◌, ◌∷◌, ◌≡◌, ◌≢◌, ◌≤◌, ◌⊎◌}
 use Rattle.rw_run.specs.Next.{no_rules}
 use Rattle.rw_run.specs.declared.fault.RunFault.{RunFault}
 use Rattle.rw_base.specs.declared.number.Cell.{Cell}
@@ -9,7 +9,7 @@ use Rattle.rw_top.specs.Reading.{LacksCell, RefusesEdits}
 use Rattle.rpl_compile.specs.Translate.{translate}
 use Rattle.rw_top.specs.RunText.{IsRulesText, IsWhyOfRules}
 use Rattle.rw_top.specs.Sections.{AreSections, joined}
-use Rattle.rw_top.specs.Written.{OfThree, WritesSections, batches_in}
+use Rattle.rw_top.specs.Written.{WritesSections, batches_in}
 use Rattle.rw_top.proofs.SectionLemmas.{one_grown}
 use Rattle.rw_base.proofs.Common.{sym, ◌&&◌}
 use Rattle.rw_inputs.specs.Inputs.{Inputs as Given}

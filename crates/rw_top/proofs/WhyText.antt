@@ -1,5 +1,5 @@
 -- How a cell came to what it holds in a run by a policy, from that in a run by its code.
-use Rattle.rw_top.proofs.Common.{Declared, Files, IsSomeAnd, Job, List, None, Option, RunEnd, Some, refl, status_of_end, subst, sym, [], ℕ, ◌∙◌, ◌∷◌, ◌≡◌}
+use Rattle.rw_top.proofs.Common.{Declared, Files, IsSomeAnd, List, RunEnd, Some, refl, status_of_end, subst, sym, [], ℕ, ◌∙◌, ◌∷◌, ◌≡◌}
 use Rattle.rw_base.proofs.Common.{Bool, IsSome}
 use Rattle.rw_base.specs.declared.number.Cell.{Cell}
 use Rattle.rw_engine.specs.Passing.{ComesTo}
@@ -73,8 +73,8 @@ one_why flags trace files policy inputs cell has_policy has_inputs has_cell end 
     end,
     same,
     of_three files policy inputs cell has_policy has_inputs has_cell
-    (λ p i c. (one : List ℕ) × ((text ∷ []) ≡ one ∷ []) × IsWhyOfRules files.basin p i c end one) (text, refl, is),
+        (λ p i c. (one : List ℕ) × ((text ∷ []) ≡ one ∷ []) × IsWhyOfRules files.basin p i c end one) (text, refl, is),
   ),
   of_three files policy inputs cell has_policy has_inputs has_cell
-  (λ p i c. (e : RunEnd) × (one : List ℕ) × ((text ∷ []) ≡ one ∷ []) × IsWhyOfRules files.basin p i c e one) (end, text, refl, is),
+      (λ p i c. (e : RunEnd) × (one : List ℕ) × ((text ∷ []) ≡ one ∷ []) × IsWhyOfRules files.basin p i c e one) (end, text, refl, is),
 )

@@ -1,5 +1,5 @@
 -- The cell that the words of a command ask for.
-use Rattle.std.specs.Prelude.{◌≡◌, ℕ, nat_le, List, [], slice_index_or, Option, Some, None, IsSome, IsTrue, Bool, ◌&&◌, if◌then◌else◌}
+use Rattle.std.specs.Prelude.{◌≡◌, ℕ, nat_le, List, [], slice_index_or, Option, Some, None, IsSome, IsTrue, ◌&&◌, if◌then◌else◌}
 use Rattle.rw_base.specs.declared.number.Cell.{Cell}
 use Rattle.rw_model.specs.Draft.{Draft}
 use Rattle.rw_inputs.specs.Number.{read_number}
