@@ -1,5 +1,5 @@
 -- Causes as the code comes to them, step by step.
-use Rattle.rw_top.proofs.Common.{AreRead, BadEdits, BadInputs, BadModel, BadPolicy, Cause, Change, Checked, Command, Declared, Err, FILE_MAX, File, FileCause, Files, Holds, IsErrOf, IsPolicyRefusal, IsReading, IsSomeAnd, IsTooLong, List, LongFile, MatchResult, None, NoneFell, Ok, Option, Reaches, ReadsPolicy, Reason, Refusal, Result, Rose, ShelfView, SinkView, Some, WasFound, ap, arith, change, checked, false, inl, inr, option_map, path_of, reason_of, refl, refusal_after, status_by, status_of, subst, sym, true, with_types, ℕ, ◌<◌, ◌∙◌, ◌≡◌}
+use Rattle.rw_top.proofs.Common.{AreRead, BadEdits, BadInputs, BadModel, BadPolicy, Cause, Change, Checked, Command, Declared, Err, FILE_MAX, File, FileCause, Files, Holds, IsErrOf, IsPolicyRefusal, IsReading, IsSomeAnd, IsTooLong, List, LongFile, MatchResult, None, NoneFell, Ok, Option, Reaches, Reason, Refusal, Result, Rose, ShelfView, SinkView, Some, WasFound, ap, arith, change, checked, false, inl, inr, option_map, path_of, reason_of, refl, refusal_after, status_by, status_of, subst, sym, true, with_types, ℕ, ◌<◌, ◌∙◌, ◌≡◌}
 use Rattle.rw_inputs.specs.Refusal.{refused_at}
 use Rattle.rw_io.specs.declared.whole_file.ReadEnd.{ReadEnd}
 use Rattle.rw_io.specs.declared.whole_file.ReadEnd.TheVariants.{ReadFault, TooLong as EndTooLong, NoMemory as EndNoMemory}
@@ -23,14 +23,14 @@ use Rattle.rpl_verify.specs.Fits.{Refusal as BlockRefusal, refusal as block_refu
 use Rattle.rpl_verify.specs.Resolved.{resolved_code}
 use Rattle.rpl_verify.specs.Verified.{Accepted, verified, with_budgets}
 use Rattle.rpl_types.specs.Nodes.{Types as NodeTypes}
-use Rattle.rw_top.specs.Policy.{Unread, Misfit, Policy, BadRules, BadBlocks, BadGrammar, BadNode, IsRulesetOf, RefusesNode}
+use Rattle.rw_top.specs.Policy.{Unread, Misfit, BadRules, BadBlocks, BadGrammar, BadNode, IsRulesetOf, RefusesNode}
 use Rattle.rw_top.specs.Reading.{ReadsModel, WasRead, reads_code}
 use Rattle.rw_top.specs.Refusal.{TellsReason}
 use Rattle.rw_top.specs.declared.refusal.File.TheVariants.{Policy as PolicyFile}
 use Rattle.rw_top.specs.Written.{Stops}
 use Rattle.rw_top.specs.Ready.{IsMadeOf}
 use Rattle.rw_top.specs.declared.policy.Policy.TheVariants as Held
-use Rattle.rw_top.specs.declared.refusal.Refusal.TheVariants.{CannotRead, CannotWrite, NoMemory, Model, Grammar, Types, Code, Block as BlockAt, Inputs, Edits, TooLong}
+use Rattle.rw_top.specs.declared.refusal.Refusal.TheVariants.{CannotRead, CannotWrite, NoMemory, Model, Grammar, Types, Code, Block as BlockAt, Inputs, Edits, NoCell, TooLong}
 
 -- a fault that doesn't tell nothing tells why
 pub tells_why : {R : Type 0} (told : Option R) → ¬ (told ≡ None) → (why : R) × (told ≡ Some why)
@@ -153,6 +153,7 @@ its_code basin text blocks code spells is =
 told_cause : (command : Command) (shelf : Change ShelfView) (why : Refusal) → TellsReason command shelf why → FileCause command shelf why
 told_cause command shelf (CannotRead file) told = let tells : None ≡ Some told.reason = told.tells in absurd cc
 told_cause command shelf NoMemory told = tt
+told_cause command shelf NoCell told = let tells : None ≡ Some told.reason = told.tells in absurd cc
 told_cause command shelf why told = told
 
 -- why a policy is refused
@@ -188,6 +189,7 @@ since : (command : Command) (first later now : ShelfView) (why : Refusal) → No
 since command first later now (CannotRead file) fell cause =
     record { reached = cause.reached; rose = rose_since first later now (path_of command file) fell cause.rose }
 since command first later now NoMemory fell cause = tt
+since command first later now NoCell fell cause = cause
 since command first later now why fell cause =
     record { reason = cause.reason; tells = cause.tells; found = since_reason command first later now cause.reason cause.found }
 

@@ -1,6 +1,6 @@
 -- What has to be refused of a call that keeps its promise, in terms of what its shelf tells.
 use Rattle.rw_top.proofs.Common.{AcceptsAll, Asks, BadEdits, BadInputs, BadModel, BadPolicy, Call, Change, Command, File, HoldsTooLong, IfSome, InputRefusal, IsHonest, IsSome, List, LongFile, ModelRefusal, None, Option, Promise, RefusesInputs, RefusesModel, RefusesPolicy, Rose, ShelfView, Some, arith, order, path_of, ℕ, ◌≡◌, ◌≤◌, ◌⊎◌}
-use Rattle.rw_top.specs.Reading.{RefusesEdits}
+use Rattle.rw_top.specs.Reading.{LacksCell, RefusesEdits}
 use Rattle.rw_top.specs.Told.{AreTold}
 use Rattle.rw_top.specs.declared.refusal.File.TheVariants.{Model}
 use Rattle.rw_top.specs.Policy.{BadCode, RulesRefusal, BadRules, BadBlocks}
@@ -46,9 +46,13 @@ module _ (call : Call) (status : ℕ) (command : Command) where
       → HoldsTooLong command call.shelf.before.holds file → AreTold command call.shelf (order file) → (status ≡ 10) ⊎ (status ≡ 5)
   of_long file promise asks found good = promise.due command asks (LongFile file) found (honest (order file) good)
 
+  pub of_cell : Promise call status → Asks call.words command → LacksCell command call.shelf.before.holds
+      → AreTold command call.shelf 3 → (status ≡ 8) ⊎ (status ≡ 5)
+  of_cell promise asks lacks good = promise.cell command asks lacks (λ file. honest 3 good file (at_most_3 file))
+
   pub of_none : Promise call status → Asks call.words command → AcceptsAll command call.shelf.before.holds
-      → AreTold command call.shelf 3 → ¬ Rose call.out.before.faults call.out.after.faults
+      → ¬ LacksCell command call.shelf.before.holds → AreTold command call.shelf 3 → ¬ Rose call.out.before.faults call.out.after.faults
       → (status ≤ 1) ⊎ (status ≡ 5)
-  of_none promise asks accepted good calm =
-      promise.complete command asks accepted
+  of_none promise asks accepted there good calm =
+      promise.complete command asks accepted there
       (record { honest = λ file. honest 3 good file (at_most_3 file); stands = calm })

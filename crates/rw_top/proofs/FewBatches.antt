@@ -1,11 +1,10 @@
 -- A text gives at most 64 batches of edits.
-use Rattle.rw_top.proofs.Common.{Bool, Err, List, None, Ok, Option, Result, Some, [], ap, arith, false, if◌then◌else◌, length, nat_tests, refl, subst, sym, true, ℕ, ◌++◌, ◌+◌, ◌-◌, ◌∙◌, ◌∷◌, ◌≡◌, ◌≤◌}
+use Rattle.rw_top.proofs.Common.{Bool, Err, List, None, Ok, Option, Result, Some, [], arith, false, if◌then◌else◌, length, nat_tests, refl, subst, true, ℕ, ◌++◌, ◌+◌, ◌∷◌, ◌≡◌, ◌≤◌}
 use Rattle.rw_base.proofs.Common.{length-append, length-set, nat_le}
 use Rattle.rw_base.specs.Answers.{unless_refused}
 use Rattle.rw_model.specs.Draft.{Draft}
-use Rattle.rw_inputs.specs.declared.edit.Edit.{Edit}
 use Rattle.rw_inputs.specs.declared.wrong.Wrong.{Wrong}
-use Rattle.rw_inputs.specs.EditRows.{admit, at_row, batch_behind, batches_with, edits_of, follows, four_fields, is_edit_header, more_batches, opened, read_batch, read_batches, read_edit, with_edit, wrong_among}
+use Rattle.rw_inputs.specs.EditRows.{at_row, batch_behind, batches_with, edits_of, follows, four_fields, is_edit_header, more_batches, opened, read_batch, read_batches, read_edit, with_edit, wrong_among}
 use Rattle.rw_inputs.specs.Edits.{Batch}
 use Rattle.rw_inputs.specs.Number.{read_number}
 use Rattle.rw_inputs.specs.Records.{Fields, records_of}

@@ -5,7 +5,8 @@ use Rattle.rw_model.specs.Draft.{Draft}
 use Rattle.rw_inputs.specs.EditRows.{edits_of}
 use Rattle.rw_inputs.specs.Edits.{Batch}
 use Rattle.rw_inputs.specs.Inputs.{Inputs as Given}
-use Rattle.rw_top.specs.Reading.{ReadsEdits, RefusesEdits}
+use Rattle.rw_top.specs.Cell.{cell_of}
+use Rattle.rw_top.specs.Reading.{LacksCell, ReadsEdits, RefusesEdits}
 use Rattle.rw_top.specs.Policy.{Policy as Rules, PolicyRefusal, RefusesText}
 use Rattle.rw_top.specs.declared.refusal.File.TheVariants.{Model, Policy, Inputs, Edits}
 use Rattle.rw_top.proofs.CommandLemmas.{is_there}
@@ -41,7 +42,7 @@ long_clash holds None a told long h = absurd h
 long_clash holds (Some path) a told long h = not_long (holds path) a told long h.told h.short
 
 -- a file that isn't read isn't named
-not_named : (o : Option (List ℕ)) → o ≡ None → IsSome o → ⊥
+not_named : {A : Type 0} (o : Option A) → o ≡ None → IsSome o → ⊥
 not_named None none some = absurd cc
 not_named (Some path) none some = absurd cc
 
@@ -65,6 +66,13 @@ module _ (command : Command) (holds : Holds) where
       let text = same_text command holds Model m.text n.text told m.read n.read in
       let both : Ok b ≡ Ok c = sym m.is ∙ ap model_of text ∙ n.is in
       cc
+
+  -- where the files were read, the cell is there
+  pub cell_clash : (files : Files) → IsTold command holds Model → AreRead command holds files → LacksCell command holds → ⊥
+  cell_clash files told read lacks =
+      let basin = one_basin lacks.basin files.basin told lacks.model read.model in
+      let none : files.cell ≡ None = read.cell.is ∙ ap (cell_of command) (sym basin) ∙ lacks.none in
+      not_named files.cell none (read.cell.some lacks.seeks)
 
   model_clash : (why : ModelRefusal) (b : Draft) → IsTold command holds Model
       → RefusesModel command holds why → ReadsModel command holds b → ⊥
@@ -219,11 +227,17 @@ module _ (command : Command) (holds : Holds) where
   edits_there basin (Some batches) says named = (basin, batches, says)
 
   -- where the files of the command are read, each of them is accepted
+  pub accepts_all : (basin : Draft) (policy : Option Rules) (inputs : Option Given) (edits : Option (List Batch)) → ReadsModel command holds basin
+      → SaysAt command Policy policy (ReadsPolicy command holds basin) → SaysAt command Inputs inputs (ReadsInputs command holds basin)
+      → SaysAt command Edits edits (ReadsEdits command holds basin) → AcceptsAll command holds
+  accepts_all basin policy inputs edits model rules given batches Model named = (basin, model)
+  accepts_all basin policy inputs edits model rules given batches Policy named = policy_there basin policy rules named
+  accepts_all basin policy inputs edits model rules given batches Inputs named = inputs_there basin inputs given named
+  accepts_all basin policy inputs edits model rules given batches Edits named = edits_there basin edits batches named
+
   pub accepts_read : (files : Files) → AreRead command holds files → AcceptsAll command holds
-  accepts_read files read Model named = (files.basin, read.model)
-  accepts_read files read Policy named = policy_there files.basin files.policy read.policy named
-  accepts_read files read Inputs named = inputs_there files.basin files.inputs read.inputs named
-  accepts_read files read Edits named = edits_there files.basin files.edits read.edits named
+  accepts_read files read =
+      accepts_all files.basin files.policy files.inputs files.edits read.model read.policy read.inputs read.edits
 
   -- the file of a reason is read
   pub names : (reason : Reason) → IsFound command holds reason → Names command (file_of reason)

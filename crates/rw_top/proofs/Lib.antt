@@ -16,3 +16,4 @@ pub mod FilesRead
 pub mod RulesText
 pub mod SectionLemmas
 pub mod FewBatches
+pub mod WhyText

@@ -1,11 +1,11 @@
 -- A call that wrote its run, or was refused, keeps the promise.
 use Rattle.rw_top.proofs.Common.{Asks, Call, Cause, Command, Fault, Files, IsTextOf, Job, List, None, Promise, Refusal, RefusedCommand, RefusedWords, RunEnd, Settled, Some, WasRefused, WritesAll, Wrote, arith, inl, inr, status_of, status_of_end, ℕ, ◌∙◌, ◌≡◌, ◌≤◌}
-use Rattle.rw_words.specs.declared.job.Job.TheVariants.{Simulate, Check, Compile, Run}
+use Rattle.rw_words.specs.declared.job.Job.TheVariants.{Simulate, Check, Compile, Run, Why}
 use Rattle.rw_top.specs.declared.refusal.Refusal.TheVariants.{Words, NoMemory}
 use Rattle.rw_base.proofs.Common.{Bool}
 use Rattle.rw_top.specs.Promise.{UnreadWords}
 use Rattle.rw_top.proofs.CommandLemmas.{asks_clash, of_command}
-use Rattle.rw_top.proofs.DueLemmas.{complete, due, none_due}
+use Rattle.rw_top.proofs.DueLemmas.{cell_due, complete, due, none_due, none_lacks}
 
 at_most_1 : (end : RunEnd) → status_of_end end ≤ 1
 at_most_1 Settled = omega arith
@@ -15,6 +15,7 @@ status_at_most_1 : (job : Job) (flags trace : Bool) (files : Files) (status : �
 status_at_most_1 Simulate flags trace files status texts is = let most = at_most_1 is.0 in omega (arith, most, is.1)
 status_at_most_1 Check flags trace files status texts is = omega (arith, is.0)
 status_at_most_1 Compile flags trace files status texts is = omega (arith, is.0)
+status_at_most_1 Why flags trace files status texts is = let most = at_most_1 is.0 in omega (arith, most, is.1)
 status_at_most_1 Run flags trace files status texts is = let most = at_most_1 is.0 in omega (arith, most, is.1)
 
 at_least_2 : (why : Refusal) → 2 ≤ status_of why
@@ -38,7 +39,11 @@ module _ (call : Call) (held : (path : List ℕ) → call.shelf.after.holds path
             let wrote_all = of_command call.words wrote.command command wrote.asked asks
             (λ it. WritesAll it call.shelf.before.holds call.out status) wrote.text in
             absurd (none_due command call.shelf wrote_all.0 wrote_all.1 reason found honest);
-        complete = λ command asks accepted calm. inl low;
+        cell = λ command asks lacks honest.
+            let wrote_all = of_command call.words wrote.command command wrote.asked asks
+            (λ it. WritesAll it call.shelf.before.holds call.out status) wrote.text in
+            absurd (none_lacks command call.shelf wrote_all.0 wrote_all.1 lacks honest);
+        complete = λ command asks accepted there calm. inl low;
         held = held;
       }
 
@@ -48,7 +53,8 @@ module _ (call : Call) (held : (path : List ℕ) → call.shelf.after.holds path
     refused = λ above. (Words, is, was);
     words = λ nothing. inl is;
     due = λ command asks reason found honest. absurd (asks_clash call.words command was.nothing asks);
-    complete = λ command asks accepted calm. absurd (asks_clash call.words command was.nothing asks);
+    cell = λ command asks lacks honest. absurd (asks_clash call.words command was.nothing asks);
+    complete = λ command asks accepted there calm. absurd (asks_clash call.words command was.nothing asks);
     held = held;
   }
 
@@ -58,7 +64,8 @@ module _ (call : Call) (held : (path : List ℕ) → call.shelf.after.holds path
     refused = λ above. (NoMemory, is, inl was);
     words = λ nothing. inr is;
     due = λ command asks reason found honest. inr is;
-    complete = λ command asks accepted calm. inr is;
+    cell = λ command asks lacks honest. inr is;
+    complete = λ command asks accepted there calm. inr is;
     held = held;
   }
 
@@ -73,7 +80,8 @@ module _ (call : Call) (held : (path : List ℕ) → call.shelf.after.holds path
         words = λ nothing. absurd (asks_clash call.words was.command nothing was.asked);
         due = λ command asks reason found honest.
             rw is (due command call.shelf call.out why (cause command asks) reason found honest);
-        complete = λ command asks accepted calm.
-            inr (is ∙ complete command call.shelf call.out why (cause command asks) accepted calm.honest calm.stands);
+        cell = λ command asks lacks honest. rw is (cell_due command call.shelf call.out why (cause command asks) lacks honest);
+        complete = λ command asks accepted there calm.
+            inr (is ∙ complete command call.shelf call.out why (cause command asks) accepted there calm.honest calm.stands);
         held = held;
       }

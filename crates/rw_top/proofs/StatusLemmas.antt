@@ -1,22 +1,24 @@
 -- What each status says of a call that keeps its promise.
-use Rattle.rw_top.proofs.Common.{AskFor, AskNothing, Asks, BadEdits, BadInputs, BadModel, BadPolicy, AreRead, Call, Command, FailsToRead, Fault, File, Files, FindsTooLong, GrowsBy, Holds, InputRefusal, IsRunText, IsSomeAnd, IsTextOf, Job, None, Option, ReadsInputs, ReadsPolicy, SaysAt, Some, List, LongFile, ModelRefusal, Promise, Reason, Refusal, RefusedCommand, RefusesInputs, RefusesModel, RefusesPolicy, Rose, RunEnd, Settled, WasFound, WasRefused, WritesFront, WroteCheck, WroteCode, WroteRun, [], ap, arith, false, inl, inr, reads_code, refl, status_by, status_of, status_of_end, subst, takes_code, true, ℕ, ◌∙◌, ◌∷◌, ◌≡◌, ◌≢◌, ◌≤◌, ◌⊎◌}
+use Rattle.rw_top.proofs.Common.{AskFor, AskNothing, Asks, BadEdits, BadInputs, BadModel, BadPolicy, AreRead, Call, Command, FailsToRead, Fault, File, Files, FindsTooLong, GrowsBy, Holds, InputRefusal, IsRunText, IsSomeAnd, IsTextOf, Job, None, Option, ReadsInputs, ReadsPolicy, SaysAt, Some, List, LongFile, ModelRefusal, Promise, Reason, Refusal, RefusedCommand, RefusesInputs, RefusesModel, RefusesPolicy, Rose, RunEnd, Settled, WasFound, WasRefused, WritesFront, WroteCheck, WroteCode, WroteRun, [], ap, arith, inl, inr, reads_code, refl, status_by, status_of, status_of_end, takes_code, true, ℕ, ◌∙◌, ◌∷◌, ◌≡◌, ◌≢◌, ◌≤◌, ◌⊎◌}
 use Rattle.rw_run.specs.Next.{no_rules}
 use Rattle.rw_run.specs.declared.fault.RunFault.{RunFault}
-use Rattle.rw_top.specs.Promise.{WroteRules}
-use Rattle.rw_top.specs.Reading.{RefusesEdits}
+use Rattle.rw_base.specs.declared.number.Cell.{Cell}
+use Rattle.rw_top.specs.Cell.{FindsCell}
+use Rattle.rw_top.specs.Promise.{WroteRules, WroteWhy}
+use Rattle.rw_top.specs.Reading.{LacksCell, RefusesEdits}
 use Rattle.rpl_compile.specs.Translate.{translate}
-use Rattle.rw_top.specs.RunText.{IsRulesText}
+use Rattle.rw_top.specs.RunText.{IsRulesText, IsWhyOfRules}
 use Rattle.rw_top.specs.Sections.{AreSections, joined}
 use Rattle.rw_top.specs.Written.{WritesSections, batches_in}
 use Rattle.rw_top.proofs.SectionLemmas.{one_grown}
-use Rattle.rw_base.proofs.Common.{◌&&◌}
+use Rattle.rw_base.proofs.Common.{sym, ◌&&◌}
 use Rattle.rw_inputs.specs.Inputs.{Inputs as Given}
 use Rattle.rpl_code.specs.Spelling.{spelt}
 use Rattle.rw_top.specs.Budgets.{check_text}
 use Rattle.rw_top.specs.Policy.{BadCode, RulesRefusal, BadRules, BadBlocks, Policy as Rules, Ruleset, Code, code_of, is_code}
-use Rattle.rw_words.specs.declared.job.Job.TheVariants.{Simulate, Check, Compile, Run}
+use Rattle.rw_words.specs.declared.job.Job.TheVariants.{Simulate, Check, Compile, Run, Why}
 use Rattle.rw_top.specs.declared.refusal.File.TheVariants.{Policy as PolicyFile, Inputs as InputsFile}
-use Rattle.rw_top.specs.declared.refusal.Refusal.TheVariants.{Words, CannotRead, CannotWrite, NoMemory}
+use Rattle.rw_top.specs.declared.refusal.Refusal.TheVariants.{Words, CannotRead, CannotWrite, NoMemory, Inputs, Edits, NoCell}
 use Rattle.rw_top.proofs.CauseLemmas.{told_status}
 use Rattle.rw_top.proofs.OneReading.{one_kind}
 
@@ -65,6 +67,29 @@ module _ (call : Call) (command : Command) (asked : Asks call.words command) (fi
     grew = grew;
   }
 
+  wrote_why : (end : RunEnd) (policy : Option Rules) (inputs : Option Given) (cell : Option Cell)
+      → SaysAt command PolicyFile policy (ReadsPolicy command holds files.basin)
+      → SaysAt command InputsFile inputs (ReadsInputs command holds files.basin) → FindsCell command files.basin cell
+      → IsSomeAnd policy (λ rules. IsSomeAnd inputs (λ given. IsSomeAnd cell (λ found.
+      (text : List ℕ) × (texts ≡ text ∷ []) × IsWhyOfRules files.basin rules given found end text))) → WroteWhy call end
+  wrote_why end None inputs cell rules says finds is = absurd is
+  wrote_why end (Some policy) None cell rules says finds is = absurd is
+  wrote_why end (Some policy) (Some inputs) None rules says finds is = absurd is
+  wrote_why end (Some policy) (Some inputs) (Some cell) rules says finds is = record {
+    command = command;
+    asked = asked;
+    basin = files.basin;
+    policy = policy;
+    rules = rules;
+    inputs = inputs;
+    read = says;
+    cell = cell;
+    named = sym finds.is;
+    text = is.0;
+    is = is.2;
+    grew = one is.0 is.1;
+  }
+
   wrote_check : (policy : Option Rules) → SaysAt command PolicyFile policy (ReadsPolicy command holds files.basin)
       → IsSomeAnd policy (λ rules. texts ≡ check_text rules ∷ []) → WroteCheck call
   wrote_check None says is = absurd is
@@ -81,29 +106,34 @@ module _ (call : Call) (command : Command) (asked : Asks call.words command) (fi
       let as_code : reads_code command says.text ≡ true = says.is.0 in
       absurd (one_kind _ as_code (ap (λ j. takes_code j && is_code says.text) job))
 
-  settled_by : (job : Job) → command.job ≡ job → IsTextOf job command.flags command.trace files 0 texts → WroteRun call Settled ⊎ WroteRules call Settled ⊎ WroteCheck call ⊎ WroteCode call
+  settled_by : (job : Job) → command.job ≡ job → IsTextOf job command.flags command.trace files 0 texts → WroteRun call Settled ⊎ WroteRules call Settled ⊎ WroteWhy call Settled ⊎ WroteCheck call ⊎ WroteCode call
   settled_by Simulate job is = inl (settles (WroteRun call) is.0 is.1 (wrote_run is.0 files.inputs read.inputs is.2))
-  settled_by Check job is = inr (inr (inl (wrote_check files.policy read.policy is.1)))
-  settled_by Compile job is = inr (inr (inr (wrote_code job files.policy read.policy is.1)))
+  settled_by Check job is = inr (inr (inr (inl (wrote_check files.policy read.policy is.1))))
+  settled_by Compile job is = inr (inr (inr (inr (wrote_code job files.policy read.policy is.1))))
+  settled_by Why job is =
+      inr (inr (inl (settles (WroteWhy call) is.0 is.1
+      (wrote_why is.0 files.policy files.inputs files.cell read.policy read.inputs read.cell is.2))))
   settled_by Run job is =
       inr (inl (settles (WroteRules call) is.0 is.1 (wrote_rules is.0 files.policy files.inputs read.policy read.inputs is.2)))
 
   abbrev WroteFault : RunEnd → Type 0
-  WroteFault end = WroteRun call end ⊎ WroteRules call end
+  WroteFault end = WroteRun call end ⊎ WroteRules call end ⊎ WroteWhy call end
 
-  faulted_by : (job : Job) → IsTextOf job command.flags command.trace files 1 texts → (why : RunFault) × (WroteRun call (Fault why) ⊎ WroteRules call (Fault why))
+  faulted_by : (job : Job) → IsTextOf job command.flags command.trace files 1 texts → (why : RunFault) × (WroteRun call (Fault why) ⊎ WroteRules call (Fault why) ⊎ WroteWhy call (Fault why))
   faulted_by Simulate is = faults WroteFault is.0 is.1 (inl (wrote_run is.0 files.inputs read.inputs is.2))
-  faulted_by Run is = faults WroteFault is.0 is.1 (inr (wrote_rules is.0 files.policy files.inputs read.policy read.inputs is.2))
+  faulted_by Run is = faults WroteFault is.0 is.1 (inr (inl (wrote_rules is.0 files.policy files.inputs read.policy read.inputs is.2)))
+  faulted_by Why is =
+      faults WroteFault is.0 is.1 (inr (inr (wrote_why is.0 files.policy files.inputs files.cell read.policy read.inputs read.cell is.2)))
   faulted_by Check is = absurd (omega (arith, is.0))
   faulted_by Compile is = absurd (omega (arith, is.0))
 
-pub settled : (call : Call) → Promise call 0 → WroteRun call Settled ⊎ WroteRules call Settled ⊎ WroteCheck call ⊎ WroteCode call
+pub settled : (call : Call) → Promise call 0 → WroteRun call Settled ⊎ WroteRules call Settled ⊎ WroteWhy call Settled ⊎ WroteCheck call ⊎ WroteCode call
 settled call promise =
     let wrote = promise.done (omega arith) in
     let appends = wrote.text.2 in
     settled_by call wrote.command wrote.asked wrote.text.0 wrote.text.1 appends.texts appends.grew wrote.command.job refl appends.is
 
-pub faulted : (call : Call) → Promise call 1 → (why : RunFault) × (WroteRun call (Fault why) ⊎ WroteRules call (Fault why))
+pub faulted : (call : Call) → Promise call 1 → (why : RunFault) × (WroteRun call (Fault why) ⊎ WroteRules call (Fault why) ⊎ WroteWhy call (Fault why))
 faulted call promise =
     let wrote = promise.done (omega arith) in
     let appends = wrote.text.2 in
@@ -130,14 +160,15 @@ module _ (call : Call) where
   by_write CannotWrite is was = ((was.command, was.asked, was.cause.0), was.cause.1)
   by_write why is was = absurd (omega (arith, is))
 
-  -- from 6 on, that of a reason that was found
-  by_reason : (why : Refusal) → 6 ≤ status_of why → RefusedCommand call why
+  -- from 6 on, that of a reason that was found, or of a cell that isn't there
+  by_reason : (why : Refusal) → 6 ≤ status_of why → why ≢ NoCell → RefusedCommand call why
       → AskFor call.words (λ command. (reason : Reason) × (status_of why ≡ status_by reason) × WasFound command call.shelf reason)
-  by_reason Words high was = absurd (omega (arith, high))
-  by_reason (CannotRead file) high was = absurd (omega (arith, high))
-  by_reason CannotWrite high was = absurd (omega (arith, high))
-  by_reason NoMemory high was = absurd (omega (arith, high))
-  by_reason why high was =
+  by_reason Words high named was = absurd (omega (arith, high))
+  by_reason (CannotRead file) high named was = absurd (omega (arith, high))
+  by_reason CannotWrite high named was = absurd (omega (arith, high))
+  by_reason NoMemory high named was = absurd (omega (arith, high))
+  by_reason NoCell high named was = absurd (named refl)
+  by_reason why high named was =
       let told = was.cause.0 in (was.command, was.asked, (told.reason, told_status why told.reason told.tells, told.found))
 
   by_memory : (why : Refusal) → 5 ≡ status_of why → WasRefused call why
@@ -170,11 +201,11 @@ module _ (call : Call) where
   write promise = let refused = of_status 4 (omega arith) (omega arith) promise in by_write refused.0 refused.1 refused.2
 
   -- from 6 on, the reason that was found
-  reason_of_status : (status : ℕ) → 6 ≤ status → Promise call status
+  reason_of_status : (status : ℕ) → 6 ≤ status → status ≢ 8 → Promise call status
       → AskFor call.words (λ command. (reason : Reason) × (status ≡ status_by reason) × WasFound command call.shelf reason)
-  reason_of_status status high promise =
+  reason_of_status status high other promise =
       let refused = of_status status (omega (arith, high)) (omega (arith, high)) promise in
-      let there = by_reason refused.0 (omega (arith, high, refused.1)) refused.2 in
+      let there = by_reason refused.0 (omega (arith, high, refused.1)) (λ is. other (refused.1 ∙ ap status_of is)) refused.2 in
       (there.0, there.1, (there.2.0, refused.1 ∙ there.2.1, there.2.2))
 
   bad_model : (command : Command) (reason : Reason) → 6 ≡ status_by reason → WasFound command call.shelf reason
@@ -210,20 +241,35 @@ module _ (call : Call) where
   long_file command reason is found = absurd (omega (arith, is))
 
   pub model : Promise call 6 → AskFor call.words (λ command. (why : ModelRefusal) × RefusesModel command call.shelf.before.holds why)
-  model promise = let there = reason_of_status 6 (omega arith) promise in (there.0, there.1, bad_model there.0 there.2.0 there.2.1 there.2.2)
+  model promise = let there = reason_of_status 6 (omega arith) (omega arith) promise in (there.0, there.1, bad_model there.0 there.2.0 there.2.1 there.2.2)
 
   pub rules : Promise call 7 → AskFor call.words (λ command. (why : RulesRefusal) × RefusesPolicy command call.shelf.before.holds (BadRules why))
-  rules promise = let there = reason_of_status 7 (omega arith) promise in (there.0, there.1, bad_rules there.0 there.2.0 there.2.1 there.2.2)
+  rules promise = let there = reason_of_status 7 (omega arith) (omega arith) promise in (there.0, there.1, bad_rules there.0 there.2.0 there.2.1 there.2.2)
 
   pub code : Promise call 9 → AskFor call.words (λ command. (why : BadCode) × RefusesPolicy command call.shelf.before.holds (BadBlocks why))
-  code promise = let there = reason_of_status 9 (omega arith) promise in (there.0, there.1, bad_code there.0 there.2.0 there.2.1 there.2.2)
+  code promise = let there = reason_of_status 9 (omega arith) (omega arith) promise in (there.0, there.1, bad_code there.0 there.2.0 there.2.1 there.2.2)
 
-  pub inputs : Promise call 8 → AskFor call.words (λ command. (why : InputRefusal)
-      × (RefusesInputs command call.shelf.before.holds why ⊎ RefusesEdits command call.shelf.before.holds why))
-  inputs promise = let there = reason_of_status 8 (omega arith) promise in (there.0, there.1, bad_inputs there.0 there.2.0 there.2.1 there.2.2)
+  -- 8 is that of a row, or of a cell that isn't there
+  abbrev RowOrCell : Command → Type 0
+  RowOrCell command = ((why : InputRefusal) × (RefusesInputs command call.shelf.before.holds why ⊎ RefusesEdits command call.shelf.before.holds why))
+      ⊎ LacksCell command call.shelf.before.holds
+
+  by_row : (why : Refusal) → 8 ≡ status_of why → why ≢ NoCell → RefusedCommand call why → AskFor call.words RowOrCell
+  by_row why is named was =
+      let there = by_reason why (omega (arith, is)) named was in
+      (there.0, there.1, inl (bad_inputs there.0 there.2.0 (is ∙ there.2.1) there.2.2))
+
+  row_or_cell : (why : Refusal) → 8 ≡ status_of why → RefusedCommand call why → AskFor call.words RowOrCell
+  row_or_cell NoCell is was = (was.command, was.asked, inr was.cause.0)
+  row_or_cell (Inputs kind row column) is was = by_row (Inputs kind row column) is (λ same. cc) was
+  row_or_cell (Edits kind row column) is was = by_row (Edits kind row column) is (λ same. cc) was
+  row_or_cell why is was = absurd (omega (arith, is))
+
+  pub inputs : Promise call 8 → AskFor call.words RowOrCell
+  inputs promise = let refused = of_status 8 (omega arith) (omega arith) promise in row_or_cell refused.0 refused.1 refused.2
 
   pub too_long : Promise call 10 → AskFor call.words (λ command. (file : File) × FindsTooLong command call.shelf file)
-  too_long promise = let there = reason_of_status 10 (omega arith) promise in (there.0, there.1, long_file there.0 there.2.0 there.2.1 there.2.2)
+  too_long promise = let there = reason_of_status 10 (omega arith) (omega arith) promise in (there.0, there.1, long_file there.0 there.2.0 there.2.1 there.2.2)
 
   pub sections : Promise call 5 → (call.out.after.contents ≡ call.out.before.contents)
       ⊎ AskFor call.words (λ command. WritesSections command call.shelf.before.holds call.out)

@@ -1,7 +1,7 @@
 -- The command that the words ask for, and the files that it reads.
 use Rattle.std.specs.Prelude.{◌≡◌, ℕ, suc, ◌==◌, List, [], ◌∷◌, slice_index_or, Option, Some, None, option_map, IsSome, Bool, true, false, if◌then◌else◌}
 use Rattle.rw_words.specs.declared.job.Job.{Job}
-use Rattle.rw_words.specs.declared.job.Job.TheVariants.{Simulate, Check, Compile, Run}
+use Rattle.rw_words.specs.declared.job.Job.TheVariants.{Simulate, Check, Compile, Run, Why}
 use Rattle.rw_words.specs.Command.{Command, command_of as asked_by, seen}
 use Rattle.rw_words.specs.Plain.{plain}
 use Rattle.rw_top.specs.declared.refusal.File.{File}
@@ -16,6 +16,7 @@ files_of Simulate = Model ∷ Inputs ∷ []
 files_of Check = Model ∷ Policy ∷ []
 files_of Compile = Model ∷ Policy ∷ []
 files_of Run = Model ∷ Policy ∷ Inputs ∷ []
+files_of Why = Model ∷ Policy ∷ Inputs ∷ []
 
 -- its policy may be code. What is compiled is always read as a ruleset
 abbrev pub takes_code : Job → Bool
@@ -23,6 +24,12 @@ takes_code Simulate = true
 takes_code Check = true
 takes_code Compile = false
 takes_code Run = true
+takes_code Why = true
+
+-- it asks for a cell of the basin
+abbrev pub seeks_cell : Job → Bool
+seeks_cell Why = true
+seeks_cell job = false
 
 -- ---- files
 

@@ -1,5 +1,6 @@
 pub mod Call
 pub mod Command
+pub mod Cell
 pub mod Policy
 pub mod Reading
 pub mod Told

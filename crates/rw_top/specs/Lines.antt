@@ -23,7 +23,7 @@ use Rattle.rw_top.specs.Command.{path_of}
 use Rattle.rw_words.specs.Command.{Command}
 use Rattle.rw_top.specs.declared.refusal.File.{File}
 use Rattle.rw_top.specs.declared.refusal.Refusal.{Refusal}
-use Rattle.rw_top.specs.declared.refusal.Refusal.TheVariants.{Words, CannotRead, CannotWrite, NoMemory, Model, Grammar, Types, Code, Block, Inputs, Edits, TooLong}
+use Rattle.rw_top.specs.declared.refusal.Refusal.TheVariants.{Words, CannotRead, CannotWrite, NoMemory, Model, Grammar, Types, Code, Block, Inputs, Edits, NoCell, TooLong}
 
 -- what is wrong with what the basin is built of
 abbrev pub build_words : BuildFault → List ℕ
@@ -180,5 +180,6 @@ line_of command (Code fault) = code_line fault
 line_of command (Block kind block place) = block_line kind block place
 line_of command (Inputs kind row column) = inputs_line kind row column
 line_of command (Edits kind row column) = edits_line kind row column
+line_of command NoCell = codes "basin: why: no such cell\n"
 line_of command (TooLong file) =
     (codes "basin: too long " ++ told_path command file) ++ codes "\n"

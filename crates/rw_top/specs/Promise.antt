@@ -1,7 +1,8 @@
 -- What is promised of each call of the program.
-use Rattle.std.specs.Prelude.{◌≡◌, ◌⊎◌, ℕ, ◌≤◌, List, [], Option, unwrap_or}
+use Rattle.std.specs.Prelude.{◌≡◌, ◌⊎◌, ℕ, ◌≤◌, List, [], Option, Some, unwrap_or}
 use Rattle.rw_io.specs.Causes.{Rose}
 use Rattle.rw_io.specs.Known.{GrowsBy}
+use Rattle.rw_base.specs.declared.number.Cell.{Cell}
 use Rattle.rw_inputs.specs.Edits.{Batch}
 use Rattle.rw_inputs.specs.Inputs.{Inputs as Given}
 use Rattle.rw_model.specs.Draft.{Draft}
@@ -11,15 +12,16 @@ use Rattle.rpl_tree.specs.Tree.{Declared}
 use Rattle.rpl_code.specs.Spelling.{spelt}
 use Rattle.rpl_compile.specs.Translate.{translate}
 use Rattle.rw_top.specs.Budgets.{check_text}
+use Rattle.rw_top.specs.Cell.{cell_of}
 use Rattle.rw_top.specs.Call.{Call}
 use Rattle.rw_top.specs.Command.{AskNothing, Asks}
 use Rattle.rw_words.specs.Command.{Command}
 use Rattle.rw_top.specs.Policy.{Policy as Rules, Ruleset}
 use Rattle.rw_top.specs.Reason.{Reason, IsFound, IsHonestFor, status_by}
 use Rattle.rw_top.specs.Lines.{line_of, memory_line, words_line}
-use Rattle.rw_top.specs.Reading.{AcceptsAll, IsHonestOfAll, ReadsEdits, ReadsInputs, ReadsPolicy, SaysAt}
+use Rattle.rw_top.specs.Reading.{AcceptsAll, IsHonestOfAll, LacksCell, ReadsEdits, ReadsInputs, ReadsPolicy, SaysAt}
 use Rattle.rw_top.specs.Refusal.{Cause, EndsWith, status_of}
-use Rattle.rw_top.specs.RunText.{IsRulesText, IsRunText}
+use Rattle.rw_top.specs.RunText.{IsRulesText, IsRunText, IsWhyOfRules}
 use Rattle.rw_top.specs.Sections.{AreSections, joined}
 use Rattle.rw_top.specs.Written.{Tells, WritesAll}
 use Rattle.rw_top.specs.declared.refusal.File.TheVariants.{Edits}
@@ -74,9 +76,12 @@ pub record Promise (call : Call) (status : ℕ) : Type 0 where
   pub due : (command : Command) → Asks call.words command
       → (reason : Reason) → IsFound command call.shelf.before.holds reason
       → IsHonestFor command call.shelf reason → EndsWith (status_by reason) status
-  -- where every file is accepted and nothing fails, only memory can be wanting
+  -- and so is a cell that isn't there
+  pub cell : (command : Command) → Asks call.words command → LacksCell command call.shelf.before.holds
+      → IsHonestOfAll command call.shelf → EndsWith 8 status
+  -- where every file is accepted, the cell is there and nothing fails, only memory can be wanting
   pub complete : (command : Command) → Asks call.words command
-      → AcceptsAll command call.shelf.before.holds → IsCalm command call
+      → AcceptsAll command call.shelf.before.holds → ¬ LacksCell command call.shelf.before.holds → IsCalm command call
       → (status ≤ 1) ⊎ (status ≡ 5)
   -- no file is changed
   pub held : (path : List ℕ) → call.shelf.after.holds path ≡ call.shelf.before.holds path
@@ -108,6 +113,21 @@ pub record WroteRules (call : Call) (end : RunEnd) : Type 0 where
   pub texts : List (List ℕ)
   pub are : AreSections (IsRulesText basin policy command.flags command.trace) 0 inputs (unwrap_or edits []) end texts
   pub grew : GrowsBy call.out.before.contents call.out.after.contents (joined texts)
+
+-- how a cell came to what it holds in the run by a policy that is accepted, which ends so
+pub record WroteWhy (call : Call) (end : RunEnd) : Type 0 where
+  pub command : Command
+  pub asked : Asks call.words command
+  pub basin : Draft
+  pub policy : Rules
+  pub rules : ReadsPolicy command call.shelf.before.holds basin policy
+  pub inputs : Given
+  pub read : ReadsInputs command call.shelf.before.holds basin inputs
+  pub cell : Cell
+  pub named : cell_of command basin ≡ Some cell
+  pub text : List ℕ
+  pub is : IsWhyOfRules basin policy inputs cell end text
+  pub grew : GrowsBy call.out.before.contents call.out.after.contents text
 
 -- the budgets of a policy that is accepted
 pub record WroteCheck (call : Call) : Type 0 where

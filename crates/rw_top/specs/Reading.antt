@@ -1,17 +1,22 @@
 -- What the files that a command names are found to be.
-use Rattle.std.specs.Prelude.{◌≡◌, Bool, ◌&&◌, ℕ, ◌<◌, ◌≤◌, List, Ok, Err, Option, None, MatchOption, length, IfSome, IsSome, IsSomeAnd}
+use Rattle.std.specs.Prelude.{◌≡◌, Bool, ◌&&◌, ℕ, ◌<◌, ◌≤◌, List, Ok, Err, Option, None, MatchOption, length, IfSome, IsSome, IsSomeAnd, IsTrue, Result}
 use Rattle.rw_io.specs.Causes.{Rose}
 use Rattle.rw_io.specs.declared.whole_file.TheConstants.{FILE_MAX}
 use Rattle.rw_model.specs.Draft.{Draft}
 use Rattle.rw_model_toml.specs.Model.{model_of}
 use Rattle.rw_model_toml.specs.Refusal.{ModelRefusal}
+use Rattle.rw_base.specs.declared.number.Cell.{Cell}
 use Rattle.rw_inputs.specs.EditRows.{edits_of}
 use Rattle.rw_inputs.specs.Edits.{Batch}
 use Rattle.rw_inputs.specs.Refusal.{InputRefusal}
 use Rattle.rw_inputs.specs.Inputs.{Inputs as Given}
 use Rattle.rw_inputs.specs.Reading.{Reads, Refuses}
 use Rattle.rw_io.specs.Outside.{Change, Holds, ShelfView}
-use Rattle.rw_top.specs.Command.{Names, order, path_of, takes_code}
+use Rattle.rw_model.specs.Draft.{IsSlot}
+use Rattle.rw_top.specs.Cell.{FindsCell, cell_of}
+use Rattle.rw_top.specs.Command.{Names, order, path_of, seeks_cell, takes_code}
+use Rattle.rw_top.specs.declared.refusal.Refusal.{Refusal}
+use Rattle.rw_top.specs.declared.refusal.Refusal.TheVariants.{NoCell}
 use Rattle.rw_words.specs.Command.{Command}
 use Rattle.rw_top.specs.Policy.{is_code, IsPolicyOf, Policy as Rules, PolicyRefusal, RefusesText}
 use Rattle.rw_top.specs.declared.refusal.File.{File}
@@ -63,12 +68,13 @@ pub record ReadsEdits (command : Command) (holds : Holds) (basin : Draft) (batch
 
 -- ---- all files of a command
 
--- what they say: the basin of its model, and the policy, the inputs and the edits, where it names them
+-- what they say: the basin of its model, and the policy, the inputs, the edits and the cell, where it names them
 pub record Files : Type 0 where
   pub basin : Draft
   pub policy : Option Rules
   pub inputs : Option Given
   pub edits : Option (List Batch)
+  pub cell : Option Cell
 
 -- a file that the command doesn't read says nothing, and any other is this
 abbrev pub SaysAt : {A : Type 0} → Command → File → Option A → (A → Type 0) → Type 0
@@ -80,6 +86,7 @@ pub record AreRead (command : Command) (holds : Holds) (files : Files) : Type 0 
   pub policy : SaysAt command Policy files.policy (ReadsPolicy command holds files.basin)
   pub inputs : SaysAt command Inputs files.inputs (ReadsInputs command holds files.basin)
   pub edits : SaysAt command Edits files.edits (ReadsEdits command holds files.basin)
+  pub cell : FindsCell command files.basin files.cell
 
 -- the file is accepted
 abbrev pub Accepts : Command → Holds → File → Type 0
@@ -133,6 +140,19 @@ pub record RefusesEdits (command : Command) (holds : Holds) (why : InputRefusal)
   pub text : List ℕ
   pub read : WasRead command holds Edits text
   pub are : edits_of basin text ≡ Err why
+
+-- every file of the command is accepted, and it asks for a cell that its basin doesn't have
+pub record LacksCell (command : Command) (holds : Holds) : Type 0 where
+  pub basin : Draft
+  pub model : ReadsModel command holds basin
+  pub accepted : AcceptsAll command holds
+  pub seeks : IsTrue (seeks_cell command.job)
+  pub none : cell_of command basin ≡ None
+
+-- the cell of a command, where it asks for one, or that the basin doesn't have it
+abbrev pub IsCellRead : Command → Draft → Result (Option Cell) Refusal → Type 0
+IsCellRead command basin (Ok found) = FindsCell command basin found × IfSome found (λ cell. IsSlot basin.objects cell.slot.0)
+IsCellRead command basin (Err why) = (why ≡ NoCell) × IsTrue (seeks_cell command.job) × (cell_of command basin ≡ None)
 
 -- the file is reached, and holds more than a file may, where that is told
 pub record HoldsTooLong (command : Command) (holds : Holds) (file : File) : Type 0 where

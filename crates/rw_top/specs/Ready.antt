@@ -1,10 +1,10 @@
 -- What is known of the files of a command before its text is made.
-use Rattle.std.specs.Prelude.{◌≡◌, ℕ, ◌≤◌, Bool, List, length, Ok, IfSome, IsOk, IsSome, IsSomeAnd}
+use Rattle.std.specs.Prelude.{◌≡◌, ℕ, ◌≤◌, Bool, List, length, Ok, IfSome, IsOk, IsSome, IsSomeAnd, IsTrue}
 use Rattle.std.specs.List.{All}
 use Rattle.rw_inputs.specs.EditRows.{edits_of}
 use Rattle.rw_inputs.specs.Edits.{Batch, IsBatch}
 use Rattle.rw_inputs.specs.Inputs.{IsInputsOf}
-use Rattle.rw_model.specs.Draft.{Draft}
+use Rattle.rw_model.specs.Draft.{Draft, IsSlot}
 use Rattle.rpl_tree.specs.Seen.{rules_of}
 use Rattle.rpl_types.specs.Judged.{judged}
 use Rattle.rpl_verify.specs.Verified.{verified}
@@ -14,7 +14,7 @@ use Rattle.rw_top.specs.declared.files.Files.{Files}
 use Rattle.rw_top.specs.declared.policy.Policy.{Policy as Held}
 use Rattle.rw_top.specs.declared.refusal.File.TheVariants.{Policy, Inputs, Edits}
 use Rattle.rw_io.specs.Outside.{Holds}
-use Rattle.rw_top.specs.Command.{files_of, place_in}
+use Rattle.rw_top.specs.Command.{files_of, place_in, seeks_cell}
 use Rattle.rw_words.specs.Command.{Command}
 use Rattle.rw_top.specs.Policy.{IsPolicyOf}
 use Rattle.rw_top.specs.Reading.{ReadsEdits, ReadsInputs, ReadsPolicy, SaysAt}
@@ -63,3 +63,4 @@ pub record AreReady (job : Job) (files : Files) : Type 0 where
   pub policy : IsSome (place_in (files_of job) Policy) → IsSomeAnd files.policy (IsFit files.basin)
   pub inputs : IsSome (place_in (files_of job) Inputs) → IsSomeAnd files.inputs (IsInputsOf files.basin)
   pub edits : IfSome files.edits (λ batches. AreEdits files.basin batches.items)
+  pub cell : IsTrue (seeks_cell job) → IsSomeAnd files.cell (λ cell. IsSlot files.basin.objects cell.slot.0)

@@ -20,11 +20,11 @@ use Rattle.rw_top.specs.Command.{path_of}
 use Rattle.rw_words.specs.Command.{Command}
 use Rattle.rw_top.specs.Policy.{Unread, Misfit, PolicyRefusal, BadRules, BadBlocks, RefusesText, BadGrammar, BadNode}
 use Rattle.rw_top.specs.Reason.{Reason, BadModel, BadPolicy, BadInputs, BadEdits, LongFile, IsFound}
-use Rattle.rw_top.specs.Reading.{HoldsTooLong, Reaches}
+use Rattle.rw_top.specs.Reading.{HoldsTooLong, LacksCell, Reaches}
 use Rattle.rw_top.specs.Written.{WritesFront, WritesSections}
 use Rattle.rw_top.specs.declared.refusal.File.{File}
 use Rattle.rw_top.specs.declared.refusal.Refusal.{Refusal}
-use Rattle.rw_top.specs.declared.refusal.Refusal.TheVariants.{Words, CannotRead, CannotWrite, NoMemory, Model, Grammar, Types, Code, Block, Inputs, Edits, TooLong}
+use Rattle.rw_top.specs.declared.refusal.Refusal.TheVariants.{Words, CannotRead, CannotWrite, NoMemory, Model, Grammar, Types, Code, Block, Inputs, Edits, NoCell, TooLong}
 
 abbrev pub status_of : Refusal → ℕ
 status_of Words = 2
@@ -38,6 +38,7 @@ status_of (Code fault) = 9
 status_of (Block kind block place) = 9
 status_of (Inputs kind row column) = 8
 status_of (Edits kind row column) = 8
+status_of NoCell = 8
 status_of (TooLong file) = 10
 
 -- the reason that a refusal tells, if it tells one
@@ -84,10 +85,11 @@ pub record TellsReason (command : Command) (shelf : Change ShelfView) (why : Ref
   pub tells : reason_of why ≡ Some reason
   pub found : WasFound command shelf reason
 
--- why nothing is written: a fault of a file, want of memory, which is free, or a reason
+-- why nothing is written: a fault of a file, want of memory, which is free, a cell that isn't there, or a reason
 abbrev pub FileCause : Command → Change ShelfView → Refusal → Type 0
 FileCause command shelf (CannotRead file) = FailsToRead command shelf file
 FileCause command shelf NoMemory = ⊤
+FileCause command shelf NoCell = LacksCell command shelf.before.holds
 FileCause command shelf why = TellsReason command shelf why
 
 -- why the command is refused. After a failed write a front of its text was written, after want of memory the first sections of a run

@@ -9,7 +9,9 @@ use Rattle.rw_run.specs.Next.{Policy}
 use Rattle.rw_run.specs.Runs.{IsRun}
 use Rattle.rw_run.specs.RunOf.{end_of}
 use Rattle.rw_report.specs.Outcome.{outcome_by}
+use Rattle.rw_base.specs.declared.number.Cell.{Cell}
 use Rattle.rw_report.specs.Whole.{whole_of}
+use Rattle.rw_report.specs.Why.{why_of}
 use Rattle.rpl_tree.specs.Budget.{Budget}
 use Rattle.rpl_verify.specs.Budget.{AreAccepted}
 use Rattle.rpl_policy.specs.Firings.{AreVerified}
@@ -27,6 +29,13 @@ pub record IsRunText (basin : Draft) (policy : Policy) (flags trace : Bool) (num
   pub end_is : end ≡ end_of log
   pub text_is : text ≡ text_of basin flags trace number log
 
+-- how a cell came to what it holds in that run, and how the run ends
+pub record IsWhyText (basin : Draft) (policy : Policy) (inputs : Inputs) (cell : Cell) (end : RunEnd) (text : List ℕ) : Type 0 where
+  pub log : Log
+  pub run : IsRun basin policy (givens basin inputs) log
+  pub end_is : end ≡ end_of log
+  pub text_is : text ≡ why_of basin inputs (outcome_by basin log) cell
+
 -- ---- by the policy of a file
 
 -- its policy in a run: what its rules mean, or what its code does
@@ -43,4 +52,9 @@ pub record IsVerifiedRun (basin : Draft) (policy : Rules) (log : Log) : Type 0 w
 -- the section of the run by it, in which each firing is verified
 pub record IsRulesText (basin : Draft) (policy : Rules) (flags trace : Bool) (number : ℕ) (inputs : Inputs) (end : RunEnd) (text : List ℕ) : Type 0 where
   pub run_text : IsRunText basin (policy_in_run basin policy) flags trace number inputs end text
+  pub verified : IsVerifiedRun basin policy run_text.log
+
+-- how a cell came to what it holds in the run by it, in which each firing is verified
+pub record IsWhyOfRules (basin : Draft) (policy : Rules) (inputs : Inputs) (cell : Cell) (end : RunEnd) (text : List ℕ) : Type 0 where
+  pub run_text : IsWhyText basin (policy_in_run basin policy) inputs cell end text
   pub verified : IsVerifiedRun basin policy run_text.log

@@ -11,4 +11,4 @@ policy_of (Held.Ruleset typed) = Ruleset (rules_of typed.rules)
 policy_of (Held.Code code) = Code code.blocks code.budgets
 
 abbrev pub files_seen : Read → Files
-files_seen read = record { basin = read.basin; policy = option_map policy_of read.policy; inputs = read.inputs; edits = option_map (λ batches. batches.items) read.edits }
+files_seen read = record { basin = read.basin; policy = option_map policy_of read.policy; inputs = read.inputs; edits = option_map (λ batches. batches.items) read.edits; cell = read.cell }

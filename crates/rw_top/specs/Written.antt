@@ -3,21 +3,23 @@ use Rattle.std.specs.Prelude.{◌≡◌, ℕ, Bool, ◌⊎◌, List, [], ◌∷�
 use Rattle.rw_io.specs.Causes.{Rose}
 use Rattle.rw_io.specs.Known.{GrowsBy, PrefixGrew}
 use Rattle.rw_io.specs.Outside.{Change, Holds, SinkView}
+use Rattle.rw_base.specs.declared.number.Cell.{Cell}
 use Rattle.rw_inputs.specs.Edits.{Batch}
+use Rattle.rw_inputs.specs.Inputs.{Inputs}
 use Rattle.rw_run.specs.Next.{no_rules}
 use Rattle.rw_run.specs.declared.run.RunEnd.{RunEnd}
 use Rattle.rw_run.specs.declared.run.RunEnd.TheVariants.{Settled, Fault}
 use Rattle.rpl_code.specs.Spelling.{spelt}
 use Rattle.rw_top.specs.Budgets.{check_text}
 use Rattle.rw_words.specs.Command.{Command}
-use Rattle.rw_top.specs.Policy.{code_of}
+use Rattle.rw_top.specs.Policy.{Policy as Rules, code_of}
 use Rattle.rw_top.specs.Reading.{AreRead, Files}
-use Rattle.rw_top.specs.RunText.{IsRulesText, IsRunText}
+use Rattle.rw_top.specs.RunText.{IsRulesText, IsRunText, IsWhyOfRules}
 use Rattle.rw_top.specs.Sections.{AreFirstSections, AreSections, joined}
 use Rattle.rw_top.specs.declared.refusal.Refusal.{Refusal}
 use Rattle.rw_top.specs.declared.refusal.Refusal.TheVariants.{CannotWrite, NoMemory}
 use Rattle.rw_words.specs.declared.job.Job.{Job}
-use Rattle.rw_words.specs.declared.job.Job.TheVariants.{Simulate, Check, Compile, Run}
+use Rattle.rw_words.specs.declared.job.Job.TheVariants.{Simulate, Check, Compile, Run, Why}
 
 -- the status of a run that was written: 0 where it settled
 abbrev pub status_of_end : RunEnd → ℕ
@@ -27,6 +29,10 @@ status_of_end (Fault why) = 1
 -- the batches of edits that the files give
 abbrev pub batches_in : Files → List Batch
 batches_in files = unwrap_or files.edits []
+
+-- of the policy, the inputs and the cell this holds
+abbrev pub OfThree : Files → (Rules → Inputs → Cell → Type 0) → Type 0
+OfThree files P = IsSomeAnd files.policy (λ policy. IsSomeAnd files.inputs (λ inputs. IsSomeAnd files.cell (P policy inputs)))
 
 -- the sections of a job's text by what its files say, and the status with which it is written. A text that isn't of runs is one section
 abbrev pub IsTextOf : Job → (flags trace : Bool) → Files → ℕ → List (List ℕ) → Type 0
@@ -38,6 +44,9 @@ IsTextOf Compile flags trace files status texts = (status ≡ 0) × IsSomeAnd fi
 IsTextOf Run flags trace files status texts =
     (end : RunEnd) × (status ≡ status_of_end end) × IsSomeAnd files.policy (λ policy.
     IsSomeAnd files.inputs (λ inputs. AreSections (IsRulesText files.basin policy flags trace) 0 inputs (batches_in files) end texts))
+IsTextOf Why flags trace files status texts =
+    (end : RunEnd) × (status ≡ status_of_end end) × OfThree files (λ policy inputs cell.
+    (text : List ℕ) × (texts ≡ text ∷ []) × IsWhyOfRules files.basin policy inputs cell end text)
 
 -- the first sections of it
 abbrev pub IsFrontOf : Job → (flags trace : Bool) → Files → List (List ℕ) → Type 0
@@ -48,6 +57,9 @@ IsFrontOf Compile flags trace files texts = IsSomeAnd files.policy (λ policy. t
 IsFrontOf Run flags trace files texts =
     IsSomeAnd files.policy (λ policy.
     IsSomeAnd files.inputs (λ inputs. AreFirstSections (IsRulesText files.basin policy flags trace) 0 inputs (batches_in files) texts))
+IsFrontOf Why flags trace files texts =
+    OfThree files (λ policy inputs cell.
+    (end : RunEnd) × (text : List ℕ) × (texts ≡ text ∷ []) × IsWhyOfRules files.basin policy inputs cell end text)
 
 -- ---- what a job appends
 

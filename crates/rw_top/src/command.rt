@@ -1,6 +1,7 @@
 // The files of a command: which it reads, and the path of each.
 ghost use Rattle.std.specs.Prelude.{◌≡◌, map, option_map, slice_index_or, [], Some};
-ghost use Rattle.rw_top.specs.Command.{command_of, files_of, named_path, path_of, place_in, takes_code};
+ghost use Rattle.rw_top.specs.Command.{command_of, files_of, named_path, path_of, place_in, seeks_cell, takes_code};
+ghost use Rattle.rw_top.specs.Cell.{slot_word, step_word};
 ghost use Rattle.rw_top.specs.declared.refusal.File.TheVariants as F;
 
 use crate::File;
@@ -12,9 +13,9 @@ fn place(job: Job, file: File) -> Option<usize>
 {
     match (job, file) {
         (_, File::Model) => Some(0),
-        (Job::Check | Job::Compile | Job::Run, File::Policy) => Some(1),
+        (Job::Check | Job::Compile | Job::Run | Job::Why, File::Policy) => Some(1),
         (Job::Simulate, File::Inputs) => Some(1),
-        (Job::Run, File::Inputs) => Some(2),
+        (Job::Run | Job::Why, File::Inputs) => Some(2),
         _ => None,
     }
 }
@@ -41,9 +42,33 @@ impl<'w> Command<'w> {
         ensures { result ≡ takes_code self.now.words.job }
     {
         match self.words.job {
-            Job::Simulate | Job::Check | Job::Run => true,
+            Job::Simulate | Job::Check | Job::Run | Job::Why => true,
             Job::Compile => false,
         }
+    }
+
+    /// Whether it asks for a cell.
+    pub(crate) fn seeks_cell(&self) -> bool
+        ensures { result ≡ seeks_cell self.now.words.job }
+    {
+        match self.words.job {
+            Job::Why => true,
+            Job::Simulate | Job::Check | Job::Run | Job::Compile => false,
+        }
+    }
+
+    /// The word of its slot.
+    pub(crate) fn slot(&self) -> &'w str
+        ensures { result.now ≡ slot_word (command_of self.now) }
+    {
+        path_at(&self.words.paths, 3)
+    }
+
+    /// The word of its timestep.
+    pub(crate) fn step(&self) -> &'w str
+        ensures { result.now ≡ step_word (command_of self.now) }
+    {
+        path_at(&self.words.paths, 4)
     }
 
     /// The path of the model.

@@ -1,30 +1,34 @@
 // The files of a command, read and judged, each before the next.
-ghost use Rattle.std.specs.Prelude.{◌≡◌, ℕ, ◌≤◌, List, MatchResult, IfOk, IfSome, Some, length};
+ghost use Rattle.std.specs.Prelude.{◌≡◌, ℕ, ◌≤◌, List, MatchResult, IfOk, IfSome, IsSomeAnd, IsTrue, Some, length};
+ghost use Rattle.rw_model.specs.Draft.{IsSlot};
 ghost use Rattle.rw_io.specs.Causes.{NoneFell};
 ghost use Rattle.rw_io.specs.Outside.{change};
-ghost use Rattle.rw_top.specs.Command.{command_of, path_of};
+ghost use Rattle.rw_top.specs.Command.{command_of, path_of, seeks_cell};
 ghost use Rattle.rw_top.specs.Reading.{AreRead, Reaches, ReadsInputs, ReadsModel, SaysAt, WasRead, reads_code};
 ghost use Rattle.rw_top.specs.Refusal.{FileCause, IsPolicyRefusal};
 ghost use Rattle.rw_top.specs.Ready.{AreBehind, AreEdits, AreReadAs, IsFit, IsMadeOf, IsReadAs};
 ghost use Rattle.rw_top.specs.Seen.{files_seen};
 ghost use Rattle.rw_top.specs.declared.refusal.File.TheVariants as F;
 
+use crate::cell::find_cell;
 use crate::command::Command;
 use crate::judging::{is_code, judge_edits, judge_inputs, judge_model, judge_policy};
 use crate::policy::Policy;
 use crate::{File, Refusal};
+use rw_base::Cell;
 use rw_inputs::{Batch, Inputs};
 use rw_io::{Shelf, read_all};
 use rw_model::Basin;
 use std::alloc::Global;
 
-/// What the files of a command say: the policy, the inputs and the edits, where it names them.
+/// What the files of a command say: the policy, the inputs and the edits, where it names them; and the cell that it asks for.
 #[derive(Drop)]
 pub(crate) struct Files {
     pub(crate) basin: Basin,
     pub(crate) policy: Option<Policy>,
     pub(crate) inputs: Option<Inputs>,
     pub(crate) edits: Option<Vec<Batch>>,
+    pub(crate) cell: Option<Cell>,
 }
 
 // The whole of a file that the command reads, where each file before it is accepted.
@@ -225,7 +229,7 @@ fn read_others<S: Shelf>(
 }
 
 /// Reads and judges the files of the command: its model, its policy, its inputs and its edits, in this order, where it names
-/// them.
+/// them, and finds the cell that it asks for.
 pub(crate) fn read_files<S: Shelf>(
     alloc: Global,
     command: &Command<'_>,
@@ -237,18 +241,25 @@ pub(crate) fn read_files<S: Shelf>(
     ensures fits { IfOk result (λ files. IfSome files.policy (IsFit files.basin)) }
     ensures edits { IfOk result (λ files. IfSome files.edits
         (λ batches. AreEdits files.basin batches.items)) }
+    ensures cell { IfOk result (λ files. IsTrue (seeks_cell (command_of command.now).job)
+        → IsSomeAnd files.cell (λ cell. IsSlot files.basin.objects cell.slot.0)) }
     ensures held { (p : List ℕ) → (S.seen shelf.new).holds p ≡ (S.seen shelf.old).holds p }
 {
     let basin = match read_basin(alloc, command, shelf) {
         Ok(basin) => basin,
         Err(refusal) => return Err(refusal),
     };
-    match read_others(alloc, command, &basin, shelf) {
-        Ok(behind) => Ok(Files {
+    let behind = match read_others(alloc, command, &basin, shelf) {
+        Ok(behind) => behind,
+        Err(refusal) => return Err(refusal),
+    };
+    match find_cell(command, &basin) {
+        Ok(cell) => Ok(Files {
             basin,
             policy: behind.policy,
             inputs: behind.inputs,
             edits: behind.edits,
+            cell,
         }),
         Err(refusal) => Err(refusal),
     }

@@ -26,8 +26,8 @@ ghost use Rattle.rw_top.specs.Command.{AskFor, AskNothing, Asks, order, simulate
 ghost use Rattle.rw_words.specs.Command.{Command};
 ghost use Rattle.rw_top.specs.FirstCall.{IsFirstCall};
 ghost use Rattle.rw_top.specs.Policy.{BadCode, RulesRefusal, BadRules, BadBlocks, Policy, Ruleset, Code, IsPolicyOf};
-ghost use Rattle.rw_top.specs.Promise.{Promise, WroteCheck, WroteCode, WroteRules, WroteRun};
-ghost use Rattle.rw_top.specs.Reading.{AcceptsAll, HoldsTooLong, ReadsInputs, RefusesEdits, RefusesInputs, RefusesModel, RefusesPolicy};
+ghost use Rattle.rw_top.specs.Promise.{Promise, WroteCheck, WroteCode, WroteRules, WroteRun, WroteWhy};
+ghost use Rattle.rw_top.specs.Reading.{AcceptsAll, HoldsTooLong, LacksCell, ReadsInputs, RefusesEdits, RefusesInputs, RefusesModel, RefusesPolicy};
 ghost use Rattle.rw_top.specs.Refusal.{FailsToRead, FindsTooLong};
 ghost use Rattle.rw_top.specs.Told.{AreTold};
 ghost use Rattle.rw_top.specs.Written.{WritesFront, WritesSections};
@@ -100,9 +100,11 @@ pub fn first_call()
 /// command that runs a policy, the first sections, each whole.
 pub fn statuses()
     ensures settled { (call : Call) → Promise call 0
-        → WroteRun call Settled ⊎ WroteRules call Settled ⊎ WroteCheck call ⊎ WroteCode call }
+        → WroteRun call Settled ⊎ WroteRules call Settled ⊎ WroteWhy call Settled
+        ⊎ WroteCheck call ⊎ WroteCode call }
     ensures faulted { (call : Call) → Promise call 1
-        → (why : RunFault) × (WroteRun call (Fault why) ⊎ WroteRules call (Fault why)) }
+        → (why : RunFault) × (WroteRun call (Fault why) ⊎ WroteRules call (Fault why)
+        ⊎ WroteWhy call (Fault why)) }
     ensures words { (call : Call) → Promise call 2 → AskNothing call.words }
     ensures read_fault { (call : Call) → Promise call 3
         → AskFor call.words (λ command. (file : File) × FailsToRead command call.shelf file) }
@@ -118,8 +120,9 @@ pub fn statuses()
     ensures code { (call : Call) → Promise call 9 → AskFor call.words (λ command. (why : BadCode)
         × RefusesPolicy command call.shelf.before.holds (BadBlocks why)) }
     ensures inputs { (call : Call) → Promise call 8 → AskFor call.words
-        (λ command. (why : InputRefusal) × (RefusesInputs command call.shelf.before.holds why
-        ⊎ RefusesEdits command call.shelf.before.holds why)) }
+        (λ command. ((why : InputRefusal) × (RefusesInputs command call.shelf.before.holds why
+        ⊎ RefusesEdits command call.shelf.before.holds why))
+        ⊎ LacksCell command call.shelf.before.holds) }
     ensures too_long { (call : Call) → Promise call 10
         → AskFor call.words (λ command. (file : File) × FindsTooLong command call.shelf file) }
     ensures sections { (call : Call) → Promise call 5
@@ -130,7 +133,7 @@ pub fn statuses()
 {}
 
 /// What has to be refused of a command is, with its status, unless memory was wanting: where the shelf tells the files up to the one
-/// that is refused, and had no fault of them. Where each file is accepted, and the output had no fault either, only memory can be
+/// that is refused, and had no fault of them. Where each file is accepted, a cell that is sought is there, and the output had no fault either, only memory can be
 /// wanting.
 pub fn dues()
     ensures model { (call : Call) (status : ℕ) (command : Command) (why : ModelRefusal)
@@ -163,9 +166,15 @@ pub fn dues()
         → HoldsTooLong command call.shelf.before.holds file
         → AreTold command call.shelf (order file)
         → (status ≡ 10) ⊎ (status ≡ 5) }
+    ensures cell { (call : Call) (status : ℕ) (command : Command)
+        → Promise call status → Asks call.words command
+        → LacksCell command call.shelf.before.holds
+        → AreTold command call.shelf 3
+        → (status ≡ 8) ⊎ (status ≡ 5) }
     ensures none { (call : Call) (status : ℕ) (command : Command)
         → Promise call status → Asks call.words command
         → AcceptsAll command call.shelf.before.holds
+        → ¬ LacksCell command call.shelf.before.holds
         → AreTold command call.shelf 3 → ¬ Rose call.out.before.faults call.out.after.faults
         → (status ≤ 1) ⊎ (status ≡ 5) }
 {}

@@ -1,10 +1,11 @@
 //! The top call: the words, the files that they name, and the text of the command: the sections of runs, without rules or by those
-//! of a policy, the budgets of a policy, or the code of a ruleset. With status 0 or 1 it has written exactly the text that the
-//! definitions give for these files: one section for the inputs and one after each batch of edits, each that of a run from the first
-//! timestep on; and of runs by a policy each firing is one of verified code, within its budget. Every other status has its cause,
-//! and one line that says so.
+//! of a policy, the budgets of a policy, the code of a ruleset, or how a cell came to what it holds. With status 0 or 1 it has
+//! written exactly the text that the definitions give for these files: one section for the inputs and one after each batch of
+//! edits, each that of a run from the first timestep on; and of runs by a policy each firing is one of verified code, within its
+//! budget. Every other status has its cause, and one line that says so.
 #![tactic(auto)]
 
+mod cell;
 mod check;
 mod command;
 mod compile;
@@ -20,6 +21,7 @@ mod sections;
 mod simulate;
 mod tell;
 mod top;
+mod why;
 
 pub use refusal::{File, Refusal};
 pub use rw_base::{Blank, Ledger, Steps};

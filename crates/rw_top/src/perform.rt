@@ -15,6 +15,7 @@ use crate::compile::code_text;
 use crate::files::{Files, read_files};
 use crate::sections::write_sections;
 use crate::simulate::text_without_rules;
+use crate::why::why_by_policy;
 use rpl_predef::Predefs;
 use rw_base::{Ledger, NoMemory, Steps};
 use rw_engine::RunEnd;
@@ -89,6 +90,41 @@ fn compile(alloc: Global, files: &Files) -> Result<(Vec<u8>, u8), NoMemory>
     Ok((code_text(alloc, policy, &files.basin)?, 0))
 }
 
+// How the cell of the files came to what it holds in the run by their policy, and the status with which that is written.
+fn tell_why<L: Ledger>(
+    alloc: Global,
+    files: &Files,
+    methods: &Catalogue,
+    predefs: &Predefs,
+    steps: &mut Steps<L>,
+) -> Result<(Vec<u8>, u8), NoMemory>
+    requires order { AreInOrder (map (λ b. code (b.vtable, b.value)) methods.now.methods.items) }
+    requires ready { AreReady J.Why files.now }
+    ensures { (flags trace : Bool) → IfOk result
+        (λ pair. IsOne J.Why flags trace (files_seen files.now) pair.1 pair.0.items) }
+{
+    let Some(policy) = &files.policy else {
+        unreachable!();
+    };
+    let Some(inputs) = &files.inputs else {
+        unreachable!();
+    };
+    let Some(cell) = files.cell else {
+        unreachable!();
+    };
+    let (text, end) = why_by_policy(
+        alloc,
+        &files.basin,
+        methods,
+        policy,
+        predefs,
+        inputs,
+        cell,
+        steps,
+    )?;
+    Ok((text, status_of_run(&end)))
+}
+
 // Writes a text that was made, unless memory was wanting for it.
 fn write_made<K: Sink>(
     job: Job,
@@ -146,6 +182,7 @@ fn run<K: Sink, L: Ledger>(
         policy,
         inputs,
         edits,
+        cell: _,
     } = files;
     let Some(policy) = &policy else {
         unreachable!();
@@ -187,6 +224,10 @@ fn write_job<K: Sink, L: Ledger>(
         }
         Job::Check => write_made(job, flags, trace, &files, check(alloc, &files), out),
         Job::Compile => write_made(job, flags, trace, &files, compile(alloc, &files), out),
+        Job::Why => {
+            let made = tell_why(alloc, &files, methods, predefs, steps);
+            write_made(job, flags, trace, &files, made, out)
+        }
         Job::Run => run(alloc, files, methods, predefs, flags, trace, steps, out),
     }
 }

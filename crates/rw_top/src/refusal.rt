@@ -42,6 +42,8 @@ pub enum Refusal {
     Inputs(InputKind, u32, u8),
     /// The edits are refused: what is wrong, in which row and column.
     Edits(InputKind, u32, u8),
+    /// The basin has no cell that the words name.
+    NoCell,
     /// More bytes were given of that file than a file may hold.
     TooLong(File),
 }
@@ -65,6 +67,7 @@ impl Refusal {
             Refusal::Block(_, _, _) => 9,
             Refusal::Inputs(_, _, _) => 8,
             Refusal::Edits(_, _, _) => 8,
+            Refusal::NoCell => 8,
             Refusal::TooLong(_) => 10,
         }
     }

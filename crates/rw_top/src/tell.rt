@@ -254,6 +254,7 @@ pub(crate) fn tell<E: Sink>(err: &mut E, command: &Command<'_>, refusal: &Refusa
         Refusal::Block(kind, block, place) => tell_block(err, *kind, *block, *place),
         Refusal::Inputs(kind, row, column) => tell_inputs(err, *kind, *row, *column),
         Refusal::Edits(kind, row, column) => tell_edits(err, *kind, *row, *column),
+        Refusal::NoCell => tell_line(err, "basin: why: no such cell", ""),
         Refusal::TooLong(file) => tell_line(err, "basin: too long ", told_path(command, *file)),
     }
 }

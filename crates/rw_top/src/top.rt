@@ -28,10 +28,12 @@ use std::alloc::Global;
 /// section is written as soon as it is made. The status is that of the last section. With `--flags` either writes who put each
 /// value, with `--trace` what happened. `check MODEL POLICY` reads both files, judges the ruleset, or the code where the policy's
 /// first line is `CODE 1`, with the basin, and writes what a firing of each rule comes to at most. The status is 0. `compile MODEL
-/// RULES` reads both files, judges the ruleset with the basin, and writes the text of its code. The status is 0.
+/// RULES` reads both files, judges the ruleset with the basin, and writes the text of its code. The status is 0. `why MODEL POLICY
+/// INPUTS SLOT STEP` reads the files that `run` reads, runs the basin in the same way, and writes how the cell of that slot and
+/// timestep came to what it holds at the end, with the status of that run.
 ///
 /// With each other status one line on `err` says why: 2 the words, 3 a file that can't be read, 4 an output that can't be
-/// written, 5 want of memory, 6 the model, 7 the ruleset, 8 the inputs or the edits, 9 the code, 10 a file of more than 16,777,216
+/// written, 5 want of memory, 6 the model, 7 the ruleset, 8 the inputs, the edits or the cell, 9 the code, 10 a file of more than 16,777,216
 /// bytes. A failure of `err` changes no status.
 pub fn basin_main<S: Shelf, K: Sink, E: Sink, L: Ledger>(
     alloc: Global,

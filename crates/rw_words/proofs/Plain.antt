@@ -10,7 +10,7 @@ use Rattle.rw_words.specs.Job.{Text, name_of}
 use Rattle.rw_words.specs.Plain.{IsPath, PlainWords, plain}
 use Rattle.rw_words.specs.Program.{program}
 use Rattle.rw_words.specs.declared.job.Job.{Job}
-use Rattle.rw_words.specs.declared.job.Job.TheVariants.{Check, Compile, Run, Simulate}
+use Rattle.rw_words.specs.declared.job.Job.TheVariants.{Check, Compile, Run, Simulate, Why}
 
 -- ---- words that are no options
 
@@ -132,6 +132,7 @@ name_walked Run = refl
 name_walked Simulate = refl
 name_walked Check = refl
 name_walked Compile = refl
+name_walked Why = refl
 
 name_fault : (job : Job) (words : List Text)
     → walk_fault top names (walk_from nothing_held) (name_of job ∷ words) ≡ walk_fault top names (inside (name_of job) []) words
@@ -140,6 +141,7 @@ name_fault Run words = refl
 name_fault Simulate words = refl
 name_fault Check words = refl
 name_fault Compile words = refl
+name_fault Why words = refl
 
 -- what can be wrong when the words are walked
 abbrev last_fault : Shape → Bool → Walk → Kinds
@@ -171,6 +173,7 @@ own Run words = top_fault Run words (own_fault Run words)
 own Simulate words = top_fault Simulate words (own_fault Simulate words)
 own Check words = top_fault Check words (own_fault Check words)
 own Compile words = top_fault Compile words (own_fault Compile words)
+own Why words = top_fault Why words (own_fault Why words)
 
 -- what `clap` finds where the words of a job are walked
 abbrev Found : Type 0
@@ -185,6 +188,7 @@ entered_is Run words = refl
 entered_is Simulate words = refl
 entered_is Check words = refl
 entered_is Compile words = refl
+entered_is Why words = refl
 
 -- ---- the words of each
 
@@ -225,6 +229,10 @@ compile_last : (p q : Text) → last_fault (shape_of_job Compile) false (end (sh
 unfolding defaults_fault
 compile_last p q = refl
 
+why_last : (p q r s t : Text) → last_fault (shape_of_job Why) false (end (shape_of_job Why) nothing_held 1 (p ∷ q ∷ r ∷ s ∷ t ∷ [])) ≡ []
+unfolding defaults_fault
+why_last p q r s t = refl
+
 abbrev two : (p q : Text) → IsPath p → IsPath q → AreNoOptions (p ∷ q ∷ [])
 two p q first second = path_more p (q ∷ []) first (path_more q [] second tt)
 
@@ -235,4 +243,7 @@ plain_words = record {
   simulate = λ p q first second. asks Simulate (p ∷ q ∷ []) refl (two p q first second) (refl, refl, (refl, refl, tt)) (simulate_last p q) refl;
   check = λ p q first second. asks Check (p ∷ q ∷ []) refl (two p q first second) (refl, refl, (refl, refl, tt)) (check_last p q) refl;
   compile = λ p q first second. asks Compile (p ∷ q ∷ []) refl (two p q first second) (refl, refl, (refl, refl, tt)) (compile_last p q) refl;
+  why = λ p q r s t first second third fourth fifth. asks Why (p ∷ q ∷ r ∷ s ∷ t ∷ []) refl
+      (path_more p (q ∷ r ∷ s ∷ t ∷ []) first (path_more q (r ∷ s ∷ t ∷ []) second (path_more r (s ∷ t ∷ []) third (two s t fourth fifth))))
+      (refl, refl, (refl, refl, (refl, refl, (refl, refl, (refl, refl, tt))))) (why_last p q r s t) refl;
 }

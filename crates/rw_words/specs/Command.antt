@@ -10,7 +10,8 @@ use Rattle.rw_words.specs.Program.{program}
 use Rattle.rw_words.specs.declared.job.Job.{Job}
 use Rattle.rw_words.specs.declared.command.Command.{Command as Named}
 
--- a job, the paths that it wants, in its order, and the options that were given
+-- a job, the words that it wants, in its order (paths, and of `why` a slot and a timestep behind them), and the options that were
+-- given
 pub record Command : Type 0 where
   pub job : Job
   pub paths : List Text

@@ -2,7 +2,7 @@
 use Rattle.std.specs.Prelude.{ℕ, List, [], ◌∷◌, codes, Option, Some, None, if◌then◌else◌}
 use Rattle.std.specs.Str.{bytes_eq}
 use Rattle.rw_words.specs.declared.job.Job.{Job}
-use Rattle.rw_words.specs.declared.job.Job.TheVariants.{Run, Simulate, Check, Compile}
+use Rattle.rw_words.specs.declared.job.Job.TheVariants.{Run, Simulate, Check, Compile, Why}
 
 -- a text, as bytes
 abbrev pub Text : Type 0
@@ -14,13 +14,15 @@ name_of Run = codes "run"
 name_of Simulate = codes "simulate"
 name_of Check = codes "check"
 name_of Compile = codes "compile"
+name_of Why = codes "why"
 
--- the paths that it wants, in order
+-- the words that it wants, in order: paths, and behind them what is no path
 abbrev pub wants : Job → List Text
 wants Run = codes "MODEL" ∷ codes "POLICY" ∷ codes "INPUTS" ∷ []
 wants Simulate = codes "MODEL" ∷ codes "INPUTS" ∷ []
 wants Check = codes "MODEL" ∷ codes "POLICY" ∷ []
 wants Compile = codes "MODEL" ∷ codes "RULES" ∷ []
+wants Why = codes "MODEL" ∷ codes "POLICY" ∷ codes "INPUTS" ∷ codes "SLOT" ∷ codes "STEP" ∷ []
 
 -- its options with a value
 abbrev pub options_of : Job → List Text
@@ -28,6 +30,7 @@ options_of Run = codes "edits" ∷ []
 options_of Simulate = []
 options_of Check = []
 options_of Compile = []
+options_of Why = []
 
 -- its options without one
 abbrev pub flags_of : Job → List Text
@@ -35,6 +38,7 @@ flags_of Run = codes "flags" ∷ codes "trace" ∷ []
 flags_of Simulate = codes "flags" ∷ codes "trace" ∷ []
 flags_of Check = []
 flags_of Compile = []
+flags_of Why = []
 
 -- the job that a word names
 abbrev pub job_named : Text → Option Job
@@ -43,4 +47,5 @@ job_named word =
     else if bytes_eq word (codes "simulate") then Some Simulate
     else if bytes_eq word (codes "check") then Some Check
     else if bytes_eq word (codes "compile") then Some Compile
+    else if bytes_eq word (codes "why") then Some Why
     else None

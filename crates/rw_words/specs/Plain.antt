@@ -3,7 +3,7 @@ use Rattle.std.specs.Prelude.{◌≡◌, ◌≢◌, ◌≤◌, ◌∷◌, [], Li
 use Rattle.rw_words.specs.Command.{Command, command_of}
 use Rattle.rw_words.specs.Job.{Text, name_of}
 use Rattle.rw_words.specs.declared.job.Job.{Job}
-use Rattle.rw_words.specs.declared.job.Job.TheVariants.{Run, Simulate, Check, Compile}
+use Rattle.rw_words.specs.declared.job.Job.TheVariants.{Run, Simulate, Check, Compile, Why}
 
 -- a word that isn't empty and isn't an option, which begins with `-`
 pub record IsPath (word : Text) : Type 0 where
@@ -29,3 +29,6 @@ pub record PlainWords : Type 0 where
       → command_of (name_of Check ∷ model ∷ policy ∷ []) ≡ Some (plain Check (model ∷ policy ∷ []))
   pub compile : (model rules : Text) → IsPath model → IsPath rules
       → command_of (name_of Compile ∷ model ∷ rules ∷ []) ≡ Some (plain Compile (model ∷ rules ∷ []))
+  pub why : (model policy inputs slot step : Text) → IsPath model → IsPath policy → IsPath inputs → IsPath slot → IsPath step
+      → command_of (name_of Why ∷ model ∷ policy ∷ inputs ∷ slot ∷ step ∷ [])
+      ≡ Some (plain Why (model ∷ policy ∷ inputs ∷ slot ∷ step ∷ []))

@@ -5,7 +5,7 @@ use Rattle.clap.specs.declared.builder.ArgAction.{ArgAction}
 use Rattle.clap.specs.declared.builder.ArgAction.TheVariants.{Set, SetTrue}
 use Rattle.rw_words.specs.Job.{Text, flags_of, name_of, options_of, wants}
 use Rattle.rw_words.specs.declared.job.Job.{Job}
-use Rattle.rw_words.specs.declared.job.Job.TheVariants.{Run, Simulate, Check, Compile}
+use Rattle.rw_words.specs.declared.job.Job.TheVariants.{Run, Simulate, Check, Compile, Why}
 
 -- a word that has to be there
 abbrev pub required : Text → Rule
@@ -43,4 +43,4 @@ abbrev pub with_job : App → Job → App
 with_job app job = with_subcommand app (usage_of job).top
 
 abbrev pub program : App
-program = with_job (with_job (with_job (with_job bare Run) Simulate) Check) Compile
+program = with_job (with_job (with_job (with_job (with_job bare Run) Simulate) Check) Compile) Why

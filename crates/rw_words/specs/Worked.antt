@@ -3,7 +3,7 @@ use Rattle.std.specs.Prelude.{◌≡◌, ◌==◌, List, ℕ, [], ◌∷◌, cod
 use Rattle.rw_words.specs.Command.{Command, command_of}
 use Rattle.rw_words.specs.Job.{Text}
 use Rattle.rw_words.specs.Plain.{plain}
-use Rattle.rw_words.specs.declared.job.Job.TheVariants.{Run, Simulate, Check, Compile}
+use Rattle.rw_words.specs.declared.job.Job.TheVariants.{Run, Simulate, Check, Compile, Why}
 
 -- ---- a line of words
 
@@ -25,6 +25,10 @@ runs = plain Run (codes "m" ∷ codes "p" ∷ codes "i" ∷ [])
 -- `simulate m i`
 abbrev pub simulates : Command
 simulates = plain Simulate (codes "m" ∷ codes "i" ∷ [])
+
+-- `why m p i s` of a timestep
+abbrev pub whys : Text → Command
+whys step = plain Why (codes "m" ∷ codes "p" ∷ codes "i" ∷ codes "s" ∷ step ∷ [])
 
 -- with a file of edits
 abbrev pub edited : Text → Command → Command
@@ -49,6 +53,8 @@ pub record AskWithOptions : Type 0 where
   pub simulate : AskFor (codes "simulate m i") simulates
   pub check : AskFor (codes "check m p") (plain Check (codes "m" ∷ codes "p" ∷ []))
   pub compile : AskFor (codes "compile m r") (plain Compile (codes "m" ∷ codes "r" ∷ []))
+  pub why : AskFor (codes "why m p i s 1") (whys (codes "1"))
+  pub why_ended : AskFor (codes "why -- m p i s -1") (whys (codes "-1"))
   -- options stand anywhere behind the command's name
   pub behind : AskFor (codes "run m p i --edits e --flags --trace") (traced (flagged (edited (codes "e") runs)))
   pub before : AskFor (codes "run --trace --edits e m p i") (traced (edited (codes "e") runs))
@@ -101,6 +107,11 @@ pub record AskForNothing : Type 0 where
   pub edits_of_simulate : Nothing (codes "simulate m i --edits e")
   pub flags_of_check : Nothing (codes "check m p --flags")
   pub trace_of_compile : Nothing (codes "compile m r --trace")
+  pub trace_of_why : Nothing (codes "why m p i s 1 --trace")
+  pub edits_of_why : Nothing (codes "why m p i s 1 --edits e")
+  pub step_below : Nothing (codes "why m p i s -1")
+  pub too_few_of_why : Nothing (codes "why m p i s")
+  pub too_many_of_why : Nothing (codes "why m p i s 1 2")
   -- an option stands once
   pub flags_twice : Nothing (codes "run m p i --flags --flags")
   pub trace_twice : Nothing (codes "simulate --trace m --trace i")

@@ -12,7 +12,8 @@ use clap::{ArgMatches, Error};
 use rw_base::NoMemory;
 use std::alloc::Global;
 
-/// What the words ask for: a job, the paths that it wants, in its order, and the options that were given.
+/// What the words ask for: a job, the words that it wants, in its order (paths, and of `why` a slot and a timestep behind
+/// them), and the options that were given.
 #[derive(Drop)]
 pub struct Command<'w> {
     pub job: Job,

@@ -8,6 +8,7 @@ pub enum Job {
     Simulate,
     Check,
     Compile,
+    Why,
 }
 
 static RUN: [&str; 3] = ["MODEL", "POLICY", "INPUTS"];
@@ -17,6 +18,8 @@ static SIMULATE: [&str; 2] = ["MODEL", "INPUTS"];
 static CHECK: [&str; 2] = ["MODEL", "POLICY"];
 
 static COMPILE: [&str; 2] = ["MODEL", "RULES"];
+
+static WHY: [&str; 5] = ["MODEL", "POLICY", "INPUTS", "SLOT", "STEP"];
 
 static EDITS: [&str; 1] = ["edits"];
 
@@ -37,6 +40,8 @@ impl Job {
             Some(Job::Check)
         } else if word == "compile" {
             Some(Job::Compile)
+        } else if word == "why" {
+            Some(Job::Why)
         } else {
             None
         }
@@ -51,10 +56,11 @@ impl Job {
             Job::Simulate => "simulate",
             Job::Check => "check",
             Job::Compile => "compile",
+            Job::Why => "why",
         }
     }
 
-    // The paths that it wants, in order.
+    // The words that it wants, in order: paths, and behind them what is no path.
     pub(crate) fn wants<'a>(self) -> &'a [&'a str]
         ensures { map (λ name. name.now) result.now ≡ wants self }
     {
@@ -63,6 +69,7 @@ impl Job {
             Job::Simulate => SIMULATE.as_slice(),
             Job::Check => CHECK.as_slice(),
             Job::Compile => COMPILE.as_slice(),
+            Job::Why => WHY.as_slice(),
         }
     }
 
@@ -72,7 +79,7 @@ impl Job {
     {
         match self {
             Job::Run => EDITS.as_slice(),
-            Job::Simulate | Job::Check | Job::Compile => NONE.as_slice(),
+            Job::Simulate | Job::Check | Job::Compile | Job::Why => NONE.as_slice(),
         }
     }
 
@@ -82,7 +89,7 @@ impl Job {
     {
         match self {
             Job::Run | Job::Simulate => FLAGS.as_slice(),
-            Job::Check | Job::Compile => NONE.as_slice(),
+            Job::Check | Job::Compile | Job::Why => NONE.as_slice(),
         }
     }
 }

@@ -96,5 +96,7 @@ pub(crate) fn program<'a>(alloc: Global) -> Result<Command<'a>, AllocError>
     let three = two.subcommand(check)?;
     let compile = usage(alloc, Job::Compile)?;
     let four = three.subcommand(compile)?;
-    Ok(four)
+    let why = usage(alloc, Job::Why)?;
+    let five = four.subcommand(why)?;
+    Ok(five)
 }

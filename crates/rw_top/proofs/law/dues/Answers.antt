@@ -21,3 +21,6 @@ returns-clause-long c = due.of_long
 
 pub returns-clause-none : goal.returns-clause-none
 returns-clause-none c = due.of_none
+
+pub returns-clause-cell : goal.returns-clause-cell
+returns-clause-cell c = due.of_cell

@@ -11,3 +11,8 @@ pub write_made-requires-in-Compile : goal.write_made-requires-in-Compile
 write_made-requires-in-Compile g c =
     subst (λ job. IfOk c.compile.result (λ pair. IsOne job c.args.flags c.args.trace (files_seen c.args.files) pair.1 pair.0.items)) (sym c.in-Compile.is)
     (c.compile.ensures c.args.flags c.args.trace)
+
+pub write_made-requires-in-Why : goal.write_made-requires-in-Why
+write_made-requires-in-Why g c =
+    subst (λ job. IfOk c.tell_why-made.result (λ pair. IsOne job c.args.flags c.args.trace (files_seen c.args.files) pair.1 pair.0.items)) (sym c.in-Why.is)
+    (c.tell_why-made.ensures c.args.flags c.args.trace)
