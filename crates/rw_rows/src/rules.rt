@@ -167,3 +167,57 @@ fn edits_flags_and_traces_are_told(rt: HostRuntime) -> Result<(), Fail> {
     assert!(rt; runs_by(rt.alloc(), &words, CAP_AND_BASE, b"", TOLD)?);
     Ok(())
 }
+
+const WHY_OUTFLOW: Simulation<'static> = Simulation {
+    model: MODEL,
+    inputs: INFLOW,
+    status: 0,
+    out: Whole(b"step 1 rule 2 50 R2\nstep 1 object Dam 80 O1\nholds 80 O1\n"),
+    err: Whole(b""),
+};
+
+const WHY_INFLOW: Simulation<'static> = Simulation {
+    model: MODEL,
+    inputs: INFLOW,
+    status: 0,
+    out: Whole(b"given 100\nholds 100 I0\n"),
+    err: Whole(b""),
+};
+
+const NO_SUCH_CELL: Simulation<'static> = Simulation {
+    model: MODEL,
+    inputs: INFLOW,
+    status: 8,
+    out: Whole(b""),
+    err: Whole(b"basin: why: no such cell\n"),
+};
+
+const CELLS: &[(&str, &str, Simulation<'static>)] = &[
+    ("Dam.Outflow", "1", WHY_OUTFLOW),
+    ("Dam.Inflow", "001", WHY_INFLOW),
+    ("Dam.Outflow", "2", NO_SUCH_CELL),
+    ("Dam.Outflow", "0", NO_SUCH_CELL),
+    ("Dam.Level", "1", NO_SUCH_CELL),
+    ("Dam", "1", NO_SUCH_CELL),
+];
+
+// The first of the cells, counted from 0, of which something else is told than is wanted.
+fn first_untold(
+    alloc: Global,
+    rows: &[(&str, &str, Simulation<'_>)],
+) -> Result<Option<usize>, NoMemory> {
+    for k in 0..rows.len() {
+        let (slot, step, want) = rows[k];
+        let words = ["why", "m.toml", "p.rpl", "i.csv", slot, step];
+        if !runs_by(alloc, &words, CAP_AND_BASE, b"", want)? {
+            return Ok(Some(k));
+        }
+    }
+    Ok(None)
+}
+
+#[test]
+fn cells_are_told(rt: HostRuntime) -> Result<(), Fail> {
+    none_is_wrong(&rt, first_untold(rt.alloc(), CELLS)?);
+    Ok(())
+}
