@@ -36,6 +36,10 @@ class OtherPolicy(Exception):
     """A firing of the trace isn't one of the policy's code."""
 
 
+class NotTold(Exception):
+    """What inputs give a cell stands in no table that is there."""
+
+
 class Walk:
     """The trace of a section, with its model, the blocks of its code, and the inputs where they are known."""
 
@@ -83,7 +87,11 @@ class Walk:
         """What inputs give a cell that nobody wrote: the table has it, or the file, where the table ends before."""
         if step in self.rows:
             return self.rows[step].get(slot)
-        given = self.inputs.given(slot, step) if self.inputs else None
+        if step > self.model.timesteps.count:
+            return None
+        if not self.inputs:
+            raise NotTold(f"the run didn't close timestep {step}: --edits FILE tells what its inputs were")
+        given = self.inputs.given(slot, step)
         return given.value if given else None
 
     def past(self, slot, step):
