@@ -211,6 +211,19 @@ def taken(name, steps, given, inputs):
     return None
 
 
+def edited(inputs, content, batch):
+    """The inputs as the batches of edits up to one leave them; the edits are ones that `basin` took."""
+    for row, (line, (number, name, steps, value)) in enumerate(list(records_of(content))[1:], 2):
+        if int(number) <= batch:
+            cells = inputs.cells.setdefault(inputs.model.group(name)[0].full_name, {})
+            first, last = steps_of(steps)
+            for step in range(first, last + 1):
+                cells.pop(step, None)
+                if value:
+                    cells[step] = Given(name, line, row, int(value))
+    return inputs
+
+
 def folded(steps):
     """Rising timesteps in few words: 1-4, 6-12."""
     parts = []

@@ -1,4 +1,4 @@
-"""What `basin` writes: sections, each with a heading and a table. Flags and traces are left out."""
+"""What `basin` writes: sections, each with a heading, a table, and flags and a trace where they were asked for."""
 
 import re
 from dataclasses import dataclass, field
@@ -20,12 +20,22 @@ class Row:
 
 @dataclass
 class Section:
-    """A run: its batch of edits, its fault if it ended in one, its slots, and its closed timesteps."""
+    """A run: its batch of edits, its fault if it ended in one, its slots, and its closed timesteps.
+
+    Where they were asked for: of each timestep the flags of its known slots, and the lines of the trace.
+    """
 
     batch: int = 0
     fault: str = ""
     slots: list = field(default_factory=list)
     rows: list = field(default_factory=list)
+    flags: dict = field(default_factory=dict)
+    trace: list = field(default_factory=list)
+
+    @property
+    def ending(self):
+        """How the run ended, in `basin`'s words."""
+        return f"fault {self.fault}" if self.fault else "settled"
 
     @property
     def fault_step(self):
@@ -41,18 +51,23 @@ def is_table(text):
 
 def read_sections(text):
     """The sections of a text that `basin` wrote. `ValueError` where a line isn't one that it writes."""
-    sections, in_table = [], True
+    sections, part, columns = [], "table", []
     for number, line in enumerate(text.splitlines(), 1):
         heading = HEADING.fullmatch(line)
         if heading:
             sections.append(Section(int(heading[1]), heading[3] or ""))
-            in_table = True
+            part = "table"
         elif line.startswith("# "):
-            in_table = line.startswith("# reran")
-        elif in_table and line.strip():
+            part = line[2:] if line in ("# flags", "# trace") else part if line.startswith("# reran") else ""
+        elif part and line.strip():
             if not sections:
                 sections.append(Section())
-            read_line(sections[-1], line.split(","), number)
+            if part == "trace":
+                sections[-1].trace.append(line)
+            elif part == "table":
+                read_line(sections[-1], line.split(","), number)
+            else:
+                columns = read_flags(sections[-1], line.split(","), columns, number)
     if not any(section.slots for section in sections):
         raise ValueError("no table that basin wrote: a line step,stamp,.. is missing")
     return sections
@@ -68,3 +83,18 @@ def read_line(section, fields, number):
         raise ValueError(f"line {number} isn't one of a table that basin wrote")
     values = {slot: int(value) if value else None for slot, value in zip(section.slots, fields[2:])}
     section.rows.append(Row(int(fields[0]), stamp, values))
+
+
+def read_flags(section, fields, columns, number):
+    """A line of a section's flags: its columns, or a timestep's. The columns that stand then."""
+    if fields[0] == "step":
+        return fields[1:]
+    if len(fields) != len(columns) + 1 or not fields[0].isdigit():
+        raise ValueError(f"line {number} isn't one of flags that basin wrote")
+    section.flags[int(fields[0])] = {slot: flag for slot, flag in zip(columns, fields[1:]) if flag}
+    return columns
+
+
+def section_of(sections, batch):
+    """The section of a batch, or `None`."""
+    return next((section for section in sections if section.batch == batch), None)

@@ -1,0 +1,179 @@
+"""From a cell to the cells that its writer looked at, over the trace of a run."""
+
+from bisect import bisect_left
+from dataclasses import dataclass, field
+
+from .dispatch import elevation, past_name
+from .firing import Firing
+
+END = float("inf")  # a place behind all of a trace
+
+
+@dataclass
+class Event:
+    """A dispatch or a firing of a trace: its place, its timestep, its object or rule, and what it wrote."""
+
+    place: int
+    step: int
+    thing: str = ""
+    rule: int = 0
+    ended: str = ""  # how a firing ended: done or unknown
+    written: list = field(default_factory=list)  # slots, timesteps and values
+
+
+@dataclass
+class Content:
+    """What a cell held at a place of the trace: value and flag, and the event that wrote it or whence it came."""
+
+    value: int | None
+    flag: str = ""
+    event: Event | None = None
+    slot: str = ""  # the slot under whose name it was written
+    whence: str = ""
+
+
+class OtherPolicy(Exception):
+    """A firing of the trace isn't one of the policy's code."""
+
+
+class NotTold(Exception):
+    """What inputs give a cell stands in no table that is there."""
+
+
+class Walk:
+    """The trace of a section, with its model, the blocks of its code, and the inputs where they are known."""
+
+    def __init__(self, model, blocks, inputs, section):
+        self.model, self.blocks, self.inputs = model, blocks, inputs
+        self.first = {name: model.group(name)[0].full_name for name in model.slots}
+        self.rows = {row.step: row.values for row in section.rows}
+        self.events = []
+        self.puts = {}  # by cell, under the first slot of its link: places, and contents
+        self.read(section.trace)
+
+    def read(self, trace):
+        """Goes through the lines of a trace."""
+        step, event = 0, None
+        for place, line in enumerate(trace):
+            word, *rest = line.split()
+            if line.startswith("  "):
+                slot, at, value, flag = word, int(rest[0]), int(rest[1]), rest[2]
+                event.written.append((slot, at, value))
+                places, contents = self.puts.setdefault((self.first[slot], at), ([], []))
+                places.append(event.place)
+                contents.append(Content(value, flag, event, slot))
+            elif word == "open":
+                step = int(rest[0])
+            elif word == "solve":
+                event = Event(place, step, thing=rest[0])
+                self.events.append(event)
+            elif word == "fire":
+                event = Event(place, step, rule=int(rest[0]), ended=rest[1])
+                self.events.append(event)
+
+    def held(self, slot, step, before):
+        """What a cell held before a place of the trace."""
+        if step < 1:
+            value = self.past(slot, step)
+            return Content(value, whence="unknown" if value is None else "before the run, by the model")
+        places, contents = self.puts.get((self.first[slot], step), ([], []))
+        number = bisect_left(places, before)
+        if number:
+            return contents[number - 1]
+        value = None if places else self.given(slot, step)
+        return Content(None, whence="unknown") if value is None else Content(value, "I0", whence="an input")
+
+    def given(self, slot, step):
+        """What inputs give a cell that nobody wrote: the table has it, or the file, where the table ends before."""
+        if step in self.rows:
+            return self.rows[step].get(slot)
+        if step > self.model.timesteps.count:
+            return None
+        if not self.inputs:
+            raise NotTold(f"the run didn't close timestep {step}: --edits FILE tells what its inputs were")
+        given = self.inputs.given(slot, step)
+        return given.value if given else None
+
+    def past(self, slot, step):
+        """What a slot held before the run."""
+        owner, _, name = slot.partition(".")
+        thing = self.model.object_named(owner)
+        if thing.kind == "reach" and name == "Inflow" and -thing.options["lag"] < step:
+            return thing.options["history"][step - 1]
+        if thing.kind != "reservoir" or step or name not in ("Storage", "PoolElevation"):
+            return None
+        storage = thing.options["initial_storage"]
+        return storage if name == "Storage" else elevation(thing.options["table"], storage)
+
+    def looked_at(self, event):
+        """The cells at which the writer of an event looked, as slots and timesteps."""
+        return self.of_rule(event) if event.rule else self.of_object(event)
+
+    def of_rule(self, event):
+        """Those of a firing: its code is gone through again, with what the cells held."""
+        firing = self.fired(event)
+        if firing.ended != event.ended or not set(event.written) <= set(firing.puts):
+            raise OtherPolicy(f"rule {event.rule} of the policy does something else at timestep {event.step}")
+        return list(firing.looks)
+
+    def fired(self, event):
+        """A firing of the trace, gone through again."""
+
+        def held(slot, step):
+            return self.held(slot, step, event.place).value
+
+        return Firing(self.model, self.blocks, event.step, held).run(event.rule)
+
+    def of_object(self, event):
+        """Those of a dispatch: what it goes by and hadn't solved itself, and its past."""
+        thing = self.model.object_named(event.thing)
+        wrote = {(self.first[slot], step) for slot, step, _ in event.written}
+        cells = [(slot.full_name, event.step) for slot in thing.slots if goes_by(thing, slot)]
+        cells = [cell for cell in cells if (self.first[cell[0]], event.step) not in wrote]
+        contents = {cell: self.held(*cell, event.place) for cell in cells}
+        others = [cell for cell, content in contents.items() if is_of_another(content, thing)]
+        if past_name(thing):
+            ago = 1 if thing.kind == "reservoir" else thing.options["lag"]
+            others.append((f"{thing.name}.{past_name(thing)}", event.step - ago))
+        return others
+
+
+def goes_by(thing, slot):
+    """Whether an object solves by what this slot of it holds at the timestep."""
+    return slot.role in ("solvable", "fixed") or (thing.kind == "reservoir" and slot.role == "neither")
+
+
+def is_of_another(content, thing):
+    """Whether a cell was known, and not by the object itself."""
+    return content.value is not None and not (content.event and content.event.thing == thing.name)
+
+
+def lines_of(walk, slot, step, levels):
+    """The lines of a walk from a cell on, so many levels deep."""
+    waiting, seen = [(slot, step, END, 0)], set()
+    while waiting:
+        slot, step, before, level = waiting.pop()
+        content = walk.held(slot, step, before)
+        event = content.event
+        more = walk.looked_at(event) if event and level < levels and event.place not in seen else []
+        yield f"{'  ' * level}{slot} {step} {told(content, slot)}{mark(event, seen, level, levels)}"
+        if more:
+            seen.add(event.place)
+        waiting += [(*cell, event.place, level + 1) for cell in reversed(more)]
+
+
+def told(content, slot):
+    """What a line says of what a cell held."""
+    value = "" if content.value is None else f"= {content.value} "
+    flag = f"{content.flag}, " if content.flag else ""
+    if not content.event:
+        return f"{value}{flag}{content.whence}"
+    writer = f"by rule {content.event.rule}" if content.event.rule else f"by {content.event.thing}"
+    return f"{value}{flag}{writer}" + (f", as {content.slot}" if content.slot != slot else "")
+
+
+def mark(event, seen, level, levels):
+    """What stands behind a line whose writer isn't followed."""
+    if event and event.place in seen:
+        return " (above)"
+    return " .." if event and level == levels else ""
