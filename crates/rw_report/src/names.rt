@@ -4,7 +4,6 @@ ghost use Rattle.rw_report.specs.Section.{object_words, slot_words};
 
 use rw_base::{NoMemory, ObjectNo, SlotNo};
 use rw_model::Basin;
-use std::fmt::Write;
 
 fn is_object(basin: &Basin, object: ObjectNo) -> bool
     ensures { result ≡ (nat_le 1 object.0 && nat_le object.0 (length basin.now.objects)) }
@@ -34,9 +33,9 @@ pub(crate) fn push_slot(text: &mut String, basin: &Basin, slot: SlotNo) -> Resul
     ensures { OnOk result (string_bytes text.new ≡ string_bytes text.old ++ slot_words basin.now slot.0) }
 {
     if is_slot(basin, slot) {
-        let object = object_words(basin, basin.owner(slot));
-        let name = basin.slot_name(slot);
-        write!(text, "{object}.{name}")?;
+        text.push_str(object_words(basin, basin.owner(slot)))?;
+        text.push_str(".")?;
+        text.push_str(basin.slot_name(slot))?;
     }
     Ok(())
 }

@@ -6,12 +6,11 @@ ghost use Rattle.rw_series.specs.Series.{held};
 ghost use Rattle.rw_report.specs.Section.{columns, for_slots, row, rows, slot_words, value_words, values_in};
 
 use crate::names::push_slot;
-use crate::numbers::push_number;
+use crate::numbers::{push_count, push_number};
 use rw_base::{Cell, NoMemory, SlotNo, StepNo};
 use rw_model::{Basin, Content};
 use rw_series::Series;
 use std::alloc::Global;
-use std::fmt::Write;
 
 // Appends a comma and the name of a slot.
 fn push_name(text: &mut String, basin: &Basin, slot: SlotNo) -> Result<(), NoMemory>
@@ -70,6 +69,17 @@ fn push_values(
     Ok(())
 }
 
+// Appends the number of a timestep, a comma and a stamp.
+fn push_stamped(text: &mut String, step: u16, stamp: &str) -> Result<(), NoMemory>
+    ensures { OnOk result (string_bytes text.new
+        ≡ string_bytes text.old ++ (decimal step ++ (codes "," ++ stamp.now))) }
+{
+    push_count(text, u64::from(step))?;
+    text.push_str(",")?;
+    text.push_str(stamp)?;
+    Ok(())
+}
+
 // Appends the number of a timestep, a comma and its stamp.
 fn push_stamp(alloc: Global, text: &mut String, basin: &Basin, step: u16) -> Result<(), NoMemory>
     requires first { 1 ≤ step }
@@ -78,7 +88,7 @@ fn push_stamp(alloc: Global, text: &mut String, basin: &Basin, step: u16) -> Res
         ++ (decimal step ++ (codes "," ++ stamp_text (end_of basin.now.control.stamps step)))) }
 {
     let stamp = basin.control().stamps.text(alloc, step)?;
-    write!(text, "{step},{stamp}")?;
+    push_stamped(text, step, stamp.as_str())?;
     Ok(())
 }
 

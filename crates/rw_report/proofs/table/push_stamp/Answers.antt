@@ -5,6 +5,6 @@ use Rattle.rw_report.proofs.table.push_stamp.Goals as goal
 
 pub returns : goal.returns
 returns c =
-    c.in_ok-write.ensures.bytes
+    c.in_ok-push_stamped.ensures
     ∙ ap (λ stamp. string_bytes c.args.text.now ++ (decimal c.args.step ++ (codes "," ++ stamp)))
-    (c.in_ok-stamp.ensures ∙ ap (λ (control : RunControl). stamp_text (end_of control.stamps c.args.step)) c.control.ensures)
+    (c.as_str.ensures.value ∙ c.in_ok-stamp.ensures ∙ ap (λ (control : RunControl). stamp_text (end_of control.stamps c.args.step)) c.control.ensures)
