@@ -41,7 +41,7 @@ fn is_written(
     if basin.control().stamps.count() < run.closed {
         return false;
     }
-    match section(alloc, basin, batch, run) {
+    match section(alloc, basin, batch, run, None, false, false) {
         Ok(text) => {
             text.as_slice().starts_with(want.as_bytes()) && (!whole || text.len() == want.len())
         }

@@ -19,10 +19,12 @@ ghost use Rattle.rw_report.specs.Whole.{reran_words, whole_of};
 ghost use Rattle.rw_report.specs.Why.{why_of};
 ghost use Rattle.rw_report.specs.Worked.{asked, five_given, no_inputs, solved_twice, traced};
 
-/// The texts of a run are those of its events, where its trace is kept if it is asked for; and a section of which nothing
-/// more is asked is the heading and the table.
-#[tactic(auto, using(crate::proofs::Runs::same_reason, crate::proofs::Runs::plain_section))]
+/// What is told of a run, and so its texts, are those of its events, where its trace is kept if it is asked for; and a section
+/// of which nothing more is asked is the heading and the table.
+#[tactic(auto, using(crate::proofs::Runs::same_outcome, crate::proofs::Runs::same_reason, crate::proofs::Runs::plain_section))]
 pub fn texts_of_runs()
+    ensures outcome { (basin : Draft) (log : Log) (run : Run)
+        → IsRunOf basin log run → IsSome run.trace → outcome_of run ≡ outcome_by basin log }
     ensures whole { (basin : Draft) (batch : ℕ) (log : Log) (run : Run)
         (reran : Option (List StepNo)) (flags trace : Bool)
         → IsRunOf basin log run → (IsTrue trace → IsSome run.trace)

@@ -1,8 +1,8 @@
 //! The texts of a run. `section` answers how the run of a batch ended, and a table of what every slot held at each timestep
-//! that was closed; `whole_section` also tells which timesteps were run again, who wrote each value, and what happened,
-//! where it is asked. `why` answers how one cell came to what it holds. Each answers exactly the text that `specs/` defines,
-//! for any run that closed no more timesteps than the basin has, and want of memory is its one other answer. Each cell and
-//! each line of a trace is read once, and takes no memory but its place in the text.
+//! that was closed, and which timesteps were run again, who wrote each value, and what happened, where it is asked. `why`
+//! answers how one cell came to what it holds. Each answers exactly the text that `specs/` defines, for any run that closed
+//! no more timesteps than the basin has, and want of memory is its one other answer. Each cell and each line of a trace is
+//! read once, and takes no memory but its place in the text.
 #![tactic(auto)]
 
 mod cell;
@@ -16,4 +16,5 @@ mod table;
 mod whole;
 
 pub use cell::why;
-pub use whole::{section, whole_section};
+pub use lines::line_at;
+pub use whole::section;

@@ -13,8 +13,8 @@ use rw_base::{NoMemory, ObjectNo, RuleNo, SlotNo, StepNo};
 use rw_model::{Basin, Content};
 use rw_run::{RunFault, Trace, TraceEvent};
 
-/// The line of a trace in a place.
-pub(crate) fn line_at(trace: &Trace, place: usize) -> TraceEvent
+/// The line of a trace in a place, counted from 0.
+pub fn line_at(trace: &Trace, place: usize) -> TraceEvent
     requires within { place < length (lines_in trace.now) }
     ensures { slice_get (lines_in trace.now) place ≡ Some result }
 {

@@ -2,7 +2,7 @@ ghost use Rattle.std.specs.Prelude.{◌≡◌, ◌≤◌, ◌++◌, IfOk, OnOk, 
 ghost use Rattle.std.specs.Fmt.{decimal};
 ghost use Rattle.rw_series.specs.Series.{held};
 ghost use Rattle.rw_run.specs.Trace.{lines_in};
-ghost use Rattle.rw_report.specs.Section.{heading, section_of, values_in};
+ghost use Rattle.rw_report.specs.Section.{heading};
 ghost use Rattle.rw_report.specs.Flags.{flag_table};
 ghost use Rattle.rw_report.specs.Lines.{trace_words};
 ghost use Rattle.rw_report.specs.Outcome.{outcome_of};
@@ -17,22 +17,6 @@ use rw_base::{NoMemory, StepNo};
 use rw_model::Basin;
 use rw_run::{Run, RunEnd};
 use std::alloc::Global;
-
-/// The text of the section of the batch of this number: a line on how its run ended, a line of column names, and a line
-/// for each closed timestep with its number, the moment at which it ends and the values of all slots, in the base units of
-/// their dimensions and in the order of their numbers. Every line ends in a line feed, and an unknown value is nothing. An
-/// object or a slot that a fault names and the basin doesn't have is written as nothing.
-pub fn section(alloc: Global, basin: &Basin, batch: u32, run: &Run) -> Result<Vec<u8>, NoMemory>
-    requires closed { run.now.closed ≤ basin.now.control.stamps.count }
-    ensures text { IfOk result (λ text. text.items
-        ≡ section_of basin.now batch run.now.end run.now.closed (values_in (held run.now.series))) }
-{
-    let mut text = String::new(alloc);
-    push_heading(&mut text, basin, batch, &run.end)?;
-    push_columns(&mut text, basin)?;
-    push_rows(alloc, &mut text, basin, &run.series, run.closed)?;
-    Ok(text.into_bytes())
-}
 
 // Appends a space and the number of a timestep.
 fn push_step(text: &mut String, step: StepNo) -> Result<(), NoMemory>
@@ -129,11 +113,13 @@ fn push_trace_if(text: &mut String, basin: &Basin, run: &Run, trace: bool) -> Re
     }
 }
 
-/// The text of the section of the batch of this number, with all that is asked for: a line on how its run ended; where
-/// timesteps are given that were run again, a line on them; the table of `section`; with `flags` a table of who wrote each
-/// value and its priority; with `trace` what happened, line by line. What isn't asked for isn't made, and of a trace that
-/// wasn't kept no line is told.
-pub fn whole_section(
+/// The text of the section of the batch of this number: a line on how its run ended; where timesteps are given that were run
+/// again, a line on them; a line of column names, and a line for each closed timestep with its number, the moment at which it
+/// ends and the values of all slots, in the base units of their dimensions and in the order of their numbers; with `flags` a
+/// table of who wrote each value and its priority; with `trace` what happened, line by line. What isn't asked for isn't made,
+/// and of a trace that wasn't kept no line is told. Every line ends in a line feed, and an unknown value is nothing. An object
+/// or a slot that a fault names and the basin doesn't have is written as nothing.
+pub fn section(
     alloc: Global,
     basin: &Basin,
     batch: u32,

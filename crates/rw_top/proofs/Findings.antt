@@ -1,12 +1,14 @@
 -- What is found of a file is one thing, where the shelf tells what its path holds: the file is accepted, or refused with
 -- one status, or too long.
-use Rattle.rw_top.proofs.Common.{Accepts, AcceptsAll, AreRead, BadEdits, BadInputs, BadModel, BadPolicy, Command, Err, FILE_MAX, File, Files, Holds, HoldsTooLong, IfSome, InputRefusal, IsFound, IsSome, IsSomeAnd, IsTextAt, IsTooLong, List, LongFile, ModelRefusal, Names, None, Ok, Option, Reaches, ReadsInputs, ReadsModel, ReadsPolicy, Reason, Refuses, RefusesInputs, RefusesModel, RefusesPolicy, SaysAt, Some, WasRead, ap, ap₂, arith, cases_lt, file_of, inl, inr, length, model_of, order, path_of, policy_status, reads_code, refl, status_by, subst, sym, ℕ, ◌<◌, ◌∙◌, ◌≡◌, ◌≤◌, ◌⊎◌}
+use Rattle.rw_top.proofs.Common.{Accepts, AcceptsAll, AreRead, BadEdits, BadInputs, BadModel, BadPolicy, Command, Err, FILE_MAX, File, Files, Holds, HoldsTooLong, IfSome, InputRefusal, IsFound, IsSome, IsSomeAnd, IsTooLong, List, LongFile, ModelRefusal, Names, None, Ok, Option, Reaches, ReadsInputs, ReadsModel, ReadsPolicy, Reason, Refuses, RefusesInputs, RefusesModel, RefusesPolicy, SaysAt, Some, WasRead, ap, ap₂, arith, cases_lt, file_of, inl, inr, length, model_of, order, path_of, policy_status, reads_code, refl, status_by, subst, sym, ℕ, ◌<◌, ◌∙◌, ◌≡◌, ◌≤◌, ◌⊎◌}
 use Rattle.rw_model.specs.Draft.{Draft}
 use Rattle.rw_inputs.specs.EditRows.{edits_of}
 use Rattle.rw_inputs.specs.Edits.{Batch}
 use Rattle.rw_inputs.specs.Inputs.{Inputs as Given}
 use Rattle.rw_top.specs.Cell.{cell_of}
-use Rattle.rw_top.specs.Reading.{LacksCell, ReadsEdits, RefusesEdits}
+use Rattle.std.specs.Prelude.{option_and_then}
+use Rattle.rw_top.specs.Command.{Source, AtPath, OfSample, path_in, source_of}
+use Rattle.rw_top.specs.Reading.{HasText, LacksCell, ReadsEdits, RefusesEdits}
 use Rattle.rw_top.specs.Policy.{Policy as Rules, PolicyRefusal, RefusesText}
 use Rattle.rw_top.specs.declared.refusal.File.TheVariants.{Model, Policy, Inputs, Edits}
 use Rattle.rw_top.proofs.CommandLemmas.{is_there}
@@ -21,14 +23,15 @@ one_told (Some f) a b told h k = h ∙ sym k
 abbrev pub IsTold : Command → Holds → File → Type 0
 IsTold command holds file = IfSome (path_of command file) (λ path. IsSome (holds path))
 
-text_at : (holds : Holds) (o : Option (List ℕ)) (a b : List ℕ) → IfSome o (λ path. IsSome (holds path))
-    → IsSomeAnd o (IsTextAt holds a) → IsSomeAnd o (IsTextAt holds b) → a ≡ b
-text_at holds None a b told h k = absurd h
-text_at holds (Some path) a b told h k = one_told (holds path) a b told h.told k.told
+text_at : (holds : Holds) (file : File) (o : Option Source) (a b : List ℕ) → IfSome (option_and_then path_in o) (λ path. IsSome (holds path))
+    → IsSomeAnd o (HasText holds file a) → IsSomeAnd o (HasText holds file b) → a ≡ b
+text_at holds file None a b told h k = absurd h
+text_at holds file (Some (AtPath path)) a b told h k = one_told (holds path) a b told h.told k.told
+text_at holds file (Some (OfSample seed)) a b told h k = h ∙ sym k
 
 pub same_text : (command : Command) (holds : Holds) (file : File) (a b : List ℕ) → IsTold command holds file
     → WasRead command holds file a → WasRead command holds file b → a ≡ b
-same_text command holds file a b told h k = text_at holds (path_of command file) a b told h k
+same_text command holds file a b told h k = text_at holds file (source_of command file) a b told h k
 
 not_long : (o : Option (List ℕ)) (a : List ℕ) → IsSome o → IfSome o (λ f. FILE_MAX < length f)
     → IfSome o (λ f. a ≡ f) → length a ≤ FILE_MAX → ⊥
@@ -36,10 +39,16 @@ not_long None a told long h short = cc
 not_long (Some f) a told long h short = let longer : FILE_MAX < length a = rw h long in omega arith
 
 -- a file that was read isn't too long
-long_clash : (holds : Holds) (o : Option (List ℕ)) (a : List ℕ) → IfSome o (λ path. IsSome (holds path))
-    → IsSomeAnd o (IsTooLong holds) → IsSomeAnd o (IsTextAt holds a) → ⊥
-long_clash holds None a told long h = absurd h
-long_clash holds (Some path) a told long h = not_long (holds path) a told long h.told h.short
+long_clash : (holds : Holds) (file : File) (o : Option Source) (a : List ℕ) → IfSome (option_and_then path_in o) (λ path. IsSome (holds path))
+    → IsSomeAnd (option_and_then path_in o) (IsTooLong holds) → IsSomeAnd o (HasText holds file a) → ⊥
+long_clash holds file None a told long h = absurd h
+long_clash holds file (Some (AtPath path)) a told long h = not_long (holds path) a told long h.told h.short
+long_clash holds file (Some (OfSample seed)) a told long h = absurd long
+
+-- what has a path comes from somewhere
+sourced : (o : Option Source) → IsSome (option_and_then path_in o) → IsSome o
+sourced None some = absurd cc
+sourced (Some source) some = refl
 
 -- a file that isn't read isn't named
 not_named : {A : Type 0} (o : Option A) → o ≡ None → IsSome o → ⊥
@@ -159,7 +168,7 @@ module _ (command : Command) (holds : Holds) where
   too_long : (file : File) → IsToldUpTo command holds file → HoldsTooLong command holds file
       → (text : List ℕ) × WasRead command holds file text → ⊥
   too_long file told long read =
-      long_clash holds (path_of command file) read.0 (told file (omega arith)) long.longer read.1
+      long_clash holds file (source_of command file) read.0 (told file (omega arith)) long.longer read.1
 
   one_finding : (file : File) (a b : ℕ) → IsToldUpTo command holds file → Finding file a → Finding file b → a ≡ b
   one_finding file a b told (inl bad) (inl other) = one_status file a b told bad other
@@ -192,7 +201,7 @@ module _ (command : Command) (holds : Holds) where
 
   policy_there : (basin : Draft) (policy : Option Rules) → SaysAt command Policy policy (ReadsPolicy command holds basin)
       → Names command Policy → Accepts command holds Policy
-  policy_there basin None says named = absurd (not_named (path_of command Policy) says named)
+  policy_there basin None says named = absurd (not_named (source_of command Policy) says named)
   policy_there basin (Some policy) says named = (basin, policy, says)
 
   pub reaches_inputs : (basin : Draft) (policy : Option Rules) → ReadsModel command holds basin
@@ -204,7 +213,7 @@ module _ (command : Command) (holds : Holds) where
 
   inputs_there : (basin : Draft) (inputs : Option Given) → SaysAt command Inputs inputs (ReadsInputs command holds basin)
       → Names command Inputs → Accepts command holds Inputs
-  inputs_there basin None says named = absurd (not_named (path_of command Inputs) says named)
+  inputs_there basin None says named = absurd (not_named (source_of command Inputs) says named)
   inputs_there basin (Some inputs) says named = (basin, inputs, says)
 
   pub reaches_edits : (basin : Draft) (policy : Option Rules) (inputs : Option Given) → ReadsModel command holds basin
@@ -223,7 +232,7 @@ module _ (command : Command) (holds : Holds) where
 
   edits_there : (basin : Draft) (edits : Option (List Batch)) → SaysAt command Edits edits (ReadsEdits command holds basin)
       → Names command Edits → Accepts command holds Edits
-  edits_there basin None says named = absurd (not_named (path_of command Edits) says named)
+  edits_there basin None says named = absurd (not_named (source_of command Edits) says named)
   edits_there basin (Some batches) says named = (basin, batches, says)
 
   -- where the files of the command are read, each of them is accepted
@@ -241,11 +250,11 @@ module _ (command : Command) (holds : Holds) where
 
   -- the file of a reason is read
   pub names : (reason : Reason) → IsFound command holds reason → Names command (file_of reason)
-  names (BadModel why) found = is_there (path_of command Model) (IsTextAt holds found.text) found.read
-  names (BadPolicy why) found = is_there (path_of command Policy) (IsTextAt holds found.text) found.read
-  names (BadInputs why) found = is_there (path_of command Inputs) (IsTextAt holds found.text) found.read
-  names (BadEdits why) found = is_there (path_of command Edits) (IsTextAt holds found.text) found.read
-  names (LongFile file) found = is_there (path_of command file) (IsTooLong holds) found.longer
+  names (BadModel why) found = is_there (source_of command Model) (HasText holds Model found.text) found.read
+  names (BadPolicy why) found = is_there (source_of command Policy) (HasText holds Policy found.text) found.read
+  names (BadInputs why) found = is_there (source_of command Inputs) (HasText holds Inputs found.text) found.read
+  names (BadEdits why) found = is_there (source_of command Edits) (HasText holds Edits found.text) found.read
+  names (LongFile file) found = sourced (source_of command file) (is_there (path_of command file) (IsTooLong holds) found.longer)
 
   reached : (reason : Reason) → IsFound command holds reason → Reaches command holds (file_of reason)
   reached (BadModel why) found = reaches_model

@@ -17,3 +17,5 @@ pub mod RulesText
 pub mod SectionLemmas
 pub mod FewBatches
 pub mod WhyText
+pub mod SampleText
+pub mod OneSample

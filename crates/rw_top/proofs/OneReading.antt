@@ -24,7 +24,7 @@ same_values basin text inputs others h k slot step =
     ap (λ (value : ℕ → ℕ → Option ℤ). value slot step) same
 
 -- a text spells one ruleset
-one_ruleset : (text : List ℕ) (rules others : List Declared) → IsReading text (Ok rules) → IsReading text (Ok others) → rules ≡ others
+pub one_ruleset : (text : List ℕ) (rules others : List Declared) → IsReading text (Ok rules) → IsReading text (Ok others) → rules ≡ others
 one_ruleset text rules others h k =
     let same = one_reading_holds text (Ok rules) (Ok others) h k in cc
 

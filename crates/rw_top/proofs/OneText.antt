@@ -18,7 +18,7 @@ module _ (inputs others : Inputs) (same : (slot step : ℕ) → value_at inputs 
   same_of slot zero = refl
   same_of slot (suc steps) = ap₂ (λ xs value. xs ++ if_given slot (suc steps) value) (same_of slot steps) (same slot (suc steps))
 
-  same_to : (slots steps : ℕ) → givens_to inputs slots steps ≡ givens_to others slots steps
+  pub same_to : (slots steps : ℕ) → givens_to inputs slots steps ≡ givens_to others slots steps
   same_to zero steps = refl
   same_to (suc slots) steps = ap₂ (λ xs ys. xs ++ ys) (same_to slots steps) (same_of (suc slots) steps)
 

@@ -1,6 +1,6 @@
 -- A call that wrote its run, or was refused, keeps the promise.
 use Rattle.rw_top.proofs.Common.{Asks, Call, Cause, Command, Fault, Files, IsTextOf, Job, List, None, Promise, Refusal, RefusedCommand, RefusedWords, RunEnd, Settled, Some, WasRefused, WritesAll, Wrote, arith, inl, inr, status_of, status_of_end, ℕ, ◌∙◌, ◌≡◌, ◌≤◌}
-use Rattle.rw_words.specs.declared.job.Job.TheVariants.{Simulate, Check, Compile, Run, Why}
+use Rattle.rw_words.specs.declared.job.Job.TheVariants.{Simulate, Check, Compile, Run, Why, Sample}
 use Rattle.rw_top.specs.declared.refusal.Refusal.TheVariants.{Words, NoMemory}
 use Rattle.rw_base.proofs.Common.{Bool}
 use Rattle.rw_top.specs.Promise.{UnreadWords}
@@ -17,6 +17,7 @@ status_at_most_1 Check flags trace files status texts is = omega (arith, is.0)
 status_at_most_1 Compile flags trace files status texts is = omega (arith, is.0)
 status_at_most_1 Why flags trace files status texts is = let most = at_most_1 is.0 in omega (arith, most, is.1)
 status_at_most_1 Run flags trace files status texts is = let most = at_most_1 is.0 in omega (arith, most, is.1)
+status_at_most_1 (Sample seed) flags trace files status texts is = omega (arith, is.0)
 
 at_least_2 : (why : Refusal) → 2 ≤ status_of why
 at_least_2 Words = omega arith

@@ -1,7 +1,13 @@
--- The text of a run by a policy, from that of a run by its code.
-use Rattle.rw_top.proofs.Common.{Declared, IsRunText, List, Err, Ok, Result, RunEnd, [], arith, refl, subst, sym, ℕ, ℤ, ◌≡◌}
-use Rattle.rw_base.proofs.Common.{Bool, IsOk}
+-- The run by a policy, from the run by its code, and its section.
+use Rattle.rw_top.proofs.Common.{Declared, IsRunText, List, Err, None, Ok, Option, Result, RunEnd, [], arith, refl, subst, sym, ℕ, ℤ, ◌∙◌, ◌≡◌}
+use Rattle.rw_base.proofs.Common.{Bool, IsOk, IsSome, IsTrue}
 use Rattle.rw_base.specs.declared.number.Cell.{Cell}
+use Rattle.rw_base.specs.declared.number.StepNo.{StepNo}
+use Rattle.rw_engine.specs.Passing.{ComesTo}
+use Rattle.rw_report.specs.Outcome.{outcome_by, outcome_of}
+use Rattle.rw_report.specs.Whole.{whole_of}
+use Rattle.rw_run.specs.RunOf.{IsRunOf}
+use Rattle.rw_run.specs.declared.run.Run.{Run}
 use Rattle.rw_inputs.specs.Givens.{givens}
 use Rattle.rw_inputs.specs.Inputs.{Inputs}
 use Rattle.rw_model.proofs.Common.{Draft}
@@ -17,8 +23,8 @@ use Rattle.rpl_types.specs.Judged.{Refusal as NodeRefusal}
 use Rattle.rpl_types.specs.Nodes.{Types}
 use Rattle.rpl_verify.specs.Budget.{AreAccepted}
 use Rattle.rpl_verify.specs.Verified.{Accepted}
-use Rattle.rw_top.specs.Policy.{Ruleset, Code}
-use Rattle.rw_top.specs.RunText.{IsRulesText}
+use Rattle.rw_top.specs.Policy.{Policy as Rules, Ruleset, Code}
+use Rattle.rw_top.specs.RunText.{ComesBy, IsRulesText}
 
 -- what is accepted has types
 pub types_of : (result : Result (List Types) NodeRefusal) → IsOk result → (types : List Types) × (result ≡ Ok types)
@@ -46,23 +52,46 @@ without_rules same_runs basin blocks flags trace number inputs end text none is 
     (λ log run. same_runs basin (policy_of_code basin blocks) no_rules (givens basin inputs) log (none_alike basin blocks none) run) is
 
 -- by code
-pub by_code : (basin : Draft) (code : Accepted) (flags trace : Bool) (number : ℕ) (inputs : Inputs) (end : RunEnd) (text : List ℕ)
-    → AreAccepted basin code.blocks code.budgets
+pub by_code : (basin : Draft) (code : Accepted) (inputs : Inputs) (run : Run) → AreAccepted basin code.blocks code.budgets
     → ((log : Log) → IsRun basin (policy_of_code basin code.blocks) (givens basin inputs) log → AreVerified basin code.blocks code.budgets log)
-    → IsRunText basin (policy_of_code basin code.blocks) flags trace number inputs end text
-    → IsRulesText basin (Code code.blocks code.budgets) flags trace number inputs end text
-by_code basin code flags trace number inputs end text accepted firings is =
-    record { run_text = is; verified = record { budgets = code.budgets; accepted = accepted; firings = firings is.log is.run } }
+    → ComesTo basin (policy_of_code basin code.blocks) inputs run → ComesBy basin (Code code.blocks code.budgets) inputs run
+by_code basin code inputs run accepted firings comes = record {
+  log = comes.log;
+  whole = comes.whole;
+  is = comes.is;
+  verified = record { budgets = code.budgets; accepted = accepted; firings = firings comes.log comes.whole };
+}
 
 -- by a ruleset
-pub by_ruleset : (basin : Draft) (rules : List Declared) (blocks : List Block) (flags trace : Bool) (number : ℕ) (inputs : Inputs) (end : RunEnd) (text : List ℕ)
+pub by_ruleset : (basin : Draft) (rules : List Declared) (blocks : List Block) (inputs : Inputs) (run : Run)
     → blocks ≡ translate rules → AreAccepted basin (translate rules) (budgets_of rules)
     → ((log : Log) → IsRun basin (policy_of_code basin (translate rules)) (givens basin inputs) log → IsRun basin (policy_of_rules basin rules) (givens basin inputs) log)
     → ((log : Log) → IsRun basin (policy_of_rules basin rules) (givens basin inputs) log → AreVerified basin (translate rules) (budgets_of rules) log)
-    → IsRunText basin (policy_of_code basin blocks) flags trace number inputs end text → IsRulesText basin (Ruleset rules) flags trace number inputs end text
-by_ruleset basin rules blocks flags trace number inputs end text same accepted means firings is =
-    let its : IsRunText basin (policy_of_code basin (translate rules)) flags trace number inputs end text =
-    subst (λ bs. IsRunText basin (policy_of_code basin bs) flags trace number inputs end text) same is in
-    let run : IsRunText basin (policy_of_rules basin rules) flags trace number inputs end text =
-    by_other basin (policy_of_code basin (translate rules)) (policy_of_rules basin rules) flags trace number inputs end text means its in
-    record { run_text = run; verified = record { budgets = budgets_of rules; accepted = accepted; firings = firings run.log run.run } }
+    → ComesTo basin (policy_of_code basin blocks) inputs run → ComesBy basin (Ruleset rules) inputs run
+by_ruleset basin rules blocks inputs run same accepted means firings comes =
+    let its : ComesTo basin (policy_of_code basin (translate rules)) inputs run =
+    subst (λ bs. ComesTo basin (policy_of_code basin bs) inputs run) same comes in
+    let whole = means its.log its.whole in
+    record {
+      log = its.log;
+      whole = whole;
+      is = its.is;
+      verified = record { budgets = budgets_of rules; accepted = accepted; firings = firings its.log whole };
+    }
+
+-- the section of what the run comes to
+pub section_by : ((basin : Draft) (batch : ℕ) (log : Log) (run : Run) (reran : Option (List StepNo)) (flags trace : Bool)
+    → IsRunOf basin log run → (IsTrue trace → IsSome run.trace)
+    → whole_of basin batch (outcome_of run) reran flags trace ≡ whole_of basin batch (outcome_by basin log) reran flags trace)
+    → (basin : Draft) (policy : Rules) (flags trace : Bool) (number : ℕ) (inputs : Inputs) (run : Run) (text : List ℕ)
+    → ComesBy basin policy inputs run → (IsTrue trace → IsSome run.trace)
+    → text ≡ whole_of basin number (outcome_of run) None flags trace → IsRulesText basin policy flags trace number inputs run.end text
+section_by texts basin policy flags trace number inputs run text comes kept is = record {
+  run_text = record {
+    log = comes.log;
+    run = comes.whole;
+    end_is = comes.is.end;
+    text_is = is ∙ texts basin number comes.log run None flags trace comes.is kept;
+  };
+  verified = comes.verified;
+}

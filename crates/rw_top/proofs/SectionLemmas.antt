@@ -1,5 +1,5 @@
 -- Sections that are written one behind another.
-use Rattle.rw_top.proofs.Common.{Change, Err, Files, GrowsBy, GrowsBy-trans, IsRunText, IsSomeAnd, Job, List, MatchResult, None, Ok, Option, PrefixGrew, PrefixGrew-right, Refusal, Result, RunEnd, SinkView, Some, [], ap, change, inr, refl, status_of_end, subst, sym, ℕ, ◌++◌, ◌+◌, ◌∙◌, ◌∷◌, ◌≡◌}
+use Rattle.rw_top.proofs.Common.{Change, Err, Files, GrowsBy, GrowsBy-trans, IsRunText, IsSomeAnd, Job, List, MatchResult, None, Ok, Option, PrefixGrew, PrefixGrew-right, Refusal, Result, RunEnd, SinkView, Some, [], ap, change, inr, length, refl, status_of_end, subst, sym, ℕ, ◌++◌, ◌+◌, ◌∙◌, ◌∷◌, ◌≡◌, ◌≤◌}
 use Rattle.rw_base.proofs.Common.{All, Bool, append-nil, append_assoc, arith}
 use Rattle.std.proofs.lemmas.List.Elements.{All-head, All-tail}
 use Rattle.rw_inputs.specs.Edits.{Batch, after_batch}
@@ -45,16 +45,16 @@ module _ (IsSection : ℕ → Inputs → RunEnd → List ℕ → Type 0) where
   pub stops_here : (number : ℕ) (inputs : Inputs) (batches : List Batch) (out : Change SinkView) (why : Refusal)
       → StopsAtOne IsSection number inputs out why → StopsAmong IsSection number inputs batches out why
   stops_here number inputs batches out NoMemory stops =
-      record { texts = []; are = tt; grew = still out.before.contents out.after.contents stops }
+      record { texts = []; are = tt; fewer = omega arith; grew = still out.before.contents out.after.contents stops }
   stops_here number inputs batches out CannotWrite stops =
       record { done = []; text = stops.1; are = (stops.0, stops.2); grew = stops.3; rose = stops.4 }
   stops_here number inputs batches out why stops = absurd stops
 
   -- memory is wanting behind it
-  pub stops_behind : (number : ℕ) (inputs : Inputs) (batches : List Batch) (out : Change SinkView) (end : RunEnd)
+  pub stops_behind : (number : ℕ) (inputs : Inputs) (batches : List Batch) (out : Change SinkView) (end : RunEnd) → 1 ≤ length batches
       → AppendsOne IsSection number inputs out end → AppendsFirst IsSection number inputs batches out
-  stops_behind number inputs batches out end one =
-      record { texts = one.text ∷ []; are = (end, one.is); grew = grown out.before.contents out.after.contents one.text one.grew }
+  stops_behind number inputs batches out end more one =
+      record { texts = one.text ∷ []; are = (end, one.is); fewer = more; grew = grown out.before.contents out.after.contents one.text one.grew }
 
   module _ (number : ℕ) (inputs edited : Inputs) (batch : Batch) (batches : List Batch) (old now after : SinkView) (end : RunEnd)
       (one : AppendsOne IsSection number inputs (change old now) end)
@@ -79,6 +79,7 @@ module _ (IsSection : ℕ → Inputs → RunEnd → List ℕ → Type 0) where
     stops_later NoMemory stops = record {
       texts = one.text ∷ stops.texts;
       are = first_with stops.texts stops.are;
+      fewer = let few = stops.fewer in omega (arith, few);
       grew = GrowsBy-trans old.contents now.contents after.contents one.text (joined stops.texts) one.grew stops.grew;
     }
     stops_later CannotWrite stops = record {
@@ -136,7 +137,7 @@ module _ (flags trace : Bool) (files : Files) (policy : Rules) (inputs : Inputs)
   front texts are = with_both (λ p i. AreFirstSections (IsRulesText files.basin p flags trace) 0 i (batches_in files) texts) are
 
   pub rules_stopped : (why : Refusal) → StopsAmong (IsRulesText files.basin policy flags trace) 0 inputs (batches_in files) out why → Stops Run flags trace files out why
-  rules_stopped NoMemory stops = inr (record { runs = refl; texts = stops.texts; are = front stops.texts stops.are; grew = stops.grew })
+  rules_stopped NoMemory stops = inr (record { runs = refl; texts = stops.texts; are = front stops.texts stops.are; fewer = stops.fewer; grew = stops.grew })
   rules_stopped CannotWrite stops =
       (record { done = stops.done; text = stops.text; is = front (stops.done ++ stops.text ∷ []) stops.are; grew = stops.grew }, stops.rose)
   rules_stopped why stops = absurd stops

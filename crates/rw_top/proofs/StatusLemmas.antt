@@ -4,10 +4,11 @@ use Rattle.rw_run.specs.Next.{no_rules}
 use Rattle.rw_run.specs.declared.fault.RunFault.{RunFault}
 use Rattle.rw_base.specs.declared.number.Cell.{Cell}
 use Rattle.rw_top.specs.Cell.{FindsCell}
-use Rattle.rw_top.specs.Promise.{WroteRules, WroteWhy}
+use Rattle.rw_top.specs.Promise.{WroteRules, WroteSample, WroteWhy}
 use Rattle.rw_top.specs.Reading.{LacksCell, RefusesEdits}
 use Rattle.rpl_compile.specs.Translate.{translate}
-use Rattle.rw_top.specs.RunText.{IsRulesText, IsWhyOfRules}
+use Rattle.rw_top.specs.RunText.{IsRulesText, IsSampleText, IsWhyOfRules}
+use Rattle.rw_top.proofs.SampleText.{inputs_of_sample, model_of_sample, ruleset_of_sample}
 use Rattle.rw_top.specs.Sections.{AreSections, joined}
 use Rattle.rw_top.specs.Written.{WritesSections, batches_in}
 use Rattle.rw_top.proofs.SectionLemmas.{one_grown}
@@ -16,7 +17,7 @@ use Rattle.rw_inputs.specs.Inputs.{Inputs as Given}
 use Rattle.rpl_code.specs.Spelling.{spelt}
 use Rattle.rw_top.specs.Budgets.{check_text}
 use Rattle.rw_top.specs.Policy.{BadCode, RulesRefusal, BadRules, BadBlocks, Policy as Rules, Ruleset, Code, code_of, is_code}
-use Rattle.rw_words.specs.declared.job.Job.TheVariants.{Simulate, Check, Compile, Run, Why}
+use Rattle.rw_words.specs.declared.job.Job.TheVariants.{Simulate, Check, Compile, Run, Why, Sample}
 use Rattle.rw_top.specs.declared.refusal.File.TheVariants.{Policy as PolicyFile, Inputs as InputsFile}
 use Rattle.rw_top.specs.declared.refusal.Refusal.TheVariants.{Words, CannotRead, CannotWrite, NoMemory, Inputs, Edits, NoCell}
 use Rattle.rw_top.proofs.CauseLemmas.{told_status}
@@ -106,10 +107,41 @@ module _ (call : Call) (command : Command) (asked : Asks call.words command) (fi
       let as_code : reads_code command says.text ≡ true = says.is.0 in
       absurd (one_kind _ as_code (ap (λ j. takes_code j && is_code says.text) job))
 
-  settled_by : (job : Job) → command.job ≡ job → IsTextOf job command.flags command.trace files 0 texts → WroteRun call Settled ⊎ WroteRules call Settled ⊎ WroteWhy call Settled ⊎ WroteCheck call ⊎ WroteCode call
+  -- the ruleset of the sample is one
+  wrote_sample : (seed : ℕ) → command.job ≡ Sample seed → (policy : Option Rules) (inputs : Option Given)
+      → SaysAt command PolicyFile policy (ReadsPolicy command holds files.basin)
+      → SaysAt command InputsFile inputs (ReadsInputs command holds files.basin)
+      → IsSomeAnd policy (λ rules. IsSomeAnd inputs (λ given.
+      (text : List ℕ) × (texts ≡ text ∷ []) × IsSampleText files.basin rules given seed text)) → WroteSample call
+  wrote_sample seed job None inputs rules says is = absurd is
+  wrote_sample seed job (Some policy) None rules says is = absurd is
+  wrote_sample seed job (Some (Ruleset rules)) (Some inputs) its says is = record {
+    command = command;
+    asked = asked;
+    seed = seed;
+    job = job;
+    text = is.0;
+    is = record {
+      basin = files.basin;
+      model = model_of_sample command holds files.basin seed job read.model;
+      rules = rules;
+      spelt = ruleset_of_sample command holds files.basin rules seed job its;
+      inputs = inputs;
+      given = inputs_of_sample command holds files.basin inputs seed job says;
+      line = is.2;
+    };
+    grew = one is.0 is.1;
+  }
+  wrote_sample seed job (Some (Code blocks budgets)) (Some inputs) its says is =
+      let as_code : reads_code command its.text ≡ true = its.is.0 in
+      absurd (one_kind _ as_code (ap (λ j. takes_code j && is_code its.text) job))
+
+  settled_by : (job : Job) → command.job ≡ job → IsTextOf job command.flags command.trace files 0 texts → WroteRun call Settled ⊎ WroteRules call Settled ⊎ WroteWhy call Settled ⊎ WroteCheck call ⊎ WroteCode call ⊎ WroteSample call
   settled_by Simulate job is = inl (settles (WroteRun call) is.0 is.1 (wrote_run is.0 files.inputs read.inputs is.2))
   settled_by Check job is = inr (inr (inr (inl (wrote_check files.policy read.policy is.1))))
-  settled_by Compile job is = inr (inr (inr (inr (wrote_code job files.policy read.policy is.1))))
+  settled_by Compile job is = inr (inr (inr (inr (inl (wrote_code job files.policy read.policy is.1)))))
+  settled_by (Sample seed) job is =
+      inr (inr (inr (inr (inr (wrote_sample seed job files.policy files.inputs read.policy read.inputs is.1)))))
   settled_by Why job is =
       inr (inr (inl (settles (WroteWhy call) is.0 is.1
       (wrote_why is.0 files.policy files.inputs files.cell read.policy read.inputs read.cell is.2))))
@@ -126,8 +158,9 @@ module _ (call : Call) (command : Command) (asked : Asks call.words command) (fi
       faults WroteFault is.0 is.1 (inr (inr (wrote_why is.0 files.policy files.inputs files.cell read.policy read.inputs read.cell is.2)))
   faulted_by Check is = absurd (omega (arith, is.0))
   faulted_by Compile is = absurd (omega (arith, is.0))
+  faulted_by (Sample seed) is = absurd (omega (arith, is.0))
 
-pub settled : (call : Call) → Promise call 0 → WroteRun call Settled ⊎ WroteRules call Settled ⊎ WroteWhy call Settled ⊎ WroteCheck call ⊎ WroteCode call
+pub settled : (call : Call) → Promise call 0 → WroteRun call Settled ⊎ WroteRules call Settled ⊎ WroteWhy call Settled ⊎ WroteCheck call ⊎ WroteCode call ⊎ WroteSample call
 settled call promise =
     let wrote = promise.done (omega arith) in
     let appends = wrote.text.2 in

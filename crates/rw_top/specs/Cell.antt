@@ -1,11 +1,11 @@
 -- The cell that the words of a command ask for.
-use Rattle.std.specs.Prelude.{◌≡◌, ℕ, nat_le, List, [], slice_index_or, Option, Some, None, IsSome, IsTrue, ◌&&◌, if◌then◌else◌}
+use Rattle.std.specs.Prelude.{◌≡◌, ℕ, nat_le, List, Option, Some, None, option_and_then, IsSome, IsTrue, ◌&&◌, if◌then◌else◌}
 use Rattle.rw_base.specs.declared.number.Cell.{Cell}
 use Rattle.rw_model.specs.Draft.{Draft}
 use Rattle.rw_inputs.specs.Number.{read_number}
 use Rattle.rw_inputs.specs.Row.{slot_of_text}
 use Rattle.rw_run.specs.Dispatch.{cell_at}
-use Rattle.rw_words.specs.Command.{Command}
+use Rattle.rw_words.specs.Command.{CellWords, Command}
 use Rattle.rw_top.specs.Command.{seeks_cell}
 
 -- ---- a slot and a timestep
@@ -31,16 +31,13 @@ cell_named basin slot step = cell_of_both (slot_of_text basin slot) (step_of_tex
 
 -- ---- of a command
 
--- its slot and its timestep stand behind its three files
-abbrev pub slot_word : Command → List ℕ
-slot_word command = slice_index_or command.paths 3 []
-
-abbrev pub step_word : Command → List ℕ
-step_word command = slice_index_or command.paths 4 []
+-- the cell of its words
+abbrev pub cell_by : Draft → CellWords → Option Cell
+cell_by basin words = cell_named basin words.slot words.step
 
 -- the cell that it asks for, where it asks for one that is there
 abbrev pub cell_of : Command → Draft → Option Cell
-cell_of command basin = if seeks_cell command.job then cell_named basin (slot_word command) (step_word command) else None
+cell_of command basin = if seeks_cell command.job then option_and_then (cell_by basin) command.cell else None
 
 -- the cell was found, where one is sought
 pub record FindsCell (command : Command) (basin : Draft) (found : Option Cell) : Type 0 where

@@ -1,30 +1,34 @@
 -- The command that the words ask for, and the files that it reads.
-use Rattle.std.specs.Prelude.{◌≡◌, ℕ, suc, ◌==◌, List, [], ◌∷◌, slice_index_or, Option, Some, None, option_map, IsSome, Bool, true, false, if◌then◌else◌}
+use Rattle.std.specs.Prelude.{◌≡◌, ℕ, suc, ◌==◌, List, [], ◌∷◌, slice_index_or, Option, Some, None, option_and_then, option_map, IsSome, Bool, true, false, if◌then◌else◌}
 use Rattle.rw_words.specs.declared.job.Job.{Job}
-use Rattle.rw_words.specs.declared.job.Job.TheVariants.{Simulate, Check, Compile, Run, Why}
+use Rattle.rw_words.specs.declared.job.Job.TheVariants.{Simulate, Check, Compile, Run, Why, Sample}
 use Rattle.rw_words.specs.Command.{Command, command_of as asked_by, seen}
 use Rattle.rw_words.specs.Plain.{plain}
 use Rattle.rw_top.specs.declared.refusal.File.{File}
 use Rattle.rw_top.specs.declared.refusal.File.TheVariants.{Model, Policy, Inputs, Edits}
 use Rattle.rw_top.specs.declared.command.Command.{Command as Named}
+use Rattle.rw_top.specs.declared.command.Source.{Source as Held}
+use Rattle.rw_sample.specs.Texts.{sample_inputs, sample_model, sample_rules}
 
 -- ---- jobs
 
--- the files that it reads, in the order in which the words name them
+-- the files that it reads, in the order in which the words name them, or in which it makes them
 abbrev pub files_of : Job → List File
 files_of Simulate = Model ∷ Inputs ∷ []
 files_of Check = Model ∷ Policy ∷ []
 files_of Compile = Model ∷ Policy ∷ []
 files_of Run = Model ∷ Policy ∷ Inputs ∷ []
 files_of Why = Model ∷ Policy ∷ Inputs ∷ []
+files_of (Sample seed) = Model ∷ Policy ∷ Inputs ∷ []
 
--- its policy may be code. What is compiled is always read as a ruleset
+-- its policy may be code. What is compiled is always read as a ruleset, and the sample has one
 abbrev pub takes_code : Job → Bool
 takes_code Simulate = true
 takes_code Check = true
 takes_code Compile = false
 takes_code Run = true
 takes_code Why = true
+takes_code (Sample seed) = false
 
 -- it asks for a cell of the basin
 abbrev pub seeks_cell : Job → Bool
@@ -45,20 +49,57 @@ abbrev pub place_in : List File → File → Option ℕ
 place_in [] file = None
 place_in (first ∷ rest) file = if order first == order file then Some 0 else option_map suc (place_in rest file)
 
+-- ---- where their texts come from
+
+-- the file of a path, or the sample of a seed
+pub data Source : Type 0 where
+  AtPath : List ℕ → Source
+  OfSample : ℕ → Source
+
+-- in these terms
+abbrev pub source_seen : Held → Source
+source_seen (Held.Path path) = AtPath path.now
+source_seen (Held.Sample seed) = OfSample seed
+
+-- the path, where it is one
+abbrev pub path_in : Source → Option (List ℕ)
+path_in (AtPath path) = Some path
+path_in (OfSample seed) = None
+
+-- the text of a file of the sample. It has no edits
+abbrev pub sample_text : (seed : ℕ) → File → List ℕ
+sample_text seed Model = sample_model
+sample_text seed Policy = sample_rules
+sample_text seed Inputs = sample_inputs seed
+sample_text seed Edits = []
+
 -- ---- commands
 
--- the path of a file that its job reads. Where the word is missing it is empty
-abbrev pub named_path : Command → File → Option (List ℕ)
-named_path command file = option_map (λ place. slice_index_or command.paths place []) (place_in (files_of command.job) file)
+-- where the text comes from that stands in a place among those of a job. Where the word is missing the path is empty
+abbrev pub source_at : Job → List (List ℕ) → ℕ → Source
+source_at (Sample seed) paths place = OfSample seed
+source_at Simulate paths place = AtPath (slice_index_or paths place [])
+source_at Check paths place = AtPath (slice_index_or paths place [])
+source_at Compile paths place = AtPath (slice_index_or paths place [])
+source_at Run paths place = AtPath (slice_index_or paths place [])
+source_at Why paths place = AtPath (slice_index_or paths place [])
 
--- the path of a file, where the command reads it
-abbrev pub path_of : Command → File → Option (List ℕ)
-path_of command Edits = command.edits
-path_of command file = named_path command file
+-- where that of a file comes from that its job reads
+abbrev pub named_source : Command → File → Option Source
+named_source command file = option_map (λ place. source_at command.job command.paths place) (place_in (files_of command.job) file)
+
+-- where that of a file comes from, where the command reads it
+abbrev pub source_of : Command → File → Option Source
+source_of command Edits = option_map (λ path. AtPath path) command.edits
+source_of command file = named_source command file
 
 -- the command reads the file
 abbrev pub Names : Command → File → Type 0
-Names command file = IsSome (path_of command file)
+Names command file = IsSome (source_of command file)
+
+-- the path of a file, where the command reads it from one
+abbrev pub path_of : Command → File → Option (List ℕ)
+path_of command file = option_and_then path_in (source_of command file)
 
 -- the words ask for the command
 abbrev pub Asks : List (List ℕ) → Command → Type 0

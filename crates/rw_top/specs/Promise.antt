@@ -16,12 +16,13 @@ use Rattle.rw_top.specs.Cell.{cell_of}
 use Rattle.rw_top.specs.Call.{Call}
 use Rattle.rw_top.specs.Command.{AskNothing, Asks}
 use Rattle.rw_words.specs.Command.{Command}
+use Rattle.rw_words.specs.declared.job.Job.TheVariants.{Sample}
 use Rattle.rw_top.specs.Policy.{Policy as Rules, Ruleset}
 use Rattle.rw_top.specs.Reason.{Reason, IsFound, IsHonestFor, status_by}
 use Rattle.rw_top.specs.Lines.{line_of, memory_line, words_line}
 use Rattle.rw_top.specs.Reading.{AcceptsAll, IsHonestOfAll, LacksCell, ReadsEdits, ReadsInputs, ReadsPolicy, SaysAt}
 use Rattle.rw_top.specs.Refusal.{Cause, EndsWith, status_of}
-use Rattle.rw_top.specs.RunText.{IsRulesText, IsRunText, IsWhyOfRules}
+use Rattle.rw_top.specs.RunText.{IsRulesText, IsRunText, IsSampleOf, IsWhyOfRules}
 use Rattle.rw_top.specs.Sections.{AreSections, joined}
 use Rattle.rw_top.specs.Written.{Tells, WritesAll}
 use Rattle.rw_top.specs.declared.refusal.File.TheVariants.{Edits}
@@ -146,3 +147,13 @@ pub record WroteCode (call : Call) : Type 0 where
   pub rules : List Declared
   pub read : ReadsPolicy command call.shelf.before.holds basin (Ruleset rules)
   pub grew : GrowsBy call.out.before.contents call.out.after.contents (spelt (translate rules))
+
+-- the line of the sample of a seed
+pub record WroteSample (call : Call) : Type 0 where
+  pub command : Command
+  pub asked : Asks call.words command
+  pub seed : ℕ
+  pub job : command.job ≡ Sample seed
+  pub text : List ℕ
+  pub is : IsSampleOf seed text
+  pub grew : GrowsBy call.out.before.contents call.out.after.contents text

@@ -14,7 +14,7 @@ use Rattle.rw_inputs.specs.Reading.{Reads, Refuses}
 use Rattle.rw_io.specs.Outside.{Change, Holds, ShelfView}
 use Rattle.rw_model.specs.Draft.{IsSlot}
 use Rattle.rw_top.specs.Cell.{FindsCell, cell_of}
-use Rattle.rw_top.specs.Command.{Names, order, path_of, seeks_cell, takes_code}
+use Rattle.rw_top.specs.Command.{Names, Source, AtPath, OfSample, order, path_of, sample_text, seeks_cell, source_of, takes_code}
 use Rattle.rw_top.specs.declared.refusal.Refusal.{Refusal}
 use Rattle.rw_top.specs.declared.refusal.Refusal.TheVariants.{NoCell}
 use Rattle.rw_words.specs.Command.{Command}
@@ -27,9 +27,14 @@ pub record IsTextAt (holds : Holds) (text path : List ℕ) : Type 0 where
   pub told : IfSome (holds path) (λ file. text ≡ file)
   pub short : length text ≤ FILE_MAX
 
+-- the text is the one that comes from there
+abbrev pub HasText : Holds → File → List ℕ → Source → Type 0
+HasText holds file text (AtPath path) = IsTextAt holds text path
+HasText holds file text (OfSample seed) = text ≡ sample_text seed file
+
 -- the command reads the file, and this is its text
 abbrev pub WasRead : Command → Holds → File → List ℕ → Type 0
-WasRead command holds file text = IsSomeAnd (path_of command file) (IsTextAt holds text)
+WasRead command holds file text = IsSomeAnd (source_of command file) (HasText holds file text)
 
 -- the path holds more than a file may, where that is told
 abbrev pub IsTooLong : Holds → List ℕ → Type 0
@@ -78,7 +83,7 @@ pub record Files : Type 0 where
 
 -- a file that the command doesn't read says nothing, and any other is this
 abbrev pub SaysAt : {A : Type 0} → Command → File → Option A → (A → Type 0) → Type 0
-SaysAt command file found IsIt = MatchOption found (path_of command file ≡ None) IsIt
+SaysAt command file found IsIt = MatchOption found (source_of command file ≡ None) IsIt
 
 -- the command's files are read, and this is what they say
 pub record AreRead (command : Command) (holds : Holds) (files : Files) : Type 0 where

@@ -1,13 +1,14 @@
 -- The text of a run.
-use Rattle.std.specs.Prelude.{◌≡◌, ℕ, Bool, List, None}
+use Rattle.std.specs.Prelude.{◌≡◌, ℕ, Bool, List, None, Ok}
 use Rattle.rw_model.specs.Draft.{Draft}
 use Rattle.rw_inputs.specs.Inputs.{Inputs}
 use Rattle.rw_inputs.specs.Givens.{givens}
+use Rattle.rw_run.specs.declared.run.Run.{Run}
 use Rattle.rw_run.specs.declared.run.RunEnd.{RunEnd}
 use Rattle.rw_run.specs.Log.{Log}
 use Rattle.rw_run.specs.Next.{Policy}
 use Rattle.rw_run.specs.Runs.{IsRun}
-use Rattle.rw_run.specs.RunOf.{end_of}
+use Rattle.rw_run.specs.RunOf.{IsRunOf, end_of}
 use Rattle.rw_report.specs.Outcome.{outcome_by}
 use Rattle.rw_base.specs.declared.number.Cell.{Cell}
 use Rattle.rw_report.specs.Whole.{whole_of}
@@ -16,7 +17,12 @@ use Rattle.rpl_tree.specs.Budget.{Budget}
 use Rattle.rpl_verify.specs.Budget.{AreAccepted}
 use Rattle.rpl_policy.specs.Firings.{AreVerified}
 use Rattle.rpl_policy.specs.Policy.{policy_of_code, policy_of_rules}
-use Rattle.rw_top.specs.Policy.{Policy as Rules, Ruleset, Code, code_of}
+use Rattle.rw_model_toml.specs.Model.{model_of}
+use Rattle.rw_inputs.specs.Reading.{Reads}
+use Rattle.rpl_tree.specs.Tree.{Declared}
+use Rattle.rw_sample.specs.Line.{sample_line}
+use Rattle.rw_sample.specs.Texts.{sample_inputs, sample_model, sample_rules}
+use Rattle.rw_top.specs.Policy.{IsRulesetOf, Policy as Rules, Ruleset, Code, code_of}
 
 -- the section of a log, with this number, and with flags and trace where they are asked for
 abbrev pub text_of : Draft → (flags trace : Bool) → ℕ → Log → List ℕ
@@ -49,6 +55,13 @@ pub record IsVerifiedRun (basin : Draft) (policy : Rules) (log : Log) : Type 0 w
   pub accepted : AreAccepted basin (code_of policy) budgets
   pub firings : AreVerified basin (code_of policy) budgets log
 
+-- the run comes to what the run by it does, in which each firing is verified
+pub record ComesBy (basin : Draft) (policy : Rules) (inputs : Inputs) (run : Run) : Type 0 where
+  pub log : Log
+  pub whole : IsRun basin (policy_in_run basin policy) (givens basin inputs) log
+  pub is : IsRunOf basin log run
+  pub verified : IsVerifiedRun basin policy log
+
 -- the section of the run by it, in which each firing is verified
 pub record IsRulesText (basin : Draft) (policy : Rules) (flags trace : Bool) (number : ℕ) (inputs : Inputs) (end : RunEnd) (text : List ℕ) : Type 0 where
   pub run_text : IsRunText basin (policy_in_run basin policy) flags trace number inputs end text
@@ -58,3 +71,23 @@ pub record IsRulesText (basin : Draft) (policy : Rules) (flags trace : Bool) (nu
 pub record IsWhyOfRules (basin : Draft) (policy : Rules) (inputs : Inputs) (cell : Cell) (end : RunEnd) (text : List ℕ) : Type 0 where
   pub run_text : IsWhyText basin (policy_in_run basin policy) inputs cell end text
   pub verified : IsVerifiedRun basin policy run_text.log
+
+-- ---- the sample
+
+-- the line on the run of this basin by this policy from these inputs, in which each firing is verified
+pub record IsSampleText (basin : Draft) (policy : Rules) (inputs : Inputs) (seed : ℕ) (text : List ℕ) : Type 0 where
+  pub log : Log
+  pub run : IsRun basin (policy_in_run basin policy) (givens basin inputs) log
+  pub verified : IsVerifiedRun basin policy log
+  pub text_is : text ≡ sample_line basin seed (outcome_by basin log)
+
+-- the line of a seed: that on the run of the basin that the text of the model gives, by the ruleset that the text of the rules
+-- spells, from the inputs that the text of the seed gives
+pub record IsSampleOf (seed : ℕ) (text : List ℕ) : Type 0 where
+  pub basin : Draft
+  pub model : model_of sample_model ≡ Ok basin
+  pub rules : List Declared
+  pub spelt : IsRulesetOf basin sample_rules rules
+  pub inputs : Inputs
+  pub given : Reads basin (sample_inputs seed) inputs
+  pub line : IsSampleText basin (Ruleset rules) inputs seed text

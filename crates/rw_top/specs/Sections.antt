@@ -1,5 +1,5 @@
 -- The sections of a run with edits: one of the inputs, and one after each batch.
-use Rattle.std.specs.Prelude.{◌≡◌, ℕ, ◌+◌, ◌≤◌, List, [], ◌∷◌, ◌++◌, ⊤}
+use Rattle.std.specs.Prelude.{◌≡◌, ℕ, ◌+◌, ◌≤◌, List, [], ◌∷◌, ◌++◌, length, ⊤}
 use Rattle.rw_inputs.specs.Edits.{Batch, after_batch}
 use Rattle.rw_inputs.specs.Inputs.{Inputs, value_at}
 use Rattle.rw_io.specs.Causes.{Rose}
@@ -42,10 +42,11 @@ pub record AppendsAll (IsSection : ℕ → Inputs → RunEnd → List ℕ → Ty
   pub are : AreSections IsSection number inputs batches end texts
   pub grew : GrowsBy out.before.contents out.after.contents (joined texts)
 
--- the first ones, each whole
+-- the first ones, each whole, and not all of them
 pub record AppendsFirst (IsSection : ℕ → Inputs → RunEnd → List ℕ → Type 0) (number : ℕ) (inputs : Inputs) (batches : List Batch) (out : Change SinkView) : Type 0 where
   pub texts : List (List ℕ)
   pub are : AreFirstSections IsSection number inputs batches texts
+  pub fewer : length texts ≤ length batches
   pub grew : GrowsBy out.before.contents out.after.contents (joined texts)
 
 -- the first ones, and of the last of these a front

@@ -1,5 +1,5 @@
 -- What a call appends to a stream.
-use Rattle.std.specs.Prelude.{◌≡◌, ℕ, Bool, ◌⊎◌, List, [], ◌∷◌, ◌++◌, IsSomeAnd, unwrap_or}
+use Rattle.std.specs.Prelude.{◌≡◌, ◌≤◌, ℕ, Bool, ◌⊎◌, List, [], ◌∷◌, ◌++◌, IsSomeAnd, length, unwrap_or}
 use Rattle.rw_io.specs.Causes.{Rose}
 use Rattle.rw_io.specs.Known.{GrowsBy, PrefixGrew}
 use Rattle.rw_io.specs.Outside.{Change, Holds, SinkView}
@@ -14,12 +14,12 @@ use Rattle.rw_top.specs.Budgets.{check_text}
 use Rattle.rw_words.specs.Command.{Command}
 use Rattle.rw_top.specs.Policy.{Policy as Rules, code_of}
 use Rattle.rw_top.specs.Reading.{AreRead, Files}
-use Rattle.rw_top.specs.RunText.{IsRulesText, IsRunText, IsWhyOfRules}
+use Rattle.rw_top.specs.RunText.{IsRulesText, IsRunText, IsSampleText, IsWhyOfRules}
 use Rattle.rw_top.specs.Sections.{AreFirstSections, AreSections, joined}
 use Rattle.rw_top.specs.declared.refusal.Refusal.{Refusal}
 use Rattle.rw_top.specs.declared.refusal.Refusal.TheVariants.{CannotWrite, NoMemory}
 use Rattle.rw_words.specs.declared.job.Job.{Job}
-use Rattle.rw_words.specs.declared.job.Job.TheVariants.{Simulate, Check, Compile, Run, Why}
+use Rattle.rw_words.specs.declared.job.Job.TheVariants.{Simulate, Check, Compile, Run, Why, Sample}
 
 -- the status of a run that was written: 0 where it settled
 abbrev pub status_of_end : RunEnd → ℕ
@@ -29,6 +29,10 @@ status_of_end (Fault why) = 1
 -- the batches of edits that the files give
 abbrev pub batches_in : Files → List Batch
 batches_in files = unwrap_or files.edits []
+
+-- of the policy and the inputs this holds
+abbrev pub OfBoth : Files → (Rules → Inputs → Type 0) → Type 0
+OfBoth files P = IsSomeAnd files.policy (λ policy. IsSomeAnd files.inputs (P policy))
 
 -- of the policy, the inputs and the cell this holds
 abbrev pub OfThree : Files → (Rules → Inputs → Cell → Type 0) → Type 0
@@ -47,6 +51,9 @@ IsTextOf Run flags trace files status texts =
 IsTextOf Why flags trace files status texts =
     (end : RunEnd) × (status ≡ status_of_end end) × OfThree files (λ policy inputs cell.
     (text : List ℕ) × (texts ≡ text ∷ []) × IsWhyOfRules files.basin policy inputs cell end text)
+IsTextOf (Sample seed) flags trace files status texts =
+    (status ≡ 0) × OfBoth files (λ policy inputs.
+    (text : List ℕ) × (texts ≡ text ∷ []) × IsSampleText files.basin policy inputs seed text)
 
 -- the first sections of it
 abbrev pub IsFrontOf : Job → (flags trace : Bool) → Files → List (List ℕ) → Type 0
@@ -60,6 +67,9 @@ IsFrontOf Run flags trace files texts =
 IsFrontOf Why flags trace files texts =
     OfThree files (λ policy inputs cell.
     (end : RunEnd) × (text : List ℕ) × (texts ≡ text ∷ []) × IsWhyOfRules files.basin policy inputs cell end text)
+IsFrontOf (Sample seed) flags trace files texts =
+    OfBoth files (λ policy inputs.
+    (text : List ℕ) × (texts ≡ text ∷ []) × IsSampleText files.basin policy inputs seed text)
 
 -- ---- what a job appends
 
@@ -76,11 +86,12 @@ pub record AppendsFront (job : Job) (flags trace : Bool) (files : Files) (out : 
   pub is : IsFrontOf job flags trace files (done ++ text ∷ [])
   pub grew : PrefixGrew out.before.contents out.after.contents (joined done ++ text)
 
--- the first sections of a run, each whole
+-- the first sections of a run, each whole, and fewer than all: there is one more than there are batches
 pub record AppendsSections (job : Job) (flags trace : Bool) (files : Files) (out : Change SinkView) : Type 0 where
   pub runs : job ≡ Run
   pub texts : List (List ℕ)
   pub are : IsFrontOf job flags trace files texts
+  pub fewer : length texts ≤ length (batches_in files)
   pub grew : GrowsBy out.before.contents out.after.contents (joined texts)
 
 -- why not all are

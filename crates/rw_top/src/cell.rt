@@ -1,12 +1,13 @@
 // The cell that the words of a command ask for.
-ghost use Rattle.std.specs.Prelude.{◌≡◌, ◌≤◌, ◌<◌, ◌^◌, true, false, IsTrue, MatchOption, None, length, option_map};
+ghost use Rattle.std.specs.Prelude.{◌≡◌, ◌≤◌, ◌<◌, ◌^◌, true, false, IsTrue, MatchOption, None, length, option_and_then, option_map};
 ghost use Rattle.std.specs.List.{list_all};
 ghost use Rattle.std.specs.Option.{ForSome};
 ghost use Rattle.std.specs.Str.{is_utf8};
 ghost use Rattle.rw_inputs.specs.Number.{is_digit, is_number, number_after, position_of, read_number};
 ghost use Rattle.rw_inputs.specs.Row.{slot_of_names, slot_of_text};
 ghost use Rattle.rw_model.specs.Draft.{Draft, IsSlot};
-ghost use Rattle.rw_top.specs.Cell.{FindsCell, cell_named, cell_of, step_of_text};
+ghost use Rattle.rw_words.specs.Command.{cell_seen};
+ghost use Rattle.rw_top.specs.Cell.{FindsCell, cell_by, cell_named, cell_of, step_of_text};
 ghost use Rattle.rw_top.specs.Command.{command_of};
 ghost use Rattle.rw_top.specs.Reading.{IsCellRead};
 
@@ -14,6 +15,7 @@ use crate::Refusal;
 use crate::command::Command;
 use rw_base::{Cell, SlotNo, StepNo};
 use rw_model::Basin;
+use rw_words::CellWords;
 
 // The greatest number of digits of a number.
 const DIGITS_MAX: usize = 18;
@@ -130,13 +132,24 @@ fn cell_named(basin: &Basin, slot: &[u8], step: &[u8]) -> Option<Cell>
     }
 }
 
+// The cell of these words, where there are any.
+fn cell_by(basin: &Basin, words: Option<CellWords<'_>>) -> Option<Cell>
+    ensures cell { result ≡ option_and_then (cell_by basin.now) (option_map cell_seen words.entry) }
+    ensures known { ForSome result (λ cell. IsSlot basin.now.objects cell.slot.0) }
+{
+    match words {
+        Some(words) => cell_named(basin, words.slot.as_bytes(), words.step.as_bytes()),
+        None => None,
+    }
+}
+
 // The cell that the command asks for, where it asks for one that is there.
 fn cell_of(command: &Command<'_>, basin: &Basin) -> Option<Cell>
     ensures cell { result ≡ cell_of (command_of command.now) basin.now }
     ensures known { ForSome result (λ cell. IsSlot basin.now.objects cell.slot.0) }
 {
     if command.seeks_cell() {
-        cell_named(basin, command.slot().as_bytes(), command.step().as_bytes())
+        cell_by(basin, command.words.cell)
     } else {
         None
     }

@@ -1,21 +1,20 @@
-// The files of a command: which it reads, and the path of each.
+// The files of a command: which it reads, and where the text of each comes from.
 ghost use Rattle.std.specs.Prelude.{◌≡◌, map, option_map, slice_index_or, [], Some};
-ghost use Rattle.rw_top.specs.Command.{command_of, files_of, named_path, path_of, place_in, seeks_cell, takes_code};
-ghost use Rattle.rw_top.specs.Cell.{slot_word, step_word};
+ghost use Rattle.rw_top.specs.Command.{command_of, files_of, named_source, path_in, path_of, place_in, seeks_cell, source_at, source_of, source_seen, takes_code};
 ghost use Rattle.rw_top.specs.declared.refusal.File.TheVariants as F;
 
 use crate::File;
 use rw_words::{Command as Words, Job};
 
-// Which of its words names a file, from 0 on, where the job reads that file.
+// In which place a file stands among those of a job, from 0 on, where the job reads it.
 fn place(job: Job, file: File) -> Option<usize>
     ensures { result ≡ place_in (files_of job) file }
 {
     match (job, file) {
         (_, File::Model) => Some(0),
-        (Job::Check | Job::Compile | Job::Run | Job::Why, File::Policy) => Some(1),
+        (Job::Check | Job::Compile | Job::Run | Job::Why | Job::Sample(_), File::Policy) => Some(1),
         (Job::Simulate, File::Inputs) => Some(1),
-        (Job::Run | Job::Why, File::Inputs) => Some(2),
+        (Job::Run | Job::Why | Job::Sample(_), File::Inputs) => Some(2),
         _ => None,
     }
 }
@@ -27,6 +26,39 @@ fn path_at<'w>(paths: &[&'w str], place: usize) -> &'w str
     match paths.get(place) {
         Some(path) => path,
         None => "",
+    }
+}
+
+/// Where the text of a file comes from.
+#[derive(Clone, Copy)]
+pub(crate) enum Source<'w> {
+    /// The file of this path.
+    Path(&'w str),
+    /// The sample of this seed.
+    Sample(u64),
+}
+
+impl<'w> Source<'w> {
+    // The path, where it is one.
+    fn path(self) -> Option<&'w str>
+        ensures { option_map (λ path. path.now) result ≡ path_in (source_seen self.entry) }
+    {
+        match self {
+            Source::Path(path) => Some(path),
+            Source::Sample(_) => None,
+        }
+    }
+}
+
+// Where the text comes from that stands in a place among those of a job.
+fn source_at<'w>(job: Job, paths: &[&'w str], place: usize) -> Source<'w>
+    ensures { source_seen result ≡ source_at job (map (λ path. path.now) paths.entry.now) place }
+{
+    match job {
+        Job::Sample(seed) => Source::Sample(seed),
+        Job::Simulate | Job::Check | Job::Compile | Job::Run | Job::Why => {
+            Source::Path(path_at(paths, place))
+        }
     }
 }
 
@@ -43,7 +75,7 @@ impl<'w> Command<'w> {
     {
         match self.words.job {
             Job::Simulate | Job::Check | Job::Run | Job::Why => true,
-            Job::Compile => false,
+            Job::Compile | Job::Sample(_) => false,
         }
     }
 
@@ -53,50 +85,55 @@ impl<'w> Command<'w> {
     {
         match self.words.job {
             Job::Why => true,
-            Job::Simulate | Job::Check | Job::Run | Job::Compile => false,
+            Job::Simulate | Job::Check | Job::Run | Job::Compile | Job::Sample(_) => false,
         }
     }
 
-    /// The word of its slot.
-    pub(crate) fn slot(&self) -> &'w str
-        ensures { result.now ≡ slot_word (command_of self.now) }
+    /// Where the text of the model comes from.
+    pub(crate) fn model(&self) -> Source<'w>
+        ensures { Some (source_seen result) ≡ source_of (command_of self.now) F.Model }
     {
-        path_at(&self.words.paths, 3)
+        source_at(self.words.job, &self.words.paths, 0)
     }
 
-    /// The word of its timestep.
-    pub(crate) fn step(&self) -> &'w str
-        ensures { result.now ≡ step_word (command_of self.now) }
-    {
-        path_at(&self.words.paths, 4)
-    }
-
-    /// The path of the model.
-    pub(crate) fn model(&self) -> &'w str
-        ensures { Some result.now ≡ path_of (command_of self.now) F.Model }
-    {
-        path_at(&self.words.paths, 0)
-    }
-
-    // The path of a file that its job reads.
-    fn named(&self, file: File) -> Option<&'w str>
-        ensures { option_map (λ path. path.now) result ≡ named_path (command_of self.now) file }
+    // Where that of a file comes from that its job reads.
+    fn named(&self, file: File) -> Option<Source<'w>>
+        ensures { option_map source_seen result ≡ named_source (command_of self.now) file }
     {
         match place(self.words.job, file) {
-            Some(place) => Some(path_at(&self.words.paths, place)),
+            Some(place) => Some(source_at(self.words.job, &self.words.paths, place)),
             None => None,
         }
     }
 
-    /// The path of a file, where the command reads it.
-    pub(crate) fn path(&self, file: File) -> Option<&'w str>
-        ensures { option_map (λ path. path.now) result ≡ path_of (command_of self.now) file }
+    fn edits(&self) -> Option<Source<'w>>
+        ensures { option_map source_seen result ≡ source_of (command_of self.now) F.Edits }
+    {
+        match self.words.edits {
+            Some(path) => Some(Source::Path(path)),
+            None => None,
+        }
+    }
+
+    /// Where that of a file comes from, where the command reads it.
+    pub(crate) fn source(&self, file: File) -> Option<Source<'w>>
+        ensures { option_map source_seen result ≡ source_of (command_of self.now) file }
     {
         match file {
             File::Model => self.named(File::Model),
             File::Policy => self.named(File::Policy),
             File::Inputs => self.named(File::Inputs),
-            File::Edits => self.words.edits,
+            File::Edits => self.edits(),
+        }
+    }
+
+    /// The path of a file, where the command reads it from one.
+    pub(crate) fn path(&self, file: File) -> Option<&'w str>
+        ensures { option_map (λ path. path.now) result ≡ path_of (command_of self.now) file }
+    {
+        match self.source(file) {
+            Some(source) => source.path(),
+            None => None,
         }
     }
 }

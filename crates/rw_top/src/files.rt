@@ -1,9 +1,9 @@
-// The files of a command, read and judged, each before the next.
+// The files of a command, read or made, and judged, each before the next.
 ghost use Rattle.std.specs.Prelude.{◌≡◌, ℕ, ◌≤◌, List, MatchResult, IfOk, IfSome, IsSomeAnd, IsTrue, Some, length};
 ghost use Rattle.rw_model.specs.Draft.{IsSlot};
 ghost use Rattle.rw_io.specs.Causes.{NoneFell};
-ghost use Rattle.rw_io.specs.Outside.{change};
-ghost use Rattle.rw_top.specs.Command.{command_of, path_of, seeks_cell};
+ghost use Rattle.rw_io.specs.Outside.{Change, ShelfView, change};
+ghost use Rattle.rw_top.specs.Command.{AtPath, OfSample, command_of, seeks_cell, source_of, source_seen};
 ghost use Rattle.rw_top.specs.Reading.{AreRead, Reaches, ReadsInputs, ReadsModel, SaysAt, WasRead, reads_code};
 ghost use Rattle.rw_top.specs.Refusal.{FileCause, IsPolicyRefusal};
 ghost use Rattle.rw_top.specs.Ready.{AreBehind, AreEdits, AreReadAs, IsFit, IsMadeOf, IsReadAs};
@@ -11,11 +11,12 @@ ghost use Rattle.rw_top.specs.Seen.{files_seen};
 ghost use Rattle.rw_top.specs.declared.refusal.File.TheVariants as F;
 
 use crate::cell::find_cell;
-use crate::command::Command;
+use crate::command::{Command, Source};
 use crate::judging::{is_code, judge_edits, judge_inputs, judge_model, judge_policy};
 use crate::policy::Policy;
+use crate::sample::sample_text;
 use crate::{File, Refusal};
-use rw_base::Cell;
+use rw_base::{Cell, NoMemory};
 use rw_inputs::{Batch, Inputs};
 use rw_io::{Shelf, read_all};
 use rw_model::Basin;
@@ -31,7 +32,7 @@ pub(crate) struct Files {
     pub(crate) cell: Option<Cell>,
 }
 
-// The whole of a file that the command reads, where each file before it is accepted.
+// The whole of a file that the command reads from a path, where each file before it is accepted.
 fn read_file<S: Shelf>(
     alloc: Global,
     command: &Command<'_>,
@@ -39,18 +40,57 @@ fn read_file<S: Shelf>(
     path: &str,
     shelf: &mut S,
 ) -> Result<Vec<u8>, Refusal>
-    requires named { path_of (command_of command.now) file ≡ Some path.now }
+    requires named { source_of (command_of command.now) file ≡ Some (AtPath path.now) }
     requires reached { Reaches (command_of command.now) (S.seen shelf.old).holds file }
     ensures read { MatchResult result
         (λ text. WasRead (command_of command.now) (S.seen shelf.old).holds file text.items)
         (FileCause (command_of command.now) (change (S.seen shelf.old) (S.seen shelf.new))) }
-    ensures short { IfOk result (λ text. length text.items ≤ 16_777_216) }
     ensures held { (p : List ℕ) → (S.seen shelf.new).holds p ≡ (S.seen shelf.old).holds p }
     ensures later { NoneFell (S.seen shelf.old).faults (S.seen shelf.new).faults }
 {
     match read_all(alloc, shelf, path) {
         Ok(text) => Ok(text),
         Err(end) => Err(Refusal::after(end, file)),
+    }
+}
+
+// The text of a file that the command makes itself.
+fn make_text(
+    alloc: Global,
+    command: &Command<'_>,
+    file: File,
+    seed: u64,
+) -> Result<Vec<u8>, Refusal>
+    requires named { source_of (command_of command.now) file ≡ Some (OfSample seed) }
+    ensures { (shelf : Change ShelfView) → MatchResult result
+        (λ text. WasRead (command_of command.now) shelf.before.holds file text.items)
+        (FileCause (command_of command.now) shelf) }
+{
+    match sample_text(alloc, seed, file) {
+        Ok(text) => Ok(text),
+        Err(NoMemory) => Err(Refusal::NoMemory),
+    }
+}
+
+// The text of a file of the command, from where it comes.
+fn read_text<S: Shelf>(
+    alloc: Global,
+    command: &Command<'_>,
+    file: File,
+    source: Source<'_>,
+    shelf: &mut S,
+) -> Result<Vec<u8>, Refusal>
+    requires named { source_of (command_of command.now) file ≡ Some (source_seen source) }
+    requires reached { Reaches (command_of command.now) (S.seen shelf.old).holds file }
+    ensures read { MatchResult result
+        (λ text. WasRead (command_of command.now) (S.seen shelf.old).holds file text.items)
+        (FileCause (command_of command.now) (change (S.seen shelf.old) (S.seen shelf.new))) }
+    ensures held { (p : List ℕ) → (S.seen shelf.new).holds p ≡ (S.seen shelf.old).holds p }
+    ensures later { NoneFell (S.seen shelf.old).faults (S.seen shelf.new).faults }
+{
+    match source {
+        Source::Path(path) => read_file(alloc, command, file, path, shelf),
+        Source::Sample(seed) => make_text(alloc, command, file, seed),
     }
 }
 
@@ -66,7 +106,7 @@ fn read_basin<S: Shelf>(
     ensures held { (p : List ℕ) → (S.seen shelf.new).holds p ≡ (S.seen shelf.old).holds p }
     ensures later { NoneFell (S.seen shelf.old).faults (S.seen shelf.new).faults }
 {
-    match read_file(alloc, command, File::Model, command.model(), shelf) {
+    match read_text(alloc, command, File::Model, command.model(), shelf) {
         Ok(text) => judge_model(alloc, &text),
         Err(refusal) => Err(refusal),
     }
@@ -101,10 +141,10 @@ fn read_policy<S: Shelf>(
     ensures held { (p : List ℕ) → (S.seen shelf.new).holds p ≡ (S.seen shelf.old).holds p }
     ensures later { NoneFell (S.seen shelf.old).faults (S.seen shelf.new).faults }
 {
-    let Some(path) = command.path(File::Policy) else {
+    let Some(source) = command.source(File::Policy) else {
         return Ok(None);
     };
-    match read_file(alloc, command, File::Policy, path, shelf) {
+    match read_text(alloc, command, File::Policy, source, shelf) {
         Ok(text) => match judge_for(alloc, command, basin, &text) {
             Ok(policy) => Ok(Some(policy)),
             Err(refusal) => Err(refusal),
@@ -128,10 +168,10 @@ fn read_given<S: Shelf>(
     ensures held { (p : List ℕ) → (S.seen shelf.new).holds p ≡ (S.seen shelf.old).holds p }
     ensures later { NoneFell (S.seen shelf.old).faults (S.seen shelf.new).faults }
 {
-    let Some(path) = command.path(File::Inputs) else {
+    let Some(source) = command.source(File::Inputs) else {
         return Ok(None);
     };
-    match read_file(alloc, command, File::Inputs, path, shelf) {
+    match read_text(alloc, command, File::Inputs, source, shelf) {
         Ok(text) => match judge_inputs(alloc, basin, &text) {
             Ok(inputs) => Ok(Some(inputs)),
             Err(refusal) => Err(refusal),
@@ -155,10 +195,10 @@ fn read_changes<S: Shelf>(
         (FileCause (command_of command.now) (change (S.seen shelf.old) (S.seen shelf.new))) }
     ensures held { (p : List ℕ) → (S.seen shelf.new).holds p ≡ (S.seen shelf.old).holds p }
 {
-    let Some(path) = command.path(File::Edits) else {
+    let Some(source) = command.source(File::Edits) else {
         return Ok(None);
     };
-    match read_file(alloc, command, File::Edits, path, shelf) {
+    match read_text(alloc, command, File::Edits, source, shelf) {
         Ok(text) => match judge_edits(alloc, basin, &text) {
             Ok(batches) => Ok(Some(batches)),
             Err(refusal) => Err(refusal),

@@ -26,12 +26,12 @@ ghost use Rattle.rw_top.specs.Command.{AskFor, AskNothing, Asks, order, simulate
 ghost use Rattle.rw_words.specs.Command.{Command};
 ghost use Rattle.rw_top.specs.FirstCall.{IsFirstCall};
 ghost use Rattle.rw_top.specs.Policy.{BadCode, RulesRefusal, BadRules, BadBlocks, Policy, Ruleset, Code, IsPolicyOf};
-ghost use Rattle.rw_top.specs.Promise.{Promise, WroteCheck, WroteCode, WroteRules, WroteRun, WroteWhy};
+ghost use Rattle.rw_top.specs.Promise.{Promise, WroteCheck, WroteCode, WroteRules, WroteRun, WroteSample, WroteWhy};
 ghost use Rattle.rw_top.specs.Reading.{AcceptsAll, HoldsTooLong, LacksCell, ReadsInputs, RefusesEdits, RefusesInputs, RefusesModel, RefusesPolicy};
 ghost use Rattle.rw_top.specs.Refusal.{FailsToRead, FindsTooLong};
 ghost use Rattle.rw_top.specs.Told.{AreTold};
 ghost use Rattle.rw_top.specs.Written.{WritesFront, WritesSections};
-ghost use Rattle.rw_top.specs.RunText.{IsRunText};
+ghost use Rattle.rw_top.specs.RunText.{IsRunText, IsSampleOf};
 ghost use Rattle.rw_top.specs.declared.refusal.File.{File};
 
 use rpl_compile::accepted::compiled_budgets;
@@ -58,6 +58,14 @@ pub fn one_text()
         → IsRunText basin policy flags trace number inputs end text
         → IsRunText basin policy flags trace number others other more
         → (end ≡ other) × (text ≡ more) }
+{
+    one_run();
+}
+
+/// The sample of a seed has one line.
+pub fn one_sample()
+    ensures { (seed : ℕ) (text other : List ℕ)
+        → IsSampleOf seed text → IsSampleOf seed other → text ≡ other }
 {
     one_run();
 }
@@ -97,11 +105,11 @@ pub fn first_call()
 }
 
 /// What each status says of a call that keeps its promise. Want of memory, 5, may always come. Then nothing was written, or, of a
-/// command that runs a policy, the first sections, each whole.
+/// command that runs a policy, the first sections, each whole, and fewer than all.
 pub fn statuses()
     ensures settled { (call : Call) → Promise call 0
         → WroteRun call Settled ⊎ WroteRules call Settled ⊎ WroteWhy call Settled
-        ⊎ WroteCheck call ⊎ WroteCode call }
+        ⊎ WroteCheck call ⊎ WroteCode call ⊎ WroteSample call }
     ensures faulted { (call : Call) → Promise call 1
         → (why : RunFault) × (WroteRun call (Fault why) ⊎ WroteRules call (Fault why)
         ⊎ WroteWhy call (Fault why)) }

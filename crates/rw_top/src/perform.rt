@@ -13,7 +13,9 @@ use crate::check::budgets;
 use crate::command::Command;
 use crate::compile::code_text;
 use crate::files::{Files, read_files};
+use crate::sample::sample_by_policy;
 use crate::sections::write_sections;
+use crate::setup::RunSetup;
 use crate::simulate::text_without_rules;
 use crate::why::why_by_policy;
 use rpl_predef::Predefs;
@@ -53,16 +55,12 @@ fn simulate<L: Ledger>(
     let Some(inputs) = &files.inputs else {
         unreachable!();
     };
-    let (text, end) = text_without_rules(
-        alloc,
-        &files.basin,
+    let setup = RunSetup {
+        basin: &files.basin,
         methods,
         predefs,
-        flags,
-        trace,
-        inputs,
-        steps,
-    )?;
+    };
+    let (text, end) = text_without_rules(alloc, &setup, flags, trace, inputs, steps)?;
     Ok((text, status_of_run(&end)))
 }
 
@@ -112,17 +110,42 @@ fn tell_why<L: Ledger>(
     let Some(cell) = files.cell else {
         unreachable!();
     };
-    let (text, end) = why_by_policy(
-        alloc,
-        &files.basin,
+    let setup = RunSetup {
+        basin: &files.basin,
         methods,
-        policy,
         predefs,
-        inputs,
-        cell,
-        steps,
-    )?;
+    };
+    let (text, end) = why_by_policy(alloc, &setup, policy, inputs, cell, steps)?;
     Ok((text, status_of_run(&end)))
+}
+
+// The line on the run of the sample of a seed, whose files these are, and the status with which it is written.
+fn sample<L: Ledger>(
+    alloc: Global,
+    files: &Files,
+    seed: u64,
+    methods: &Catalogue,
+    predefs: &Predefs,
+    steps: &mut Steps<L>,
+) -> Result<(Vec<u8>, u8), NoMemory>
+    requires order { AreInOrder (map (λ b. code (b.vtable, b.value)) methods.now.methods.items) }
+    requires ready { AreReady (J.Sample seed) files.now }
+    ensures { (flags trace : Bool) → IfOk result
+        (λ pair. IsOne (J.Sample seed) flags trace (files_seen files.now) pair.1 pair.0.items) }
+{
+    let Some(policy) = &files.policy else {
+        unreachable!();
+    };
+    let Some(inputs) = &files.inputs else {
+        unreachable!();
+    };
+    let setup = RunSetup {
+        basin: &files.basin,
+        methods,
+        predefs,
+    };
+    let text = sample_by_policy(alloc, &setup, policy, inputs, seed, steps)?;
+    Ok((text, 0))
 }
 
 // Writes a text that was made, unless memory was wanting for it.
@@ -191,8 +214,13 @@ fn run<K: Sink, L: Ledger>(
         unreachable!();
     };
     let batches = batches_of(&edits);
+    let setup = RunSetup {
+        basin: &basin,
+        methods,
+        predefs,
+    };
     match write_sections(
-        alloc, &basin, methods, policy, predefs, flags, trace, 0, inputs, batches, steps, out,
+        alloc, &setup, policy, flags, trace, 0, inputs, batches, steps, out,
     ) {
         Ok(end) => Ok(status_of_run(&end)),
         Err(refusal) => Err(refusal),
@@ -226,6 +254,10 @@ fn write_job<K: Sink, L: Ledger>(
         Job::Compile => write_made(job, flags, trace, &files, compile(alloc, &files), out),
         Job::Why => {
             let made = tell_why(alloc, &files, methods, predefs, steps);
+            write_made(job, flags, trace, &files, made, out)
+        }
+        Job::Sample(seed) => {
+            let made = sample(alloc, &files, seed, methods, predefs, steps);
             write_made(job, flags, trace, &files, made, out)
         }
         Job::Run => run(alloc, files, methods, predefs, flags, trace, steps, out),

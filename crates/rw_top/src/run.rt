@@ -1,79 +1,116 @@
-// The text of a run by the policy of a file.
-ghost use Rattle.std.specs.Prelude.{◌≡◌, map, IfOk, IsOk, Ok};
+// A run by the policy of a file, and its text.
+ghost use Rattle.std.specs.Prelude.{◌≡◌, ◌≤◌, map, IfOk, IsOk, IsSome, IsTrue, Ok};
+ghost use Rattle.rw_engine.specs.Passing.{ComesTo};
 ghost use Rattle.rw_inputs.specs.Inputs.{IsInputsOf};
 ghost use Rattle.rw_method.specs.Catalogue.{AreInOrder};
+ghost use Rattle.rw_rules.specs.Rules.{policy_in};
 ghost use Rattle.rpl_tree.specs.Seen.{rules_of};
 ghost use Rattle.rpl_types.specs.Judged.{judged};
 ghost use Rattle.rpl_verify.specs.Verified.{verified};
 ghost use Rattle.rw_top.specs.Policy.{Ruleset, Code};
 ghost use Rattle.rw_top.specs.Ready.{IsFit};
-ghost use Rattle.rw_top.specs.RunText.{IsRulesText};
+ghost use Rattle.rw_top.specs.RunText.{ComesBy, IsRulesText};
 ghost use Rattle.rw_top.specs.Seen.{policy_of};
 
 use crate::policy::Policy;
-use crate::simulate::text_by_code;
+use crate::setup::RunSetup;
 use rpl_compile::accepted::compiled_budgets;
 use rpl_compile::compile;
 use rpl_parse::law::bounds;
 use rpl_policy::law::{firings_are_verified, firings_of_rules_are_verified, policies_have_runs};
-use rpl_predef::Predefs;
 use rpl_types::Typed;
 use rpl_types::law::accepted;
 use rpl_verify::Verified;
 use rpl_verify::law::answered_code_is_safe;
 use rw_base::{Ledger, NoMemory, Steps};
-use rw_engine::RunEnd;
+use rw_engine::{Run, RunEnd, run_all, run_without_trace};
 use rw_inputs::Inputs;
-use rw_method::Catalogue;
-use rw_model::Basin;
+use rw_report::law::texts_of_runs;
+use rw_report::section;
 use std::alloc::Global;
 
-// By code that is verified for the basin.
-fn text_by_verified<L: Ledger>(
+/// The run by verified code, from inputs, with its trace where that is asked for.
+pub(crate) fn run_by_code<L: Ledger>(
     alloc: Global,
-    basin: &Basin,
-    methods: &Catalogue,
+    setup: &RunSetup<'_>,
     policy: &Verified,
-    predefs: &Predefs,
-    flags: bool,
     trace: bool,
-    number: u32,
     inputs: &Inputs,
     steps: &mut Steps<L>,
-) -> Result<(Vec<u8>, RunEnd), NoMemory>
-    requires order { AreInOrder (map (λ b. code (b.vtable, b.value)) methods.now.methods.items) }
-    requires fits { verified basin.now policy.now.blocks ≡ Ok policy.now }
-    requires inputs { IsInputsOf basin.now inputs.now }
-    ensures { IfOk result (λ pair. IsRulesText basin.now
-        (Code policy.now.blocks policy.now.budgets)
-        flags trace number inputs.now pair.1 pair.0.items) }
+) -> Result<Run, NoMemory>
+    requires fits { verified setup.now.basin.now policy.now.blocks ≡ Ok policy.now }
+    requires order { AreInOrder
+        (map (λ b. code (b.vtable, b.value)) setup.now.methods.now.methods.items) }
+    requires inputs { IsInputsOf setup.now.basin.now inputs.now }
+    ensures run { IfOk result (ComesTo setup.now.basin.now
+        (policy_in setup.now.basin.now policy.now) inputs.now) }
+    ensures closed { IfOk result (λ run. run.closed ≤ setup.now.basin.now.control.stamps.count) }
+    ensures kept { IfOk result (λ run. IsTrue trace → IsSome run.trace) }
+{
+    if trace {
+        run_all(
+            alloc,
+            setup.basin,
+            setup.methods,
+            policy,
+            setup.predefs,
+            inputs,
+            steps,
+        )
+    } else {
+        run_without_trace(
+            alloc,
+            setup.basin,
+            setup.methods,
+            policy,
+            setup.predefs,
+            inputs,
+            steps,
+        )
+    }
+}
+
+// By code that is verified for the basin.
+fn run_by_verified<L: Ledger>(
+    alloc: Global,
+    setup: &RunSetup<'_>,
+    policy: &Verified,
+    trace: bool,
+    inputs: &Inputs,
+    steps: &mut Steps<L>,
+) -> Result<Run, NoMemory>
+    requires fits { verified setup.now.basin.now policy.now.blocks ≡ Ok policy.now }
+    requires order { AreInOrder
+        (map (λ b. code (b.vtable, b.value)) setup.now.methods.now.methods.items) }
+    requires inputs { IsInputsOf setup.now.basin.now inputs.now }
+    ensures run { IfOk result (ComesBy setup.now.basin.now
+        (Code policy.now.blocks policy.now.budgets) inputs.now) }
+    ensures closed { IfOk result (λ run. run.closed ≤ setup.now.basin.now.control.stamps.count) }
+    ensures kept { IfOk result (λ run. IsTrue trace → IsSome run.trace) }
 {
     answered_code_is_safe();
     firings_are_verified();
-    let written = text_by_code(
-        alloc, basin, methods, policy, predefs, flags, trace, number, inputs, steps,
-    )?;
-    Ok(written)
+    let run = run_by_code(alloc, setup, policy, trace, inputs, steps)?;
+    Ok(run)
 }
 
 // By a ruleset that is accepted for the basin.
-fn text_by_ruleset<L: Ledger>(
+fn run_by_ruleset<L: Ledger>(
     alloc: Global,
-    basin: &Basin,
-    methods: &Catalogue,
+    setup: &RunSetup<'_>,
     typed: &Typed,
-    predefs: &Predefs,
-    flags: bool,
     trace: bool,
-    number: u32,
     inputs: &Inputs,
     steps: &mut Steps<L>,
-) -> Result<(Vec<u8>, RunEnd), NoMemory>
-    requires order { AreInOrder (map (λ b. code (b.vtable, b.value)) methods.now.methods.items) }
-    requires fits { IsOk (judged basin.now (rules_of typed.now.rules)) }
-    requires inputs { IsInputsOf basin.now inputs.now }
-    ensures { IfOk result (λ pair. IsRulesText basin.now (Ruleset (rules_of typed.now.rules))
-        flags trace number inputs.now pair.1 pair.0.items) }
+) -> Result<Run, NoMemory>
+    requires fits { IsOk (judged setup.now.basin.now (rules_of typed.now.rules)) }
+    requires order { AreInOrder
+        (map (λ b. code (b.vtable, b.value)) setup.now.methods.now.methods.items) }
+    requires inputs { IsInputsOf setup.now.basin.now inputs.now }
+    ensures run { IfOk result (ComesBy setup.now.basin.now
+        (Ruleset (rules_of typed.now.rules)) inputs.now) }
+    ensures closed { IfOk result (λ run. run.closed ≤ setup.now.basin.now.control.stamps.count) }
+    ensures kept { IfOk result (λ run. IsTrue trace → IsSome run.trace) }
 {
     accepted();
     bounds();
@@ -81,40 +118,54 @@ fn text_by_ruleset<L: Ledger>(
     policies_have_runs();
     firings_of_rules_are_verified();
     let _rules = typed.rules();
-    let code = compile(alloc, typed, basin)?;
-    let written = text_by_code(
-        alloc, basin, methods, &code, predefs, flags, trace, number, inputs, steps,
-    )?;
-    Ok(written)
+    let code = compile(alloc, typed, setup.basin)?;
+    let run = run_by_code(alloc, setup, &code, trace, inputs, steps)?;
+    Ok(run)
 }
 
-/// The text of the run of a basin by a policy that is accepted for it, from inputs, and how the run ended.
+/// The run by a policy that is accepted for the basin, from inputs, with its trace where that is asked for.
+pub(crate) fn run_by_policy<L: Ledger>(
+    alloc: Global,
+    setup: &RunSetup<'_>,
+    policy: &Policy,
+    trace: bool,
+    inputs: &Inputs,
+    steps: &mut Steps<L>,
+) -> Result<Run, NoMemory>
+    requires fits { IsFit setup.now.basin.now policy.now }
+    requires order { AreInOrder
+        (map (λ b. code (b.vtable, b.value)) setup.now.methods.now.methods.items) }
+    requires inputs { IsInputsOf setup.now.basin.now inputs.now }
+    ensures run { IfOk result (ComesBy setup.now.basin.now (policy_of policy.now) inputs.now) }
+    ensures closed { IfOk result (λ run. run.closed ≤ setup.now.basin.now.control.stamps.count) }
+    ensures kept { IfOk result (λ run. IsTrue trace → IsSome run.trace) }
+{
+    match policy {
+        Policy::Ruleset(typed) => run_by_ruleset(alloc, setup, typed, trace, inputs, steps),
+        Policy::Code(code) => run_by_verified(alloc, setup, code, trace, inputs, steps),
+    }
+}
+
+/// The text of the run by a policy that is accepted for the basin, from inputs, and how the run ended.
 pub(crate) fn text_by_policy<L: Ledger>(
     alloc: Global,
-    basin: &Basin,
-    methods: &Catalogue,
+    setup: &RunSetup<'_>,
     policy: &Policy,
-    predefs: &Predefs,
     flags: bool,
     trace: bool,
     number: u32,
     inputs: &Inputs,
     steps: &mut Steps<L>,
 ) -> Result<(Vec<u8>, RunEnd), NoMemory>
-    requires order { AreInOrder (map (λ b. code (b.vtable, b.value)) methods.now.methods.items) }
-    requires fits { IsFit basin.now policy.now }
-    requires inputs { IsInputsOf basin.now inputs.now }
-    ensures { IfOk result (λ pair. IsRulesText basin.now (policy_of policy.now)
+    requires fits { IsFit setup.now.basin.now policy.now }
+    requires order { AreInOrder
+        (map (λ b. code (b.vtable, b.value)) setup.now.methods.now.methods.items) }
+    requires inputs { IsInputsOf setup.now.basin.now inputs.now }
+    ensures { IfOk result (λ pair. IsRulesText setup.now.basin.now (policy_of policy.now)
         flags trace number inputs.now pair.1 pair.0.items) }
 {
-    match policy {
-        Policy::Ruleset(typed) => {
-            text_by_ruleset(
-                alloc, basin, methods, typed, predefs, flags, trace, number, inputs, steps,
-            )
-        }
-        Policy::Code(code) => text_by_verified(
-            alloc, basin, methods, code, predefs, flags, trace, number, inputs, steps,
-        ),
-    }
+    texts_of_runs();
+    let run = run_by_policy(alloc, setup, policy, trace, inputs, steps)?;
+    let text = section(alloc, setup.basin, number, &run, None, flags, trace)?;
+    Ok((text, run.end))
 }

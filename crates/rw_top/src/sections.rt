@@ -13,22 +13,19 @@ ghost use Rattle.rw_top.specs.Seen.{policy_of};
 use crate::Refusal;
 use crate::policy::Policy;
 use crate::run::text_by_policy;
-use rpl_predef::Predefs;
+use crate::setup::RunSetup;
 use rw_base::{Ledger, NoMemory, Steps};
 use rw_engine::RunEnd;
 use rw_inputs::{Batch, Inputs, apply};
 use rw_io::{Sink, WriteFault, write_all};
-use rw_method::Catalogue;
 use rw_model::Basin;
 use std::alloc::Global;
 
 // Writes the section of the run from inputs, and answers how the run ended.
 fn write_section<K: Sink, L: Ledger>(
     alloc: Global,
-    basin: &Basin,
-    methods: &Catalogue,
+    setup: &RunSetup<'_>,
     policy: &Policy,
-    predefs: &Predefs,
     flags: bool,
     trace: bool,
     number: u32,
@@ -36,17 +33,18 @@ fn write_section<K: Sink, L: Ledger>(
     steps: &mut Steps<L>,
     out: &mut K,
 ) -> Result<RunEnd, Refusal>
-    requires order { AreInOrder (map (λ b. code (b.vtable, b.value)) methods.now.methods.items) }
-    requires fits { IsFit basin.now policy.now }
-    requires inputs { IsInputsOf basin.now inputs.now }
+    requires order { AreInOrder
+        (map (λ b. code (b.vtable, b.value)) setup.now.methods.now.methods.items) }
+    requires fits { IsFit setup.now.basin.now policy.now }
+    requires inputs { IsInputsOf setup.now.basin.now inputs.now }
     ensures { MatchResult result
-        (AppendsOne (IsRulesText basin.now (policy_of policy.now) flags trace)
+        (AppendsOne (IsRulesText setup.now.basin.now (policy_of policy.now) flags trace)
         number inputs.now (change (K.seen out.old) (K.seen out.new)))
-        (StopsAtOne (IsRulesText basin.now (policy_of policy.now) flags trace)
+        (StopsAtOne (IsRulesText setup.now.basin.now (policy_of policy.now) flags trace)
         number inputs.now (change (K.seen out.old) (K.seen out.new))) }
 {
     let (text, end) = match text_by_policy(
-        alloc, basin, methods, policy, predefs, flags, trace, number, inputs, steps,
+        alloc, setup, policy, flags, trace, number, inputs, steps,
     ) {
         Ok(pair) => pair,
         Err(NoMemory) => return Err(Refusal::NoMemory),
@@ -82,10 +80,8 @@ fn first_of(batches: &[Batch]) -> Option<(&Batch, &[Batch])>
 /// Writes a section for inputs and one after each batch of edits, and answers how the run of the last one ended.
 pub(crate) fn write_sections<K: Sink, L: Ledger>(
     alloc: Global,
-    basin: &Basin,
-    methods: &Catalogue,
+    setup: &RunSetup<'_>,
     policy: &Policy,
-    predefs: &Predefs,
     flags: bool,
     trace: bool,
     number: u32,
@@ -94,32 +90,31 @@ pub(crate) fn write_sections<K: Sink, L: Ledger>(
     steps: &mut Steps<L>,
     out: &mut K,
 ) -> Result<RunEnd, Refusal>
-    requires order { AreInOrder (map (λ b. code (b.vtable, b.value)) methods.now.methods.items) }
-    requires fits { IsFit basin.now policy.now }
-    requires inputs { IsInputsOf basin.now inputs }
-    requires batches { All (IsBatch basin.now) batches.now }
+    requires order { AreInOrder
+        (map (λ b. code (b.vtable, b.value)) setup.now.methods.now.methods.items) }
+    requires fits { IsFit setup.now.basin.now policy.now }
+    requires inputs { IsInputsOf setup.now.basin.now inputs }
+    requires batches { All (IsBatch setup.now.basin.now) batches.now }
     requires few { number + length batches.now ≤ 64 }
     ensures { MatchResult result
-        (AppendsAll (IsRulesText basin.now (policy_of policy.now) flags trace)
+        (AppendsAll (IsRulesText setup.now.basin.now (policy_of policy.now) flags trace)
         number inputs batches.now (change (K.seen out.old) (K.seen out.new)))
-        (StopsAmong (IsRulesText basin.now (policy_of policy.now) flags trace)
+        (StopsAmong (IsRulesText setup.now.basin.now (policy_of policy.now) flags trace)
         number inputs batches.now (change (K.seen out.old) (K.seen out.new))) }
 {
     let end = match write_section(
-        alloc, basin, methods, policy, predefs, flags, trace, number, &inputs, steps, out,
+        alloc, setup, policy, flags, trace, number, &inputs, steps, out,
     ) {
         Ok(end) => end,
         Err(refusal) => return Err(refusal),
     };
     match first_of(batches) {
         None => Ok(end),
-        Some((batch, rest)) => match changed(alloc, basin, inputs, batch) {
+        Some((batch, rest)) => match changed(alloc, setup.basin, inputs, batch) {
             Ok(edited) => write_sections(
                 alloc,
-                basin,
-                methods,
+                setup,
                 policy,
-                predefs,
                 flags,
                 trace,
                 number + 1,

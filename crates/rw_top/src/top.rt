@@ -30,7 +30,8 @@ use std::alloc::Global;
 /// first line is `CODE 1`, with the basin, and writes what a firing of each rule comes to at most. The status is 0. `compile MODEL
 /// RULES` reads both files, judges the ruleset with the basin, and writes the text of its code. The status is 0. `why MODEL POLICY
 /// INPUTS SLOT STEP` reads the files that `run` reads, runs the basin in the same way, and writes how the cell of that slot and
-/// timestep came to what it holds at the end, with the status of that run.
+/// timestep came to what it holds at the end, with the status of that run. `sample SEED` reads no file: it makes the model, the
+/// ruleset and the inputs of the sample of that seed, runs them as `run` does, and writes one line on the run. The status is 0.
 ///
 /// With each other status one line on `err` says why: 2 the words, 3 a file that can't be read, 4 an output that can't be
 /// written, 5 want of memory, 6 the model, 7 the ruleset, 8 the inputs, the edits or the cell, 9 the code, 10 a file of more than 16,777,216

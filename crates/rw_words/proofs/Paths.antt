@@ -2,8 +2,8 @@
 use Rattle.rw_base.proofs.Common.{Bool, List, None, Option, Some, [], ap, append_assoc, codes, false, if◌then◌else◌, length, option_and_then, option_map, list_any, refl, same_Some, subst, suc, sym, true, ◌++◌, ◌∙◌, ◌∷◌, ◌≡◌}
 use Rattle.std.specs.Option.{option_map_or}
 use Rattle.clap.specs.Words.{Row, first_of}
-use Rattle.rw_words.specs.Command.{Command, command_in, command_named, command_of, is_empty, is_given, paths_in, taken}
-use Rattle.rw_words.specs.Job.{Text, job_named, wants}
+use Rattle.rw_words.specs.Command.{Command, cell_in, command_in, command_named, command_of, is_empty, is_given, paths_in, seed_in, taken}
+use Rattle.rw_words.specs.Job.{Text, job_named, paths_of}
 use Rattle.rw_words.specs.declared.job.Job.{Job}
 
 -- a path more, before those that are left
@@ -28,40 +28,41 @@ each_path rows (name ∷ rest) paths some = go (first_of name rows) (paths_in ro
 
 -- a command has a path for each that its job wants
 pub job_paths : (rows : List Row) (job : Job) (command : Command) → command_in rows job ≡ Some command
-    → length command.paths ≡ length (wants command.job)
+    → length command.paths ≡ length (paths_of command.job)
 job_paths rows job command some =
-    go (option_map_or is_empty (first_of (codes "edits") rows) false) (paths_in rows (wants job)) (each_path rows (wants job)) some
+    go (option_map_or is_empty (first_of (codes "edits") rows) false) (paths_in rows (paths_of job)) (each_path rows (paths_of job)) some
   where
     told : List Text → Command
     told paths = record {
       job = job;
       paths = paths;
+      cell = cell_in rows;
       edits = first_of (codes "edits") rows;
       flags = is_given rows (codes "flags");
       trace = is_given rows (codes "trace");
     }
 
     go : (pathless : Bool) (paths : Option (List Text))
-        → ((found : List Text) → paths ≡ Some found → length found ≡ length (wants job))
-        → (if pathless then None else option_map told paths) ≡ Some command → length command.paths ≡ length (wants command.job)
+        → ((found : List Text) → paths ≡ Some found → length found ≡ length (paths_of job))
+        → (if pathless then None else option_map told paths) ≡ Some command → length command.paths ≡ length (paths_of command.job)
     go true paths each is = cc
     go false None each is = cc
     go false (Some found) each is =
         let same = same_Some (told found) command is in
-        subst (λ (c : Command). length c.paths ≡ length (wants c.job)) same (each found refl)
+        subst (λ (c : Command). length c.paths ≡ length (paths_of c.job)) same (each found refl)
 
 -- and so has what all words ask for
 pub words_paths : (words : List Text) (command : Command) → command_of words ≡ Some command
-    → length command.paths ≡ length (wants command.job)
+    → length command.paths ≡ length (paths_of command.job)
 words_paths words command some = go (list_any is_empty words) (taken words) some
   where
     named : (rows : List Row) (job : Option Job) → option_and_then (command_in rows) job ≡ Some command
-        → length command.paths ≡ length (wants command.job)
+        → length command.paths ≡ length (paths_of command.job)
     named rows None is = cc
     named rows (Some job) is = job_paths rows job command is
 
     go : (empty : Bool) (found : Option (Text × List Row))
-        → (if empty then None else option_and_then command_named found) ≡ Some command → length command.paths ≡ length (wants command.job)
+        → (if empty then None else option_and_then command_named found) ≡ Some command → length command.paths ≡ length (paths_of command.job)
     go true found is = cc
     go false None is = cc
-    go false (Some found) is = named found.1 (job_named found.0) is
+    go false (Some found) is = named found.1 (job_named found.0 (seed_in found.1)) is

@@ -1,16 +1,17 @@
 -- Words that ask for a command with no option.
-use Rattle.rw_base.proofs.Common.{Bool, List, None, Option, Some, [], ap, append-nil, append_assoc, arith, false, find, is_some, if◌then◌else◌, length, list_any, ne_eqb, option_and_then, refl, suc, sym, true, unwrap_or, ℕ, ◌++◌, ◌+◌, ◌==◌, ◌||◌, ◌∙◌, ◌∷◌, ◌≡◌, ◌≤◌}
+use Rattle.rw_base.proofs.Common.{Bool, List, None, Option, Some, [], ap, append-nil, append_assoc, arith, false, find, is_some, if◌then◌else◌, length, list_any, ne_eqb, option_and_then, option_map, refl, suc, sym, true, unwrap_or, ℕ, ◌++◌, ◌+◌, ◌==◌, ◌||◌, ◌∙◌, ◌∷◌, ◌≡◌, ◌≤◌}
 use Rattle.std.specs.Prelude.{fold, ⊤}
 use Rattle.clap.specs.Faults.{check_fault, defaults_fault, entered_fault, fault_of, level_fault, settle_fault, step_fault, walk_fault}
 use Rattle.clap.specs.Kinds.{Kinds, or_else}
 use Rattle.clap.specs.Simple.{Shape, built, entered, label_of, names_of, new_shape, subcommand_of}
 use Rattle.clap.specs.Walk.{Held, Names, Row, Rule, Walk, answers_to, arg_by_index, finished, idle, nothing_held, settled, to_positional, value, walk, walk_from, walked}
-use Rattle.rw_words.specs.Command.{command_named, command_of, is_empty, taken}
+use Rattle.rw_words.specs.Command.{Command, command_in, command_named, command_of, is_empty, taken}
 use Rattle.rw_words.specs.Job.{Text, name_of}
-use Rattle.rw_words.specs.Plain.{IsPath, PlainWords, plain}
+use Rattle.rw_words.specs.Plain.{IsPath, PlainWords, of_cell, plain}
 use Rattle.rw_words.specs.Program.{program}
+use Rattle.rw_words.specs.Seed.{seed_of_text}
 use Rattle.rw_words.specs.declared.job.Job.{Job}
-use Rattle.rw_words.specs.declared.job.Job.TheVariants.{Check, Compile, Run, Simulate, Why}
+use Rattle.rw_words.specs.declared.job.Job.TheVariants.{Check, Compile, Run, Sample, Simulate, Why}
 
 -- ---- words that are no options
 
@@ -133,6 +134,7 @@ name_walked Simulate = refl
 name_walked Check = refl
 name_walked Compile = refl
 name_walked Why = refl
+name_walked (Sample seed) = refl
 
 name_fault : (job : Job) (words : List Text)
     → walk_fault top names (walk_from nothing_held) (name_of job ∷ words) ≡ walk_fault top names (inside (name_of job) []) words
@@ -142,6 +144,7 @@ name_fault Simulate words = refl
 name_fault Check words = refl
 name_fault Compile words = refl
 name_fault Why words = refl
+name_fault (Sample seed) words = refl
 
 -- what can be wrong when the words are walked
 abbrev last_fault : Shape → Bool → Walk → Kinds
@@ -174,6 +177,7 @@ own Simulate words = top_fault Simulate words (own_fault Simulate words)
 own Check words = top_fault Check words (own_fault Check words)
 own Compile words = top_fault Compile words (own_fault Compile words)
 own Why words = top_fault Why words (own_fault Why words)
+own (Sample seed) words = top_fault (Sample seed) words (own_fault (Sample seed) words)
 
 -- what `clap` finds where the words of a job are walked
 abbrev Found : Type 0
@@ -189,15 +193,16 @@ entered_is Simulate words = refl
 entered_is Check words = refl
 entered_is Compile words = refl
 entered_is Why words = refl
+entered_is (Sample seed) words = refl
 
 -- ---- the words of each
 
-asks : (job : Job) (paths : List Text) → list_any is_empty (name_of job ∷ paths) ≡ list_any is_empty paths → AreNoOptions paths
+asks : (job : Job) (paths : List Text) (command : Command) → list_any is_empty (name_of job ∷ paths) ≡ list_any is_empty paths → AreNoOptions paths
     → Fit (shape_of_job job) nothing_held 1 paths
     → last_fault (shape_of_job job) false (end (shape_of_job job) nothing_held 1 paths) ≡ []
-    → option_and_then command_named (found_by job (end (shape_of_job job) nothing_held 1 paths)) ≡ Some (plain job paths)
-    → command_of (name_of job ∷ paths) ≡ Some (plain job paths)
-asks job paths same are fit last named =
+    → option_and_then command_named (found_by job (end (shape_of_job job) nothing_held 1 paths)) ≡ Some command
+    → command_of (name_of job ∷ paths) ≡ Some command
+asks job paths command same are fit last named =
     let s = shape_of_job job in
     let words = name_of job ∷ paths in
     let ends = all_walked s nothing_held 1 paths are fit in
@@ -233,17 +238,29 @@ why_last : (p q r s t : Text) → last_fault (shape_of_job Why) false (end (shap
 unfolding defaults_fault
 why_last p q r s t = refl
 
+sample_last : (seed : ℕ) (p : Text) → last_fault (shape_of_job (Sample seed)) false (end (shape_of_job (Sample seed)) nothing_held 1 (p ∷ [])) ≡ []
+unfolding defaults_fault
+sample_last seed p = refl
+
+-- what is found of a word that spells the seed
+sample_found : (seed : ℕ) (p : Text) → seed_of_text p ≡ Some seed
+    → option_and_then command_named (found_by (Sample seed) (end (shape_of_job (Sample seed)) nothing_held 1 (p ∷ []))) ≡ Some (plain (Sample seed) [])
+sample_found seed p is =
+    let rows = finished (shape_of_job (Sample seed)).rules (end (shape_of_job (Sample seed)) nothing_held 1 (p ∷ [])).held in
+    ap (λ (found : Option ℕ). option_and_then (command_in rows) (option_map (λ number. Sample number) found)) is
+
 abbrev two : (p q : Text) → IsPath p → IsPath q → AreNoOptions (p ∷ q ∷ [])
 two p q first second = path_more p (q ∷ []) first (path_more q [] second tt)
 
 pub plain_words : PlainWords
 plain_words = record {
-  run = λ p q r first second third. asks Run (p ∷ q ∷ r ∷ []) refl (path_more p (q ∷ r ∷ []) first (two q r second third))
+  run = λ p q r first second third. asks Run (p ∷ q ∷ r ∷ []) (plain Run (p ∷ q ∷ r ∷ [])) refl (path_more p (q ∷ r ∷ []) first (two q r second third))
       (refl, refl, (refl, refl, (refl, refl, tt))) (run_last p q r) refl;
-  simulate = λ p q first second. asks Simulate (p ∷ q ∷ []) refl (two p q first second) (refl, refl, (refl, refl, tt)) (simulate_last p q) refl;
-  check = λ p q first second. asks Check (p ∷ q ∷ []) refl (two p q first second) (refl, refl, (refl, refl, tt)) (check_last p q) refl;
-  compile = λ p q first second. asks Compile (p ∷ q ∷ []) refl (two p q first second) (refl, refl, (refl, refl, tt)) (compile_last p q) refl;
-  why = λ p q r s t first second third fourth fifth. asks Why (p ∷ q ∷ r ∷ s ∷ t ∷ []) refl
+  simulate = λ p q first second. asks Simulate (p ∷ q ∷ []) (plain Simulate (p ∷ q ∷ [])) refl (two p q first second) (refl, refl, (refl, refl, tt)) (simulate_last p q) refl;
+  check = λ p q first second. asks Check (p ∷ q ∷ []) (plain Check (p ∷ q ∷ [])) refl (two p q first second) (refl, refl, (refl, refl, tt)) (check_last p q) refl;
+  compile = λ p q first second. asks Compile (p ∷ q ∷ []) (plain Compile (p ∷ q ∷ [])) refl (two p q first second) (refl, refl, (refl, refl, tt)) (compile_last p q) refl;
+  why = λ p q r s t first second third fourth fifth. asks Why (p ∷ q ∷ r ∷ s ∷ t ∷ []) (of_cell s t (plain Why (p ∷ q ∷ r ∷ []))) refl
       (path_more p (q ∷ r ∷ s ∷ t ∷ []) first (path_more q (r ∷ s ∷ t ∷ []) second (path_more r (s ∷ t ∷ []) third (two s t fourth fifth))))
       (refl, refl, (refl, refl, (refl, refl, (refl, refl, (refl, refl, tt))))) (why_last p q r s t) refl;
+  sample = λ p seed first is. asks (Sample seed) (p ∷ []) (plain (Sample seed) []) refl (path_more p [] first tt) (refl, refl, tt) (sample_last seed p) (sample_found seed p is);
 }

@@ -1,20 +1,30 @@
 -- The command that the words ask for.
-use Rattle.std.specs.Prelude.{List, [], ◌∷◌, length, map, codes, string_bytes, String, Option, None, Some, option_and_then, option_map, Bool, false, if◌then◌else◌, ◌==◌}
+use Rattle.std.specs.Prelude.{ℕ, List, [], ◌∷◌, length, map, codes, string_bytes, String, Option, None, Some, option_and_then, option_map, Bool, false, if◌then◌else◌, ◌==◌}
 use Rattle.std.specs.List.{list_any}
 use Rattle.std.specs.Option.{option_map_or}
 use Rattle.std.specs.Str.{bytes_eq}
 use Rattle.std.specs.declared.alloc.Global.{Global}
 use Rattle.clap.specs.Words.{Row, fault_of, first_of, subcommand_of}
-use Rattle.rw_words.specs.Job.{Text, job_named, wants}
+use Rattle.rw_words.specs.Job.{Text, job_named, paths_of}
 use Rattle.rw_words.specs.Program.{program}
+use Rattle.rw_words.specs.Seed.{seed_of_text}
 use Rattle.rw_words.specs.declared.job.Job.{Job}
+use Rattle.rw_words.specs.declared.command.CellWords.{CellWords as NamedCell}
 use Rattle.rw_words.specs.declared.command.Command.{Command as Named}
 
--- a job, the words that it wants, in its order (paths, and of `why` a slot and a timestep behind them), and the options that were
--- given
+-- the words that name a cell
+pub record CellWords : Type 0 where
+  pub slot : Text
+  pub step : Text
+
+abbrev pub cell_words : (slot step : Text) → CellWords
+cell_words slot step = record { slot = slot; step = step }
+
+-- a job, the paths that it wants, in its order, the words of its cell, where it asks for one, and the options that were given
 pub record Command : Type 0 where
   pub job : Job
   pub paths : List Text
+  pub cell : Option CellWords
   pub edits : Option Text
   pub flags : Bool
   pub trace : Bool
@@ -38,6 +48,11 @@ paths_in rows (name ∷ rest) =
 abbrev pub is_given : List Row → Text → Bool
 is_given rows name = option_map_or (λ text. bytes_eq text (codes "true")) (first_of name rows) false
 
+-- the words of a cell, where both were found
+abbrev pub cell_in : List Row → Option CellWords
+cell_in rows =
+    option_and_then (λ slot. option_map (λ step. cell_words slot step) (first_of (codes "STEP") rows)) (first_of (codes "SLOT") rows)
+
 -- the command of a job, by what `clap` found. `--edits=` names no file
 abbrev pub command_in : List Row → Job → Option Command
 command_in rows job =
@@ -45,13 +60,18 @@ command_in rows job =
     else option_map (λ paths. record {
       job = job;
       paths = paths;
+      cell = cell_in rows;
       edits = first_of (codes "edits") rows;
       flags = is_given rows (codes "flags");
       trace = is_given rows (codes "trace");
-    }) (paths_in rows (wants job))
+    }) (paths_in rows (paths_of job))
+
+-- the seed that was found
+abbrev pub seed_in : List Row → Option ℕ
+seed_in rows = option_and_then seed_of_text (first_of (codes "SEED") rows)
 
 abbrev pub command_named : Text × List Row → Option Command
-command_named found = option_and_then (command_in found.1) (job_named found.0)
+command_named found = option_and_then (command_in found.1) (job_named found.0 (seed_in found.1))
 
 -- ---- all words
 
@@ -65,11 +85,15 @@ command_of words = if list_any is_empty words then None else option_and_then com
 
 -- ---- what was read
 
--- the command that was read, in these terms
+-- what was read, in these terms
+abbrev pub cell_seen : NamedCell → CellWords
+cell_seen named = cell_words named.slot.now named.step.now
+
 abbrev pub seen : Named → Command
 seen named = record {
   job = named.job;
   paths = map (λ path. path.now) named.paths.items;
+  cell = option_map cell_seen named.cell;
   edits = option_map (λ path. path.now) named.edits;
   flags = named.flags;
   trace = named.trace;

@@ -1,8 +1,8 @@
 -- What each command takes behind its name: a row of each table.
-use Rattle.std.specs.Prelude.{ℕ, List, [], ◌∷◌, codes, Option, Some, None, if◌then◌else◌}
+use Rattle.std.specs.Prelude.{ℕ, List, [], ◌∷◌, codes, Option, Some, None, option_map, if◌then◌else◌}
 use Rattle.std.specs.Str.{bytes_eq}
 use Rattle.rw_words.specs.declared.job.Job.{Job}
-use Rattle.rw_words.specs.declared.job.Job.TheVariants.{Run, Simulate, Check, Compile, Why}
+use Rattle.rw_words.specs.declared.job.Job.TheVariants.{Run, Simulate, Check, Compile, Why, Sample}
 
 -- a text, as bytes
 abbrev pub Text : Type 0
@@ -15,14 +15,25 @@ name_of Simulate = codes "simulate"
 name_of Check = codes "check"
 name_of Compile = codes "compile"
 name_of Why = codes "why"
+name_of (Sample seed) = codes "sample"
 
--- the words that it wants, in order: paths, and behind them what is no path
-abbrev pub wants : Job → List Text
-wants Run = codes "MODEL" ∷ codes "POLICY" ∷ codes "INPUTS" ∷ []
-wants Simulate = codes "MODEL" ∷ codes "INPUTS" ∷ []
-wants Check = codes "MODEL" ∷ codes "POLICY" ∷ []
-wants Compile = codes "MODEL" ∷ codes "RULES" ∷ []
-wants Why = codes "MODEL" ∷ codes "POLICY" ∷ codes "INPUTS" ∷ codes "SLOT" ∷ codes "STEP" ∷ []
+-- the paths that it wants, in order
+abbrev pub paths_of : Job → List Text
+paths_of Run = codes "MODEL" ∷ codes "POLICY" ∷ codes "INPUTS" ∷ []
+paths_of Simulate = codes "MODEL" ∷ codes "INPUTS" ∷ []
+paths_of Check = codes "MODEL" ∷ codes "POLICY" ∷ []
+paths_of Compile = codes "MODEL" ∷ codes "RULES" ∷ []
+paths_of Why = codes "MODEL" ∷ codes "POLICY" ∷ codes "INPUTS" ∷ []
+paths_of (Sample seed) = []
+
+-- the words that it wants behind them, which are no paths
+abbrev pub others_of : Job → List Text
+others_of Run = []
+others_of Simulate = []
+others_of Check = []
+others_of Compile = []
+others_of Why = codes "SLOT" ∷ codes "STEP" ∷ []
+others_of (Sample seed) = codes "SEED" ∷ []
 
 -- its options with a value
 abbrev pub options_of : Job → List Text
@@ -31,6 +42,7 @@ options_of Simulate = []
 options_of Check = []
 options_of Compile = []
 options_of Why = []
+options_of (Sample seed) = []
 
 -- its options without one
 abbrev pub flags_of : Job → List Text
@@ -39,13 +51,15 @@ flags_of Simulate = codes "flags" ∷ codes "trace" ∷ []
 flags_of Check = []
 flags_of Compile = []
 flags_of Why = []
+flags_of (Sample seed) = []
 
--- the job that a word names
-abbrev pub job_named : Text → Option Job
-job_named word =
+-- the job that a word names, with the seed that stands behind it
+abbrev pub job_named : Text → Option ℕ → Option Job
+job_named word seed =
     if bytes_eq word (codes "run") then Some Run
     else if bytes_eq word (codes "simulate") then Some Simulate
     else if bytes_eq word (codes "check") then Some Check
     else if bytes_eq word (codes "compile") then Some Compile
     else if bytes_eq word (codes "why") then Some Why
+    else if bytes_eq word (codes "sample") then option_map (λ number. Sample number) seed
     else None

@@ -1,9 +1,10 @@
 -- Words that ask for a command with no option.
-use Rattle.std.specs.Prelude.{◌≡◌, ◌≢◌, ◌≤◌, ◌∷◌, [], List, length, slice_index, None, Some, false}
-use Rattle.rw_words.specs.Command.{Command, command_of}
+use Rattle.std.specs.Prelude.{ℕ, ◌≡◌, ◌≢◌, ◌≤◌, ◌∷◌, [], List, length, slice_index, None, Some, false}
+use Rattle.rw_words.specs.Command.{Command, cell_words, command_of}
 use Rattle.rw_words.specs.Job.{Text, name_of}
+use Rattle.rw_words.specs.Seed.{seed_of_text}
 use Rattle.rw_words.specs.declared.job.Job.{Job}
-use Rattle.rw_words.specs.declared.job.Job.TheVariants.{Run, Simulate, Check, Compile, Why}
+use Rattle.rw_words.specs.declared.job.Job.TheVariants.{Run, Simulate, Check, Compile, Why, Sample}
 
 -- a word that isn't empty and isn't an option, which begins with `-`
 pub record IsPath (word : Text) : Type 0 where
@@ -14,12 +15,17 @@ abbrev pub plain : Job → List Text → Command
 plain job paths = record {
   job = job;
   paths = paths;
+  cell = None;
   edits = None;
   flags = false;
   trace = false;
 }
 
--- the name of a job and its paths ask for it
+-- of the cell that these words name
+abbrev pub of_cell : (slot step : Text) → Command → Command
+of_cell slot step command = record command { cell = Some (cell_words slot step) }
+
+-- the name of a job and its paths, and the words behind them, ask for it
 pub record PlainWords : Type 0 where
   pub run : (model policy inputs : Text) → IsPath model → IsPath policy → IsPath inputs
       → command_of (name_of Run ∷ model ∷ policy ∷ inputs ∷ []) ≡ Some (plain Run (model ∷ policy ∷ inputs ∷ []))
@@ -31,4 +37,6 @@ pub record PlainWords : Type 0 where
       → command_of (name_of Compile ∷ model ∷ rules ∷ []) ≡ Some (plain Compile (model ∷ rules ∷ []))
   pub why : (model policy inputs slot step : Text) → IsPath model → IsPath policy → IsPath inputs → IsPath slot → IsPath step
       → command_of (name_of Why ∷ model ∷ policy ∷ inputs ∷ slot ∷ step ∷ [])
-      ≡ Some (plain Why (model ∷ policy ∷ inputs ∷ slot ∷ step ∷ []))
+      ≡ Some (of_cell slot step (plain Why (model ∷ policy ∷ inputs ∷ [])))
+  pub sample : (text : Text) (seed : ℕ) → IsPath text → seed_of_text text ≡ Some seed
+      → command_of (name_of (Sample seed) ∷ text ∷ []) ≡ Some (plain (Sample seed) [])

@@ -3,9 +3,9 @@ use Rattle.std.specs.Prelude.{List, [], ◌∷◌, codes, map, true, Some}
 use Rattle.clap.specs.Words.{App, Rule, new_app, new_rule, with_rule, with_subcommand}
 use Rattle.clap.specs.declared.builder.ArgAction.{ArgAction}
 use Rattle.clap.specs.declared.builder.ArgAction.TheVariants.{Set, SetTrue}
-use Rattle.rw_words.specs.Job.{Text, flags_of, name_of, options_of, wants}
+use Rattle.rw_words.specs.Job.{Text, flags_of, name_of, options_of, others_of, paths_of}
 use Rattle.rw_words.specs.declared.job.Job.{Job}
-use Rattle.rw_words.specs.declared.job.Job.TheVariants.{Run, Simulate, Check, Compile, Why}
+use Rattle.rw_words.specs.declared.job.Job.TheVariants.{Run, Simulate, Check, Compile, Why, Sample}
 
 -- a word that has to be there
 abbrev pub required : Text → Rule
@@ -22,8 +22,9 @@ with_rules app (rule ∷ rest) = with_rules (with_rule app rule) rest
 -- what is told of a command
 abbrev pub usage_of : Job → App
 usage_of job =
-    let paths = with_rules (new_app (name_of job)) (map required (wants job)) in
-    let options = with_rules paths (map (option Set) (options_of job)) in
+    let paths = with_rules (new_app (name_of job)) (map required (paths_of job)) in
+    let words = with_rules paths (map required (others_of job)) in
+    let options = with_rules words (map (option Set) (options_of job)) in
     with_rules options (map (option SetTrue) (flags_of job))
 
 -- the program without its commands
@@ -42,5 +43,6 @@ bare =
 abbrev pub with_job : App → Job → App
 with_job app job = with_subcommand app (usage_of job).top
 
+-- what is told of `sample` is the same for each seed
 abbrev pub program : App
-program = with_job (with_job (with_job (with_job (with_job bare Run) Simulate) Check) Compile) Why
+program = with_job (with_job (with_job (with_job (with_job (with_job bare Run) Simulate) Check) Compile) Why) (Sample 0)

@@ -2,8 +2,8 @@
 use Rattle.std.specs.Prelude.{◌≡◌, ◌==◌, List, ℕ, [], ◌∷◌, codes, true, None, Some, if◌then◌else◌}
 use Rattle.rw_words.specs.Command.{Command, command_of}
 use Rattle.rw_words.specs.Job.{Text}
-use Rattle.rw_words.specs.Plain.{plain}
-use Rattle.rw_words.specs.declared.job.Job.TheVariants.{Run, Simulate, Check, Compile, Why}
+use Rattle.rw_words.specs.Plain.{of_cell, plain}
+use Rattle.rw_words.specs.declared.job.Job.TheVariants.{Run, Simulate, Check, Compile, Why, Sample}
 
 -- ---- a line of words
 
@@ -28,7 +28,11 @@ simulates = plain Simulate (codes "m" ∷ codes "i" ∷ [])
 
 -- `why m p i s` of a timestep
 abbrev pub whys : Text → Command
-whys step = plain Why (codes "m" ∷ codes "p" ∷ codes "i" ∷ codes "s" ∷ step ∷ [])
+whys step = of_cell (codes "s") step (plain Why (codes "m" ∷ codes "p" ∷ codes "i" ∷ []))
+
+-- `sample` of a seed
+abbrev pub samples : ℕ → Command
+samples seed = plain (Sample seed) []
 
 -- with a file of edits
 abbrev pub edited : Text → Command → Command
@@ -55,6 +59,10 @@ pub record AskWithOptions : Type 0 where
   pub compile : AskFor (codes "compile m r") (plain Compile (codes "m" ∷ codes "r" ∷ []))
   pub why : AskFor (codes "why m p i s 1") (whys (codes "1"))
   pub why_ended : AskFor (codes "why -- m p i s -1") (whys (codes "-1"))
+  pub sample : AskFor (codes "sample 0") (samples 0)
+  pub sample_zeros : AskFor (codes "sample 00000000000000000007") (samples 7)
+  pub sample_greatest : AskFor (codes "sample 18446744073709551615") (samples 18446744073709551615)
+  pub sample_ended : AskFor (codes "sample -- 12") (samples 12)
   -- options stand anywhere behind the command's name
   pub behind : AskFor (codes "run m p i --edits e --flags --trace") (traced (flagged (edited (codes "e") runs)))
   pub before : AskFor (codes "run --trace --edits e m p i") (traced (edited (codes "e") runs))
@@ -112,6 +120,17 @@ pub record AskForNothing : Type 0 where
   pub step_below : Nothing (codes "why m p i s -1")
   pub too_few_of_why : Nothing (codes "why m p i s")
   pub too_many_of_why : Nothing (codes "why m p i s 1 2")
+  -- a seed is 1 to 20 digits, and of 64 bits
+  pub seedless : Nothing (codes "sample")
+  pub seed_above : Nothing (codes "sample 18446744073709551616")
+  pub seed_long : Nothing (codes "sample 000000000000000000007")
+  pub seed_of_letters : Nothing (codes "sample x")
+  pub seed_with_letter : Nothing (codes "sample 1a")
+  pub seed_below : Nothing (codes "sample -1")
+  pub seed_below_ended : Nothing (codes "sample -- -1")
+  pub seed_with_sign : Nothing (codes "sample +1")
+  pub two_seeds : Nothing (codes "sample 1 2")
+  pub flags_of_sample : Nothing (codes "sample 1 --flags")
   -- an option stands once
   pub flags_twice : Nothing (codes "run m p i --flags --flags")
   pub trace_twice : Nothing (codes "simulate --trace m --trace i")

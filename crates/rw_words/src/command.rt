@@ -3,21 +3,30 @@ ghost use Rattle.std.specs.List.{list_any};
 ghost use Rattle.std.specs.Option.{option_map_or};
 ghost use Rattle.clap.specs.Words.{FailsBy, fault_of, first_of, found_of, rows_of, subcommand_of, subcommand_rows_of};
 ghost use Rattle.rw_words.specs.Program.{program};
-ghost use Rattle.rw_words.specs.Command.{command_in, command_named, command_of, is_empty, is_given, paths_in, seen, taken, texts_of};
+ghost use Rattle.rw_words.specs.Command.{cell_in, cell_seen, command_in, command_named, command_of, is_empty, is_given, paths_in, seed_in, seen, taken, texts_of};
 
 use crate::Job;
 use crate::program::program;
+use crate::seed::seed_of_text;
 use clap::error::ErrorKind;
 use clap::{ArgMatches, Error};
 use rw_base::NoMemory;
 use std::alloc::Global;
 
-/// What the words ask for: a job, the words that it wants, in its order (paths, and of `why` a slot and a timestep behind
-/// them), and the options that were given.
+/// The words that name a cell: a slot and a timestep.
+#[derive(Clone, Copy)]
+pub struct CellWords<'w> {
+    pub slot: &'w str,
+    pub step: &'w str,
+}
+
+/// What the words ask for: a job, the paths that it wants, in its order, the words of its cell, where it asks for one, and the
+/// options that were given.
 #[derive(Drop)]
 pub struct Command<'w> {
     pub job: Job,
     pub paths: Vec<&'w str>,
+    pub cell: Option<CellWords<'w>>,
     pub edits: Option<&'w str>,
     pub flags: bool,
     pub trace: bool,
@@ -82,6 +91,29 @@ fn paths_in<'w>(
     Ok(Some(paths))
 }
 
+// The words of a cell, where both were found.
+fn cell_in<'w>(found: &ArgMatches<'w>) -> Option<CellWords<'w>>
+    ensures { option_map cell_seen result ≡ cell_in (rows_of (found_of found.now)) }
+{
+    let Some(slot) = value(found, "SLOT") else {
+        return None;
+    };
+    match value(found, "STEP") {
+        Some(step) => Some(CellWords { slot, step }),
+        None => None,
+    }
+}
+
+// The seed that was found.
+fn seed_in(found: &ArgMatches<'_>) -> Option<u64>
+    ensures { result ≡ seed_in (rows_of (found_of found.now)) }
+{
+    match value(found, "SEED") {
+        Some(text) => seed_of_text(text.as_bytes()),
+        None => None,
+    }
+}
+
 // The command of a job, by what was found.
 fn command_in<'w>(
     alloc: Global,
@@ -95,12 +127,13 @@ fn command_in<'w>(
     if is_pathless(edits) {
         return Ok(None);
     }
-    let Some(paths) = paths_in(alloc, found, job.wants())? else {
+    let Some(paths) = paths_in(alloc, found, job.paths())? else {
         return Ok(None);
     };
     Ok(Some(Command {
         job,
         paths,
+        cell: cell_in(found),
         edits,
         flags: is_given(found, "flags"),
         trace: is_given(found, "trace"),
@@ -141,7 +174,7 @@ fn command_named<'w>(
     let Some((name, found)) = matches.subcommand() else {
         return Ok(None);
     };
-    let Some(job) = Job::named(name) else {
+    let Some(job) = Job::named(name, seed_in(found)) else {
         return Ok(None);
     };
     command_in(alloc, found, job)

@@ -1,7 +1,8 @@
-ghost use Rattle.std.specs.Prelude.{◌≡◌, map};
-ghost use Rattle.rw_words.specs.Job.{flags_of, job_named, name_of, options_of, wants};
+ghost use Rattle.std.specs.Prelude.{◌≡◌, map, option_map};
+ghost use Rattle.rw_words.specs.Job.{flags_of, job_named, name_of, options_of, others_of, paths_of};
+ghost use Rattle.rw_words.specs.declared.job.Job.TheVariants as J;
 
-/// What is done with the files that the words name.
+/// What is done: with the files that the words name, or with the sample of a seed.
 #[derive(Clone, Copy)]
 pub enum Job {
     Run,
@@ -9,9 +10,10 @@ pub enum Job {
     Check,
     Compile,
     Why,
+    Sample(u64),
 }
 
-static RUN: [&str; 3] = ["MODEL", "POLICY", "INPUTS"];
+static THREE: [&str; 3] = ["MODEL", "POLICY", "INPUTS"];
 
 static SIMULATE: [&str; 2] = ["MODEL", "INPUTS"];
 
@@ -19,7 +21,9 @@ static CHECK: [&str; 2] = ["MODEL", "POLICY"];
 
 static COMPILE: [&str; 2] = ["MODEL", "RULES"];
 
-static WHY: [&str; 5] = ["MODEL", "POLICY", "INPUTS", "SLOT", "STEP"];
+static CELL: [&str; 2] = ["SLOT", "STEP"];
+
+static SEED: [&str; 1] = ["SEED"];
 
 static EDITS: [&str; 1] = ["edits"];
 
@@ -27,10 +31,19 @@ static FLAGS: [&str; 2] = ["flags", "trace"];
 
 static NONE: [&str; 0] = [];
 
+fn sample_of(seed: Option<u64>) -> Option<Job>
+    ensures { result ≡ option_map (λ number. J.Sample number) seed }
+{
+    match seed {
+        Some(number) => Some(Job::Sample(number)),
+        None => None,
+    }
+}
+
 impl Job {
-    // The job that a word names.
-    pub(crate) fn named(word: &str) -> Option<Job>
-        ensures { result ≡ job_named word.now }
+    // The job that a word names, with the seed that stands behind it.
+    pub(crate) fn named(word: &str, seed: Option<u64>) -> Option<Job>
+        ensures { result ≡ job_named word.now seed }
     {
         if word == "run" {
             Some(Job::Run)
@@ -42,6 +55,8 @@ impl Job {
             Some(Job::Compile)
         } else if word == "why" {
             Some(Job::Why)
+        } else if word == "sample" {
+            sample_of(seed)
         } else {
             None
         }
@@ -57,19 +72,31 @@ impl Job {
             Job::Check => "check",
             Job::Compile => "compile",
             Job::Why => "why",
+            Job::Sample(_) => "sample",
         }
     }
 
-    // The words that it wants, in order: paths, and behind them what is no path.
-    pub(crate) fn wants<'a>(self) -> &'a [&'a str]
-        ensures { map (λ name. name.now) result.now ≡ wants self }
+    // The paths that it wants, in order.
+    pub(crate) fn paths<'a>(self) -> &'a [&'a str]
+        ensures { map (λ name. name.now) result.now ≡ paths_of self }
     {
         match self {
-            Job::Run => RUN.as_slice(),
+            Job::Run | Job::Why => THREE.as_slice(),
             Job::Simulate => SIMULATE.as_slice(),
             Job::Check => CHECK.as_slice(),
             Job::Compile => COMPILE.as_slice(),
-            Job::Why => WHY.as_slice(),
+            Job::Sample(_) => NONE.as_slice(),
+        }
+    }
+
+    // The words that it wants behind them, which are no paths.
+    pub(crate) fn others<'a>(self) -> &'a [&'a str]
+        ensures { map (λ name. name.now) result.now ≡ others_of self }
+    {
+        match self {
+            Job::Why => CELL.as_slice(),
+            Job::Sample(_) => SEED.as_slice(),
+            Job::Run | Job::Simulate | Job::Check | Job::Compile => NONE.as_slice(),
         }
     }
 
@@ -79,7 +106,9 @@ impl Job {
     {
         match self {
             Job::Run => EDITS.as_slice(),
-            Job::Simulate | Job::Check | Job::Compile | Job::Why => NONE.as_slice(),
+            Job::Simulate | Job::Check | Job::Compile | Job::Why | Job::Sample(_) => {
+                NONE.as_slice()
+            }
         }
     }
 
@@ -89,7 +118,7 @@ impl Job {
     {
         match self {
             Job::Run | Job::Simulate => FLAGS.as_slice(),
-            Job::Check | Job::Compile | Job::Why => NONE.as_slice(),
+            Job::Check | Job::Compile | Job::Why | Job::Sample(_) => NONE.as_slice(),
         }
     }
 }

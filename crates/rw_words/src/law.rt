@@ -2,11 +2,11 @@
 ghost use Rattle.std.specs.Prelude.{◌≡◌, IsTrue, List, None, Some, length};
 ghost use Rattle.std.specs.List.{list_any};
 ghost use Rattle.rw_words.specs.Command.{Command, command_of, is_empty};
-ghost use Rattle.rw_words.specs.Job.{Text, wants};
+ghost use Rattle.rw_words.specs.Job.{Text, paths_of};
 ghost use Rattle.rw_words.specs.Plain.{PlainWords};
 ghost use Rattle.rw_words.specs.Worked.{AskWithOptions, AskForNothing};
 
-/// The name of a job and its paths ask for it with no option, where no path is empty or begins with `-`.
+/// The name of a job, its paths and the words behind them ask for it with no option, where none is empty or begins with `-`.
 pub fn plain_words()
     ensures { PlainWords }
 {}
@@ -15,7 +15,7 @@ pub fn plain_words()
 #[tactic(auto, using(crate::proofs::Paths::words_paths))]
 pub fn one_path_each()
     ensures { (words : List Text) (command : Command) → command_of words ≡ Some command
-        → length command.paths ≡ length (wants command.job) }
+        → length command.paths ≡ length (paths_of command.job) }
 {}
 
 /// Where a word is empty, nothing is asked for.

@@ -7,7 +7,8 @@ mod command;
 mod job;
 mod law;
 mod program;
+mod seed;
 
-pub use command::{Command, read_words};
+pub use command::{CellWords, Command, read_words};
 pub use job::Job;
 pub use law::{empty_words, one_path_each, plain_words, worked_words};

@@ -22,7 +22,7 @@ fn option<'a>(alloc: Global, action: ArgAction, name: &'a str) -> Arg<'a>
 }
 
 // The command, with these words that have to be there.
-fn with_paths<'a>(
+fn with_words<'a>(
     alloc: Global,
     command: Command<'a>,
     names: &'a [&'a str],
@@ -34,8 +34,8 @@ fn with_paths<'a>(
 {
     let mut told = command;
     for name in names {
-        let path = required(alloc, name);
-        let more = told.arg(path)?;
+        let word = required(alloc, name);
+        let more = told.arg(word)?;
         told = more;
     }
     Ok(told)
@@ -66,8 +66,9 @@ fn usage<'a>(alloc: Global, job: Job) -> Result<Command<'a>, AllocError>
     ensures { IfOk result (λ c. (app_of c ≡ usage_of job) × ((out-Command c).has_globals ≡ false)) }
 {
     let named = Command::new(alloc, job.name());
-    let paths = with_paths(alloc, named, job.wants())?;
-    let options = with_options(alloc, paths, ArgAction::Set, job.options())?;
+    let paths = with_words(alloc, named, job.paths())?;
+    let words = with_words(alloc, paths, job.others())?;
+    let options = with_options(alloc, words, ArgAction::Set, job.options())?;
     let flags = with_options(alloc, options, ArgAction::SetTrue, job.flags())?;
     Ok(flags)
 }
@@ -98,5 +99,7 @@ pub(crate) fn program<'a>(alloc: Global) -> Result<Command<'a>, AllocError>
     let four = three.subcommand(compile)?;
     let why = usage(alloc, Job::Why)?;
     let five = four.subcommand(why)?;
-    Ok(five)
+    let sample = usage(alloc, Job::Sample(0))?;
+    let six = five.subcommand(sample)?;
+    Ok(six)
 }

@@ -16,3 +16,6 @@ pub write_made-requires-in-Why : goal.write_made-requires-in-Why
 write_made-requires-in-Why g c =
     subst (λ job. IfOk c.tell_why-made.result (λ pair. IsOne job c.args.flags c.args.trace (files_seen c.args.files) pair.1 pair.0.items)) (sym c.in-Why.is)
     (c.tell_why-made.ensures c.args.flags c.args.trace)
+
+pub write_made-requires-in-Sample : goal.write_made-requires-in-Sample
+write_made-requires-in-Sample g c = c.sample-made.ensures c.args.flags c.args.trace

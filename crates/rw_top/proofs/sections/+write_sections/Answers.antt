@@ -8,39 +8,41 @@ use Rattle.rw_top.proofs.sections.+write_sections.Goals as goal
 
 pub returns-in-Err : goal.returns-in-Err
 returns-in-Err g t c =
-    stops_here (IsRulesText c.args.basin.now (policy_of c.args.policy.now) c.args.flags c.args.trace) c.args.number c.args.inputs c.args.batches.now _ c.in-Err.refusal c.in-Err.ensures
+    stops_here (IsRulesText c.args.setup.now.basin.now (policy_of c.args.policy.now) c.args.flags c.args.trace) c.args.number c.args.inputs c.args.batches.now _ c.in-Err.refusal c.in-Err.ensures
 
 pub returns-in-None : goal.returns-in-None
 returns-in-None g t c =
     subst
-    (λ batches. AppendsAll (IsRulesText c.args.basin.now (policy_of c.args.policy.now) c.args.flags c.args.trace) c.args.number c.args.inputs batches (change (g.K.Sink.seen c.args.out.now) (g.K.Sink.seen c.write_section.new.out)) c.in-Ok.end)
+    (λ batches. AppendsAll (IsRulesText c.args.setup.now.basin.now (policy_of c.args.policy.now) c.args.flags c.args.trace) c.args.number c.args.inputs batches (change (g.K.Sink.seen c.args.out.now) (g.K.Sink.seen c.write_section.new.out)) c.in-Ok.end)
     (sym c.in-None.ensures)
-    (last_section (IsRulesText c.args.basin.now (policy_of c.args.policy.now) c.args.flags c.args.trace) c.args.number c.args.inputs _ c.in-Ok.end c.in-Ok.ensures)
+    (last_section (IsRulesText c.args.setup.now.basin.now (policy_of c.args.policy.now) c.args.flags c.args.trace) c.args.number c.args.inputs _ c.in-Ok.end c.in-Ok.ensures)
 
 pub returns-in-Err-changed : goal.returns-in-Err-changed
 returns-in-Err-changed g t c =
-    stops_behind (IsRulesText c.args.basin.now (policy_of c.args.policy.now) c.args.flags c.args.trace) c.args.number c.args.inputs c.args.batches.now _ c.in-Ok.end c.in-Ok.ensures
+    let some = ap length c.in-Some.ensures in
+    stops_behind (IsRulesText c.args.setup.now.basin.now (policy_of c.args.policy.now) c.args.flags c.args.trace) c.args.number c.args.inputs c.args.batches.now _ c.in-Ok.end
+    (omega (arith, some)) c.in-Ok.ensures
 
 pub write_sections-requires : goal.write_sections-requires
 write_sections-requires g t c κs within =
     let shorter = ap length c.in-Some.ensures in
     let few = c.requires.few in
-    let batches = rest_of (IsBatch c.args.basin.now) c.args.batches.now c.in-Some.batch.now c.in-Some.rest.now c.in-Some.ensures c.requires.batches in (
+    let batches = rest_of (IsBatch c.args.setup.now.basin.now) c.args.batches.now c.in-Some.batch.now c.in-Some.rest.now c.in-Some.ensures c.requires.batches in (
       omega (arith, c.decreases, shorter),
       (within.0, (within.1, (c.requires.order, (c.requires.fits, (c.in-Ok-changed.ensures.made, (batches, omega (arith, few, shorter))))))),
     )
 
 pub changed-requires-clause-batch : goal.changed-requires-clause-batch
 changed-requires-clause-batch g t c =
-    first_of_all (IsBatch c.args.basin.now) c.args.batches.now c.in-Some.batch.now c.in-Some.rest.now c.in-Some.ensures c.requires.batches
+    first_of_all (IsBatch c.args.setup.now.basin.now) c.args.batches.now c.in-Some.batch.now c.in-Some.rest.now c.in-Some.ensures c.requires.batches
 
 pub returns-in-Ok-changed : goal.returns-in-Ok-changed
 returns-in-Ok-changed g t c =
     subst
     (λ batches. MatchResult c.write_sections.result
-    (AppendsAll (IsRulesText c.args.basin.now (policy_of c.args.policy.now) c.args.flags c.args.trace) c.args.number c.args.inputs batches (change (g.K.Sink.seen c.args.out.now) (g.K.Sink.seen c.write_sections.new.out)))
-    (StopsAmong (IsRulesText c.args.basin.now (policy_of c.args.policy.now) c.args.flags c.args.trace) c.args.number c.args.inputs batches (change (g.K.Sink.seen c.args.out.now) (g.K.Sink.seen c.write_sections.new.out))))
+    (AppendsAll (IsRulesText c.args.setup.now.basin.now (policy_of c.args.policy.now) c.args.flags c.args.trace) c.args.number c.args.inputs batches (change (g.K.Sink.seen c.args.out.now) (g.K.Sink.seen c.write_sections.new.out)))
+    (StopsAmong (IsRulesText c.args.setup.now.basin.now (policy_of c.args.policy.now) c.args.flags c.args.trace) c.args.number c.args.inputs batches (change (g.K.Sink.seen c.args.out.now) (g.K.Sink.seen c.write_sections.new.out))))
     (sym c.in-Some.ensures)
-    (goes_on (IsRulesText c.args.basin.now (policy_of c.args.policy.now) c.args.flags c.args.trace) c.args.number c.args.inputs c.in-Ok-changed.edited c.in-Some.batch.now c.in-Some.rest.now
+    (goes_on (IsRulesText c.args.setup.now.basin.now (policy_of c.args.policy.now) c.args.flags c.args.trace) c.args.number c.args.inputs c.in-Ok-changed.edited c.in-Some.batch.now c.in-Some.rest.now
     (g.K.Sink.seen c.args.out.now) (g.K.Sink.seen c.write_section.new.out) (g.K.Sink.seen c.write_sections.new.out) c.in-Ok.end c.in-Ok.ensures
     c.in-Ok-changed.ensures.values c.write_sections.result c.write_sections.ensures)

@@ -8,4 +8,5 @@ returns c =
     let two = c.in_ok-two.ensures.shape c.in_ok-simulate.ensures.1 ∙ ap₂ with_subcommand one (ap (λ (a : App). a.top) c.in_ok-simulate.ensures.0) in
     let three = c.in_ok-three.ensures.shape c.in_ok-check.ensures.1 ∙ ap₂ with_subcommand two (ap (λ (a : App). a.top) c.in_ok-check.ensures.0) in
     let four = c.in_ok-four.ensures.shape c.in_ok-compile.ensures.1 ∙ ap₂ with_subcommand three (ap (λ (a : App). a.top) c.in_ok-compile.ensures.0) in
-    c.in_ok-five.ensures.shape c.in_ok-why.ensures.1 ∙ ap₂ with_subcommand four (ap (λ (a : App). a.top) c.in_ok-why.ensures.0)
+    let five = c.in_ok-five.ensures.shape c.in_ok-why.ensures.1 ∙ ap₂ with_subcommand four (ap (λ (a : App). a.top) c.in_ok-why.ensures.0) in
+    c.in_ok-six.ensures.shape c.in_ok-sample.ensures.1 ∙ ap₂ with_subcommand five (ap (λ (a : App). a.top) c.in_ok-sample.ensures.0)

@@ -1,0 +1,52 @@
+// The sample of a seed: the texts of its files, and the line on its run.
+ghost use Rattle.std.specs.Prelude.{◌≡◌, map, IfOk};
+ghost use Rattle.rw_inputs.specs.Inputs.{IsInputsOf};
+ghost use Rattle.rw_method.specs.Catalogue.{AreInOrder};
+ghost use Rattle.rw_top.specs.Command.{sample_text};
+ghost use Rattle.rw_top.specs.Ready.{IsFit};
+ghost use Rattle.rw_top.specs.RunText.{IsSampleText};
+ghost use Rattle.rw_top.specs.Seen.{policy_of};
+
+use crate::File;
+use crate::policy::Policy;
+use crate::run::run_by_policy;
+use crate::setup::RunSetup;
+use rw_base::{Ledger, NoMemory, Steps};
+use rw_inputs::Inputs;
+use rw_report::law::texts_of_runs;
+use rw_sample::{sample_inputs, sample_line, sample_model, sample_rules};
+use std::alloc::Global;
+
+/// The text of a file of the sample. It has no edits.
+pub(crate) fn sample_text(alloc: Global, seed: u64, file: File) -> Result<Vec<u8>, NoMemory>
+    ensures { IfOk result (λ text. text.items ≡ sample_text seed file) }
+{
+    match file {
+        File::Model => sample_model(alloc),
+        File::Policy => sample_rules(alloc),
+        File::Inputs => sample_inputs(alloc, seed),
+        File::Edits => Ok(Vec::new(alloc)),
+    }
+}
+
+/// The line on the run of the sample by its policy.
+pub(crate) fn sample_by_policy<L: Ledger>(
+    alloc: Global,
+    setup: &RunSetup<'_>,
+    policy: &Policy,
+    inputs: &Inputs,
+    seed: u64,
+    steps: &mut Steps<L>,
+) -> Result<Vec<u8>, NoMemory>
+    requires fits { IsFit setup.now.basin.now policy.now }
+    requires order { AreInOrder
+        (map (λ b. code (b.vtable, b.value)) setup.now.methods.now.methods.items) }
+    requires inputs { IsInputsOf setup.now.basin.now inputs.now }
+    ensures { IfOk result (λ text. IsSampleText setup.now.basin.now (policy_of policy.now)
+        inputs.now seed text.items) }
+{
+    texts_of_runs();
+    let run = run_by_policy(alloc, setup, policy, true, inputs, steps)?;
+    let text = sample_line(alloc, setup.basin, seed, &run)?;
+    Ok(text)
+}
