@@ -1,121 +1,101 @@
 -- What a dispatch answers from less than stands in its places, whatever the kind.
-use Rattle.rw_base.proofs.Common.{◌≡◌, inl, inr, ℕ, ℤ, pos, ◌-ℤ◌, Bool, true, List, [], ◌∷◌, Option, Some, None, refl, sym, ap, ap₂, subst, ◌∙◌, arith, none-some, same_Some, nat_tests}
-use Rattle.rw_model.specs.declared.content.Content.{Content}
-use Rattle.rw_model.specs.declared.kind.Kind.{Kind}
-use Rattle.rw_model.specs.declared.kind.Kind.TheVariants.{DataObject, Gage, Confluence, Bifurcation, Reach, Reservoir, WaterUser, Canal}
-use Rattle.rw_model.specs.declared.kind.Supply.TheVariants.{Request, Rule}
-use Rattle.rw_method.specs.declared.balanced.Balanced.TheVariants.{Holds}
-use Rattle.rw_method.specs.declared.given.Given.{Given}
-use Rattle.rw_method.specs.declared.put.Put.{Put}
-use Rattle.rw_method.specs.declared.share.Share.TheVariants.{Takes, Conveys}
-use Rattle.rw_method.specs.declared.solved.Solved.TheVariants.{Puts}
-use Rattle.rw_method.specs.declared.view.View.{View}
-use Rattle.rw_method.specs.Puts.{held_by, known_after, seepage_put, user_puts}
-use Rattle.rw_method.specs.Solve.{answer_of_puts, fits, solve_of}
-use Rattle.rw_method.specs.Term.{per_mille}
-use Rattle.rw_method.specs.View.{given, known, known_value}
-use Rattle.rw_order.specs.Held.{Values, IsSeenOf, AreHeld, AnswersWithin, CanStand}
+use Rattle.rw_order.proofs.Common.{Balanced, ByRule, Canal, Content, Given, Idle, Kind, List, None, Option, Put, Puts, Request, Reservoir, Some, View, WaterUser, [], answered, ap, ap₂, balance_of, balanced_of, both_ways, false, fault_of_contents, fits, given, held_by, inl, inr, is_bounded, known, known_after, option_map, per_mille, refl, same_Some, settled, solve_of, subst, sym, true, user_puts, ℕ, ℤ, ◌-ℤ◌, ◌∙◌, ◌≡◌}
 use Rattle.rw_order.specs.Free.{keeps_water}
-use Rattle.rw_order.proofs.Sums.{given_stands}
-use Rattle.rw_order.proofs.Agreeing.{agree_known}
-use Rattle.rw_order.proofs.Answers.{puts_in, plain_within}
-use Rattle.rw_order.proofs.Missing.{AreZero, stands_after}
-use Rattle.rw_order.proofs.Beside.{FitsThere, beside, held_fit, standing_of}
+use Rattle.rw_order.proofs.Held.{AnswersWithin, AreHeld, AreZero, FitsThere, IsSeenOf, Stands, Values, given_stands}
+use Rattle.rw_order.proofs.Terms.{balanced_is, parts_of, sight_of, terms_of}
+use Rattle.rw_order.proofs.Agreeing.{agree_steady}
+use Rattle.rw_order.proofs.Within.{IsWithin, KeepAll, StandsIn, keep_parts, settled_within}
+use Rattle.rw_order.proofs.Missing.{IsPart, is_idle, stands_after}
+use Rattle.rw_order.proofs.Judged.{Answered, answered_of, answers_by, rest_of}
 use Rattle.rw_order.proofs.Levels.{AreLevelled}
-use Rattle.rw_order.proofs.Reservoirs.{reservoir_within, within_of, some_of}
-
--- ---- water users
-
-user_stays : (values : Values) (depletion : ℕ) (one other : Given) → one.value ≡ other.value → AreHeld values (user_puts depletion one)
-    → AreHeld values (user_puts depletion other)
-user_stays values depletion one other same held =
-    subst (λ v. (values 2 ≡ Some (per_mille v depletion)) × ((values 3 ≡ Some (v -ℤ per_mille v depletion)) × Unit {0})) same held
-
-all_answered : (values : Values) (fit : Put → Bool) (puts : List Put) → FitsThere values fit → AreHeld values puts → AnswersWithin values (answer_of_puts fit puts)
-all_answered values fit puts there held = rw (held_fit values fit puts there held) held
-
-module _ (values : Values) (past : Option ℤ) (one other : View) (seen_one : IsSeenOf values past one) (seen_other : IsSeenOf values past other) where
-  request_within : (depletion : ℕ) (puts : List Put) → CanStand values other → solve_of (WaterUser depletion Request) one ≡ Puts puts → AreHeld values puts
-      → AnswersWithin values (solve_of (WaterUser depletion Request) other)
-  request_within depletion puts can e held =
-      let kind : Kind = WaterUser depletion Request in
-      beside values (given one) (given other) (Takes, 1) [] (known_value one 0) (known_value other 0) (fits kind one) (fits kind other)
-      (λ balanced. user_puts depletion (known_after one balanced 1)) (λ balanced. user_puts depletion (known_after other balanced 1)) None puts (tt, tt)
-      (given_stands values past one seen_one) (given_stands values past other seen_other) (agree_known values past one other seen_one seen_other 0) can
-      (λ s is_one is_other. (
-        refl,
-        λ first second is_first is_second standing is some held_one.
-            let out_one = stands_after values past one (given one) (Takes, 1) [] s 1 first (tt, tt) seen_one refl (inl refl) is_first (within_of values first standing)
-            (some_of values first standing) in
-            let out_other = stands_after values past other (given other) (Takes, 1) [] s 1 second (tt, tt) seen_other refl (inl refl) is_second is some in
-            user_stays values depletion (known_after one first 1) (known_after other second 1) (same_Some _ _ (sym out_one ∙ out_other)) held_one,
-      ))
-      e held
-
-  canal_within : (seepage : ℕ) (puts : List Put) → seepage ≡ 0 → CanStand values other → solve_of (Canal seepage) one ≡ Puts puts → AreHeld values puts
-      → AnswersWithin values (solve_of (Canal seepage) other)
-  canal_within seepage puts none can e held =
-      let kind : Kind = Canal seepage in
-      beside values (given one) (given other) (Conveys seepage, 0) ((Takes, 1) ∷ []) (Some (pos 0)) (Some (pos 0)) (fits kind one) (fits kind other)
-      (λ balanced. seepage_put (known_after one balanced 0) (known_after one balanced 1))
-      (λ balanced. seepage_put (known_after other balanced 0) (known_after other balanced 1)) None puts (none, (tt, tt))
-      (given_stands values past one seen_one) (given_stands values past other seen_other) refl can
-      (λ s is_one is_other. (
-        refl,
-        λ first second is_first is_second standing is some held_one.
-            let in_one = stands_after values past one (given one) (Conveys seepage, 0) ((Takes, 1) ∷ []) s 0 first (none, (tt, tt)) seen_one refl (inl refl) is_first
-            (within_of values first standing) (some_of values first standing) in
-            let in_other = stands_after values past other (given other) (Conveys seepage, 0) ((Takes, 1) ∷ []) s 0 second (none, (tt, tt)) seen_other refl (inl refl) is_second
-            is some in
-            let out_one = stands_after values past one (given one) (Conveys seepage, 0) ((Takes, 1) ∷ []) s 1 first (none, (tt, tt)) seen_one refl (inr (inl refl)) is_first
-            (within_of values first standing) (some_of values first standing) in
-            let out_other = stands_after values past other (given other) (Conveys seepage, 0) ((Takes, 1) ∷ []) s 1 second (none, (tt, tt)) seen_other refl (inr (inl refl))
-            is_second is some in
-            (held_one.0 ∙ ap Some (ap₂ (λ a b. a -ℤ b) (same_Some _ _ (sym in_one ∙ in_other)) (same_Some _ _ (sym out_one ∙ out_other))), tt),
-      ))
-      e held
-
-  rule_by : (depletion : ℕ) (puts : List Put) (content_one content_other : Option Content) → known one 1 ≡ content_one → known other 1 ≡ content_other
-      → CanStand values other → solve_of (WaterUser depletion Rule) one ≡ Puts puts → AreHeld values puts → AnswersWithin values (solve_of (WaterUser depletion Rule) other)
-  rule_by depletion puts content_one None is_one is_other can e held = rw is_other tt
-  rule_by depletion puts None (Some content_other) is_one is_other can e held = absurd (none-some _ (ap puts_in (rw is_one at e)))
-  rule_by depletion puts (Some content_one) (Some content_other) is_one is_other can e held =
-      let kind : Kind = WaterUser depletion Rule in
-      let standing = standing_of (fits kind one) values Holds (user_puts depletion (held_by (known one 1))) puts (rw is_one at e) held in
-      let value_one : (held_by (known one 1)).value ≡ content_one.value = ap (λ content. (held_by content).value) is_one in
-      let value_other : (held_by (known other 1)).value ≡ content_other.value = ap (λ content. (held_by content).value) is_other in
-      let same : content_one.value ≡ content_other.value = same_Some _ _ (sym (seen_one.now 1 content_one is_one) ∙ seen_other.now 1 content_other is_other) in
-      rw is_other
-      (all_answered values (fits kind other) (user_puts depletion (held_by (known other 1))) can
-      (user_stays values depletion (held_by (known one 1)) (held_by (known other 1)) (value_one ∙ same ∙ sym value_other) standing.held))
-
--- ---- all kinds
+use Rattle.rw_order.proofs.Reservoirs.{fits_stand, one_stands, other_stands, rest_stays}
 
 -- of a reservoir Storage and PoolElevation are given alike
 abbrev pub AreLevelledOf : Kind → View → View → Type 0
 AreLevelledOf (Reservoir initial_storage table local_inflow diversion return_flow evaporation max_release) one other = AreLevelled one other
 AreLevelledOf kind one other = Unit {0}
 
--- where one view's puts stand in the places, another view of these values answers nothing, or puts that stand there
-pub answers_within : (kind : Kind) (values : Values) (past : Option ℤ) (one other : View) (puts : List Put) → keeps_water kind ≡ true → IsSeenOf values past one
-    → IsSeenOf values past other → AreZero (given one) → AreZero (given other) → AreLevelledOf kind one other → CanStand values other
-    → solve_of kind one ≡ Puts puts → AreHeld values puts → AnswersWithin values (solve_of kind other)
-answers_within (DataObject slots) values past one other puts keeps seen_one seen_other zeros_one zeros_other levelled can e held = tt
-answers_within Gage values past one other puts keeps seen_one seen_other zeros_one zeros_other levelled can e held =
-    plain_within Gage values past one other puts tt seen_one seen_other can e held
-answers_within Confluence values past one other puts keeps seen_one seen_other zeros_one zeros_other levelled can e held =
-    plain_within Confluence values past one other puts tt seen_one seen_other can e held
-answers_within Bifurcation values past one other puts keeps seen_one seen_other zeros_one zeros_other levelled can e held =
-    plain_within Bifurcation values past one other puts tt seen_one seen_other can e held
-answers_within (Reach lag history local_inflow diversion return_flow) values past one other puts keeps seen_one seen_other zeros_one zeros_other levelled can e held =
-    plain_within (Reach lag history local_inflow diversion return_flow) values past one other puts tt seen_one seen_other can e held
-answers_within (Reservoir initial_storage table local_inflow diversion return_flow evaporation max_release) values past one other puts keeps seen_one seen_other zeros_one
-    zeros_other levelled can e held =
-    reservoir_within initial_storage table local_inflow diversion return_flow evaporation max_release values past one other puts seen_one seen_other zeros_one zeros_other
-    levelled can e held
-answers_within (WaterUser depletion Request) values past one other puts keeps seen_one seen_other zeros_one zeros_other levelled can e held =
-    request_within values past one other seen_one seen_other depletion puts can e held
-answers_within (WaterUser depletion Rule) values past one other puts keeps seen_one seen_other zeros_one zeros_other levelled can e held =
-    rule_by values past one other seen_one seen_other depletion puts (known one 1) (known other 1) refl refl can e held
-answers_within (Canal seepage) values past one other puts keeps seen_one seen_other zeros_one zeros_other levelled can e held =
-    canal_within values past one other seen_one seen_other seepage puts (grind (arith, nat_tests, keeps)) can e held
+-- what a balance came to stands there, or it came to nothing; and it came to something
+stands_is : (values : Values) (balanced : Balanced) → StandsIn values balanced → IsWithin values balanced × (is_idle balanced ≡ false)
+stands_is values Idle stands = absurd stands
+stands_is values balanced stands = (stands, refl)
+
+user_stays : (values : Values) (depletion : ℕ) (one other : Given) → one.value ≡ other.value → AreHeld values (user_puts depletion one)
+    → AreHeld values (user_puts depletion other)
+user_stays values depletion one other same held =
+    subst (λ v. (values 2 ≡ Some (per_mille v depletion)) × ((values 3 ≡ Some (v -ℤ per_mille v depletion)) × Unit {0})) same held
+
+-- what stands in a place once the balance of one view of these values is settled
+module _ (values : Values) (past : Option ℤ) (kind : Kind) (view : View) (keep : KeepAll (parts_of kind)) (seen : IsSeenOf values past view)
+    (within : IsWithin values (balanced_of kind view)) (some : is_idle (balanced_of kind view) ≡ false) where
+  after_kind : (place : ℕ) → sight_of kind view place ≡ given view place → IsPart place (parts_of kind)
+      → values place ≡ Some (known_after view (balanced_of kind view) place).value
+  after_kind place own part =
+      stands_after values past view (sight_of kind view) (parts_of kind) (balance_of kind view).steady place keep seen own part (balanced_of kind view)
+      (sym (balanced_is kind view)) within some
+
+-- the diversion of a user that a rule supplies is known
+rule_after : (values : Values) (past : Option ℤ) (view : View) (content : Option Content) → IsSeenOf values past view → known view 1 ≡ content
+    → is_idle (settled (option_map (λ (c : Content). c.value) content) []) ≡ false
+    → values 1 ≡ Some (known_after view (settled (option_map (λ (c : Content). c.value) content) []) 1).value
+rule_after values past view None seen is some = absurd (both_ways true some refl)
+rule_after values past view (Some content) seen is some = seen.now 1 content is ∙ ap (λ c. Some (held_by c).value) (sym is)
+
+module _ (values : Values) (past : Option ℤ) (one other : View) (seen_one : IsSeenOf values past one) (seen_other : IsSeenOf values past other) where
+  -- both views come to the same value in a place
+  same_after : (kind : Kind) (place : ℕ) → KeepAll (parts_of kind) → sight_of kind one place ≡ given one place → sight_of kind other place ≡ given other place
+      → IsPart place (parts_of kind) → StandsIn values (balanced_of kind one) → IsWithin values (balanced_of kind other) → is_idle (balanced_of kind other) ≡ false
+      → (known_after one (balanced_of kind one) place).value ≡ (known_after other (balanced_of kind other) place).value
+  same_after kind place keep own_one own_other part stands within some =
+      let is = stands_is values (balanced_of kind one) stands in
+      same_Some _ _ (sym (after_kind values past kind one keep seen_one is.0 is.1 place own_one part) ∙ after_kind values past kind other keep seen_other within some place own_other part)
+
+  module _ (zeros_one : AreZero (given one)) (zeros_other : AreZero (given other)) where
+    sights_stand : (kind : Kind) → AreLevelledOf kind one other → Answered kind values one → Stands values (sight_of kind one) × Stands values (sight_of kind other)
+    sights_stand (Reservoir initial_storage table local_inflow diversion return_flow evaporation max_release) levelled answered = (
+      one_stands initial_storage table local_inflow diversion return_flow evaporation max_release values past one other seen_one seen_other zeros_one zeros_other levelled answered,
+      other_stands initial_storage table local_inflow diversion return_flow evaporation max_release values past one other seen_one seen_other zeros_one zeros_other levelled answered,
+    )
+    sights_stand kind levelled answered = (given_stands values past one seen_one, given_stands values past other seen_other)
+
+    all_fit : (kind : Kind) → AreLevelledOf kind one other → Answered kind values one → FitsThere values (is_bounded other) → FitsThere values (fits kind other)
+    all_fit (Reservoir initial_storage table local_inflow diversion return_flow evaporation max_release) levelled answered can =
+        fits_stand initial_storage table local_inflow diversion return_flow evaporation max_release values past one other seen_one seen_other zeros_one zeros_other levelled answered can
+    all_fit kind levelled answered can = can
+
+    rest_stands : (kind : Kind) → KeepAll (parts_of kind) → AreLevelledOf kind one other → Answered kind values one → IsWithin values (balanced_of kind other)
+        → is_idle (balanced_of kind other) ≡ false → (fault_of_contents kind other ≡ None) × AreHeld values (rest_of kind other (balanced_of kind other))
+    rest_stands (Reservoir initial_storage table local_inflow diversion return_flow evaporation max_release) keep levelled answered within some =
+        let kind : Kind = Reservoir initial_storage table local_inflow diversion return_flow evaporation max_release in
+        rest_stays initial_storage table local_inflow diversion return_flow evaporation max_release values past one other seen_one seen_other zeros_one zeros_other levelled answered
+        within (stands_is values (balanced_of kind one) answered.stands).1 some (same_after kind 1 keep refl refl (inr (inl refl)) answered.stands within some)
+    rest_stands (WaterUser depletion Request) keep levelled answered within some =
+        let kind : Kind = WaterUser depletion Request in
+        (refl, user_stays values depletion (known_after one (balanced_of kind one) 1) (known_after other (balanced_of kind other) 1)
+        (same_after kind 1 keep refl refl (inl refl) answered.stands within some) answered.held)
+    rest_stands (WaterUser depletion ByRule) keep levelled answered within some =
+        let kind : Kind = WaterUser depletion ByRule in
+        let there = stands_is values (balanced_of kind one) answered.stands in
+        (refl, user_stays values depletion (known_after one (balanced_of kind one) 1) (known_after other (balanced_of kind other) 1)
+        (same_Some _ _ (sym (rule_after values past one (known one 1) seen_one refl there.1) ∙ rule_after values past other (known other 1) seen_other refl some)) answered.held)
+    rest_stands (Canal seepage) keep levelled answered within some =
+        let kind : Kind = Canal seepage in
+        let inflow = same_after kind 0 keep refl refl (inl refl) answered.stands within some in
+        let outflow = same_after kind 1 keep refl refl (inr (inl refl)) answered.stands within some in
+        (refl, (answered.held.0 ∙ ap Some (ap₂ (λ a b. a -ℤ b) inflow outflow), tt))
+    rest_stands kind keep levelled answered within some = (refl, tt)
+
+    -- where one view's puts stand in the places, another view of these values answers nothing, or puts that stand there
+    pub answers_within : (kind : Kind) (puts : List Put) → keeps_water kind ≡ true → AreLevelledOf kind one other → FitsThere values (is_bounded other)
+        → solve_of kind one ≡ Puts puts → AreHeld values puts → AnswersWithin values (solve_of kind other)
+    answers_within kind puts keeps levelled can e held =
+        let keep = keep_parts kind keeps in
+        let answered = answered_of kind values one puts e held in
+        let sights = sights_stand kind levelled answered in
+        let stands : StandsIn values (settled (balance_of kind one).steady (terms_of (sight_of kind one) (parts_of kind))) =
+        subst (StandsIn values) (balanced_is kind one) answered.stands in
+        let within : IsWithin values (balanced_of kind other) =
+        subst (IsWithin values) (sym (balanced_is kind other))
+        (settled_within values (sight_of kind one) (sight_of kind other) (parts_of kind) (balance_of kind one).steady (balance_of kind other).steady keep sights.0 sights.1
+        (agree_steady values past one other seen_one seen_other kind) stands) in
+        answers_by kind values other (all_fit kind levelled answered can) within (λ some. rest_stands kind keep levelled answered within some)

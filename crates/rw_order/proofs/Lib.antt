@@ -1,27 +1,31 @@
-mod Sums
-mod Within
-mod Agreeing
-mod Answers
-mod Missing
-mod Beside
-mod Levels
-mod Reservoirs
+pub mod Common
+pub mod Lists
+pub mod Held
+pub mod Terms
+pub mod Agreeing
+pub mod Within
+pub mod Missing
+pub mod Judged
+pub mod Levels
+pub mod Reservoirs
 pub mod AllKinds
-mod Carrying
+pub mod Carrying
 pub mod Numbers
-mod Dispatches
-mod Resting
-mod Writing
-mod Sounds
-mod Leaving
-mod Carried
-mod Counting
-mod Orderly
+pub mod Writing
+pub mod Places
+pub mod Resting
+pub mod Sounds
+pub mod Leaving
+pub mod Carried
+pub mod Counting
+pub mod Turns
+pub mod Orderly
 pub mod AnyOrder
-mod Starts
-mod Layouts
-mod Apart
-mod Groups
-mod LaidOut
-mod Hit
-pub mod Theorem
+pub mod Slots
+pub mod Links
+pub mod Flat
+pub mod LaidOut
+pub mod Starts
+pub mod Picked
+pub mod Newest
+pub mod Searching

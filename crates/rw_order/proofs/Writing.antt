@@ -1,49 +1,98 @@
--- What a dispatch writes: to unknown cells alone, and afterwards all its puts stand.
-use Rattle.rw_base.proofs.Common.{◌≡◌, ◌≢◌, ℕ, suc, ◌==◌, ◌<◌, nat_le, ℤ, Bool, true, false, List, [], ◌∷◌, Option, Some, None, if◌then◌else◌, refl, sym, ap, ap₂, subst, ◌∙◌, arith, both_ways, none-some, same_Some, option_map, option_and_then, option_or, unwrap_or, nat_tests, int_eq, Decides-int_eq}
-use Rattle.rw_base.specs.declared.number.Cell.{Cell}
-use Rattle.rw_model.specs.declared.content.Content.{Content}
-use Rattle.rw_model.specs.declared.put.PutEnd.TheVariants.{Denied}
-use Rattle.rw_model.specs.declared.writer.Writer.TheVariants.{Object}
-use Rattle.rw_model.specs.Draft.{Draft}
-use Rattle.rw_model.specs.Objects.{slot_in_place}
-use Rattle.rw_model.specs.Put.{end_of_put, is_same_object}
-use Rattle.rw_method.specs.declared.put.Put.{Put}
-use Rattle.rw_series.specs.Series.{is_shared}
-use Rattle.rw_run.specs.Log.{Asked, Cells, Event, held_after, last_put, written_by}
-use Rattle.rw_run.specs.Dispatch.{asked_by, asked_for, cell_at, denied_by, end_in, is_written, judged, or_fault, puts_written}
-use Rattle.rw_run.specs.Frame.{IsFault}
-use Rattle.rw_order.specs.Held.{AreHeld}
-use Rattle.rw_order.proofs.Dispatches.{HaveZeros, HeldIn, values_at}
-use Rattle.rw_order.proofs.Numbers.{AllZero, Rise}
+-- What puts leave in cells.
+use Rattle.rw_order.proofs.Common.{AllByRecursion, Asked, Bool, ByObject, Cell, Cells, Content, Decides-int_eq, Denied, Draft, Event, IsFault, Kept, List, None, Option, Some, [], ap, ap₂, arith, both_ways, denied_by, end_in, end_of_put, false, filter_passes, find, if◌then◌else◌, int_eq, is_same_object, is_shared, is_written, judged, last_put, nat_le, nat_tests, none-some, numbers, option_map, option_or, or_fault, put, puts_written, recursion_from_All, refl, same_Some, subst, sym, true, value_in, ℕ, ℤ, ◌==◌, ◌∙◌, ◌∷◌, ◌≡◌}
+use Rattle.rw_order.proofs.Lists.{all_both, all_kept, all_weaker}
+
+-- what one has in a cell has the value that stands there in the other
+abbrev pub AreBelow : Cells → Cells → Type 0
+AreBelow low high = (cell : Cell) (content : Content) → low cell ≡ Some content → value_in high cell ≡ Some content.value
+
+-- contents stay
+abbrev pub Grow : Cells → Cells → Type 0
+Grow old new = (cell : Cell) (content : Content) → old cell ≡ Some content → new cell ≡ Some content
+
+pub grow_below : (old new : Cells) → Grow old new → AreBelow old new
+grow_below old new grow cell content is = ap (option_map (λ (c : Content). c.value)) (grow cell content is)
+
+-- all numbers are 0
+abbrev pub HaveZeros : Cells → Type 0
+HaveZeros cells = (cell : Cell) (content : Content) → cells cell ≡ Some content → content.number ≡ 0
 
 -- cells that share their value hold the same content
 abbrev pub AreShared : Draft → Cells → Type 0
 AreShared basin cells = (cell other : Cell) → is_shared basin cell other ≡ true → cells cell ≡ cells other
 
--- nothing in the cell, or the value of the put
-pub data Finds (held : Option Content) (value : ℤ) : Type 0 where
-  nothing : held ≡ None → Finds held value
-  the_same : (content : Content) → held ≡ Some content → content.value ≡ value → Finds held value
+-- the value of each put stands in its cell
+abbrev pub HeldIn : Cells → List Asked → Type 0
+HeldIn cells puts = AllByRecursion (λ (put : Asked). value_in cells put.cell ≡ Some put.content.value) puts
 
-abbrev pub AllFind : Cells → List Asked → Type 0
-AllFind cells [] = Unit {0}
-AllFind cells (put ∷ puts) = Finds (cells put.cell) put.content.value × AllFind cells puts
+-- what stands in a cell once these were written
+abbrev pub after_puts : Draft → Cells → List Asked → Cells
+after_puts basin cells written cell = option_or (last_put basin written cell) (cells cell)
 
--- ---- where all puts stand already
+-- ---- the put that a cell has its content from
 
-find_held : (held : Option Content) (value : ℤ) → option_map (λ (content : Content). content.value) held ≡ Some value → Finds held value
-find_held None value is = absurd (none-some _ is)
-find_held (Some content) value is = the_same content refl (same_Some _ _ is)
+pub record IsLast (basin : Draft) (P : Asked → Type 0) (cell : Cell) (content : Content) : Type 0 where
+  pub put : Asked
+  pub is : P put
+  pub shares : is_shared basin put.cell cell ≡ true
+  pub same : put.content ≡ content
 
-pub all_find_held : (cells : Cells) (puts : List Asked) → HeldIn cells puts → AllFind cells puts
-all_find_held cells [] held = tt
-all_find_held cells (put ∷ puts) held = (find_held (cells put.cell) put.content.value held.0, all_find_held cells puts held.1)
+last_by : (basin : Draft) (P : Asked → Type 0) (put : Asked) (cell : Cell) (content : Content) (later : Option Content) (test : Bool) → is_shared basin put.cell cell ≡ test
+    → P put → ((c : Content) → later ≡ Some c → IsLast basin P cell c) → option_or later (if test then Some put.content else None) ≡ Some content → IsLast basin P cell content
+last_by basin P put cell content (Some c) test shares is more e = subst (IsLast basin P cell) (same_Some _ _ e) (more c refl)
+last_by basin P put cell content None true shares is more e = record { put = put; is = is; shares = shares; same = same_Some _ _ e }
+last_by basin P put cell content None false shares is more e = absurd (none-some _ e)
 
--- ---- where none is denied, and nothing is the object's own
+pub last_of : (basin : Draft) (P : Asked → Type 0) (puts : List Asked) (cell : Cell) (content : Content) → AllByRecursion P puts → last_put basin puts cell ≡ Some content
+    → IsLast basin P cell content
+last_of basin P [] cell content all e = absurd (none-some _ e)
+last_of basin P (put ∷ puts) cell content all e =
+    last_by basin P put cell content (last_put basin puts cell) (is_shared basin put.cell cell) refl all.0 (λ c later. last_of basin P puts cell c all.1 later) e
 
+-- what stands in a cell afterwards was put just now, or stood there
+pub either_by : {X : Type 0} → (new old : Option Content) (content : Content) → option_or new old ≡ Some content → (new ≡ Some content → X) → (new ≡ None → old ≡ Some content → X) → X
+either_by (Some c) old content e f g = f e
+either_by None old content e f g = g refl e
+
+pub stays_below : (basin : Draft) (low high : Cells) (written : List Asked) → AreShared basin high → AreBelow low high → HeldIn high written
+    → AreBelow (after_puts basin low written) high
+stays_below basin low high written shared below held cell content is =
+    either_by (last_put basin written cell) (low cell) content is
+    (λ put.
+    let last = last_of basin (λ (p : Asked). value_in high p.cell ≡ Some p.content.value) written cell content held put in
+    sym (ap (option_map (λ (c : Content). c.value)) (shared last.put.cell cell last.shares)) ∙ last.is ∙ ap (λ (c : Content). Some c.value) last.same)
+    (λ none stood. below cell content stood)
+
+-- ---- a put to a cell that holds its value already, with number 0
+
+same_kept : (held new : Content) → held.value ≡ new.value → held.number ≡ 0 → end_of_put (Some held) new ≡ Kept
+same_kept held new same zero_number =
+    let values : int_eq held.value new.value ≡ true = (Decides-int_eq held.value new.value).1 same in
+    let numbers : nat_le held.number new.number ≡ true = grind (arith, nat_tests, zero_number) in
+    rw (values, numbers) refl
+
+passes : (low high : Cells) (put : Asked) (found : Option Content) → low put.cell ≡ found → HaveZeros low → AreBelow low high
+    → value_in high put.cell ≡ Some put.content.value → denied_by (end_of_put found put.content) put ≡ None
+passes low high put None is zeros below stands = refl
+passes low high put (Some held) is zeros below stands =
+    let same : held.value ≡ put.content.value = same_Some _ _ (sym (below put.cell held is) ∙ stands) in
+    ap (λ end. denied_by end put) (same_kept held put.content same (zeros put.cell held is))
+
+-- none is denied
 abbrev pub AllPass : Cells → List Asked → Type 0
-AllPass cells [] = Unit {0}
-AllPass cells (put ∷ puts) = (denied_by (end_in cells put) put ≡ None) × AllPass cells puts
+AllPass cells puts = AllByRecursion (λ (put : Asked). denied_by (end_in cells put) put ≡ None) puts
+
+pub all_pass_rest : (cells : Cells) (object : ℕ) (puts : List Asked) (rest : Event) → AllPass cells puts → judged cells object puts rest ≡ rest
+all_pass_rest cells object [] rest pass = refl
+all_pass_rest cells object (put ∷ puts) rest pass =
+    ap (λ found. or_fault found object put (judged cells object puts rest)) pass.0 ∙ all_pass_rest cells object puts rest pass.1
+
+pub none_denied : (low high : Cells) (object : ℕ) (puts : List Asked) (rest : Event) → HaveZeros low → AreBelow low high → HeldIn high puts
+    → judged low object puts rest ≡ rest
+none_denied low high object puts rest zeros below held =
+    all_pass_rest low object puts rest
+    (all_weaker (λ (put : Asked). value_in high put.cell ≡ Some put.content.value) (λ (put : Asked). denied_by (end_in low put) put ≡ None) puts
+    (λ put stands. passes low high put (low put.cell) refl zeros below stands) held)
 
 pass_first : (cells : Cells) (object : ℕ) (put : Asked) (puts : List Asked) (rest event : Event) (found : Option (ℤ × ℤ)) → denied_by (end_in cells put) put ≡ found
     → or_fault found object put (judged cells object puts rest) ≡ event → ¬ IsFault event → (denied_by (end_in cells put) put ≡ None) × (judged cells object puts rest ≡ event)
@@ -56,99 +105,77 @@ all_pass cells object (put ∷ puts) rest event e fine =
     let first = pass_first cells object put puts rest event (denied_by (end_in cells put) put) refl e fine in
     (first.0, all_pass cells object puts rest event first.1 fine)
 
-pub all_pass_rest : (cells : Cells) (object : ℕ) (puts : List Asked) (rest : Event) → AllPass cells puts → judged cells object puts rest ≡ rest
-all_pass_rest cells object [] rest pass = refl
-all_pass_rest cells object (put ∷ puts) rest pass =
-    ap (λ found. or_fault found object put (judged cells object puts rest)) pass.0 ∙ all_pass_rest cells object puts rest pass.1
+-- ---- what a put finds in its cell: nothing, or its value
 
--- a put of an object, with number 0
-pub record IsOf (object : ℕ) (put : Asked) : Type 0 where
-  pub writer : put.content.writer ≡ Object (record { 0 = object })
-  pub number : put.content.number ≡ 0
+pub data Finds (held : Option Content) (value : ℤ) : Type 0 where
+  nothing : held ≡ None → Finds held value
+  the_same : (content : Content) → held ≡ Some content → content.value ≡ value → Finds held value
 
-find_by : (object : ℕ) (put : Asked) (held : Content) → IsOf object put → held.number ≡ 0 → is_same_object held.writer (Object (record { 0 = object })) ≡ false
-    → denied_by (end_of_put (Some held) put.content) put ≡ None → (test : Bool) → int_eq held.value put.content.value ≡ test → held.value ≡ put.content.value
-find_by object put held of zero_number other pass true same = (Decides-int_eq held.value put.content.value).0 same
-find_by object put held of zero_number other pass false differs =
-    let way : is_same_object held.writer put.content.writer ≡ false = ap (is_same_object held.writer) of.writer ∙ other in
+abbrev pub AllFind : Cells → List Asked → Type 0
+AllFind cells puts = AllByRecursion (λ (put : Asked). Finds (cells put.cell) put.content.value) puts
+
+find_held : (held : Option Content) (value : ℤ) → option_map (λ (content : Content). content.value) held ≡ Some value → Finds held value
+find_held None value is = absurd (none-some _ is)
+find_held (Some content) value is = the_same content refl (same_Some _ _ is)
+
+pub all_find_held : (cells : Cells) (puts : List Asked) → HeldIn cells puts → AllFind cells puts
+all_find_held cells puts held =
+    all_weaker (λ (put : Asked). value_in cells put.cell ≡ Some put.content.value) (λ (put : Asked). Finds (cells put.cell) put.content.value) puts
+    (λ put is. find_held (cells put.cell) put.content.value is) held
+
+find_by : (object : ℕ) (put : Asked) (held : Content) → put.content.writer ≡ ByObject (record { 0 = object }) → held.number ≡ 0
+    → is_same_object held.writer (ByObject (record { 0 = object })) ≡ false → denied_by (end_of_put (Some held) put.content) put ≡ None
+    → (test : Bool) → int_eq held.value put.content.value ≡ test → held.value ≡ put.content.value
+find_by object put held writer zero_number other pass true same = (Decides-int_eq held.value put.content.value).0 same
+find_by object put held writer zero_number other pass false differs =
+    let way : is_same_object held.writer put.content.writer ≡ false = ap (is_same_object held.writer) writer ∙ other in
     let here : (held.number == 0) ≡ true = grind (arith, nat_tests, zero_number) in
     let end : end_of_put (Some held) put.content ≡ Denied held = rw (differs, here, way) refl in
     absurd (none-some _ (sym pass ∙ ap (λ e. denied_by e put) end))
 
-find_pass : (object : ℕ) (put : Asked) (found : Option Content) → IsOf object put → ((held : Content) → found ≡ Some held → held.number ≡ 0)
-    → ((held : Content) → found ≡ Some held → is_same_object held.writer (Object (record { 0 = object })) ≡ false)
+-- a put that isn't denied, over nothing of its object's own
+pub find_pass : (object : ℕ) (put : Asked) (found : Option Content) → put.content.writer ≡ ByObject (record { 0 = object })
+    → ((held : Content) → found ≡ Some held → (held.number ≡ 0) × (is_same_object held.writer (ByObject (record { 0 = object })) ≡ false))
     → denied_by (end_of_put found put.content) put ≡ None → Finds found put.content.value
-find_pass object put None of zeros others pass = nothing refl
-find_pass object put (Some held) of zeros others pass =
-    the_same held refl (find_by object put held of (zeros held refl) (others held refl) pass (int_eq held.value put.content.value) refl)
+find_pass object put None writer others pass = nothing refl
+find_pass object put (Some held) writer others pass =
+    let own = others held refl in the_same held refl (find_by object put held writer own.0 own.1 pass (int_eq held.value put.content.value) refl)
 
-abbrev pub AllOther : Cells → ℕ → List Asked → Type 0
-AllOther cells object [] = Unit {0}
-AllOther cells object (put ∷ puts) =
-    ((held : Content) → cells put.cell ≡ Some held → is_same_object held.writer (Object (record { 0 = object })) ≡ false) × AllOther cells object puts
-
-pub all_find_pass : (basin : Draft) (cells : Cells) (object step : ℕ) (puts : List Put) → HaveZeros cells → AllZero puts
-    → AllOther cells object (asked_for basin object step puts) → AllPass cells (asked_for basin object step puts) → AllFind cells (asked_for basin object step puts)
-all_find_pass basin cells object step [] zeros numbers others pass = tt
-all_find_pass basin cells object step (put ∷ puts) zeros numbers others pass =
-    let asked = asked_by basin object step put in (
-      find_pass object asked (cells asked.cell) (record { writer = refl; number = numbers.0 }) (λ held is. zeros asked.cell held is) others.0 pass.0,
-      all_find_pass basin cells object step puts zeros numbers.1 others.1 pass.1,
-    )
-
--- ---- what is written is to unknown cells
+-- ---- what is written is to unknown cells, so that what is known stays
 
 abbrev pub AllNew : Cells → List Asked → Type 0
-AllNew cells [] = Unit {0}
-AllNew cells (put ∷ puts) = (cells put.cell ≡ None) × AllNew cells puts
-
-same_end : (held new : Content) → held.value ≡ new.value → held.number ≡ 0 → is_written (end_of_put (Some held) new) ≡ false
-same_end held new same zero_number =
-    let values : int_eq held.value new.value ≡ true = (Decides-int_eq held.value new.value).1 same in
-    let numbers : nat_le held.number new.number ≡ true = grind (arith, nat_tests, zero_number) in
-    rw (values, numbers) refl
-
-new_if : (cells : Cells) (put : Asked) (puts : List Asked) (test : Bool) → (test ≡ true → cells put.cell ≡ None) → AllNew cells puts
-    → AllNew cells (if test then put ∷ puts else puts)
-new_if cells put puts true is new = (is refl, new)
-new_if cells put puts false is new = new
+AllNew cells puts = AllByRecursion (λ (put : Asked). cells put.cell ≡ None) puts
 
 found_new : (cells : Cells) (put : Asked) → HaveZeros cells → Finds (cells put.cell) put.content.value → is_written (end_in cells put) ≡ true → cells put.cell ≡ None
 found_new cells put zeros (nothing none) is = none
 found_new cells put zeros (the_same content held same) is =
     let end : is_written (end_in cells put) ≡ false =
-    ap (λ found. is_written (end_of_put found put.content)) held ∙ same_end content put.content same (zeros put.cell content held) in
+    ap (λ found. is_written (end_of_put found put.content)) held ∙ ap is_written (same_kept content put.content same (zeros put.cell content held)) in
     absurd (both_ways (is_written (end_in cells put)) end is)
 
 pub all_new : (cells : Cells) (puts : List Asked) → HaveZeros cells → AllFind cells puts → AllNew cells (puts_written cells puts)
-all_new cells [] zeros find = tt
-all_new cells (put ∷ puts) zeros find =
-    new_if cells put (puts_written cells puts) (is_written (end_in cells put)) (found_new cells put zeros find.0) (all_new cells puts zeros find.1)
+all_new cells puts zeros find =
+    all_weaker (λ (put : Asked). Finds (cells put.cell) put.content.value × (is_written (end_in cells put) ≡ true)) (λ (put : Asked). cells put.cell ≡ None)
+    (puts_written cells puts) (λ put both. found_new cells put zeros both.0 both.1)
+    (all_both (λ (put : Asked). Finds (cells put.cell) put.content.value) (λ (put : Asked). is_written (end_in cells put) ≡ true) (puts_written cells puts)
+    (all_kept (λ (put : Asked). Finds (cells put.cell) put.content.value) (λ (put : Asked). is_written (end_in cells put)) puts find)
+    (recursion_from_All (λ (put : Asked). is_written (end_in cells put) ≡ true) (puts_written cells puts) (filter_passes (λ (put : Asked). is_written (end_in cells put)) puts)))
 
--- so what is known stays
-
-last_none : (basin : Draft) (cells : Cells) (puts : List Asked) (cell : Cell) (content : Content) → AreShared basin cells → AllNew cells puts → cells cell ≡ Some content
-    → last_put basin puts cell ≡ None
-last_none basin cells [] cell content shared new is = refl
-last_none basin cells (put ∷ puts) cell content shared new is =
-    ap₂ option_or (last_none basin cells puts cell content shared new.1 is) (not_shared (is_shared basin put.cell cell) refl)
+pub known_stays : (basin : Draft) (cells : Cells) (written : List Asked) → AreShared basin cells → AllNew cells written → Grow cells (after_puts basin cells written)
+known_stays basin cells written shared new cell content is = by (last_put basin written cell) refl
   where
-    not_shared : (test : Bool) → is_shared basin put.cell cell ≡ test → (if test then Some put.content else None) ≡ None
-    not_shared true same = absurd (none-some _ (sym new.0 ∙ shared put.cell cell same ∙ is))
-    not_shared false other = refl
-
-pub known_stays : (basin : Draft) (cells : Cells) (event : Event) (cell : Cell) (content : Content) → AreShared basin cells → AllNew cells (written_by event)
-    → cells cell ≡ Some content → held_after basin event cells cell ≡ Some content
-known_stays basin cells event cell content shared new is =
-    ap₂ option_or (last_none basin cells (written_by event) cell content shared new is) is
+    by : (last : Option Content) → last_put basin written cell ≡ last → option_or last (cells cell) ≡ Some content
+    by None none = is
+    by (Some c) put =
+        let last = last_of basin (λ (p : Asked). cells p.cell ≡ None) written cell c new put in
+        absurd (none-some _ (sym last.is ∙ shared last.put.cell cell last.shares ∙ is))
 
 -- ---- afterwards all puts stand
 
--- the put and each later one are to cells that share no value
+-- the put shares no value with the others, from either side
 abbrev pub IsClear : Draft → Asked → List Asked → Type 0
-IsClear basin put [] = Unit {0}
-IsClear basin put (other ∷ others) =
-    (is_shared basin put.cell other.cell ≡ false) × ((is_shared basin other.cell put.cell ≡ false) × IsClear basin put others)
+IsClear basin put others =
+    AllByRecursion (λ (other : Asked). (is_shared basin put.cell other.cell ≡ false) × (is_shared basin other.cell put.cell ≡ false)) others
 
 abbrev pub AreClear : Draft → List Asked → Type 0
 AreClear basin [] = Unit {0}
@@ -156,10 +183,7 @@ AreClear basin (put ∷ puts) = (is_shared basin put.cell put.cell ≡ true) × 
 
 -- with these written, each of the puts stands
 abbrev StandWith : Draft → Cells → List Asked → List Asked → Type 0
-StandWith basin cells written [] = Unit {0}
-StandWith basin cells written (put ∷ puts) =
-    (option_map (λ (content : Content). content.value) (option_or (last_put basin written put.cell) (cells put.cell)) ≡ Some put.content.value)
-    × StandWith basin cells written puts
+StandWith basin cells written puts = HeldIn (after_puts basin cells written) puts
 
 clear_if : (basin : Draft) (cells : Cells) (put other : Asked) (others : List Asked) (test : Bool) → is_shared basin other.cell put.cell ≡ false
     → last_put basin (puts_written cells others) put.cell ≡ None
@@ -170,95 +194,39 @@ clear_if basin cells put other others false apart rest = rest
 clear_last : (basin : Draft) (cells : Cells) (put : Asked) (puts : List Asked) → IsClear basin put puts → last_put basin (puts_written cells puts) put.cell ≡ None
 clear_last basin cells put [] clear = refl
 clear_last basin cells put (other ∷ others) clear =
-    clear_if basin cells put other others (is_written (end_in cells other)) clear.1.0 (clear_last basin cells put others clear.1.1)
+    clear_if basin cells put other others (is_written (end_in cells other)) clear.0.1 (clear_last basin cells put others clear.1)
 
-or_none : (held : Option Content) → option_or held None ≡ held
+pub or_none : {X : Type 0} (held : Option X) → option_or held None ≡ held
 or_none None = refl
 or_none (Some content) = refl
 
 stand_more : (basin : Draft) (cells : Cells) (put : Asked) (written puts : List Asked) (test : Bool) → IsClear basin put puts → StandWith basin cells written puts
     → StandWith basin cells (if test then put ∷ written else written) puts
-stand_more basin cells put written [] test clear stand = tt
-stand_more basin cells put written (other ∷ others) false clear stand = stand
+stand_more basin cells put written puts false clear stand = stand
+stand_more basin cells put written [] true clear stand = tt
 stand_more basin cells put written (other ∷ others) true clear stand = (
   ap (λ last. option_map (λ (content : Content). content.value) (option_or last (cells other.cell)))
-      (ap (λ shared. option_or (last_put basin written other.cell) (if shared then Some put.content else None)) clear.0 ∙ or_none (last_put basin written other.cell))
+      (ap (λ shared. option_or (last_put basin written other.cell) (if shared then Some put.content else None)) clear.0.0 ∙ or_none (last_put basin written other.cell))
       ∙ stand.0,
-  stand_more basin cells put written others true clear.1.1 stand.1,
+  stand_more basin cells put written others true clear.1 stand.1,
 )
 
-stand_first : (basin : Draft) (cells : Cells) (put : Asked) (puts : List Asked) (test : Bool) → is_written (end_in cells put) ≡ test → HaveZeros cells
+stand_first : (basin : Draft) (cells : Cells) (put : Asked) (puts : List Asked) (test : Bool) → is_written (end_in cells put) ≡ test
     → is_shared basin put.cell put.cell ≡ true → IsClear basin put puts → Finds (cells put.cell) put.content.value
     → option_map (λ (content : Content). content.value)
     (option_or (last_put basin (if test then put ∷ puts_written cells puts else puts_written cells puts) put.cell) (cells put.cell)) ≡ Some put.content.value
-stand_first basin cells put puts true is zeros own clear find =
+stand_first basin cells put puts true is own clear find =
     ap (λ last. option_map (λ (content : Content). content.value) (option_or last (cells put.cell)))
     (ap₂ option_or (clear_last basin cells put puts clear) (ap (λ shared. if shared then Some put.content else None) own))
-stand_first basin cells put puts false is zeros own clear (nothing none) =
+stand_first basin cells put puts false is own clear (nothing none) =
     absurd (both_ways (is_written (end_in cells put)) is (ap (λ found. is_written (end_of_put found put.content)) none))
-stand_first basin cells put puts false is zeros own clear (the_same content held same) =
+stand_first basin cells put puts false is own clear (the_same content held same) =
     ap (option_map (λ (c : Content). c.value)) (ap₂ option_or (clear_last basin cells put puts clear) held) ∙ ap Some same
 
-pub all_stand : (basin : Draft) (cells : Cells) (puts : List Asked) → HaveZeros cells → AreClear basin puts → AllFind cells puts
+pub all_stand : (basin : Draft) (cells : Cells) (puts : List Asked) → AreClear basin puts → AllFind cells puts
     → StandWith basin cells (puts_written cells puts) puts
-all_stand basin cells [] zeros clear find = tt
-all_stand basin cells (put ∷ puts) zeros clear find = (
-  stand_first basin cells put puts (is_written (end_in cells put)) refl zeros clear.0 clear.1.0 find.0,
-  stand_more basin cells put (puts_written cells puts) puts (is_written (end_in cells put)) clear.1.0 (all_stand basin cells puts zeros clear.1.1 find.1),
+all_stand basin cells [] clear find = tt
+all_stand basin cells (put ∷ puts) clear find = (
+  stand_first basin cells put puts (is_written (end_in cells put)) refl clear.0 clear.1.0 find.0,
+  stand_more basin cells put (puts_written cells puts) puts (is_written (end_in cells put)) clear.1.0 (all_stand basin cells puts clear.1.1 find.1),
 )
-
--- ---- the puts of one object
-
-abbrev pub HaveSlots : Draft → ℕ → List Put → Type 0
-HaveSlots basin object [] = Unit {0}
-HaveSlots basin object (put ∷ puts) = ((slot : ℕ) × (slot_in_place basin.objects object put.place ≡ Some slot)) × HaveSlots basin object puts
-
--- slots of one object share no value
-pub record IsApart (basin : Draft) (object : ℕ) : Type 0 where
-  pub own : (place slot step : ℕ) → slot_in_place basin.objects object place ≡ Some slot → is_shared basin (cell_at slot step) (cell_at slot step) ≡ true
-  pub apart : (place other slot there step : ℕ) → slot_in_place basin.objects object place ≡ Some slot → slot_in_place basin.objects object other ≡ Some there
-      → place ≢ other → is_shared basin (cell_at slot step) (cell_at there step) ≡ false
-
-clear_from : (basin : Draft) (object step place slot low high : ℕ) (content : Content) (puts : List Put) → IsApart basin object
-    → slot_in_place basin.objects object place ≡ Some slot → place < low → Rise low puts high → HaveSlots basin object puts
-    → IsClear basin (record { cell = cell_at slot step; content = content }) (asked_for basin object step puts)
-clear_from basin object step place slot low high content [] is at lt rise slots = tt
-clear_from basin object step place slot low high content (put ∷ puts) is at lt rise slots =
-    let first = rise.0 in
-    let other : place ≢ put.place = λ same. absurd (omega (arith, lt, first, same)) in
-    let turned : put.place ≢ place = λ same. absurd (omega (arith, lt, first, same)) in
-    let there = slots.0.1 in (
-      ap (λ slot_there. is_shared basin (cell_at slot step) (cell_at (unwrap_or slot_there 0) step)) there ∙ is.apart place put.place slot slots.0.0 step at there other,
-      (
-        ap (λ slot_there. is_shared basin (cell_at (unwrap_or slot_there 0) step) (cell_at slot step)) there ∙ is.apart put.place place slots.0.0 slot step there at turned,
-        clear_from basin object step place slot (suc put.place) high content puts is at (omega (arith, lt, first)) rise.1 slots.1,
-      ),
-    )
-
-pub are_clear : (basin : Draft) (object step low high : ℕ) (puts : List Put) → IsApart basin object → Rise low puts high → HaveSlots basin object puts
-    → AreClear basin (asked_for basin object step puts)
-are_clear basin object step low high [] is rise slots = tt
-are_clear basin object step low high (put ∷ puts) is rise slots =
-    let there = slots.0.1 in (
-      ap (λ slot. is_shared basin (cell_at (unwrap_or slot 0) step) (cell_at (unwrap_or slot 0) step)) there ∙ is.own put.place slots.0.0 step there,
-      (
-        subst (λ slot. IsClear basin (record { cell = cell_at (unwrap_or slot 0) step; content = (asked_by basin object step put).content }) (asked_for basin object step puts))
-            (sym there)
-            (clear_from basin object step put.place slots.0.0 (suc put.place) high (asked_by basin object step put).content puts is there (omega arith) rise.1 slots.1),
-        are_clear basin object step (suc put.place) high puts is rise.1 slots.1,
-      ),
-    )
-
--- the values of its puts stand in its places
-pub puts_stand : (basin : Draft) (cells : Cells) (written : List Asked) (object step : ℕ) (puts : List Put) → HaveSlots basin object puts
-    → StandWith basin cells written (asked_for basin object step puts)
-    → AreHeld (values_at basin (λ cell. option_or (last_put basin written cell) (cells cell)) object step) puts
-puts_stand basin cells written object step [] slots stand = tt
-puts_stand basin cells written object step (put ∷ puts) slots stand =
-    let there = slots.0.1 in
-    let after : Cells = λ cell. option_or (last_put basin written cell) (cells cell) in
-    let here : option_map (λ (content : Content). content.value) (after (cell_at slots.0.0 step)) ≡ Some put.value =
-    subst (λ slot. option_map (λ (content : Content). content.value) (after (cell_at (unwrap_or slot 0) step)) ≡ Some put.value) there stand.0 in (
-      ap (λ slot. option_map (λ (content : Content). content.value) (option_and_then after (option_map (λ s. cell_at s step) slot))) there ∙ here,
-      puts_stand basin cells written object step puts slots.1 stand.1,
-    )

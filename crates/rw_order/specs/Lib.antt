@@ -1,4 +1,4 @@
-pub mod Held
 pub mod Free
 pub mod AnyRun
 pub mod Inside
+pub mod Worked

@@ -1,39 +1,15 @@
--- What stands in the places of a balance's terms, all together.
-use Rattle.rw_base.proofs.Common.{◌≡◌, ◌==◌, ℕ, ℤ, pos, ◌+ℤ◌, Bool, true, false, List, [], ◌∷◌, ◌++◌, Option, Some, None, IsSome, is_some, nat_le, if◌then◌else◌, refl, sym, ap, ap₂, ◌∙◌, arith, ints, both_ways, none-some, same_Some, option_map, int_eq}
-use Rattle.rw_base.specs.declared.number.ObjectNo.{ObjectNo}
-use Rattle.rw_model.specs.declared.content.Content.{Content}
-use Rattle.rw_model.specs.declared.writer.Writer.TheVariants.{Object}
-use Rattle.rw_model.specs.Put.{is_same_object}
-use Rattle.rw_method.specs.declared.balanced.Balanced.{Balanced}
-use Rattle.rw_method.specs.declared.balanced.Balanced.TheVariants.{Idle, Holds, Solves, Conflicts}
-use Rattle.rw_method.specs.declared.given.Given.{Given}
-use Rattle.rw_method.specs.declared.share.Share.{Share}
-use Rattle.rw_method.specs.declared.term.Term.{Term}
-use Rattle.rw_method.specs.declared.view.View.{View}
-use Rattle.rw_method.specs.Balance.{sum_of}
-use Rattle.rw_method.specs.Settling.{gives_way_before, missing, net_of, settled, settled_at, solves, value_from_others, weakest}
-use Rattle.rw_method.specs.Term.{brought, brought_by}
-use Rattle.rw_method.specs.View.{known, given, given_by}
-use Rattle.rw_order.specs.Held.{Values, IsSeenOf}
+-- The terms of a balance, each of a share in a place, and what stands in these places all together.
+use Rattle.rw_order.proofs.Common.{AllByRecursion, Balanced, Bifurcation, Bool, Brings, ByRule, Canal, Conflicts, Confluence, Conveys, DataObject, Gage, Given, Holds, Idle, IsSome, Kind, List, None, Option, Reach, Request, Reservoir, Row, Share, Solves, Some, Takes, Term, View, WaterUser, [], ap, ap₂, arith, balance_of, balanced_of, basis_of, both_ways, brought, brought_by, contents_by, false, given, gives_way_before, if◌then◌else◌, int_eq, ints, is_some, map, missing, nat_le, net_of, option_map, pos, refl, settled, settled_at, solves, suc, sum_of, true, value_from_others, weakest, zero, ℕ, ℤ, ◌++◌, ◌+ℤ◌, ◌==◌, ◌∙◌, ◌∷◌, ◌≡◌}
+use Rattle.rw_order.proofs.Held.{Sight, Stands, Values}
 
--- terms, each of a share in a place
 abbrev pub Parts : Type 0
 Parts = List (Share × ℕ)
 
--- what is given in each place
-abbrev pub Sight : Type 0
-Sight = ℕ → Option Given
-
-abbrev pub term_in : Sight → Share → ℕ → Term
-term_in sight share place = record { place = place; share = share; given = sight place }
+abbrev pub term_in : Sight → Share × ℕ → Term
+term_in sight part = record { place = part.1; share = part.0; given = sight part.1 }
 
 abbrev pub terms_of : Sight → Parts → List Term
-terms_of sight [] = []
-terms_of sight (part ∷ parts) = term_in sight part.0 part.1 ∷ terms_of sight parts
-
--- what is given stands there
-abbrev pub Stands : Values → Sight → Type 0
-Stands values sight = (place : ℕ) (held : Given) → sight place ≡ Some held → values place ≡ Some held.value
+terms_of sight parts = map (term_in sight) parts
 
 -- how much the values in these places bring, where there is one in each
 abbrev pub brought_in : Values → Parts → Option ℤ
@@ -41,8 +17,39 @@ brought_in values [] = Some (pos 0)
 brought_in values (part ∷ parts) = sum_of (option_map (brought part.0) (values part.1)) (brought_in values parts)
 
 abbrev pub AreGiven : List Term → Type 0
-AreGiven [] = Unit {0}
-AreGiven (term ∷ terms) = IsSome term.given × AreGiven terms
+AreGiven terms = AllByRecursion (λ (term : Term). IsSome term.given) terms
+
+-- ---- the terms of each kind
+
+abbrev pub parts_of : Kind → Parts
+parts_of (DataObject slots) = []
+parts_of Gage = (Brings, 0) ∷ (Takes, 1) ∷ []
+parts_of Confluence = (Brings, 0) ∷ (Brings, 1) ∷ (Takes, 2) ∷ []
+parts_of Bifurcation = (Brings, 0) ∷ (Takes, 1) ∷ (Takes, 2) ∷ []
+parts_of (Reach zero history local_inflow diversion return_flow) = (Brings, 0) ∷ (Takes, 1) ∷ []
+parts_of (Reach (suc lag) history local_inflow diversion return_flow) = (Takes, 1) ∷ []
+parts_of (Reservoir initial_storage table local_inflow diversion return_flow evaporation max_release) = (Brings, 0) ∷ (Takes, 1) ∷ (Takes, 2) ∷ []
+parts_of (WaterUser depletion Request) = (Takes, 1) ∷ []
+parts_of (WaterUser depletion ByRule) = []
+parts_of (Canal seepage) = (Conveys seepage, 0) ∷ (Takes, 1) ∷ []
+
+-- a reservoir's contents are given by its storage or its elevation
+abbrev pub store_sight : Option (List Row) → View → Sight
+store_sight table view place = if place == 2 then contents_by table (basis_of (given view 2) (given view 3)) else given view place
+
+abbrev pub sight_of : Kind → View → Sight
+sight_of (Reservoir initial_storage table local_inflow diversion return_flow evaporation max_release) view = store_sight table view
+sight_of kind view = given view
+
+terms_are : (kind : Kind) (view : View) → (balance_of kind view).terms ≡ terms_of (sight_of kind view) (parts_of kind)
+terms_are (Reach zero history local_inflow diversion return_flow) view = refl
+terms_are (Reach (suc lag) history local_inflow diversion return_flow) view = refl
+terms_are (WaterUser depletion Request) view = refl
+terms_are (WaterUser depletion ByRule) view = refl
+terms_are kind view = refl
+
+pub balanced_is : (kind : Kind) (view : View) → balanced_of kind view ≡ settled (balance_of kind view).steady (terms_of (sight_of kind view) (parts_of kind))
+balanced_is kind view = ap (settled (balance_of kind view).steady) (terms_are kind view)
 
 -- ---- the term that gives way is given where all are
 
@@ -88,40 +95,18 @@ comes steady first rest =
         (Conflicts (weakest first rest).place held.value (value_from_others steady (first ∷ rest) (weakest first rest)))
         (solves steady (first ∷ rest) (weakest first rest)) (λ zero_number. (all, fails)) (λ some_number. few))
 
--- ---- what is given stands there
-
-pub record IsKnownAs (content : Option Content) (held : Given) : Type 0 where
-  pub is : Content
-  pub known_one : content ≡ Some is
-  pub value : held.value ≡ is.value
-  pub number : held.number ≡ is.number
-
-pub given_known : (own : ObjectNo) (content : Option Content) (held : Given) → given_by own content ≡ Some held → IsKnownAs content held
-given_known own None held e = absurd (none-some _ e)
-given_known own (Some content) held e = by_test (is_same_object content.writer (Object own)) e
-  where
-    by_test : (test : Bool) → (if test then None else Some (record { value = content.value; number = content.number })) ≡ Some held
-        → IsKnownAs (Some content) held
-    by_test true e = absurd (none-some _ e)
-    by_test false e = record { is = content; known_one = refl; value = sym (ap (λ (g : Given). g.value) (same_Some _ _ e)); number = sym (ap (λ (g : Given). g.number) (same_Some _ _ e)) }
-
-pub given_stands : (values : Values) (past : Option ℤ) (view : View) → IsSeenOf values past view → Stands values (given view)
-given_stands values past view seen place held is =
-    let there = given_known view.own (known view place) held is in
-    seen.now place there.is there.known_one ∙ ap Some (sym there.value)
+-- ---- how much is brought
 
 part_stands : (values : Values) (sight : Sight) (share : Share) (place : ℕ) (found : Option Given) → Stands values sight
     → sight place ≡ found → IsSome found → option_map (brought share) (values place) ≡ Some (brought_by share found)
-part_stands values sight share place None seen is some = absurd (both_ways false refl some)
-part_stands values sight share place (Some held) seen is some = ap (option_map (brought share)) (seen place held is)
+part_stands values sight share place None stands is some = absurd (both_ways false refl some)
+part_stands values sight share place (Some held) stands is some = ap (option_map (brought share)) (stands place held is)
 
 pub all_in : (values : Values) (sight : Sight) (parts : Parts) → Stands values sight → AreGiven (terms_of sight parts)
     → brought_in values parts ≡ Some (net_of (terms_of sight parts))
-all_in values sight [] seen all = refl
-all_in values sight (part ∷ parts) seen all =
-    ap₂ sum_of (part_stands values sight part.0 part.1 (sight part.1) seen refl all.0) (all_in values sight parts seen all.1)
-
--- ---- all but one
+all_in values sight [] stands all = refl
+all_in values sight (part ∷ parts) stands all =
+    ap₂ sum_of (part_stands values sight part.0 part.1 (sight part.1) stands refl all.0) (all_in values sight parts stands all.1)
 
 -- what the terms before and after bring, with a value of the one between
 abbrev pub brought_with : List Term → Term → List Term → ℤ → ℤ
@@ -140,19 +125,19 @@ more_sum share (Some w) more before after = ap Some (omega (arith, ints))
 pub but_one : (values : Values) (sight : Sight) (parts : Parts) (before : List Term) (term : Term) (after : List Term)
     → Stands values sight → terms_of sight parts ≡ before ++ term ∷ after → AreGiven before → AreGiven after
     → brought_in values parts ≡ option_map (brought_with before term after) (values term.place)
-but_one values sight [] [] term after seen among given_before given_after = absurd (cc)
-but_one values sight [] (x ∷ before) term after seen among given_before given_after = absurd (cc)
-but_one values sight (part ∷ parts) [] term after seen among given_before given_after =
-    let here : term_in sight part.0 part.1 ≡ term = cc in
+but_one values sight [] [] term after stands among given_before given_after = absurd (cc)
+but_one values sight [] (x ∷ before) term after stands among given_before given_after = absurd (cc)
+but_one values sight (part ∷ parts) [] term after stands among given_before given_after =
+    let here : term_in sight part ≡ term = cc in
     let rest : terms_of sight parts ≡ after = cc in
     rw (← here, ← rest)
-    (ap (sum_of (option_map (brought part.0) (values part.1))) (all_in values sight parts seen (rw rest given_after))
+    (ap (sum_of (option_map (brought part.0) (values part.1))) (all_in values sight parts stands (rw rest given_after))
     ∙ first_sum part.0 (values part.1) (net_of (terms_of sight parts)))
-but_one values sight (part ∷ parts) (x ∷ before) term after seen among given_before given_after =
-    let here : term_in sight part.0 part.1 ≡ x = cc in
+but_one values sight (part ∷ parts) (x ∷ before) term after stands among given_before given_after =
+    let here : term_in sight part ≡ x = cc in
     let rest : terms_of sight parts ≡ before ++ term ∷ after = cc in
     let some : IsSome (sight part.1) = rw (ap (λ (t : Term). t.given) here) given_before.0 in
-    let first = part_stands values sight part.0 part.1 (sight part.1) seen refl some in
+    let first = part_stands values sight part.0 part.1 (sight part.1) stands refl some in
     rw (← here)
-    (ap₂ sum_of first (but_one values sight parts before term after seen rest given_before.1 given_after)
+    (ap₂ sum_of first (but_one values sight parts before term after stands rest given_before.1 given_after)
     ∙ more_sum term.share (values term.place) (brought_by part.0 (sight part.1)) (net_of before) (net_of after))
