@@ -127,10 +127,6 @@ module _ (basin : Draft) (start : Cells) (laid : IsLaidOut basin) (inputs_alone 
     still_rests : (other at : ℕ) (found : Object) → object_at basin.objects other ≡ Some found → is_data basin other ≡ false → 1 ≤ at → at ≤ opening log
         → (at < step) ⊎ (since basin (event ∷ log) other ≡ None) → IsAtRest basin start after other at found.kind
     still_rests other at found is_there ready low high quiet = elim (cases_eq at step) [
-      | inr apart ↦
-          let earlier : at < step = by apart in
-          rest_earlier basin start step object own.kind laid (cells_of basin log) event left other at found.kind earlier
-          (is.rest other at found is_there ready low high (inl (omega (arith, earlier, last))))
       | inl at_step ↦ elim (cases_eq other object) [
         | inl same ↦ own_too (λ o t k. IsAtRest basin start after o t k) other at found left.rest at_step same is_there
         | inr differs ↦ elim quiet [
@@ -142,6 +138,10 @@ module _ (basin : Draft) (start : Cells) (laid : IsLaidOut basin) (inputs_alone 
               (subst (λ t. IsAtRest basin start (cells_of basin log) other t found.kind) at_step (is.rest other at found is_there ready low high (inr facts.0))))
         ]
       ]
+      | inr apart ↦
+          let earlier : at < step = by apart in
+          rest_earlier basin start step object own.kind laid (cells_of basin log) event left other at found.kind earlier
+          (is.rest other at found is_there ready low high (inl (omega (arith, earlier, last))))
     ]
       where
         by : at ≢ step → at < step

@@ -1,5 +1,5 @@
 -- Small basins of one day and their orders of dispatches, worked out by hand.
-use Rattle.std.specs.Prelude.{ℕ, zero, suc, ◌-◌, ℤ, pos, codes, false, List, [], ◌∷◌, length, Option, Some, None}
+use Rattle.std.specs.Prelude.{ℕ, zero, suc, ◌-◌, ℤ, pos, codes, false, List, [], ◌∷◌, ◌++◌, length, Option, Some, None}
 use Rattle.rw_base.specs.Unit.{length as length_unit}
 use Rattle.rw_base.specs.declared.number.Cell.{Cell}
 use Rattle.rw_table.specs.Table.{Row}
@@ -7,7 +7,8 @@ use Rattle.rw_model.specs.Draft.{Draft}
 use Rattle.rw_model.specs.Objects.{Object}
 use Rattle.rw_model.specs.declared.control.AgendaOrder.TheVariants.{HighFirst}
 use Rattle.rw_model.specs.declared.kind.Kind.{Kind}
-use Rattle.rw_model.specs.declared.kind.Kind.TheVariants.{Canal, Confluence, DataObject, Gage, Reservoir}
+use Rattle.rw_model.specs.declared.kind.Kind.TheVariants.{Bifurcation, Canal, Confluence, DataObject, Gage, Reach, Reservoir, WaterUser}
+use Rattle.rw_model.specs.declared.kind.Supply.TheVariants.{Request}
 use Rattle.rw_model.specs.declared.writer.Writer.TheVariants.{Object as ByObject}
 use Rattle.rw_series.specs.declared.look.Look.{Look}
 use Rattle.rw_run.specs.declared.fault.RunFault.{RunFault}
@@ -162,3 +163,30 @@ stores_newest =
 abbrev pub gauged : Draft
 gauged = joined (object (codes "A") (reservoir (pos 10) ((pos 0, pos 0) ∷ (pos 20, pos 20) ∷ [])))
     (object (codes "D") (DataObject (record { name = codes "Level"; dim = length_unit } ∷ []))) 4 5
+
+-- ---- a valley: a reservoir, a reach, a confluence, a reservoir with a water user, a reach, a bifurcation and a gage
+
+abbrev pub valley_objects : List Object
+valley_objects =
+    object (codes "U") (Reservoir (pos 5000) None false false false false None) ∷
+    object (codes "R") (Reach 1 (pos 300 ∷ []) false false false) ∷
+    object (codes "C") Confluence ∷
+    object (codes "L") (Reservoir (pos 8000) None false true false false None) ∷
+    object (codes "W") (WaterUser 400 Request) ∷
+    object (codes "S") (Reach 0 [] false false true) ∷
+    object (codes "B") Bifurcation ∷
+    object (codes "G") Gage ∷ []
+
+abbrev pub valley_links : List (List ℕ)
+valley_links =
+    (2 ∷ 4 ∷ []) ∷ (5 ∷ 6 ∷ []) ∷ (8 ∷ 9 ∷ []) ∷ (12 ∷ 14 ∷ []) ∷ (16 ∷ 19 ∷ []) ∷ (10 ∷ 17 ∷ []) ∷ (18 ∷ 20 ∷ []) ∷ (22 ∷ 23 ∷ []) ∷ []
+
+abbrev pub valley : Draft
+valley = record { control = (basin_of HighFirst 365).control; objects = valley_objects; links = valley_links; bounds = [] }
+
+-- with a canal, of which a tenth seeps away, below the bifurcation
+abbrev pub valley_canal : Draft
+valley_canal = record valley {
+  objects = valley_objects ++ object (codes "K") (Canal 100) ∷ [];
+  links = valley_links ++ (21 ∷ 25 ∷ []) ∷ [];
+}

@@ -18,7 +18,7 @@ ghost use Rattle.rw_run.specs.declared.run.RunEnd.TheVariants.{Settled, Fault};
 ghost use Rattle.rw_order.specs.AnyRun.{IsAnyRun, IsPickedRun, IsSettledLog, Picking, PicksOne, WaitsBefore, newest, oldest, picked};
 ghost use Rattle.rw_order.specs.Free.{order_free};
 ghost use Rattle.rw_order.specs.Inside.{AreInside};
-ghost use Rattle.rw_order.specs.Worked.{chain, chain_inputs, chain_newest, chain_oldest, dry, gauged, losing, losing_fault, losing_inputs, losing_newest, losing_oldest, newest_first, pools, pools_fault, pools_inputs, pools_newest, pools_oldest, stores, stores_fault, stores_inputs, stores_newest, stores_oldest};
+ghost use Rattle.rw_order.specs.Worked.{chain, chain_inputs, chain_newest, chain_oldest, dry, gauged, losing, losing_fault, losing_inputs, losing_newest, losing_oldest, newest_first, pools, pools_fault, pools_inputs, pools_newest, pools_oldest, stores, stores_fault, stores_inputs, stores_newest, stores_oldest, valley, valley_canal};
 
 /// Where one order of dispatches settles, every order does: all timesteps are closed, with the same values in the same cells.
 /// Who wrote a value may differ. The basin's order has to be free, and the inputs are of values that their slots can have.
@@ -89,18 +89,19 @@ pub fn a_chain()
         ≡ Some (pos 7) }
 {}
 
-/// Which basins are free: a canal without seepage is, and so is a level that a link joins to what is no level.
+/// Which basins are free: one with a canal is where nothing seeps away, and one with a level that a link joins to what is no
+/// level. A valley is, and isn't with a canal that loses a tenth.
 pub fn free_basins()
     ensures dry { order_free dry ≡ true }
     ensures gauged { order_free gauged ≡ true }
-    ensures losing { order_free losing ≡ false }
-    ensures pools { order_free pools ≡ false }
-    ensures stores { order_free stores ≡ false }
+    ensures valley { order_free valley ≡ true }
+    ensures canal { order_free valley_canal ≡ false }
 {}
 
 /// Each premise is needed. A canal that loses half gives 1 of 2 and of 1: the gage above it first, all agree; the canal first,
 /// it takes the least inflow, and the gage conflicts.
 pub fn losing_orders_differ()
+    ensures not_free { order_free losing ≡ false }
     ensures oldest { IsPickedRun losing oldest losing_inputs
         (log_after losing_oldest (placed [] losing_inputs)) }
     ensures newest { IsPickedRun losing newest losing_inputs
@@ -112,6 +113,7 @@ pub fn losing_orders_differ()
 /// Two reservoirs share an elevation of 10 mm, which the second has by its volume alone. The first one first, it puts 10, and
 /// the second agrees; the second one first, it puts the greatest elevation of its storage, 11, and the first conflicts.
 pub fn pools_orders_differ()
+    ensures not_free { order_free pools ≡ false }
     ensures oldest { IsPickedRun pools oldest pools_inputs
         (log_after pools_oldest (placed [] pools_inputs)) }
     ensures newest { IsPickedRun pools newest pools_inputs
@@ -123,6 +125,7 @@ pub fn pools_orders_differ()
 /// Two reservoirs share a storage of 3 m3, which the second has by its elevation alone. The first one first, it puts 3, and the
 /// second agrees; the second one first, it puts the volume at its elevation, 2, and the first conflicts.
 pub fn stores_orders_differ()
+    ensures not_free { order_free stores ≡ false }
     ensures oldest { IsPickedRun stores oldest stores_inputs
         (log_after stores_oldest (placed [] stores_inputs)) }
     ensures newest { IsPickedRun stores newest stores_inputs
