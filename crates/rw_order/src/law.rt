@@ -65,6 +65,12 @@ pub fn orders()
         → IsRun basin no_rules inputs log → IsAnyRun basin inputs log }
 {}
 
+/// Oldest and newest pick one of those that wait.
+pub fn oldest_and_newest_pick()
+    ensures oldest { PicksOne oldest }
+    ensures newest { PicksOne newest }
+{}
+
 /// The newest is the one that waits since the latest event, and of those of one event the one with the greatest number.
 #[tactic(auto, using(crate::proofs::Newest::newest_waits_least))]
 pub fn newest_is_last()

@@ -5,5 +5,7 @@
 
 mod free;
 pub mod law;
+mod pick;
 
 pub use free::order_free;
+pub use pick::{Newest, Oldest, Pick};
