@@ -6,7 +6,7 @@ use Rattle.rw_order.proofs.Places.{HaveSlots}
 use Rattle.rw_order.proofs.Sounds.{IsLaidOut, in_bounds}
 use Rattle.rw_order.proofs.Turns.{ready_object}
 use Rattle.rw_order.proofs.Slots.{owner_is, placed_in}
-use Rattle.rw_order.proofs.Links.{any_there, apart, contains_of, hits, owner, reached, same_bounds, same_group, same_step}
+use Rattle.rw_order.proofs.Links.{any_there, apart, contains_of, hits, owner, reached, same_bounds, same_group, same_or_linked, same_step}
 use Rattle.rw_order.proofs.Flat.{is_flat, level_flat, level_of}
 
 -- ---- an object's kind is sound, and has few places

@@ -66,11 +66,11 @@ module _ (basin : Draft) where
 
 -- ---- one link has both of two slots that it joins
 
-record IsInOne (P : List ℕ → Type 0) (slot other : ℕ) : Type 0 where
-  link : List ℕ
-  is : P link
-  first : is_among slot link ≡ true
-  second : is_among other link ≡ true
+pub record IsInOne (P : List ℕ → Type 0) (slot other : ℕ) : Type 0 where
+  pub link : List ℕ
+  pub is : P link
+  pub first : is_among slot link ≡ true
+  pub second : is_among other link ≡ true
 
 link_after : (n p slot : ℕ) (links : List (List ℕ)) → link_from n links slot ≡ Some p → n ≤ p
 link_after n p slot [] e = absurd (none-some _ e)
@@ -96,7 +96,7 @@ one_link P n p slot other (link ∷ links) all e f =
     by false x false y found there later = later found there
 
 -- slots with one value are the same, or one link has both
-same_or_linked : (basin : Draft) (slot other : ℕ) → IsBasin basin → is_together basin.links slot other ≡ true → (slot ≡ other) ⊎ IsInOne (IsLink basin.objects) slot other
+pub same_or_linked : (basin : Draft) (slot other : ℕ) → IsBasin basin → is_together basin.links slot other ≡ true → (slot ≡ other) ⊎ IsInOne (IsLink basin.objects) slot other
 same_or_linked basin slot other valid together = by (slot == other) refl together
   where
     by : (same : Bool) → (slot == other) ≡ same → (same || is_same_link (link_of basin.links slot) (link_of basin.links other)) ≡ true
