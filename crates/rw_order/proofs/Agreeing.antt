@@ -3,9 +3,9 @@ use Rattle.rw_order.proofs.Common.{Bool, ByRule, IsSome, Kind, List, None, Optio
 use Rattle.rw_order.proofs.Held.{IsSeenOf, IsWhole, Values, known_stands}
 
 -- what is made of two values is there where both are
-record IsStrict (op : Option ℤ → Option ℤ → Option ℤ) : Type 0 where
-  first : (b : Option ℤ) → op None b ≡ None
-  second : (a : Option ℤ) → op a None ≡ None
+pub record IsStrict (op : Option ℤ → Option ℤ → Option ℤ) : Type 0 where
+  pub first : (b : Option ℤ) → op None b ≡ None
+  pub second : (a : Option ℤ) → op a None ≡ None
 
 strict_sum : IsStrict sum_of
 strict_sum = record { first = λ b. refl; second = none }

@@ -3,8 +3,7 @@ pub use Rattle.std.proofs.Math.Seq.{drop-cons}
 pub use Rattle.std.proofs.lemmas.Bool.{not-true}
 pub use Rattle.std.proofs.lemmas.List.Elements.{All-from_recursion}
 pub use Rattle.std.proofs.lemmas.Option.{slice_get-get_or}
-pub use Rattle.std.specs.List.{IsDistinct}
-pub use Rattle.rw_base.proofs.Common.{*ℤ-zero, All, All-append, All-cons, All-contains, All-head, All-nil, All-tail, AllByRecursion, Bool, Contains, Decides-int_eq, IsSome, List, None, Option, Some, [], and_parts, ap, append-nil, append_assoc, ap₂, arith, both_ways, cases_Bool, cases_eq, cases_lt, codes, cond, drop, false, filter, filter-append, filter_passes, find, get_or-map-range_with_len, get_or_from_slice_get, get_or_past, if◌then◌else◌, inl, inr, int_eq, int_min, ints, is_some, length, length-map, length-range_with_len, list_all, list_any, list_any-from_Contains, list_any_at, map, max, nat_eq_equiv, nat_le, nat_lt, nat_tests, none-some, not, option_and_then, option_map, option_or, pos, range_with_len, recursion_from_All, refl, same_Some, slice_get, slice_get_within, slice_index_or, subst, suc, sym, true, unwrap_or, zero, ℕ, ℤ, ◌&&◌, ◌++◌, ◌+ℤ◌, ◌+◌, ◌-ℤ◌, ◌-◌, ◌<◌, ◌==◌, ◌∙◌, ◌∷◌, ◌≡◌, ◌≢◌, ◌≤ℤ◌, ◌≤◌, ◌⊎◌}
+pub use Rattle.rw_base.proofs.Common.{*ℤ-zero, All, All-append, All-cons, All-contains, All-head, All-nil, All-tail, AllByRecursion, Bool, Contains, Decides-int_eq, IsSome, List, None, Option, Some, [], and_parts, ap, append-nil, append_assoc, ap₂, arith, both_ways, cases_Bool, cases_eq, cases_lt, codes, cond, drop, false, filter, filter-append, filter_passes, find, get_or-map-range_with_len, get_or_from_slice_get, get_or_past, if◌then◌else◌, inl, inr, int_eq, int_min, ints, is_some, length, length-map, length-range_with_len, list_all, list_any, list_any-from_Contains, list_any_at, map, max, nat_eq_equiv, nat_le, nat_lt, nat_tests, none-some, not, option_and_then, option_map, option_or, pos, range_with_len, recursion_from_All, refl, same_Some, slice_get, slice_get_within, slice_index_or, subst, suc, sym, true, unwrap_or, zero, ℕ, ℤ, ◌&&◌, ◌++◌, ◌+ℤ◌, ◌+◌, ◌-ℤ◌, ◌-◌, ◌<◌, ◌==◌, ◌||◌, ◌∙◌, ◌∷◌, ◌≡◌, ◌≢◌, ◌≤ℤ◌, ◌≤◌, ◌⊎◌}
 pub use Rattle.rw_base.proofs.Tests.{Decides-int_le}
 pub use Rattle.rw_base.specs.Dimension.{Dimension, dimension}
 pub use Rattle.rw_base.specs.declared.number.Cell.{Cell}

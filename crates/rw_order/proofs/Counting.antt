@@ -1,5 +1,5 @@
 -- How many of an object's places are known, which bounds how often it is dispatched.
-use Rattle.rw_order.proofs.Common.{Asked, Bool, Cell, Cells, Content, Draft, IsSome, List, None, Option, Some, [], ap, arith, both_ways, cell_at, cell_in, content_in, false, if◌then◌else◌, inl, inr, is_at, is_put_at, is_shared, is_some, last_put, length, length-range_with_len, nat_tests, none-some, option_and_then, option_or, places, put, range_with_len, refl, slot_in_place, subst, suc, sym, true, zero, ℕ, ◌&&◌, ◌+◌, ◌<◌, ◌==◌, ◌∙◌, ◌∷◌, ◌≡◌, ◌≤◌, ◌⊎◌}
+use Rattle.rw_order.proofs.Common.{Asked, Bool, Cell, Cells, Content, Draft, IsSome, List, None, Option, Some, [], ap, arith, both_ways, cell_at, cell_in, content_in, false, if◌then◌else◌, inl, inr, is_at, is_put_at, is_shared, is_some, last_put, length, length-range_with_len, nat_tests, none-some, option_and_then, option_or, places, put, range_with_len, refl, slot_in_place, subst, suc, sym, true, zero, ℕ, ◌&&◌, ◌+◌, ◌<◌, ◌==◌, ◌||◌, ◌∙◌, ◌∷◌, ◌≡◌, ◌≤◌, ◌⊎◌}
 use Rattle.rw_order.proofs.Writing.{AllNew, AreShared, Grow}
 use Rattle.rw_order.proofs.Places.{content_at}
 use Rattle.rw_order.proofs.Sounds.{IsLaidOut}

@@ -1,5 +1,5 @@
 -- Which slots measure no flow: of objects with a method, levels alone.
-use Rattle.rw_order.proofs.Common.{Bifurcation, Bool, ByRule, Canal, Confluence, DataObject, Derived, Dimension, Fixed, Gage, Kind, List, None, Option, Reach, Request, Reservoir, Row, Slot, Some, WaterUser, [], ap₂, arith, both_ways, code_of, codes, false, flow, int_eq, is_some, lengths, nat_tests, none-some, of_range, pos, rate_unit, refl, same_Some, slice_index_or, slot_in, slots_of, subst, suc, true, where_chosen, zero, ℕ, ℤ, ◌&&◌, ◌==◌, ◌∷◌, ◌≡◌}
+use Rattle.rw_order.proofs.Common.{Bifurcation, Bool, ByRule, Canal, Confluence, DataObject, Derived, Dimension, Fixed, Gage, Kind, List, None, Option, Reach, Request, Reservoir, Row, Slot, Some, WaterUser, [], ap₂, arith, both_ways, code_of, codes, false, flow, int_eq, is_some, lengths, nat_tests, none-some, of_range, pos, rate_unit, refl, same_Some, slice_index_or, slot_in, slots_of, subst, suc, true, where_chosen, zero, ℕ, ℤ, ◌&&◌, ◌==◌, ◌||◌, ◌∷◌, ◌≡◌}
 use Rattle.rw_order.specs.Free.{has_level_in}
 
 abbrev pub is_flat : Dimension → Bool

@@ -3,7 +3,7 @@ use Rattle.rw_order.proofs.Common.{AllByRecursion, Asked, ByObject, Cell, Cells,
 use Rattle.rw_order.proofs.Lists.{all_both, all_kept, all_weaker}
 use Rattle.rw_order.proofs.Held.{AnswersWithin, AreHeld}
 use Rattle.rw_order.proofs.AllKinds.{AreLevelledOf}
-use Rattle.rw_order.proofs.Numbers.{AllZero, answers_plain}
+use Rattle.rw_order.proofs.Numbers.{AllZero, answers_plain, given_zero}
 use Rattle.rw_order.proofs.Writing.{AllFind, AllNew, Finds, Grow, IsLast, after_puts, all_find_held, all_new, all_pass, all_pass_rest, all_stand, either_by, find_pass, grow_below, known_stays, last_of}
 use Rattle.rw_order.proofs.Places.{HaveSlots, are_clear, asked_held, content_at, known_at, puts_stand, values_at}
 use Rattle.rw_order.proofs.Resting.{HasSpoken, IsAtRest, IsSilent, known_zero, rest_within, seen_below}

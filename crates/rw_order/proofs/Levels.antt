@@ -115,7 +115,7 @@ module _ (table : Option (List Row)) (storage elevation : Option Given) (zero_st
           let at : place ≡ 2 = grind (arith, nat_tests, same) in
           let none : one 2 ≡ None = at_one ∙ sym at_other ∙ ap other (sym at) ∙ solves_missing other store_parts steady_other place number value zeros_other is_second in
           let solved_one = third_solved one steady_one values first is_first stands none in
-          let there : values 2 ≡ Some solved_one.0 = subst (StandsIn values) solved_one.2 stands in
+          let there : values 2 ≡ Some solved_one.0 = subst (StandsIn values) {y = Solves 2 solved_one.0 solved_one.1} solved_one.2 stands in
           let same_value : solved_one.0 ≡ value = same_Some _ _ (sym there ∙ subst (λ p. values p ≡ Some value) at within) in
           let found : AreHeld values (put_found 3 (elevation_of table solved_one.0) solved_one.1) =
           subst (λ b. AreHeld values (level_puts table storage elevation b)) solved_one.2 held in

@@ -27,5 +27,5 @@ pub mod Flat
 pub mod LaidOut
 pub mod Starts
 pub mod Picked
-pub mod Newest
+pub mod InOrder
 pub mod Searching

@@ -146,7 +146,7 @@ release_plain (Some most) outflow is = ((is, (is, tt)), (omega arith, (omega ari
 abbrev pub KnownZero : View → Type 0
 KnownZero view = (place : ℕ) (content : Content) → known view place ≡ Some content → content.number ≡ 0
 
-given_zero : (view : View) → KnownZero view → AreZero (given view)
+pub given_zero : (view : View) → KnownZero view → AreZero (given view)
 given_zero view zeros place held is =
     let there = given_known view.own (known view place) held is in there.number ∙ zeros place there.is there.known_one
 

@@ -5,7 +5,7 @@ use Rattle.rw_order.proofs.Lists.{all_kept, all_weaker}
 use Rattle.rw_order.proofs.Held.{AnswersWithin, AreHeld, AreZero, FitsThere, IsSeenOf, IsWhole}
 use Rattle.rw_order.proofs.AllKinds.{AreLevelledOf, answers_within}
 use Rattle.rw_order.proofs.Carrying.{answers_idle}
-use Rattle.rw_order.proofs.Numbers.{KnownZero}
+use Rattle.rw_order.proofs.Numbers.{KnownZero, given_zero}
 use Rattle.rw_order.proofs.Writing.{AreBelow, AreShared, Grow, HaveZeros, HeldIn, grow_below, none_denied, stays_below}
 use Rattle.rw_order.proofs.Places.{asked_held, known_is, values_at}
 

@@ -1,5 +1,5 @@
 -- The basin is gone through: what was looked at, and what is left.
-use Rattle.rw_order.proofs.Common.{Bool, Kind, List, None, Object, Option, Placed, Reservoir, Some, [], ap, ap₂, arith, both_ways, cases_Bool, drop, drop-cons, false, get_or_from_slice_get, inl, inr, is_number, list_all, nat_eq_equiv, nat_tests, none-some, numbered-known, object_at, option_and_then, option_map, refl, same_Some, slice_get, slice_get_within, slot_at, slot_in_place, suc, sym, true, unwrap_or, ℕ, ◌&&◌, ◌+◌, ◌-◌, ◌==◌, ◌∙◌, ◌∷◌, ◌≡◌, ◌≤◌}
+use Rattle.rw_order.proofs.Common.{Bool, Kind, List, None, Object, Option, Placed, Reservoir, Some, [], ap, ap₂, arith, both_ways, cases_Bool, drop, drop-cons, false, get_or_from_slice_get, inl, inr, is_number, list_all, nat_eq_equiv, nat_tests, none-some, numbered-known, object_at, option_and_then, option_map, refl, same_Some, slice_get, slice_get_within, slot_at, slot_in_place, suc, sym, true, unwrap_or, ℕ, ◌&&◌, ◌+◌, ◌-◌, ◌==◌, ◌||◌, ◌∙◌, ◌∷◌, ◌≡◌, ◌≤◌}
 use Rattle.rw_order.specs.Free.{has_level_in, is_level, keeps_water}
 use Rattle.rw_order.proofs.Slots.{in_its_place, placed_in}
 use Rattle.rw_order.proofs.Links.{apart, owner}

@@ -1,5 +1,5 @@
 -- Small basins of one day and their orders of dispatches, worked out by hand.
-use Rattle.std.specs.Prelude.{ℕ, zero, suc, ◌-◌, ℤ, pos, codes, false, List, [], ◌∷◌, ◌++◌, length, Option, Some, None}
+use Rattle.std.specs.Prelude.{ℕ, zero, suc, ◌-◌, ℤ, pos, codes, true, false, List, [], ◌∷◌, ◌++◌, length, Option, Some, None}
 use Rattle.rw_base.specs.Unit.{length as length_unit}
 use Rattle.rw_base.specs.declared.number.Cell.{Cell}
 use Rattle.rw_table.specs.Table.{Row}

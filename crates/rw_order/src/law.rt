@@ -72,7 +72,7 @@ pub fn oldest_and_newest_pick()
 {}
 
 /// The newest is the one that waits since the latest event, and of those of one event the one with the greatest number.
-#[tactic(auto, using(crate::proofs::Newest::newest_waits_least))]
+#[tactic(auto, using(crate::proofs::InOrder::newest_waits_least))]
 pub fn newest_is_last()
     ensures { (basin : Draft) (log : Log) (object other : ℕ)
         → picked newest log (waiting basin log) ≡ Some object → Contains (waiting basin log) other
