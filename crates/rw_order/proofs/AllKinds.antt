@@ -70,14 +70,18 @@ module _ (values : Values) (past : Option ℤ) (one other : View) (seen_one : Is
         rest_stays initial_storage table local_inflow diversion return_flow evaporation max_release values past one other seen_one seen_other zeros_one zeros_other levelled answered
         within (stands_is values (balanced_of kind one) answered.stands).1 some (same_after kind 1 keep refl refl (inr (inl refl)) answered.stands within some)
     rest_stands (WaterUser depletion Request) keep levelled answered within some =
-        let kind : Kind = WaterUser depletion Request in
-        (refl, user_stays values depletion (known_after one (balanced_of kind one) 1) (known_after other (balanced_of kind other) 1)
-        (same_after kind 1 keep refl refl (inl refl) answered.stands within some) answered.held)
+        let kind : Kind = WaterUser depletion Request in (
+          refl,
+          user_stays values depletion (known_after one (balanced_of kind one) 1) (known_after other (balanced_of kind other) 1)
+              (same_after kind 1 keep refl refl (inl refl) answered.stands within some) answered.held,
+        )
     rest_stands (WaterUser depletion ByRule) keep levelled answered within some =
         let kind : Kind = WaterUser depletion ByRule in
-        let there = stands_is values (balanced_of kind one) answered.stands in
-        (refl, user_stays values depletion (known_after one (balanced_of kind one) 1) (known_after other (balanced_of kind other) 1)
-        (same_Some _ _ (sym (rule_after values past one (known one 1) seen_one refl there.1) ∙ rule_after values past other (known other 1) seen_other refl some)) answered.held)
+        let there = stands_is values (balanced_of kind one) answered.stands in (
+          refl,
+          user_stays values depletion (known_after one (balanced_of kind one) 1) (known_after other (balanced_of kind other) 1)
+              (same_Some _ _ (sym (rule_after values past one (known one 1) seen_one refl there.1) ∙ rule_after values past other (known other 1) seen_other refl some)) answered.held,
+        )
     rest_stands (Canal seepage) keep levelled answered within some =
         let kind : Kind = Canal seepage in
         let inflow = same_after kind 0 keep refl refl (inl refl) answered.stands within some in

@@ -1,5 +1,5 @@
 -- Where one order of dispatches settles, every order does, with the same values.
-use Rattle.rw_order.proofs.Common.{AgendaOrder, Bool, CanBeChosen, Cell, Cells, Contains, Content, Draft, Event, FaultEnd, HighFirst, Input, IsFault, IsOver, List, Log, LowFirst, MayFollow, MayLead, None, Object, ObjectLimit, Option, RunEnd, Settled, Some, Standing, [], after_objects, agenda_of, ap, arith, asked_next, both_ways, cells_of, closed, dispatched, dispatches, end_of, false, fault, find, follows, follows_by, given_to, if◌then◌else◌, inl, inr, inside, is_data, is_due, is_some, last_closed, nat_le, nat_lt, nat_tests, no_rules, none-some, not, object_at, opened, option_map, over, refl, rests, same_Some, settled, since, standing, subst, sym, true, value_in, waiting, ℕ, ◌+◌, ◌<◌, ◌∙◌, ◌∷◌, ◌≡◌, ◌≢◌, ◌≤◌, ◌⊎◌}
+use Rattle.rw_order.proofs.Common.{AgendaOrder, Bool, CanBeChosen, Cell, Cells, Contains, Content, Draft, Event, FaultEnd, HighFirst, Input, IsFault, IsOver, List, Log, LowFirst, MayFollow, MayLead, None, Object, ObjectLimit, Option, RunEnd, Settled, Some, Standing, [], after_objects, agenda_of, ap, arith, asked_next, both_ways, cells_of, closed, dispatched, dispatches, end_of, false, fault, find, follows_by, given_to, if◌then◌else◌, inl, inr, inside, is_data, is_due, is_some, last_closed, nat_le, nat_lt, nat_tests, no_rules, none-some, not, object_at, opened, option_map, over, refl, rests, same_Some, settled, since, standing, subst, sym, true, value_in, waiting, ℕ, ◌+◌, ◌<◌, ◌∙◌, ◌∷◌, ◌≡◌, ◌≢◌, ◌≤◌, ◌⊎◌}
 use Rattle.rw_order.specs.AnyRun.{IsSettledLog}
 use Rattle.rw_order.proofs.Writing.{AreBelow}
 use Rattle.rw_order.proofs.Resting.{IsAtRest, StaysWithin, stays_within}

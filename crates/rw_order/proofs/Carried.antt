@@ -1,5 +1,5 @@
 -- What is known of one object carries over a dispatch of another, and over other timesteps.
-use Rattle.rw_order.proofs.Common.{Asked, Bool, ByObject, Cell, Cells, Content, Draft, Event, IdleAnswer, Kind, List, None, Option, Past, Some, View, [], answer, ap, ap₂, arith, before_of, both_ways, bounds_in_place, cell_at, content_in, false, held_after, if◌then◌else◌, inl, inr, is_at, is_put_at, is_same_object, is_shared, last_put, map, nat_lt, nat_tests, none-some, option_and_then, option_map, option_or, past_of, past_value, places, pos, put, refl, slot_in_place, solve_of, subst, sym, true, value_in, value_of_past, view_of, written_by, ℕ, ℤ, ◌&&◌, ◌-ℤ◌, ◌-◌, ◌<◌, ◌==◌, ◌||◌, ◌∙◌, ◌∷◌, ◌≡◌, ◌≢◌, ◌≤◌, ◌⊎◌}
+use Rattle.rw_order.proofs.Common.{Asked, Bool, ByObject, Cell, Cells, Content, Draft, Event, IdleAnswer, Kind, List, None, Option, Past, Some, View, [], ap, ap₂, arith, before_of, both_ways, bounds_in_place, cell_at, content_in, false, held_after, if◌then◌else◌, inl, inr, is_at, is_put_at, is_same_object, is_shared, last_put, map, nat_lt, nat_tests, none-some, option_and_then, option_map, option_or, past_of, past_value, places, pos, put, refl, slot_in_place, solve_of, subst, sym, true, value_in, value_of_past, view_of, written_by, ℕ, ℤ, ◌&&◌, ◌-ℤ◌, ◌-◌, ◌<◌, ◌==◌, ◌||◌, ◌∙◌, ◌∷◌, ◌≡◌, ◌≢◌, ◌≤◌, ◌⊎◌}
 use Rattle.rw_order.proofs.Held.{IsWhole}
 use Rattle.rw_order.proofs.AllKinds.{AreLevelledOf}
 use Rattle.rw_order.proofs.Places.{content_at}

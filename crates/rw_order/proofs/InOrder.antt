@@ -87,7 +87,7 @@ module _ (basin : Draft) (log : Log) where
       let there : slice_get (y ∷ ys) (length (y ∷ ys) - 1) ≡ Some object = sym (ap (slice_get (x ∷ (y ∷ ys))) next) ∙ is in
       let near = slice_get_within (y ∷ ys) (length (y ∷ ys) - 1) object there in (
         inr (subst (WaitsBefore basin log x) (get_or_from_slice_get (y ∷ ys) (length (y ∷ ys) - 1) object object there)
-        (All-from_recursion (WaitsBefore basin log x) (y ∷ ys) rises.0 (length (y ∷ ys) - 1) object near)),
+            (All-from_recursion (WaitsBefore basin log x) (y ∷ ys) rises.0 (length (y ∷ ys) - 1) object near)),
         last_of_all (y ∷ ys) object rises.1 there,
       )
 

@@ -1,5 +1,5 @@
 -- What the answer of a dispatch tells of its balance and its puts, and what makes one.
-use Rattle.rw_order.proofs.Common.{AllByRecursion, AllFit, Balanced, Basis, Bool, Canal, Conflict, Conflicts, Elevation, Given, Holds, Idle, IdleAnswer, Kind, List, None, Nothing, Option, OutOfRange, Put, Puts, Reservoir, Row, Solved, Solves, Some, Storage, View, WaterUser, [], agree, all_or_misfit, answer, answer_of_puts, answered, ap, append-nil, append_assoc, balanced_of, basis_of, both_ways, can_hold, disagreement, evaporation_of, evaporation_put, false, fault_of_basis, fault_of_contents, fault_of_past, first_fits, first_misfit, fits, given, if◌then◌else◌, is_some, judged, known_after, level_puts, none-some, not, or_else, put, puts_of, refl, release_puts, same_Some, seepage_put, solve_of, solved_put, subst, sym, true, user_puts, volume_of, ℤ, ◌&&◌, ◌++◌, ◌==◌, ◌∙◌, ◌∷◌, ◌≡◌}
+use Rattle.rw_order.proofs.Common.{AllByRecursion, AllFit, Balanced, Basis, Bool, Canal, Conflict, Conflicts, Elevation, Given, Holds, Idle, IdleAnswer, Kind, List, None, Nothing, Option, OutOfRange, Put, Puts, Reservoir, Row, Solved, Solves, Some, Storage, View, WaterUser, [], agree, all_or_misfit, answer, answer_of_puts, answered, ap, append-nil, append_assoc, balanced_of, basis_of, both_ways, can_hold, disagreement, evaporation_of, evaporation_put, false, fault_of_basis, fault_of_contents, fault_of_past, first_fits, first_misfit, fits, given, if◌then◌else◌, is_some, known_after, level_puts, none-some, not, or_else, put, puts_of, refl, release_puts, same_Some, seepage_put, solve_of, solved_put, subst, sym, true, user_puts, volume_of, ℤ, ◌&&◌, ◌++◌, ◌==◌, ◌∙◌, ◌∷◌, ◌≡◌}
 use Rattle.rw_order.proofs.Lists.{all_left, all_right}
 use Rattle.rw_order.proofs.Held.{AnswersWithin, AreHeld, FitsThere, Values}
 use Rattle.rw_order.proofs.Within.{IsWithin, StandsIn}

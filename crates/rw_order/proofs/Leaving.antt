@@ -1,5 +1,5 @@
 -- A dispatch in a log in any order leaves it sound, and its object at rest.
-use Rattle.rw_order.proofs.Common.{AllByRecursion, Asked, ByObject, Cell, Cells, Content, Draft, Event, IdleAnswer, IsFault, IsSome, Kind, List, Look, None, Object, Option, Put, Puts, Solved, Some, View, [], answer, answered, ap, ap₂, arith, asked_for, cell_at, content_in, denied_by, dispatch_of, dispatched, end_in, false, find, given, given_by, held_after, idle, if◌then◌else◌, inl, inr, is_bounded, is_data, is_same_object, is_shared, is_some, is_written, known_value, last_put, looks_of, none-some, numbers, object_at, option_map, option_or, put, puts_written, refl, slot_in_place, solve_of, solved, subst, sym, true, unwrap_or, view_of, written_by, ℕ, ℤ, ◌∙◌, ◌∷◌, ◌≡◌, ◌⊎◌}
+use Rattle.rw_order.proofs.Common.{AllByRecursion, Asked, ByObject, Cell, Cells, Content, Draft, Event, IdleAnswer, IsFault, IsSome, Kind, List, Look, None, Object, Option, Put, Puts, Solved, Some, View, [], answer, answered, ap, ap₂, arith, asked_for, cell_at, content_in, denied_by, dispatch_of, dispatched, end_in, false, given, given_by, held_after, idle, if◌then◌else◌, inl, inr, is_bounded, is_data, is_same_object, is_shared, is_some, is_written, known_value, last_put, looks_of, none-some, numbers, object_at, option_map, option_or, put, puts_written, refl, slot_in_place, solve_of, solved, subst, sym, true, unwrap_or, view_of, written_by, ℕ, ℤ, ◌∙◌, ◌∷◌, ◌≡◌, ◌⊎◌}
 use Rattle.rw_order.proofs.Lists.{all_both, all_kept, all_weaker}
 use Rattle.rw_order.proofs.Held.{AnswersWithin, AreHeld}
 use Rattle.rw_order.proofs.AllKinds.{AreLevelledOf}
@@ -151,7 +151,7 @@ module _ (basin : Draft) (start : Cells) (step object : ℕ) (found : Object) (l
       by place value (Some content) (Some slot) is at e =
           let known_one = known_at basin cells object step place (laid.few object place slot found is_object at) ∙ is in (
             ap is_some (ap (given_by (record { 0 = object })) known_one
-            ∙ ap (λ test. if test then None else Some (record { value = content.value; number = content.number })) (nothing place content is)),
+                ∙ ap (λ test. if test then None else Some (record { value = content.value; number = content.number })) (nothing place content is)),
             ap (option_map (λ (c : Content). c.value)) known_one ∙ e,
           )
 

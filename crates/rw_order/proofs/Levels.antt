@@ -1,5 +1,5 @@
 -- A reservoir's contents, by storage or by elevation, and the other of the two, which is put beside them.
-use Rattle.rw_order.proofs.Common.{AllByRecursion, Balanced, Bool, Brings, Elevation, Given, Holds, List, None, Option, OutOfRange, Put, Row, Solved, Solves, Some, Storage, Takes, View, [], ap, arith, basis_of, beside_given, both_ways, can_hold, contents_by, elevation_of, false, fault_of_basis, given, if◌then◌else◌, inl, inr, is_some, level_puts, nat_le, nat_tests, none-some, pos, put, put_found, refl, same_Some, settled, subst, sym, true, unwrap_or, volume_of, ℕ, ℤ, ◌==◌, ◌∙◌, ◌∷◌, ◌≡◌}
+use Rattle.rw_order.proofs.Common.{AllByRecursion, Balanced, Bool, Brings, Elevation, Given, Holds, List, None, Option, OutOfRange, Put, Row, Solved, Solves, Some, Storage, Takes, View, [], ap, arith, basis_of, beside_given, both_ways, can_hold, contents_by, elevation_of, false, fault_of_basis, given, if◌then◌else◌, inl, inr, is_some, level_puts, nat_le, nat_tests, none-some, pos, put_found, refl, same_Some, settled, subst, sym, true, unwrap_or, volume_of, ℕ, ℤ, ◌==◌, ◌∙◌, ◌∷◌, ◌≡◌}
 use Rattle.rw_order.proofs.Held.{AreHeld, AreZero, Sight, Stands, Values}
 use Rattle.rw_order.proofs.Terms.{Parts, store_sight, terms_of}
 use Rattle.rw_order.proofs.Within.{IsWithin, StandsIn}

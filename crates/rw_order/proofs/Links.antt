@@ -1,5 +1,5 @@
 -- What links come to: cells that share their value, and whose slots they are.
-use Rattle.rw_order.proofs.Common.{All, All-contains, All-head, All-tail, AllByRecursion, Bool, Bounds, Cell, Contains, Draft, IsBasin, IsLink, IsSlot, List, Object, Option, Placed, Shared-of, Some, [], all_quantities, all_slots, among_group, and_parts, ap, ap₂, arith, both_ways, bounds-shared, cell_at, false, group_known, group_of, if◌then◌else◌, inl, inr, is_among, is_at, is_between, is_same_link, is_shared, is_together, known, known_in_place, known_number, length, link_from, link_of, linked_alike, list_any, list_any_at, map, nat_eq_equiv, nat_tests, none-some, numbered-known, option_map, owner_of, refl, same_Some, slice_get, slot_at, slot_in_place, slot_numbers, subst, suc, sym, together_alike, together_turned, true, unwrap_or, zero, ℕ, ℤ, ◌&&◌, ◌+◌, ◌-◌, ◌<◌, ◌==◌, ◌||◌, ◌∙◌, ◌∷◌, ◌≡◌, ◌≢◌, ◌≤◌, ◌⊎◌}
+use Rattle.rw_order.proofs.Common.{All, All-contains, All-head, All-tail, AllByRecursion, Bool, Bounds, Cell, Contains, Draft, IsBasin, IsLink, IsSlot, List, Object, Option, Placed, Shared-of, Some, [], all_quantities, all_slots, among_group, and_parts, ap, ap₂, arith, both_ways, bounds-shared, cell_at, false, group_known, group_of, if◌then◌else◌, inl, inr, is_among, is_at, is_between, is_same_link, is_shared, is_together, known_in_place, known_number, length, link_from, link_of, linked_alike, list_any, list_any_at, map, nat_eq_equiv, nat_tests, none-some, numbered-known, option_map, owner_of, refl, same_Some, slice_get, slot_at, slot_in_place, slot_numbers, subst, suc, sym, together_alike, together_turned, true, unwrap_or, zero, ℕ, ℤ, ◌&&◌, ◌+◌, ◌-◌, ◌<◌, ◌==◌, ◌||◌, ◌∙◌, ◌∷◌, ◌≡◌, ◌≢◌, ◌≤◌, ◌⊎◌}
 use Rattle.std.specs.List.{IsDistinct}
 use Rattle.rw_order.proofs.Places.{IsApart}
 use Rattle.rw_order.proofs.Sounds.{in_bounds}

@@ -199,7 +199,7 @@ module _ (basin : Draft) (start : Cells) (laid : IsLaidOut basin) (inputs_alone 
             still_said log step object there.0 event is there.1 here.0 waits left other at found is_there is_ready low (omega (arith, high, opened_one));
         rest = λ other at found is_there is_ready low high quiet.
             still_rests log step object there.0 event is there.1 here.0 waits left other at found is_there is_ready low (omega (arith, high, opened_one))
-            (elim quiet [ | inl earlier ↦ inl (omega (arith, earlier, now)) | inr none ↦ inr none ]);
+            (elim quiet [ inl earlier ↦ inl (omega (arith, earlier, now)) | inr none ↦ inr none ]);
         few = λ other found is_there is_ready some.
             subst (IsFew basin (event ∷ log) (held_after basin event (cells_of basin log)) other) (sym opened_one)
             (still_few log step object there.0 event is there.1 here.0 waits left other found is_there is_ready (omega (arith, some, opened_one)));

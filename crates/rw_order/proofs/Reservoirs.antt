@@ -1,5 +1,5 @@
 -- What a reservoir puts beside the solved term, and that it can be held.
-use Rattle.rw_order.proofs.Common.{AllByRecursion, Balanced, Bool, Given, IsSome, Kind, List, None, Option, Put, Reservoir, Row, Solved, Some, Term, View, [], and_parts, answered, ap, ap₂, arith, balance_of, balanced_of, basis_of, both_ways, can_hold, contents_by, difference, disagreement, evaporation_of, evaporation_put, false, fault_of_basis, fault_of_contents, fault_of_past, fits, given, if◌then◌else◌, int_min, is_bounded, known_after, level_puts, nat_tests, none-some, or_else, put, put_found, refl, release_puts, same_Some, settled, side_flows, solved_put, subst, sum_of, sym, true, volume_of, ℕ, ℤ, ◌&&◌, ◌++◌, ◌-ℤ◌, ◌==◌, ◌∙◌, ◌∷◌, ◌≡◌}
+use Rattle.rw_order.proofs.Common.{AllByRecursion, Balanced, Bool, Given, IsSome, Kind, List, None, Option, Put, Reservoir, Row, Solved, Some, Term, View, [], and_parts, ap, ap₂, arith, balance_of, balanced_of, basis_of, both_ways, can_hold, contents_by, difference, disagreement, evaporation_of, evaporation_put, false, fault_of_basis, fault_of_contents, fault_of_past, fits, given, if◌then◌else◌, int_min, is_bounded, known_after, level_puts, nat_tests, none-some, or_else, put, put_found, refl, release_puts, same_Some, settled, side_flows, solved_put, subst, sum_of, sym, true, volume_of, ℕ, ℤ, ◌&&◌, ◌++◌, ◌-ℤ◌, ◌==◌, ◌∙◌, ◌∷◌, ◌≡◌}
 use Rattle.rw_order.proofs.Lists.{all_joined, all_left, all_right, all_weaker}
 use Rattle.rw_order.proofs.Held.{AreHeld, AreZero, FitsThere, IsSeenOf, Stands, Values, given_stands}
 use Rattle.rw_order.proofs.Terms.{balanced_is, store_sight, terms_of}

@@ -1,5 +1,5 @@
 -- An object at rest, and what any other dispatch of it comes to from less than the cells hold.
-use Rattle.rw_order.proofs.Common.{Asked, Bool, Cell, Cells, Content, Draft, Event, IdleAnswer, IsFault, Kind, List, Look, None, Object, Option, Past, Put, Puts, Reservoir, Solved, Some, View, [], answer, answered, ap, asked_for, before_of, cell_at, cell_in, content_in, dispatch_of, dispatched, end_in, false, given, held_after, if◌then◌else◌, inl, inr, is_bounded, is_written, looks_of, nat_lt, none-some, object_at, option_and_then, option_map, past_of, past_value, pos, put, puts_written, refl, solve_of, solved_by, subst, sym, true, unwrap_or, value_in, value_of_past, view_of, ℕ, ℤ, ◌-ℤ◌, ◌-◌, ◌∙◌, ◌≡◌, ◌⊎◌}
+use Rattle.rw_order.proofs.Common.{Asked, Bool, Cell, Cells, Content, Draft, Event, IdleAnswer, IsFault, Kind, List, Look, None, Object, Option, Past, Put, Puts, Reservoir, Solved, Some, View, [], answer, answered, ap, asked_for, before_of, cell_at, cell_in, content_in, dispatch_of, dispatched, end_in, false, given, held_after, if◌then◌else◌, inl, inr, is_bounded, is_written, looks_of, nat_lt, none-some, object_at, option_and_then, option_map, past_of, past_value, pos, puts_written, refl, solve_of, solved_by, subst, sym, true, unwrap_or, value_in, value_of_past, view_of, ℕ, ℤ, ◌-ℤ◌, ◌-◌, ◌∙◌, ◌≡◌, ◌⊎◌}
 use Rattle.rw_order.specs.Free.{keeps_water}
 use Rattle.rw_order.proofs.Lists.{all_kept, all_weaker}
 use Rattle.rw_order.proofs.Held.{AnswersWithin, AreHeld, AreZero, FitsThere, IsSeenOf, IsWhole}

@@ -1,5 +1,5 @@
 -- The log of the inputs, with which every log begins.
-use Rattle.rw_order.proofs.Common.{All-append, All-cons, All-nil, AllByRecursion, Bool, Bounds, Cell, Content, Decides-int_le, Draft, Input, Inputs, IsBasin, IsBetween, IsInputsOf, List, Log, None, Option, Shared-of, Some, [], all_known, all_quantities, all_slots, ap, ap₂, arith, bounds-shared, bounds_in, bounds_in-quantities, cell_at, cells_of, false, given_to, givens, givens_of, givens_to, if_given, if◌then◌else◌, inl, input_content, ints, is_between, is_shared, known, last_closed, length, none-some, option_or, placed, recursion_from_All, refl, rests, same_Some, slot_numbers, standing, subst, suc, sym, true, value_at, value_in, zero, ℕ, ℤ, ◌&&◌, ◌∷◌, ◌≡◌, ◌≤ℤ◌}
+use Rattle.rw_order.proofs.Common.{All-append, All-cons, All-nil, AllByRecursion, Bool, Bounds, Cell, Content, Decides-int_le, Draft, Input, Inputs, IsBasin, IsBetween, IsInputsOf, List, Log, None, Option, Shared-of, Some, [], all_known, all_quantities, all_slots, ap, ap₂, arith, bounds-shared, bounds_in, bounds_in-quantities, cell_at, cells_of, false, given_to, givens, givens_of, givens_to, if_given, if◌then◌else◌, inl, input_content, ints, is_between, is_shared, last_closed, length, none-some, option_or, placed, recursion_from_All, refl, rests, same_Some, slot_numbers, standing, subst, suc, sym, true, value_at, value_in, zero, ℕ, ℤ, ◌&&◌, ◌∷◌, ◌≡◌, ◌≤ℤ◌}
 use Rattle.rw_order.specs.AnyRun.{IsAnyRun, IsSettledLog}
 use Rattle.rw_order.specs.Inside.{AreInside, CanHave}
 use Rattle.rw_order.proofs.Writing.{AreShared}
@@ -7,7 +7,7 @@ use Rattle.rw_order.proofs.Sounds.{IsLaidOut, in_bounds}
 use Rattle.rw_order.proofs.Turns.{opening}
 use Rattle.rw_order.proofs.Orderly.{IsOrderly, StandsAt}
 use Rattle.rw_order.proofs.AnyOrder.{any_order}
-use Rattle.rw_order.proofs.Links.{among_known, same_group}
+use Rattle.rw_order.proofs.Links.{among_known}
 
 between_tests : (bounds : Bounds) (value : ℤ) → bounds.0 ≤ℤ value → value ≤ℤ bounds.1 → is_between bounds value ≡ true
 between_tests bounds value low high = ap₂ (λ a b. a && b) ((Decides-int_le bounds.0 value).1 low) ((Decides-int_le value bounds.1).1 high)

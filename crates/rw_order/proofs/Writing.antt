@@ -1,5 +1,5 @@
 -- What puts leave in cells.
-use Rattle.rw_order.proofs.Common.{AllByRecursion, Asked, Bool, ByObject, Cell, Cells, Content, Decides-int_eq, Denied, Draft, Event, IsFault, Kept, List, None, Option, Some, [], ap, ap₂, arith, both_ways, denied_by, end_in, end_of_put, false, filter_passes, find, if◌then◌else◌, int_eq, is_same_object, is_shared, is_written, judged, last_put, nat_le, nat_tests, none-some, numbers, option_map, option_or, or_fault, put, puts_written, recursion_from_All, refl, same_Some, subst, sym, true, value_in, ℕ, ℤ, ◌==◌, ◌∙◌, ◌∷◌, ◌≡◌}
+use Rattle.rw_order.proofs.Common.{AllByRecursion, Asked, Bool, ByObject, Cell, Cells, Content, Decides-int_eq, Denied, Draft, Event, IsFault, Kept, List, None, Option, Some, [], ap, ap₂, arith, both_ways, denied_by, end_in, end_of_put, false, filter_passes, find, if◌then◌else◌, int_eq, is_same_object, is_shared, is_written, judged, last_put, nat_le, nat_tests, none-some, option_map, option_or, or_fault, put, puts_written, recursion_from_All, refl, same_Some, subst, sym, true, value_in, ℕ, ℤ, ◌==◌, ◌∙◌, ◌∷◌, ◌≡◌}
 use Rattle.rw_order.proofs.Lists.{all_both, all_kept, all_weaker}
 
 -- what one has in a cell has the value that stands there in the other
