@@ -3,9 +3,9 @@ use Rattle.rw_order.proofs.Common.{Bool, ByRule, IsSome, Kind, List, None, Optio
 use Rattle.rw_order.proofs.Held.{IsSeenOf, IsWhole, Values, known_stands}
 
 -- what is made of two values is there where both are
-pub record IsStrict (op : Option ℤ → Option ℤ → Option ℤ) : Type 0 where
-  pub first : (b : Option ℤ) → op None b ≡ None
-  pub second : (a : Option ℤ) → op a None ≡ None
+record IsStrict (op : Option ℤ → Option ℤ → Option ℤ) : Type 0 where
+  first : (b : Option ℤ) → op None b ≡ None
+  second : (a : Option ℤ) → op a None ≡ None
 
 strict_sum : IsStrict sum_of
 strict_sum = record { first = λ b. refl; second = none }
@@ -43,12 +43,12 @@ module _ (R : Option ℤ → Option ℤ → Type 0) (same : (a : Option ℤ) →
       both difference strict_difference _ _ _ _
       (both sum_of strict_sum _ _ _ _ (of_chosen local_inflow place) (of_chosen return_flow (place + 2))) (of_chosen diversion (place + 1))
 
-  pub of_evaporation : (evaporation : Bool) (table : Option (List Row)) → R (evaporation_of evaporation table one) (evaporation_of evaporation table other)
+  of_evaporation : (evaporation : Bool) (table : Option (List Row)) → R (evaporation_of evaporation table one) (evaporation_of evaporation table other)
   of_evaporation evaporation None = same (Some (pos 0))
   of_evaporation true (Some rows) = both (evaporation_from rows) (strict_lost rows) _ _ _ _ past (knows 7)
   of_evaporation false (Some rows) = same (Some (pos 0))
 
-  pub of_steady : (kind : Kind) → R (balance_of kind one).steady (balance_of kind other).steady
+  of_steady : (kind : Kind) → R (balance_of kind one).steady (balance_of kind other).steady
   of_steady (Reach zero history local_inflow diversion return_flow) = of_sides 2 local_inflow diversion return_flow
   of_steady (Reach (suc lag) history local_inflow diversion return_flow) = both sum_of strict_sum _ _ _ _ past (of_sides 2 local_inflow diversion return_flow)
   of_steady (Reservoir initial_storage table local_inflow diversion return_flow evaporation max_release) =
@@ -94,7 +94,7 @@ agree_is (Some a) (Some b) agree one other = ap Some agree
 
 -- two views of the same values
 module _ (values : Values) (past : Option ℤ) (one other : View) (seen_one : IsSeenOf values past one) (seen_other : IsSeenOf values past other) where
-  pub agree_known : (place : ℕ) → Agree (known_value one place) (known_value other place)
+  agree_known : (place : ℕ) → Agree (known_value one place) (known_value other place)
   agree_known place = agree_found (known_value one place) (known_value other place) (values place)
       (λ value is. known_stands values past one place value seen_one is) (λ value is. known_stands values past other place value seen_other is)
 

@@ -8,7 +8,7 @@ abbrev pub one_if : Bool → ℕ
 one_if true = 1
 one_if false = 0
 
-abbrev pub known_in : (ℕ → Option Content) → List ℕ → ℕ
+abbrev known_in : (ℕ → Option Content) → List ℕ → ℕ
 known_in contents [] = 0
 known_in contents (place ∷ rest) = one_if (is_some (contents place)) + known_in contents rest
 

@@ -118,7 +118,7 @@ rest_of kind view balanced = []
 four_lists : (a b c d : List Put) → ((a ++ b) ++ c) ++ d ≡ a ++ (b ++ (c ++ d))
 four_lists a b c d = simp append_assoc refl
 
-pub puts_are : (kind : Kind) (view : View) (balanced : Balanced) → puts_of kind view balanced ≡ solved_put balanced ++ rest_of kind view balanced
+puts_are : (kind : Kind) (view : View) (balanced : Balanced) → puts_of kind view balanced ≡ solved_put balanced ++ rest_of kind view balanced
 puts_are (Reservoir initial_storage table local_inflow diversion return_flow evaporation max_release) view balanced =
     four_lists (solved_put balanced) (level_puts table (given view 2) (given view 3) balanced) (evaporation_put evaporation (evaporation_of evaporation table view))
     (release_puts max_release (known_after view balanced 1))

@@ -11,7 +11,7 @@ or_last : (a : Bool) → (a || true) ≡ true
 or_last true = refl
 or_last false = refl
 
-pub witness : (test : ℕ → Bool) (slots : List ℕ) → list_any test slots ≡ true → (slot : ℕ) × (is_among slot slots ≡ true) × (test slot ≡ true)
+witness : (test : ℕ → Bool) (slots : List ℕ) → list_any test slots ≡ true → (slot : ℕ) × (is_among slot slots ≡ true) × (test slot ≡ true)
 witness test [] is = absurd (both_ways false refl is)
 witness test (first ∷ slots) is = by (test first) refl is (λ later. witness test slots later)
   where

@@ -60,7 +60,7 @@ abbrev pub IsPart : ℕ → Parts → Type 0
 IsPart place [] = ⊥
 IsPart place (part ∷ parts) = (part.1 ≡ place) ⊎ IsPart place parts
 
-pub part_given : (sight : Sight) (parts : Parts) (place : ℕ) → AreGiven (terms_of sight parts) → IsPart place parts → IsSome (sight place)
+part_given : (sight : Sight) (parts : Parts) (place : ℕ) → AreGiven (terms_of sight parts) → IsPart place parts → IsSome (sight place)
 part_given sight [] place all is = absurd is
 part_given sight (part ∷ parts) place all (inl here) = subst (λ p. IsSome (sight p)) here all.0
 part_given sight (part ∷ parts) place all (inr later) = part_given sight parts place all.1 later

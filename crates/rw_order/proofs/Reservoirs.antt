@@ -23,7 +23,7 @@ first_there None b some = some
 first_there (Some a) b some = refl
 
 -- where a balance came to something, what else is brought is known
-pub steady_there : (steady : Option ℤ) (terms : List Term) → is_idle (settled steady terms) ≡ false → IsSome steady
+steady_there : (steady : Option ℤ) (terms : List Term) → is_idle (settled steady terms) ≡ false → IsSome steady
 steady_there None terms some = absurd (both_ways true some refl)
 steady_there (Some steady) terms some = refl
 

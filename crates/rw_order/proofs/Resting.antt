@@ -33,12 +33,12 @@ answered_within basin low high looked object step answer zeros below shared with
 
 -- ---- what a view of fewer cells knows
 
-pub value_below : (low high : Cells) (cell : Cell) (found : Option Content) (value : ℤ) → AreBelow low high → low cell ≡ found
+value_below : (low high : Cells) (cell : Cell) (found : Option Content) (value : ℤ) → AreBelow low high → low cell ≡ found
     → option_map (λ (content : Content). content.value) found ≡ Some value → value_in high cell ≡ Some value
 value_below low high cell None value below is e = absurd (none-some _ e)
 value_below low high cell (Some content) value below is e = below cell content is ∙ e
 
-pub past_below : (basin : Draft) (low high : Cells) (step : ℕ) (past : Option Past) (value : ℤ) → AreBelow low high
+past_below : (basin : Draft) (low high : Cells) (step : ℕ) (past : Option Past) (value : ℤ) → AreBelow low high
     → option_and_then (value_of_past basin low step) past ≡ Some value → option_and_then (value_of_past basin high step) past ≡ Some value
 past_below basin low high step None value below is = is
 past_below basin low high step (Some past) value below is = by (nat_lt past.ago step) is
