@@ -16,7 +16,7 @@ known_in contents (place ∷ rest) = one_if (is_some (contents place)) + known_i
 abbrev pub known_count : Draft → Cells → ℕ → ℕ → ℕ
 known_count basin cells object step = known_in (content_in basin cells object step) places
 
-one_few : (test : Bool) → one_if test ≤ 1
+pub one_few : (test : Bool) → one_if test ≤ 1
 one_few true = omega arith
 one_few false = omega arith
 

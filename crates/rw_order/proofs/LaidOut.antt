@@ -1,10 +1,10 @@
 -- A basin of which the order of dispatches is free is laid out so.
-use Rattle.rw_order.proofs.Common.{All, AllByRecursion, Bool, Bounds, ByRule, Cells, DataObject, DataSlot, Draft, IsBasin, IsKind, IsPutOf, IsSome, IsSoundObject, Kind, List, Neither, None, Object, Option, Past, Placed, Put, Puts, Reach, Request, Reservoir, Shared-of, Slot, Some, View, WaterUser, [], all_quantities, and_parts, ap, ap₂, arith, both_ways, bounds-slot, bounds_at-view, cases_eq, cases_lt, cell_at, code_of, dim_of, dimension, false, get_or_from_slice_get, get_or_past, group_of, has_slot, if◌then◌else◌, inl, inr, is_among, is_at, is_between, is_bounded, is_data, known_in_place, known_number, length, length-map, list_all, map, nat_le, nat_tests, none-some, not, not-true, numbered-found, object_at, of_range, option_and_then, option_map, owner_of, past_at, past_in, past_of, pos, put, recursion_from_All, refl, same_Some, slice_get, slice_get_within, slot_in, slot_in_place, slot_numbers, slots_of, solve-puts, solve_of, stands_in, subst, suc, sym, true, unwrap_or, view_of, zero, ℕ, ℤ, ◌&&◌, ◌-◌, ◌<◌, ◌==◌, ◌∙◌, ◌∷◌, ◌≡◌, ◌≢◌, ◌≤◌}
+use Rattle.rw_order.proofs.Common.{All, AllByRecursion, Bool, Bounds, ByRule, Cells, DataObject, DataSlot, Draft, IsBasin, IsKind, IsPutOf, IsSome, IsSoundObject, Kind, List, Neither, None, Object, Option, Past, Placed, Put, Puts, Reach, Request, Reservoir, Shared-of, Slot, Some, View, WaterUser, [], all_quantities, and_parts, ap, ap₂, arith, both_ways, bounds-slot, bounds_at-view, cases_eq, cases_lt, cell_at, code_of, dim_of, dimension, false, get_or_from_slice_get, get_or_past, group_of, has_slot, if◌then◌else◌, inl, inr, is_among, is_at, is_between, is_bounded, is_data, known_in_place, known_number, length, length-map, list_all, map, nat_tests, none-some, not, not-true, numbered-found, object_at, of_range, option_and_then, option_map, owner_of, past_at, past_in, past_of, pos, put, recursion_from_All, refl, same_Some, slice_get, slice_get_within, slot_in, slot_in_place, slot_numbers, slots_of, solve-puts, solve_of, stands_in, subst, suc, sym, true, unwrap_or, view_of, zero, ℕ, ℤ, ◌&&◌, ◌-◌, ◌<◌, ◌==◌, ◌∙◌, ◌∷◌, ◌≡◌, ◌≢◌, ◌≤◌}
 use Rattle.rw_order.specs.Free.{has_level_in, has_other_level, is_level, joins_levels, keeps_water, order_free}
 use Rattle.rw_order.proofs.Lists.{all_weaker}
 use Rattle.rw_order.proofs.Places.{HaveSlots}
 use Rattle.rw_order.proofs.Sounds.{IsLaidOut, in_bounds}
-use Rattle.rw_order.proofs.Turns.{ready_object}
+use Rattle.rw_order.proofs.Turns.{in_range, ready_object}
 use Rattle.rw_order.proofs.Slots.{owner_is, placed_in}
 use Rattle.rw_order.proofs.Links.{any_there, apart, contains_of, hits, owner, reached, same_bounds, same_group, same_or_linked, same_step}
 use Rattle.rw_order.proofs.Flat.{is_flat, level_flat, level_of}
@@ -23,13 +23,6 @@ kind_few (DataObject slots) is =
 kind_few (WaterUser depletion Request) is = omega arith
 kind_few (WaterUser depletion ByRule) is = omega arith
 kind_few kind is = omega arith
-
-first_object : (object : ℕ) (objects : List Object) (found : Object) → object_at objects object ≡ Some found → 1 ≤ object
-first_object object objects found is = by (nat_le 1 object) refl is
-  where
-    by : (test : Bool) → nat_le 1 object ≡ test → (if test then slice_get objects (object - 1) else None) ≡ Some found → 1 ≤ object
-    by true low e = grind (arith, nat_tests, low)
-    by false low e = absurd (none-some _ e)
 
 some_there : {X : Type 0} (found : Option X) → IsSome found → (x : X) × (found ≡ Some x)
 some_there None some = absurd (both_ways false refl some)
@@ -67,7 +60,7 @@ module _ (basin : Draft) (valid : IsBasin basin) where
       all_weaker (IsPutOf found.kind view) (λ (put : Put). (slot : ℕ) × (slot_in_place basin.objects object put.place ≡ Some slot)) puts
       (λ put is_own.
       let slot = some_there (slot_in found.kind put.place) is_own.own.slot in
-      has_slot basin.objects object put.place found.kind slot.0 (first_object object basin.objects found is) (kind_at basin.objects object found is) slot.1)
+      has_slot basin.objects object put.place found.kind slot.0 (in_range basin object found is).0 (kind_at basin.objects object found is) slot.1)
       (own_puts object found view puts is e)
 
   answers : (cells : Cells) (object step : ℕ) (found : Object) (puts : List Put) → object_at basin.objects object ≡ Some found

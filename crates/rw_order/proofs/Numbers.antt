@@ -20,14 +20,6 @@ rise_both : (a b c : ℕ) (xs ys : List Put) → Rise a xs b → Rise b ys c →
 rise_both a b c [] ys first second = rise_from a b ys c first second
 rise_both a b c (x ∷ xs) ys first second = (first.0, rise_both (suc x.place) b c xs ys first.1 second)
 
-rise_if : (a c : ℕ) (test : Bool) (xs ys : List Put) → Rise a xs c → Rise a ys c → Rise a (if test then xs else ys) c
-rise_if a c true xs ys x y = x
-rise_if a c false xs ys x y = y
-
-rise_found : (a place : ℕ) (value : Option ℤ) (number c : ℕ) → a ≤ place → place < c → Rise a (put_found place value number) c
-rise_found a place None number c le lt = omega (arith, le, lt)
-rise_found a place (Some value) number c le lt = (le, lt)
-
 -- ---- the solved term is one of the parts
 
 abbrev PartsBelow : ℕ → Parts → Type 0

@@ -6,7 +6,7 @@ use Rattle.rw_order.proofs.Resting.{IsAtRest}
 use Rattle.rw_order.proofs.Sounds.{IsLaidOut, IsSound}
 use Rattle.rw_order.proofs.Leaving.{HasSaid, Leaves, WroteNothing, leaves}
 use Rattle.rw_order.proofs.Carried.{rest_earlier, rest_unreached, said_carries}
-use Rattle.rw_order.proofs.Counting.{count_grows, count_rises, known_count, one_if, reached_by, some_or}
+use Rattle.rw_order.proofs.Counting.{count_grows, count_rises, known_count, one_if, one_few, reached_by, some_or}
 use Rattle.rw_order.proofs.Turns.{counts_other, counts_own, nobody_waits, opening, other_rests, other_woken, own_rests, ready_object, since_ready, still_inside, still_opened, waits_since}
 
 -- where a log stands: at the timestep that was opened last. Where it rests nobody waits
@@ -29,10 +29,6 @@ pub record IsOrderly (basin : Draft) (start : Cells) (log : Log) : Type 0 where
       → (at < opening log) ⊎ (since basin log object ≡ None) → IsAtRest basin start (cells_of basin log) object at found.kind
   pub few : (object : ℕ) (found : Object) → object_at basin.objects object ≡ Some found → is_data basin object ≡ false → 1 ≤ opening log
       → IsFew basin log (cells_of basin log) object (opening log)
-
-waits_few : (found : Option ℕ) → one_if (is_some found) ≤ 1
-waits_few None = omega arith
-waits_few (Some place) = omega arith
 
 some_not : (test : Bool) (place : ℕ) → test ≡ false → (if not test then Some place else None) ≡ None → ⊥
 some_not true place is none = both_ways true is refl
@@ -82,7 +78,7 @@ module _ (basin : Draft) (start : Cells) (laid : IsLaidOut basin) (inputs_alone 
               is.rest object at found there ready first old (inr (here.1.1 object found (omega (arith, first, old, last)) there ready))
           | inr none ↦ absurd (some_not (is_data basin object) (length log) ready none)
         ];
-        few = λ object found there ready some. let one = waits_few (since basin (opened (step + 1) ∷ log) object) in omega (arith, one);
+        few = λ object found there ready some. let one = one_few (is_some (since basin (opened (step + 1) ∷ log) object)) in omega (arith, one);
       }
 
   -- ---- it is closed
@@ -175,7 +171,7 @@ module _ (basin : Draft) (start : Cells) (laid : IsLaidOut basin) (inputs_alone 
                     let rises_here : suc (known_count basin (cells_of basin log) other (opening log)) ≤ known_count basin after other (opening log) =
                     subst (λ t. suc (known_count basin (cells_of basin log) other t) ≤ known_count basin after other t) last rises in
                     let none : one_if (is_some (since basin log other)) ≡ 0 = ap (λ s. one_if (is_some s)) woken.0 in
-                    let one = waits_few (since basin (event ∷ log) other) in
+                    let one = one_few (is_some (since basin (event ∷ log) other)) in
                     omega (arith, before, same_count, rises_here, none, one)
               ]
         ]

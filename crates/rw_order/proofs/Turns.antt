@@ -20,7 +20,7 @@ ready_object basin object ready = by (object_at basin.objects object) refl
         absurd (both_ways (is_data basin object) ready (ap (λ (o : Option Object). unwrap_or (option_map (λ (f : Object). code_of f.kind) o) 0 == 0) is))
     by (Some there) is = (there, is)
 
-in_range : (basin : Draft) (object : ℕ) (found : Object) → object_at basin.objects object ≡ Some found → (1 ≤ object) × (object ≤ length basin.objects)
+pub in_range : (basin : Draft) (object : ℕ) (found : Object) → object_at basin.objects object ≡ Some found → (1 ≤ object) × (object ≤ length basin.objects)
 in_range basin object found is = by (nat_le 1 object) refl is
   where
     by : (test : Bool) → nat_le 1 object ≡ test → (if test then slice_get basin.objects (object - 1) else None) ≡ Some found → (1 ≤ object) × (object ≤ length basin.objects)
