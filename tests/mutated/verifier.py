@@ -19,7 +19,7 @@ LIMITS = [
     (2_000, "too many puts"),
     (1_000_000, "too deep"),
 ]
-PREDEFINED = {"Min": 2, "Max": 2, "Abs": 1, "Clamp": 3, "RoundDown": 2, "Sign": 1}
+PREDEFINED = {"Min": 2, "Max": 2, "Abs": 1, "Clamp": 3, "RoundDown": 2, "Sign": 1, "MulDiv": 3}
 
 
 class Refused(Exception):

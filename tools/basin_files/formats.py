@@ -75,7 +75,7 @@ def option(name):
 
 
 FILE_KEYS = (
-    Key("format", "integer", 1, 1),
+    Key("format", "integer", 1, 2),
     Key("run", "table"),
     Key("object", "tables"),
     Key("link", "tables", default=()),
