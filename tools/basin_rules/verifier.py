@@ -1,6 +1,6 @@
-"""A slow, plain verifier of code files, which the program is compared with. It follows docs/FORMATS.md ("Code",
-"Budgets") and the definitions of rpl_code (Reading, Words) and rpl_verify (Table, Names, Places, Fits, Budget),
-and shares nothing with the program.
+"""A slow, plain verifier of code files. It follows docs/FORMATS.md ("Code", "Budgets") and the definitions of
+rpl_code (Reading, Words) and rpl_verify (Table, Names, Places, Fits, Budget), and shares nothing with the program,
+which tests/mutated compares with it.
 
 A kind is its spelling, such as `N` or `S*12`, and an instruction a tuple of its word and what stands behind it.
 Operands are listed last one first, as in the definitions. A basin has for each object its slots, each with
@@ -23,11 +23,19 @@ PREDEFINED = {"Min": 2, "Max": 2, "Abs": 1, "Clamp": 3, "RoundDown": 2, "Sign": 
 
 
 class Refused(Exception):
-    """Why a text is refused, in the words of the error line."""
+    """Why a text is refused, in the words of the error line: at a line, at its end, or at a place of a block."""
+
+    def __init__(self, says, line=0, scope=None, place=0, misfit=None):
+        super().__init__(says)
+        self.line, self.scope, self.place, self.misfit = line, scope, place, misfit
 
 
 class Misfit(Exception):
-    """Why a place is refused, in the words of the error line."""
+    """Why a place is refused, in the words of the error line; `budget` is one that is above a limit."""
+
+    def __init__(self, says, budget=()):
+        super().__init__(says)
+        self.budget = budget
 
 
 # ---- words of a line
@@ -143,7 +151,7 @@ def all_said(text):
     for number, line in enumerate(lines, 1):
         said = said_by(line)
         if said is None or said[0] not in ALLOWED[stage]:
-            raise Refused(f"line {number}: bad line")
+            raise Refused(f"line {number}: bad line", line=number)
         says.append(said)
         stage = BEHIND.get(said[0], "inside")
     if stage != "between" or last:
@@ -153,9 +161,10 @@ def all_said(text):
 
 @dataclass
 class Block:
-    """A rule, or a function with the kinds of its result and of its parameters."""
+    """A rule, or a function with the kinds of its result and of its parameters; `line` is where it begins."""
 
     is_rule: bool
+    line: int
     result: str = ""
     parameters: list = field(default_factory=list)
     further: list = field(default_factory=list)
@@ -170,9 +179,9 @@ class Block:
 def blocks_of(text):
     """The blocks of a text."""
     blocks = []
-    for word, *things in all_said(text):
+    for line, (word, *things) in enumerate(all_said(text), 1):
         if word in ("RULE", "FUNCTION"):
-            blocks.append(Block(word == "RULE", *things))
+            blocks.append(Block(word == "RULE", line, *things))
         elif word == "LOCALS":
             blocks[-1].further = things[0]
         elif word in INSTRUCTIONS:
@@ -512,7 +521,8 @@ def refused_at(scope, place, judge, *things):
     try:
         return judge(*things)
     except Misfit as misfit:
-        raise Refused(f"block {scope.number} place {place}: {misfit}") from None
+        says = f"block {scope.number} place {place}: {misfit}"
+        raise Refused(says, scope=scope, place=place, misfit=misfit) from None
 
 
 def judge_alike(scope):
@@ -615,7 +625,7 @@ def budget_of(scope, befores, budgets):
     budget.append(at_a_time(scope, befores, budgets))
     for part, (limit, misfit) in zip(budget, LIMITS):
         if part > limit:
-            raise Misfit(misfit)
+            raise Misfit(misfit, budget)
     return budget
 
 
