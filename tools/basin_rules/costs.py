@@ -2,10 +2,10 @@
 
 from dataclasses import astuple, dataclass
 
-from . import trees
+from . import trees, verifier
 
 NAMES = ("instructions", "reads", "puts", "words")
-LIMITS = (1_000_000, 20_000, 2_000, 1_000_000)
+LIMITS = tuple(limit for limit, _ in verifier.LIMITS)
 
 
 @dataclass(frozen=True)

@@ -8,7 +8,6 @@ from .places import Span
 from .tokens import Token
 
 DEEPEST = 100  # forms within forms
-MOST_ALIKE = 200  # rules, and functions
 OR, AND, NOT, COMPARISON, SUM, PRODUCT, MINUS, POSTFIX = range(7, -1, -1)
 OPERATORS = {
     OR: ("OR",),

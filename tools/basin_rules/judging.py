@@ -3,6 +3,7 @@
 from collections import ChainMap
 from dataclasses import dataclass
 
+from basin_files.firing import PREDEFINED
 from basin_files.formats import GREATEST_QUANTITY
 from basin_files.reasons import why_unknown
 
@@ -11,9 +12,7 @@ from .grammar import OF_TWO
 from .measures import (
     DATE,
     LENGTH,
-    LONGEST,
     NUMBER,
-    PLAIN,
     TIMESTEP,
     TRUTH,
     UNITS,
@@ -24,7 +23,7 @@ from .measures import (
     times,
     unit_words,
 )
-from .places import Span
+from .verifier import LONGEST
 
 ORDER = (
     "duplicate name",
@@ -42,7 +41,6 @@ ORDER = (
     "list too long",
     "too costly",
 )
-PREDEFINED = {"Min": 2, "Max": 2, "Abs": 1, "Clamp": 3, "RoundDown": 2, "Sign": 1}  # arguments of each
 TABLES = {"StorageToElevation": (VOLUME, LENGTH), "ElevationToStorage": (LENGTH, VOLUME)}
 
 

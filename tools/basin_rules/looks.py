@@ -8,6 +8,7 @@ from collections import ChainMap
 from dataclasses import dataclass, field
 
 from basin_files.dispatch import elevation, volume
+from basin_files.firing import FUNCTIONS
 
 from . import trees
 from .measures import UNITS
@@ -276,8 +277,7 @@ def predefined(name, values):
     """What is known of a predefined function's result."""
     if not all(isinstance(one, Known) for one in values):
         return None
-    found = {"Min": min, "Max": max, "Abs": abs}.get(name)
-    return Known(found(*(one.value for one in values))) if found else None
+    return Known(FUNCTIONS[name][1](*(one.value for one in values)))
 
 
 VALUES = {

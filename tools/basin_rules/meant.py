@@ -1,5 +1,6 @@
 """What may be meant where a type doesn't fit: hints in people's words."""
 
+from basin_files.firing import PREDEFINED
 from basin_files.formats import RESERVED_WORDS
 from basin_files.reasons import nearest, shown
 
@@ -95,7 +96,7 @@ def function(name, judge):
     says = f"there is no function {name}"
     if name in OTHER_FUNCTIONS:
         return says, OTHER_FUNCTIONS[name]
-    known = ["Min", "Max", "Abs", "Clamp", "RoundDown", "Sign", *judge.earlier, *judge.later]
+    known = [*PREDEFINED, *judge.earlier, *judge.later]
     known += ["KNOWN", "ITEM", "LENGTH", "APPEND", "MONTH", "DAY", "YEAR"]
     return says, nearest(name, known) or ""
 

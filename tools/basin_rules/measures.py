@@ -2,7 +2,6 @@
 
 from dataclasses import dataclass
 
-LONGEST = 4_096  # a list
 GREATEST_POWER = 6  # of a unit, and least its negative
 PLAIN = (0, 0, 0, 0)  # the powers of m3, mm, timestep and kWh
 VOLUME, LENGTH, TIMESTEP, FLOW = (1, 0, 0, 0), (0, 1, 0, 0), (0, 0, 1, 0), (1, 0, -1, 0)

@@ -4,9 +4,10 @@ from dataclasses import dataclass, field
 
 from . import costs, slips
 from .findings import Finding
-from .grammar import MOST_ALIKE, NoReading, TooDeep, numbered, pieces_of, read_declaration
+from .grammar import NoReading, TooDeep, numbered, pieces_of, read_declaration
 from .judging import Judge, Misfit, signature_of
 from .tokens import BadToken, tokens_of
+from .verifier import MOST_ALIKE
 
 
 @dataclass

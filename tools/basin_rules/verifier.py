@@ -10,6 +10,8 @@ whether it can be set, and whether there is a table.
 import re
 from dataclasses import dataclass, field
 
+from basin_files.firing import PREDEFINED
+
 Q = 10**17
 LONGEST = 4096  # a list
 MOST_ALIKE = 200  # rules, and functions
@@ -19,7 +21,6 @@ LIMITS = [
     (2_000, "too many puts"),
     (1_000_000, "too deep"),
 ]
-PREDEFINED = {"Min": 2, "Max": 2, "Abs": 1, "Clamp": 3, "RoundDown": 2, "Sign": 1}
 
 
 class Refused(Exception):
