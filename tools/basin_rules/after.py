@@ -167,8 +167,8 @@ def lines_of_rule(run, number):
         where = run.line(run.walk.refired(number, run.section.fault_step))
         return [f"{name} divided by 0{where}. What may be 0 wants an IF before the quotient."]
     if fault.startswith("limit"):
-        times = re.search(r"after ([0-9]+)", fault)[1]
-        return [f"{name} was due again after {times} firings: {what_changed(run, number)}"]
+        times = int(re.search(r"after ([0-9]+)", fault)[1])
+        return [f"{name} had fired {often(times)}, and was due again: {what_changed(run, number)}"]
     value = int(re.search(r"value (-?[0-9]+)", fault)[1])
     return [f"{name} came to {amount(value)}: {out_of_range(run, number, value)}"]
 
@@ -205,7 +205,7 @@ def out_of_range(run, number, value):
         firing = run.walk.refired(number, run.section.fault_step)
     except KeyError:
         return "that is out of range."
-    for slot, _, wanted in firing.puts:
+    for slot, _, wanted in firing.asked:
         low, high = run.model.bounds(slot)
         if wanted == value and not low <= wanted <= high:
             return f"it puts that to {slot}, whose bounds are {amount(low)} to {amount(high)}."

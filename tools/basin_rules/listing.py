@@ -16,7 +16,7 @@ def instructions_of(ruleset):
 
 
 def lines_of(ruleset, code):
-    """Of each block of a code text the lines of the ruleset of its instructions, or `None` where it has other ones."""
+    """Of each block of code the lines of the ruleset of its instructions, or `None` where it has other ones."""
     blocks = [block.split("\n")[2:] for block in code.removeprefix("CODE 1\n").split("END\n")[:-1]]
     found = instructions_of(ruleset)
     lines = []
