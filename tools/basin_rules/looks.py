@@ -53,7 +53,7 @@ class Look:
 
 @dataclass
 class Setting:
-    """A slot that a rule sets: where, with which value, and whether each whole firing does."""
+    """A slot that a rule sets: where, whether each whole firing does, and the expression of its value."""
 
     slot: str
     sure: bool

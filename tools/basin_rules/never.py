@@ -6,16 +6,18 @@ from basin_files.waiting import is_solved
 
 from . import trees
 from .findings import Finding
-from .looks import Looking, calls_of, facts_of
+from .looks import Looking
 
 WAITS = "make two rules of it, or give the value a name with WITH"
 
 
-def warnings(ruleset, model, inputs):
-    """Findings of what will never happen. `inputs` may be `None`: then each slot may be one that no rule sets."""
-    judge = Never(ruleset, model, inputs)
-    found = [*judge.never_fire(), *judge.over_inputs(), *judge.never_count(), *judge.high_pools()]
-    found += [*judge.zero_quotients(), *judge.uncalled()]
+def warnings(policy, model, inputs):
+    """Findings of what will never happen. `inputs` may be `None`: then they may give each slot that no rule sets."""
+    judge = Never(policy.facts(model), model, inputs)
+    found = [*judge.never_fire(), *judge.over_inputs(), *judge.never_count()]
+    if policy.ruleset:
+        found += [*high_pools(judge, policy.ruleset), *zero_quotients(policy.ruleset, model)]
+    found += [warn(span, f"no rule calls the function {name}") for name, span in policy.uncalled()]
     return sorted(found, key=lambda finding: finding.span.begin)
 
 
@@ -30,11 +32,10 @@ def is_request(slot, thing):
 
 
 class Never:
-    """A ruleset with its model and inputs, and what can be known in a timestep."""
+    """What rules look at and set, with the model and the inputs, and what can be known in a timestep."""
 
-    def __init__(self, ruleset, model, inputs):
-        self.ruleset, self.model, self.inputs = ruleset, model, inputs
-        self.rules, self.looking = facts_of(ruleset, model), Looking(ruleset, model)
+    def __init__(self, rules, model, inputs):
+        self.rules, self.model, self.inputs = rules, model, inputs
         self.first = {name: model.group(name)[0].full_name for name in model.slots}
         self.setters = {}  # by the first slot of a link: the rules that set it
         for rule in self.rules:
@@ -170,58 +171,54 @@ class Never:
             look.ahead == 0 and self.first[look.slot] in self.of_inputs for look in rule.looks
         )
 
-    def high_pools(self):
-        """Storages and elevations that rules ask for above the end of a table, or of the slot's bounds."""
-        for rule in self.rules:
-            for setting in rule.settings:
-                slot = self.model.slots[setting.slot]
-                is_pool = slot.name in ("Storage", "PoolElevation")
-                if is_pool and self.model.object_named(slot.owner).kind == "reservoir":
-                    yield from self.high_pool(rule, setting, slot)
 
-    def high_pool(self, rule, setting, slot):
-        """Such a storage or elevation, if it is one."""
-        most = self.most_of(setting.value)
-        table = self.model.object_named(slot.owner).options.get("table")
-        end = table[-1][0 if slot.name == "PoolElevation" else 1] if table else None
-        high = self.model.bounds(slot.full_name)[1]
-        if most is None:
-            return
-        if end is not None and most > end:
-            what = f"the table of {slot.owner} ends at {end:,} {slot.unit}"
-        elif most > high:
-            what = f"{slot.full_name} is at most {amount(high)} {slot.unit} by its bounds"
-        else:
-            return
-        says = f"the limit {most:,} {slot.unit} never counts: {what}, and a run that comes to more ends there"
-        hint = "a limit below that end, with room for what lower rules bring"
-        yield warn(setting.value.span, says, hint, rule.called)
+# ---- numbers of a ruleset that never count
 
-    def most_of(self, node):
-        """The number that a value is at most, by the form of its expression, or `None`."""
-        while isinstance(node, trees.Brackets):
-            node = node.parts[0]
-        if isinstance(node, trees.Call) and node.name in ("Min", "Clamp"):
-            limits = node.parts if node.name == "Min" else node.parts[2:]
-            found = [self.looking.constant(part) for part in limits]
-            return min((value for value in found if value is not None), default=None)
-        return self.looking.constant(node)
 
-    def zero_quotients(self):
-        """Quotients of two numbers that are 0, since they are rounded down."""
-        for declaration in self.ruleset.declarations:
-            for node in declaration.nodes():
-                if isinstance(node, trees.Two) and node.word == "/":
-                    above, below = (self.looking.constant(part) for part in node.parts)
-                    if above and below and 0 < above < below:
-                        text = self.ruleset.source.words(node.span)
-                        says = f"`{text}` is always 0: a quotient is rounded down"
-                        hint = f"multiply first: x * {text}, without brackets"
-                        yield warn(node.span, says, hint, declaration.called)
+def high_pools(judge, ruleset):
+    """Storages and elevations that rules ask for above the end of a table, or of the slot's bounds."""
+    model, looking = judge.model, Looking(ruleset, judge.model)
+    for rule in judge.rules:
+        for setting in rule.settings:
+            slot = model.slots[setting.slot]
+            is_pool = slot.name in ("Storage", "PoolElevation")
+            most = most_of(looking, setting.value)
+            end = end_of(model, slot) if is_pool and model.object_named(slot.owner).kind == "reservoir" else None
+            if end and most is not None and most > end[0]:
+                says = f"the limit {most:,} {slot.unit} never counts: {end[1]}, and a run that comes to more ends there"
+                hint = "a limit below that end, with room for what lower rules bring"
+                yield warn(setting.value.span, says, hint, rule.called)
 
-    def uncalled(self):
-        """Functions that no rule calls."""
-        called = calls_of(self.ruleset)
-        for name, function in self.ruleset.functions.items():
-            if name not in called:
-                yield warn(function.name_span, f"no rule calls the function {name}")
+
+def end_of(model, slot):
+    """The greatest storage or elevation that a reservoir can come to, and why."""
+    table, high = model.object_named(slot.owner).options.get("table"), model.bounds(slot.full_name)[1]
+    end = table[-1][0 if slot.name == "PoolElevation" else 1] if table else high
+    if end < high:
+        return end, f"the table of {slot.owner} ends at {end:,} {slot.unit}"
+    return high, f"{slot.full_name} is at most {amount(high)} {slot.unit} by its bounds"
+
+
+def most_of(looking, node):
+    """The number that a value is at most, by the form of its expression, or `None`."""
+    while isinstance(node, trees.Brackets):
+        node = node.parts[0]
+    if isinstance(node, trees.Call) and node.name in ("Min", "Clamp"):
+        limits = node.parts if node.name == "Min" else node.parts[2:]
+        found = [looking.constant(part) for part in limits]
+        return min((value for value in found if value is not None), default=None)
+    return looking.constant(node)
+
+
+def zero_quotients(ruleset, model):
+    """Quotients of two numbers that are 0, since they are rounded down."""
+    looking = Looking(ruleset, model)
+    for declaration in ruleset.declarations:
+        for node in declaration.nodes():
+            if isinstance(node, trees.Two) and node.word == "/":
+                above, below = (looking.constant(part) for part in node.parts)
+                if above and below and 0 < above < below:
+                    text = ruleset.source.words(node.span)
+                    says = f"`{text}` is always 0: a quotient is rounded down"
+                    hint = f"multiply first: x * {text}, without brackets"
+                    yield warn(node.span, says, hint, declaration.called)

@@ -9,6 +9,7 @@ whether it can be set, and whether there is a table.
 
 import re
 from dataclasses import dataclass, field
+from functools import cached_property
 
 from basin_files.firing import PREDEFINED
 
@@ -175,6 +176,18 @@ class Block:
     def locals(self):
         """The kinds of its locals, which begin with its parameters."""
         return self.parameters + self.further
+
+    @cached_property
+    def loops(self):
+        """Where the innermost loop begins that is open at each place, if there is one, and the place behind each loop."""
+        starts, behind, opened = [], {}, []
+        for place, (word, *_) in enumerate(self.lines):
+            starts.append(opened[-1][0] if opened else None)
+            if word in LOOPS:
+                opened.append((place, LOOPS[word]))
+            elif word in LOOP_ENDS and opened and opened[-1][1] == LOOP_ENDS[word]:
+                behind[opened.pop()[0]] = place + 1
+        return starts, behind
 
 
 def blocks_of(text):
@@ -374,33 +387,6 @@ LOOPS = {"foreach": "visiting", "map": "mapping"}
 LOOP_ENDS = {"next": "visiting", "yield": "mapping"}
 
 
-def loops_open(lines, place):
-    """The loops that are open at a place, by the instructions before it: the start and the sort of each."""
-    loops = []
-    for start, (word, *_) in enumerate(lines[:place]):
-        if word in LOOPS:
-            loops.append((start, LOOPS[word]))
-        elif word in LOOP_ENDS and loops and loops[-1][1] == LOOP_ENDS[word]:
-            loops.pop()
-    return loops
-
-
-def innermost_start(lines, place):
-    """Where the innermost loop begins that is open at a place, if there is one."""
-    loops = loops_open(lines, place)
-    return loops[-1][0] if loops else None
-
-
-def place_behind(lines, start):
-    """The place behind the loop that begins at a place."""
-    depth = 0
-    for place in range(start, len(lines)):
-        depth += (lines[place][0] in LOOPS) - (lines[place][0] in LOOP_ENDS)
-        if depth == 0:
-            return place + 1
-    raise AssertionError("a loop that isn't closed is refused before its budgets are asked for")
-
-
 def declared_at(lines, place):
     """What the target at a place declares, last one first, if there is one."""
     if place < len(lines) and lines[place][0] == "target":
@@ -470,7 +456,7 @@ def found(scope, place, before, to):
         raise Misfit("backward jump")
     declared = declared_at(scope.block.lines, to)
     here = before.loops[-1].start if before.loops else None
-    if declared is None or innermost_start(scope.block.lines, to) != here:
+    if declared is None or scope.block.loops[0][to] != here:
         raise Misfit("jump outside")
     return declared
 
@@ -594,7 +580,7 @@ def most_of(scope, befores, price, at_end, joined, repeated):
             most[place] = joined(mine, max(most[place + 1], most[things[0]]))
         elif word in LOOPS:
             turns = repeated(room_on_top(befores[place].kinds), most[place + 1])
-            most[place] = joined(mine, joined(turns, most[place_behind(lines, place)]))
+            most[place] = joined(mine, joined(turns, most[scope.block.loops[1][place]]))
         elif word in LOOP_ENDS:
             most[place] = mine
         else:
