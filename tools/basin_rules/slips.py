@@ -284,16 +284,14 @@ def not_ended(stop):
     token, opened = stop.token(), stop.wrong.opened
     if not opened or (token and not token.is_mark("RULE", "FUNCTION", *ENDS.values())):
         return ""
-    last = opened[-1]
-    end = ENDS[last.word]
+    last, end = opened[-1], ENDS[opened[-1].word]
+    where = f"the {last.word} of line {stop.line(last.span)}"
     if token and token.text == end:
         return "`ELSE` and a value: an IF within an expression has both" if stop.wants("ELSE") else ""
-    where = "at the end" if not token else "before it"
-    if {last.word, token.text if token else ""} <= {"RULE", "FUNCTION", "ENDRULE", "ENDFUNCTION"}:
-        if token and token.text in ("ENDRULE", "ENDFUNCTION"):
-            return f"`{end}`, which ends the {last.word} of line {stop.line(last.span)}"
+    if token and last.word in ("RULE", "FUNCTION") and token.is_mark("ENDRULE", "ENDFUNCTION"):
+        return f"`{end}`, which ends {where}"
     more = " (an IF behind an ELSE has its own)" if last.word == "IF" else ""
-    return f"`{end}` {where}: the {last.word} of line {stop.line(last.span)} isn't ended{more}"
+    return f"`{end}` {'before it' if token else 'at the end'}: {where} isn't ended{more}"
 
 
 def missing_semicolon(stop):
