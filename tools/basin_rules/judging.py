@@ -312,9 +312,8 @@ class Judge:
     def hinted(self, wrong, node, given, asked, other=None):
         """What is wrong, with what may be meant."""
         if wrong:
-            wrong.hint = meant.of_value(node, given, asked, self.source)
-            if not wrong.hint and other:
-                wrong.hint = meant.of_value(other, asked, given, self.source)
+            of_other = meant.of_value(other, asked, given, self.source) if other else ""
+            wrong.hint = meant.best(meant.of_value(node, given, asked, self.source), of_other)
         return wrong
 
     def brackets(self, scope, node):
@@ -490,7 +489,8 @@ class Judge:
         """The value of a slot at a date."""
         slot, date = self.all(scope, node.parts)
         if slot.sort != "slot":
-            raise Wrong("wrong type", f"{self.text(node.parts[0])} is {slot.words()}, and a slot stands before [ ]")
+            says = f"{self.text(node.parts[0])} is {slot.words()}, and a slot stands before [ ]"
+            raise Wrong("wrong type", says, meant.item(node, slot, self.source))
         if date != DATE:
             raise Wrong("wrong type", *meant.date(node, date, self.source))
         return Type("number", slot.measure)

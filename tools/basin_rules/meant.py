@@ -5,7 +5,7 @@ from basin_files.formats import RESERVED_WORDS
 from basin_files.reasons import nearest, shown
 
 from . import trees
-from .measures import FLOW, PLAIN, TIMESTEP, UNITS, VOLUME
+from .measures import FLOW, PLAIN, TIMESTEP, UNITS, VOLUME, unit_words
 
 SECONDS = "3 * 86400 \"m3/step\" where a timestep is a day; docs/LANGUAGE.md, \"Two common tasks\", has months"
 # What other systems write, and what it is here.
@@ -132,6 +132,12 @@ def date(node, given, source):
     return says, f'{slot}[t], or {slot}[t - 1 "step"] of the timestep before' if given.sort == "number" else ""
 
 
+def item(node, given, source):
+    """An item of a list that is asked for in square brackets."""
+    words = [source.words(part.span) for part in node.parts]
+    return f"ITEM({words[0]}, {words[1]})" if given.is_list else ""
+
+
 def steps(node, source):
     """A date that is moved by a number without its unit."""
     words = [source.words(part.span) for part in node.parts]
@@ -142,9 +148,12 @@ def steps(node, source):
 
 def of_sides(node, left, right, source):
     """What may be meant where two sides measure other things."""
-    hints = [of_value(node.parts[0], left, right, source), of_value(node.parts[1], right, left, source)]
-    hints.sort(key=lambda hint: (not hint, "/ 1 " in hint))  # a volume is meant more often than a flow
-    return hints[0]
+    return best(of_value(node.parts[0], left, right, source), of_value(node.parts[1], right, left, source))
+
+
+def best(*hints):
+    """Of some hints the one that is meant most often: a number with its unit, a volume, and a quotient at last."""
+    return min(hints, key=lambda hint: (not hint, "/ 1 " in hint))
 
 
 def of_value(node, given, asked, source):
@@ -164,4 +173,12 @@ def of_value(node, given, asked, source):
         return f'{tight} / 1 "step", a flow of a timestep'
     if given.measure == PLAIN and asked.measure == TIMESTEP:
         return f'{tight} * 1 "step"'
-    return ""
+    return plain_number(node, tight, given) if asked.measure == PLAIN else ""
+
+
+def plain_number(node, text, given):
+    """What may be meant where a plain number is asked for."""
+    if isinstance(node, trees.Literal):
+        return f"{node.value}, without its unit"
+    unit = unit_words(given.measure)
+    return f'{text} / 1 "{unit}", a plain number' if unit in UNITS else ""

@@ -234,6 +234,8 @@ def numbers(stop):
         return ""
     if here.is_mark(".") and behind and behind.kind == "number":
         return NO_NUMBER
+    if here.is_mark(".") and behind and behind.is_mark("."):
+        return "a list of all items: there are no ranges"
     if not before or before.kind != "number":
         return ""
     if here.is_mark(",") and behind and behind.kind == "number" and len(behind.text) == 3:
@@ -319,6 +321,10 @@ def expressions(stop):
         return "`#`, which begins a comment"
     if here.is_mark("NOT") and stop.wants(EXPRESSION):
         return "`(NOT ..)`, in brackets"
+    if here.is_mark("IS") and stop.is_kind(-1, "name"):
+        return "`NOT KNOWN(Object.Slot[t])`"
+    if here.kind == "string" and stop.wants(EXPRESSION):
+        return "a number: values are no strings, and a month is `MONTH(t) = 3`"
     if here.is_mark("+") and stop.wants(EXPRESSION):
         return "the number without `+`"
     if here.is_mark("/") and stop.wants(STATEMENT):
