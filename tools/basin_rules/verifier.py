@@ -1,6 +1,6 @@
-"""A slow, plain verifier of code files, which the program is compared with. It follows docs/FORMATS.md ("Code",
-"Budgets") and the definitions of rpl_code (Reading, Words) and rpl_verify (Table, Names, Places, Fits, Budget),
-and shares nothing with the program.
+"""A slow, plain verifier of code files. It follows docs/FORMATS.md ("Code", "Budgets") and the definitions of
+rpl_code (Reading, Words) and rpl_verify (Table, Names, Places, Fits, Budget), and shares nothing with the program,
+which tests/mutated compares with it.
 
 A kind is its spelling, such as `N` or `S*12`, and an instruction a tuple of its word and what stands behind it.
 Operands are listed last one first, as in the definitions. A basin has for each object its slots, each with
@@ -9,6 +9,9 @@ whether it can be set, and whether there is a table.
 
 import re
 from dataclasses import dataclass, field
+from functools import cached_property
+
+from basin_files.firing import PREDEFINED
 
 Q = 10**17
 LONGEST = 4096  # a list
@@ -19,15 +22,22 @@ LIMITS = [
     (2_000, "too many puts"),
     (1_000_000, "too deep"),
 ]
-PREDEFINED = {"Min": 2, "Max": 2, "Abs": 1, "Clamp": 3, "RoundDown": 2, "Sign": 1, "MulDiv": 3}
 
 
 class Refused(Exception):
-    """Why a text is refused, in the words of the error line."""
+    """Why a text is refused, in the words of the error line: at a line, at its end, or at a place of a block."""
+
+    def __init__(self, says, line=0, scope=None, place=0, misfit=None):
+        super().__init__(says)
+        self.line, self.scope, self.place, self.misfit = line, scope, place, misfit
 
 
 class Misfit(Exception):
-    """Why a place is refused, in the words of the error line."""
+    """Why a place is refused, in the words of the error line; `budget` is one that is above a limit."""
+
+    def __init__(self, says, budget=()):
+        super().__init__(says)
+        self.budget = budget
 
 
 # ---- words of a line
@@ -143,7 +153,7 @@ def all_said(text):
     for number, line in enumerate(lines, 1):
         said = said_by(line)
         if said is None or said[0] not in ALLOWED[stage]:
-            raise Refused(f"line {number}: bad line")
+            raise Refused(f"line {number}: bad line", line=number)
         says.append(said)
         stage = BEHIND.get(said[0], "inside")
     if stage != "between" or last:
@@ -153,9 +163,10 @@ def all_said(text):
 
 @dataclass
 class Block:
-    """A rule, or a function with the kinds of its result and of its parameters."""
+    """A rule, or a function with the kinds of its result and of its parameters; `line` is where it begins."""
 
     is_rule: bool
+    line: int
     result: str = ""
     parameters: list = field(default_factory=list)
     further: list = field(default_factory=list)
@@ -166,13 +177,25 @@ class Block:
         """The kinds of its locals, which begin with its parameters."""
         return self.parameters + self.further
 
+    @cached_property
+    def loops(self):
+        """Where the innermost loop begins that is open at each place, if there is one, and the place behind each loop."""
+        starts, behind, opened = [], {}, []
+        for place, (word, *_) in enumerate(self.lines):
+            starts.append(opened[-1][0] if opened else None)
+            if word in LOOPS:
+                opened.append((place, LOOPS[word]))
+            elif word in LOOP_ENDS and opened and opened[-1][1] == LOOP_ENDS[word]:
+                behind[opened.pop()[0]] = place + 1
+        return starts, behind
+
 
 def blocks_of(text):
     """The blocks of a text."""
     blocks = []
-    for word, *things in all_said(text):
+    for line, (word, *things) in enumerate(all_said(text), 1):
         if word in ("RULE", "FUNCTION"):
-            blocks.append(Block(word == "RULE", *things))
+            blocks.append(Block(word == "RULE", line, *things))
         elif word == "LOCALS":
             blocks[-1].further = things[0]
         elif word in INSTRUCTIONS:
@@ -364,33 +387,6 @@ LOOPS = {"foreach": "visiting", "map": "mapping"}
 LOOP_ENDS = {"next": "visiting", "yield": "mapping"}
 
 
-def loops_open(lines, place):
-    """The loops that are open at a place, by the instructions before it: the start and the sort of each."""
-    loops = []
-    for start, (word, *_) in enumerate(lines[:place]):
-        if word in LOOPS:
-            loops.append((start, LOOPS[word]))
-        elif word in LOOP_ENDS and loops and loops[-1][1] == LOOP_ENDS[word]:
-            loops.pop()
-    return loops
-
-
-def innermost_start(lines, place):
-    """Where the innermost loop begins that is open at a place, if there is one."""
-    loops = loops_open(lines, place)
-    return loops[-1][0] if loops else None
-
-
-def place_behind(lines, start):
-    """The place behind the loop that begins at a place."""
-    depth = 0
-    for place in range(start, len(lines)):
-        depth += (lines[place][0] in LOOPS) - (lines[place][0] in LOOP_ENDS)
-        if depth == 0:
-            return place + 1
-    raise AssertionError("a loop that isn't closed is refused before its budgets are asked for")
-
-
 def declared_at(lines, place):
     """What the target at a place declares, last one first, if there is one."""
     if place < len(lines) and lines[place][0] == "target":
@@ -460,7 +456,7 @@ def found(scope, place, before, to):
         raise Misfit("backward jump")
     declared = declared_at(scope.block.lines, to)
     here = before.loops[-1].start if before.loops else None
-    if declared is None or innermost_start(scope.block.lines, to) != here:
+    if declared is None or scope.block.loops[0][to] != here:
         raise Misfit("jump outside")
     return declared
 
@@ -512,7 +508,8 @@ def refused_at(scope, place, judge, *things):
     try:
         return judge(*things)
     except Misfit as misfit:
-        raise Refused(f"block {scope.number} place {place}: {misfit}") from None
+        says = f"block {scope.number} place {place}: {misfit}"
+        raise Refused(says, scope=scope, place=place, misfit=misfit) from None
 
 
 def judge_alike(scope):
@@ -583,7 +580,7 @@ def most_of(scope, befores, price, at_end, joined, repeated):
             most[place] = joined(mine, max(most[place + 1], most[things[0]]))
         elif word in LOOPS:
             turns = repeated(room_on_top(befores[place].kinds), most[place + 1])
-            most[place] = joined(mine, joined(turns, most[place_behind(lines, place)]))
+            most[place] = joined(mine, joined(turns, most[scope.block.loops[1][place]]))
         elif word in LOOP_ENDS:
             most[place] = mine
         else:
@@ -615,7 +612,7 @@ def budget_of(scope, befores, budgets):
     budget.append(at_a_time(scope, befores, budgets))
     for part, (limit, misfit) in zip(budget, LIMITS):
         if part > limit:
-            raise Misfit(misfit)
+            raise Misfit(misfit, budget)
     return budget
 
 
