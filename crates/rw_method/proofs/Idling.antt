@@ -1,13 +1,13 @@
 -- An object that is idle doesn't know all its terms, so that nothing is asked of its balance.
-use Rattle.rw_laws.proofs.Common.{AllByRecursion, Balanced, Bifurcation, Bool, ByRule, Canal, Conflicts, Confluence, Content, DataObject, Gage, Given, Holds, Idle, IdleAnswer, Kind, List, None, Option, Put, Reach, Request, Reservoir, Solved, Some, Term, View, WaterUser, [], all_or_misfit, answer, ap, ap₂, arith, balance_of, balanced_of, difference, false, fault_of_contents, first_misfit, fits, if◌then◌else◌, inl, inr, int_eq, is_some, known, map, missing, nat_le, nat_tests, net_of, none-some, option_map, pos, puts_of, refl, settled, settled_at, solve_of, solves, suc, sum_of, sym, true, value_from_others, weakest, zero, ℕ, ℤ, ◌+ℤ◌, ◌+◌, ◌-ℤ◌, ◌==◌, ◌∙◌, ◌∷◌, ◌≡◌, ◌≢◌, ◌≤◌}
-use Rattle.rw_laws.specs.Balances.{IsBalanced, IsHeld}
-use Rattle.rw_laws.specs.Left.{Left}
-use Rattle.rw_laws.proofs.Leaving.{from_left}
-use Rattle.rw_laws.proofs.Netting.{AreDistinct}
-use Rattle.rw_laws.proofs.OwnPuts.{Among, all_at}
-use Rattle.rw_laws.proofs.Settled.{balanced_code}
-use Rattle.rw_laws.proofs.Terms.{Sort, given_in, shape_of, term_in, terms_are}
-use Rattle.rw_laws.proofs.Answering.{IsFaulty, answer_code, contents_faulty}
+use Rattle.rw_method.proofs.Common.{AllByRecursion, Balanced, Bifurcation, Bool, ByRule, Canal, Conflicts, Confluence, Content, DataObject, Gage, Given, Holds, Idle, IdleAnswer, Kind, List, None, Option, Put, Reach, Request, Reservoir, Solved, Some, Term, View, WaterUser, [], all_or_misfit, answer, ap, ap₂, arith, balance_of, balanced_of, difference, false, fault_of_contents, first_misfit, fits, if◌then◌else◌, inl, inr, int_eq, is_some, known, map, missing, nat_le, nat_tests, net_of, none-some, pos, puts_of, refl, settled, settled_at, solve_of, solves, suc, sum_of, sym, true, value_from_others, weakest, zero, ℕ, ℤ, ◌+ℤ◌, ◌+◌, ◌-ℤ◌, ◌==◌, ◌∙◌, ◌∷◌, ◌≡◌, ◌≢◌, ◌≤◌}
+use Rattle.rw_method.specs.Balanced.{IsBalanced, IsHeld}
+use Rattle.rw_method.specs.Left.{Left}
+use Rattle.rw_method.proofs.Leaving.{from_left}
+use Rattle.rw_method.proofs.Netting.{AreDistinct}
+use Rattle.rw_method.proofs.Among.{Among, all_at}
+use Rattle.rw_method.proofs.Settled.{balanced_code}
+use Rattle.rw_method.proofs.Terms.{Sort, given_in, shape_of, some_value, term_in, terms_are}
+use Rattle.rw_method.proofs.SolvedPuts.{IsFaulty, answer_code, contents_faulty}
 
 -- ---- an answer of Idle comes of an idle balance
 
@@ -84,36 +84,24 @@ two_open view (s ∷ shape) distinct many = by (given_in view s) refl many (two_
           apart = rest.apart;
         }
 
--- where all terms are known and what else is brought is, the object isn't idle
-pub not_idle : (kind : Kind) (view : View) (steady : ℤ) → Left kind view → AreDistinct (shape_of kind) → (balance_of kind view).steady ≡ Some steady
-    → ((s : Sort) → Among (shape_of kind) s → (content : Content) × (known view s.place ≡ Some content)) → solve_of kind view ≡ IdleAnswer → ⊥
-not_idle kind view steady left distinct is known_all idle =
-    let code : balanced_code (settled (Some steady) (map (term_in view) (shape_of kind))) ≡ 0 =
-    ap₂ (λ s ts. balanced_code (settled s ts)) (sym is) (sym (terms_are kind view)) ∙ idle_balance kind view idle in
-    let open_two = two_open view (shape_of kind) distinct (many_missing steady (map (term_in view) (shape_of kind)) code) in
-    let there = known_all open_two.one.at open_two.one.has in
-    let up = (from_left kind view left).terms open_two.one.at open_two.other.at there.0 open_two.one.has open_two.other.has open_two.apart open_two.one.none there.1 in
-    none-some up.held (sym open_two.other.none ∙ up.is)
-
 -- ---- nothing is asked of the balance of an idle object
 
-value_known : (view : View) (place : ℕ) (value : ℤ) (held : Option Content) → known view place ≡ held → option_map (λ (content : Content). content.value) held ≡ Some value
-    → (content : Content) × (known view place ≡ Some content)
-value_known view place value None there is = absurd (none-some value is)
-value_known view place value (Some content) there is = (content, there)
-
 held_known : (view : View) (place : ℕ) (value : ℤ) → IsHeld view place value → (content : Content) × (known view place ≡ Some content)
-held_known view place value held = value_known view place value (known view place) refl held
+held_known view place value held = some_value (known view place) value held
 
 abbrev AllKnown : View → List Sort → Type 0
 AllKnown view shape = AllByRecursion (λ (s : Sort). (content : Content) × (known view s.place ≡ Some content)) shape
 
-known_at : (view : View) (shape : List Sort) → AllKnown view shape → (s : Sort) → Among shape s → (content : Content) × (known view s.place ≡ Some content)
-known_at view shape all s has = all_at (λ (s : Sort). (content : Content) × (known view s.place ≡ Some content)) shape s all has
-
+-- where all terms are known and what else is brought is, the object isn't idle
 never : (kind : Kind) (view : View) (steady : ℤ) → Left kind view → AreDistinct (shape_of kind) → (balance_of kind view).steady ≡ Some steady → AllKnown view (shape_of kind)
     → solve_of kind view ≡ IdleAnswer → ⊥
-never kind view steady left distinct is all idle = not_idle kind view steady left distinct is (known_at view (shape_of kind) all) idle
+never kind view steady left distinct is all idle =
+    let code : balanced_code (settled (Some steady) (map (term_in view) (shape_of kind))) ≡ 0 =
+    ap₂ (λ s ts. balanced_code (settled s ts)) (sym is) (sym (terms_are kind view)) ∙ idle_balance kind view idle in
+    let open_two = two_open view (shape_of kind) distinct (many_missing steady (map (term_in view) (shape_of kind)) code) in
+    let there = all_at (λ (s : Sort). (content : Content) × (known view s.place ≡ Some content)) (shape_of kind) open_two.one.at all open_two.one.has in
+    let up = (from_left kind view left).terms open_two.one.at open_two.other.at there.0 open_two.one.has open_two.other.has open_two.apart open_two.one.none there.1 in
+    none-some up.held (sym open_two.other.none ∙ up.is)
 
 pub idle_balanced : (kind : Kind) (view : View) → Left kind view → solve_of kind view ≡ IdleAnswer → IsBalanced kind view
 idle_balanced (DataObject slots) view left idle = tt

@@ -1,11 +1,11 @@
 -- The kinds whose terms are slots: all but the reservoir.
-use Rattle.rw_laws.proofs.Common.{All, All-cons, All-nil, AllByRecursion, Balanced, Bifurcation, Bool, ByRule, Canal, Confluence, Contains, Content, Conveys, DataObject, DataSlot, Gage, Given, Holds, IsShare, IsSome, Kind, List, None, Option, Put, Reach, Request, Solves, Some, Supply, Takes, Term, View, WaterUser, [], ap, arith, balanced_of, false, given, inl, inr, known, known_after, map, nat_tests, none-some, option_map, puts_of, refl, same_Some, seepage_put, solved_put, subst, suc, sym, true, user_puts, zero, ℕ, ℤ, ◌++◌, ◌==◌, ◌∙◌, ◌∷◌, ◌≡◌, ◌≢◌, ◌≤◌, ◌⊎◌}
-use Rattle.rw_laws.specs.Left.{IsGivenUpTo, Rest, rest, rests_of}
-use Rattle.rw_laws.proofs.Answering.{Answered}
-use Rattle.rw_laws.proofs.Leaving.{DispatchFacts, IsBase, PutIs, Solving, holds_given, rests, solved}
-use Rattle.rw_laws.proofs.OwnPuts.{Among, all_at, among}
-use Rattle.rw_laws.proofs.Settled.{SolvedFacts, contains, solved_facts}
-use Rattle.rw_laws.proofs.Terms.{Sort, among_terms, given_as, given_in, same_given, shape_of, slot, sort, term_in, term_of}
+use Rattle.rw_method.proofs.Common.{All, All-cons, All-nil, AllByRecursion, Balanced, Bifurcation, Bool, ByRule, Canal, Confluence, Contains, Content, Conveys, DataObject, DataSlot, Gage, Holds, IsShare, IsSome, Kind, List, Put, Reach, Request, Solves, Some, Supply, Takes, Term, View, WaterUser, [], ap, arith, balanced_of, false, given, inl, inr, known, known_after, map, nat_tests, puts_of, refl, seepage_put, solved_put, subst, suc, sym, true, user_puts, zero, ℕ, ℤ, ◌++◌, ◌==◌, ◌∙◌, ◌∷◌, ◌≡◌, ◌≢◌, ◌≤◌, ◌⊎◌}
+use Rattle.rw_method.specs.Left.{IsGivenUpTo, Rest, rest, rests_of}
+use Rattle.rw_method.proofs.Answering.{Answered}
+use Rattle.rw_method.proofs.Leaving.{DispatchFacts, IsBase, PutIs, Solving, holds_given, rests, solved}
+use Rattle.rw_method.proofs.Among.{Among, all_append, all_at, among, contains, some_there, weaker_all}
+use Rattle.rw_method.proofs.Settled.{SolvedFacts, solved_facts}
+use Rattle.rw_method.proofs.Terms.{Sort, among_terms, given_as, given_in, given_number, same_given, shape_of, slot, some_value, sort, term_in, term_of}
 
 -- ---- the solved term, by the sorts
 
@@ -29,10 +29,6 @@ solved_at kind view puts shares is solving =
 pub up_known : (view : View) (place number : ℕ) → IsGivenUpTo number (given view place) → (content : Content) × (known view place ≡ Some content)
 up_known view place number up = let seen = given_as view place up.held up.is in (seen.content, seen.there)
 
-some_known : (view : View) (place : ℕ) (held : Option Given) → given view place ≡ held → IsSome held → (content : Content) × (known view place ≡ Some content)
-some_known view place None is some = absurd (cc)
-some_known view place (Some held) is some = let seen = given_as view place held is in (seen.content, seen.there)
-
 -- a slot of a term is known, or was just solved
 pub base_in : (kind : Kind) (view : View) (puts : List Put) → All (λ (term : Term). IsShare term.share) (map (term_in view) (shape_of kind)) → Answered kind view puts
     → (s : Sort) → Among (shape_of kind) s → s.source ≡ slot → IsBase view (balanced_of kind view) s.place
@@ -52,14 +48,11 @@ base_in kind view puts shares is s has plain_source = by is.ends
 
     by : (balanced_of kind view ≡ Holds) ⊎ Solving kind view → IsBase view (balanced_of kind view) s.place
     by (inl holds) =
-        inl (some_known view s.place (given view s.place) refl (subst IsSome as_slot (holds_given view (shape_of kind) is.steady (is.settles ∙ holds) s has)))
+        let found = some_there (given view s.place) (subst IsSome as_slot (holds_given view (shape_of kind) is.steady (is.settles ∙ holds) s has)) in
+        let seen = given_as view s.place found.0 found.1 in inl (seen.content, seen.there)
     by (inr solving) = by_place solving (s.place == solving.place) refl
 
 -- ---- puts
-
-pub all_append : {A : Type 0} (P : A → Type 0) (xs ys : List A) → AllByRecursion P xs → AllByRecursion P ys → AllByRecursion P (xs ++ ys)
-all_append P [] ys p q = q
-all_append P (x ∷ xs) ys p q = (p.0, all_append P xs ys p.1 q)
 
 -- a put is the one that was solved, or stands in the place of no term
 abbrev pub IsApart : Kind → View → Put → Type 0
@@ -92,26 +85,18 @@ record PlainFacts (kind : Kind) (view : View) : Type 0 where
   alone : (s : Sort) → Among (shape_of kind) s → (pair : Rest) → Among (rests_of kind) pair → pair.place ≢ s.place
   unique : (pair other : Rest) → Among (rests_of kind) pair → Among (rests_of kind) other → pair.place ≡ other.place → pair.on ≡ other.on
 
-first_of : {B : Type 0} (P : B → Type 0) (Q : B → Type 0) (xs : List B) → AllByRecursion (λ x. P x × Q x) xs → AllByRecursion P xs
-first_of P Q [] all = tt
-first_of P Q (x ∷ xs) all = (all.0.0, first_of P Q xs all.1)
-
 plain_facts : (kind : Kind) (view : View) (puts : List Put) → Answered kind view puts → PlainFacts kind view → DispatchFacts kind view puts
 plain_facts kind view puts is facts = record {
   steady = is.steady;
   settles = is.settles;
   ends = is.ends;
   shares = facts.shares;
-  each = subst (AllByRecursion (PutIs kind view)) is.same (first_of (PutIs kind view) (IsApart kind view) (puts_of kind view (balanced_of kind view)) facts.good);
+  each = subst (AllByRecursion (PutIs kind view)) is.same (weaker_all (IsGood kind view) (PutIs kind view) (puts_of kind view (balanced_of kind view)) (λ put good. good.0) facts.good);
   has_solved = λ solving. contains puts (of_solving kind view solving) (subst (λ ps. Among ps (of_solving kind view solving)) is.same (facts.has solving));
   beside = λ solving on has.
       let at = solved_at kind view puts facts.shares is solving in
       absurd (facts.alone at.at at.has (rest solving.place on) (among (rests_of kind) (rest solving.place on) has) (sym at.there));
-  below = λ left s held content has given_is there.
-      let seen = given_as view s.place held (sym (as_slot s has) ∙ given_is) in
-      let same : seen.content ≡ content = same_Some _ _ (sym seen.there ∙ there) in
-      let n : seen.content.number ≡ content.number = ap (λ (c : Content). c.number) same in
-      let m = seen.number in omega (arith, n, m);
+  below = λ left s held content has given_is there. given_number view s.place held content (sym (as_slot s has) ∙ given_is) there;
   stays = λ new after s has apart number up.
       let still : known new s.place ≡ known view s.place =
       after.rest s.place (λ put in_puts. by s has apart put
@@ -204,42 +189,21 @@ module _ (view : View) (puts : List Put) where
   pub data_facts : (slots : List DataSlot) → Answered (DataObject slots) view puts → DispatchFacts (DataObject slots) view puts
   data_facts slots is = bare_facts (DataObject slots) is tt (All-nil (λ (term : Term). IsShare term.share)) refl refl
 
-  request_facts : (depletion : ℕ) → Answered (WaterUser depletion Request) view puts → DispatchFacts (WaterUser depletion Request) view puts
-  request_facts depletion is =
-      let kind : Kind = WaterUser depletion Request in
-      let shares = shares_one (term_in view (sort Takes 1)) tt in
-      let base = base_in kind view puts shares is (sort Takes 1) (inl refl) refl in
+  -- a user, whose diversion is known, or was just solved
+  user_plain : (depletion : ℕ) (supply : Supply) → Answered (WaterUser depletion supply) view puts → AllByRecursion (λ (s : Sort). s.source ≡ slot) (shape_of (WaterUser depletion supply))
+      → All (λ (term : Term). IsShare term.share) (map (term_in view) (shape_of (WaterUser depletion supply))) → ((s : Sort) → Among (shape_of (WaterUser depletion supply)) s → s.place ≡ 1)
+      → IsBase view (balanced_of (WaterUser depletion supply) view) 1 → DispatchFacts (WaterUser depletion supply) view puts
+  user_plain depletion supply is slots shares one base =
+      let kind : Kind = WaterUser depletion supply in
       plain_facts kind view puts is (record {
-        slots = (refl, tt);
+        slots = slots;
         shares = shares;
         good = all_append (IsGood kind view) (solved_put (balanced_of kind view)) (user_puts depletion (known_after view (balanced_of kind view) 1)) (solved_good kind view (balanced_of kind view) refl) (
-          rests_good kind view _ 1 (0, omega arith, refl) refl base (λ s has same. let at = one_sort (sort Takes 1) s has in omega (arith, at, same)),
-          (rests_good kind view _ 1 (1, omega arith, refl) refl base (λ s has same. let at = one_sort (sort Takes 1) s has in omega (arith, at, same)), tt),
+          rests_good kind view _ 1 (0, omega arith, refl) refl base (λ s has same. let at = one s has in omega (arith, at, same)),
+          (rests_good kind view _ 1 (1, omega arith, refl) refl base (λ s has same. let at = one s has in omega (arith, at, same)), tt),
         );
         has = solved_in kind view (user_puts depletion (known_after view (balanced_of kind view) 1));
-        alone = λ s has pair there.
-            let at = one_sort (sort Takes 1) s has in
-            two_apart (rest 2 1) (rest 3 1) pair there s.place (λ e. omega (arith, e, at)) (λ e. omega (arith, e, at));
-        unique = λ pair other has there same. on_one (rest 2 1) (rest 3 1) pair has refl ∙ sym (on_one (rest 2 1) (rest 3 1) other there refl);
-      })
-
-  some_value : (held : Option Content) (value : ℤ) → option_map (λ (content : Content). content.value) held ≡ Some value → (content : Content) × (held ≡ Some content)
-  some_value None value is = absurd (none-some value is)
-  some_value (Some content) value is = (content, refl)
-
-  by_rule_facts : (depletion : ℕ) → Answered (WaterUser depletion ByRule) view puts → DispatchFacts (WaterUser depletion ByRule) view puts
-  by_rule_facts depletion is =
-      let kind : Kind = WaterUser depletion ByRule in
-      let base : IsBase view (balanced_of kind view) 1 = inl (some_value (known view 1) is.steady is.is_steady) in
-      plain_facts kind view puts is (record {
-        slots = tt;
-        shares = All-nil (λ (term : Term). IsShare term.share);
-        good = all_append (IsGood kind view) (solved_put (balanced_of kind view)) (user_puts depletion (known_after view (balanced_of kind view) 1)) (solved_good kind view (balanced_of kind view) refl) (
-          rests_good kind view _ 1 (0, omega arith, refl) refl base (λ s never same. absurd never),
-          (rests_good kind view _ 1 (1, omega arith, refl) refl base (λ s never same. absurd never), tt),
-        );
-        has = solved_in kind view (user_puts depletion (known_after view (balanced_of kind view) 1));
-        alone = λ s never pair there same. absurd never;
+        alone = λ s has pair there. let at = one s has in two_apart (rest 2 1) (rest 3 1) pair there s.place (λ e. omega (arith, e, at)) (λ e. omega (arith, e, at));
         unique = λ pair other has there same. on_one (rest 2 1) (rest 3 1) pair has refl ∙ sym (on_one (rest 2 1) (rest 3 1) other there refl);
       })
 
@@ -271,8 +235,11 @@ module _ (view : View) (puts : List Put) where
       })
 
   pub user_facts : (depletion : ℕ) (supply : Supply) → Answered (WaterUser depletion supply) view puts → DispatchFacts (WaterUser depletion supply) view puts
-  user_facts depletion Request is = request_facts depletion is
-  user_facts depletion ByRule is = by_rule_facts depletion is
+  user_facts depletion Request is =
+      let shares = shares_one (term_in view (sort Takes 1)) tt in
+      user_plain depletion Request is (refl, tt) shares (one_sort (sort Takes 1)) (base_in (WaterUser depletion Request) view puts shares is (sort Takes 1) (inl refl) refl)
+  user_facts depletion ByRule is =
+      user_plain depletion ByRule is tt (All-nil (λ (term : Term). IsShare term.share)) (λ s never. absurd never) (inl (some_value (known view 1) is.steady is.is_steady))
 
   pub conveyed_facts : (seepage : ℕ) → seepage ≤ 999 → Answered (Canal seepage) view puts → DispatchFacts (Canal seepage) view puts
   conveyed_facts seepage few is = canal_facts seepage few is

@@ -1,11 +1,11 @@
 -- A dispatch keeps what it is kept by: which facts of a kind's puts are enough.
-use Rattle.rw_laws.proofs.Common.{All, AllByRecursion, Balanced, Bool, ByObject, Contains, Content, Given, Holds, IsShare, IsSome, Kind, List, None, Option, Put, Solves, Some, Term, View, [], ap, arith, balanced_of, false, held_by, if◌then◌else◌, inl, inr, is_same_object, known, known_after, map, nat_tests, none-some, number_of, refl, rules, same_Some, settled, subst, sym, true, ℕ, ℤ, ◌==◌, ◌∙◌, ◌∷◌, ◌≡◌, ◌≢◌, ◌≤◌, ◌⊎◌}
-use Rattle.rw_laws.specs.Left.{IsGivenUpTo, IsUpTo, Left, Rest, is_own, rest, rests_of}
-use Rattle.rw_laws.specs.Passing.{IsAfter, Passes, content_of}
-use Rattle.rw_laws.proofs.OwnPuts.{Among, all_at, among}
-use Rattle.rw_laws.proofs.Settled.{SolvedFacts, balanced_code, contains, holds_facts, solved_facts}
-use Rattle.rw_laws.proofs.Terms.{IsSorted, IsTermOf, Sort, all_sorted, among_terms, given_in, other_in, own_in, shape_of, slot, term_in, term_of, terms_are}
-use Rattle.rw_laws.proofs.Writings.{IsOwnFall}
+use Rattle.rw_method.proofs.Common.{All, AllByRecursion, Balanced, Bool, ByObject, Contains, Content, Given, Holds, IsShare, IsSome, Kind, List, None, Option, Put, Solves, Some, Term, View, [], ap, arith, balanced_of, false, held_by, if◌then◌else◌, inl, inr, is_same_object, known, known_after, map, nat_tests, none-some, number_of, refl, rules, same_Some, settled, subst, sym, true, ℕ, ℤ, ◌==◌, ◌∙◌, ◌∷◌, ◌≡◌, ◌≢◌, ◌≤◌, ◌⊎◌}
+use Rattle.rw_method.specs.Left.{IsGivenUpTo, IsUpTo, Left, Rest, is_own, rest, rests_of}
+use Rattle.rw_method.specs.Passing.{IsAfterOwn, IsAfterOthers, content_of}
+use Rattle.rw_method.proofs.Among.{Among, all_at, among, contains, weaker_all}
+use Rattle.rw_method.proofs.Settled.{SolvedFacts, balanced_code, given_up_to, holds_facts, solved_facts}
+use Rattle.rw_method.proofs.Terms.{IsSorted, IsTermOf, Sort, all_sorted, among_terms, given_in, other_in, own_in, shape_of, slot, term_in, term_of, terms_are}
+use Rattle.rw_method.specs.Passing.{IsOwnFall}
 
 -- ---- the condition, by the sorts of a kind's terms
 
@@ -38,8 +38,8 @@ from_left kind view left = record {
 
 -- ---- a timestep begins, and others write
 
-pub begins : (kind : Kind) (view : View) → ((place : ℕ) (content : Content) → known view place ≡ Some content → is_own view content ≡ false) → Left kind view
-begins kind view none_own = to_left kind view (record {
+pub left_begins : (kind : Kind) (view : View) → ((place : ℕ) (content : Content) → known view place ≡ Some content → is_own view content ≡ false) → Left kind view
+left_begins kind view none_own = to_left kind view (record {
   terms = λ s r content has there apart none held.
       let own = own_in view s content (all_at IsSorted (shape_of kind) s (all_sorted kind) has) none held in
       absurd (let no : true ≡ false = sym own ∙ none_own s.place content held in cc);
@@ -50,7 +50,7 @@ same_own : (old new : View) (content : Content) → new.own ≡ old.own → is_o
 same_own old new content same = ap (λ own. is_same_object content.writer (ByObject own)) same
 
 -- what the object wrote itself wasn't written by another
-own_was : (old new : View) → Passes old new → (place : ℕ) (content : Content) → known new place ≡ Some content → is_own new content ≡ true → known old place ≡ Some content
+own_was : (old new : View) → IsAfterOthers old new → (place : ℕ) (content : Content) → known new place ≡ Some content → is_own new content ≡ true → known old place ≡ Some content
 own_was old new passes place content there own = elim (passes.slots place) [
   | inl same ↦ sym same ∙ there
   | inr replaced ↦
@@ -58,7 +58,7 @@ own_was old new passes place content there own = elim (passes.slots place) [
       absurd (let no : true ≡ false = sym own ∙ same_own old new content passes.own ∙ ap (is_own old) (sym this) ∙ replaced.other in cc)
 ]
 
-up_to_passes : (old new : View) → Passes old new → (place number : ℕ) → IsUpTo number (known old place) → IsUpTo number (known new place)
+up_to_passes : (old new : View) → IsAfterOthers old new → (place number : ℕ) → IsUpTo number (known old place) → IsUpTo number (known new place)
 up_to_passes old new passes place number is = elim (passes.slots place) [
   | inl same ↦ record { content = is.content; is = same ∙ is.is; most = is.most }
   | inr replaced ↦ let falls = replaced.falls is.content is.is in let most = is.most in record { content = replaced.content; is = replaced.is; most = omega (arith, falls, most) }
@@ -68,8 +68,8 @@ not_given : (view : View) (s : Sort) (held : Option Given) → given_in view s �
 not_given view s None is never = is
 not_given view s (Some held) is never = absurd (never (record { held = held; is = refl; most = omega arith }))
 
-pub others : (kind : Kind) (old new : View) → Passes old new → Left kind old → Left kind new
-others kind old new passes is =
+pub left_by_others : (kind : Kind) (old new : View) → IsAfterOthers old new → Left kind old → Left kind new
+left_by_others kind old new passes is =
     let left = from_left kind old is in
     to_left kind new (record {
       terms = λ s r content has there apart none held.
@@ -85,7 +85,7 @@ others kind old new passes is =
 
 -- ---- a dispatch
 
-abbrev place_in : Balanced → ℕ
+abbrev pub place_in : Balanced → ℕ
 place_in (Solves place value number) = place
 place_in balanced = 0
 
@@ -111,6 +111,10 @@ pub record Solving (kind : Kind) (view : View) : Type 0 where
   pub number : ℕ
   pub is : balanced_of kind view ≡ Solves place value number
 
+-- one term is solved at most
+pub one_solving : (kind : Kind) (view : View) (one other : Solving kind view) → one.place ≡ other.place
+one_solving kind view one other = ap place_in (sym one.is ∙ other.is)
+
 -- what is to be known of the puts of a kind
 pub record DispatchFacts (kind : Kind) (view : View) (puts : List Put) : Type 0 where
   pub steady : ℤ
@@ -123,7 +127,7 @@ pub record DispatchFacts (kind : Kind) (view : View) (puts : List Put) : Type 0 
       → (put : Put) × (Contains puts put × (put.place ≡ on) × (put.number ≡ solving.number))
   pub below : LeftBy kind view → (s : Sort) (held : Given) (content : Content) → Among (shape_of kind) s → given_in view s ≡ Some held
       → known view s.place ≡ Some content → held.number ≤ content.number
-  pub stays : (new : View) → IsAfter view new puts → (s : Sort) → Among (shape_of kind) s → ((solving : Solving kind view) → s.place ≢ solving.place)
+  pub stays : (new : View) → IsAfterOwn view new puts → (s : Sort) → Among (shape_of kind) s → ((solving : Solving kind view) → s.place ≢ solving.place)
       → (number : ℕ) → IsGivenUpTo number (given_in view s) → IsGivenUpTo number (given_in new s)
   pub untouched : (s : Sort) → Among (shape_of kind) s → s.source ≡ slot → ((solving : Solving kind view) → s.place ≢ solving.place) → (put : Put) → Contains puts put → put.place ≢ s.place
   pub unique : (pair other : Rest) → Contains (rests_of kind) pair → Contains (rests_of kind) other → pair.place ≡ other.place → pair.on ≡ other.on
@@ -143,7 +147,7 @@ put_or_none (first ∷ puts) place = by (first.place == place) refl (put_or_none
     ])
 
 -- no number rises
-pub up_to_after : (old new : View) (puts : List Put) → IsAfter old new puts → (place : ℕ) (content : Content) → known old place ≡ Some content → IsUpTo content.number (known new place)
+pub up_to_after : (old new : View) (puts : List Put) → IsAfterOwn old new puts → (place : ℕ) (content : Content) → known old place ≡ Some content → IsUpTo content.number (known new place)
 up_to_after old new puts after place content there = elim (put_or_none puts place) [
   | inr none ↦ record { content = content; is = after.rest place (λ put has. none put (among puts put has)) ∙ there; most = omega arith }
   | inl (put, (has, at)) ↦
@@ -155,7 +159,7 @@ up_to_after old new puts after place content there = elim (put_or_none puts plac
 ]
 
 -- a put leaves no greater number than its own
-pub put_up_to : (old new : View) (puts : List Put) → IsAfter old new puts → (put : Put) → Contains puts put → IsUpTo put.number (known new put.place)
+pub put_up_to : (old new : View) (puts : List Put) → IsAfterOwn old new puts → (put : Put) → Contains puts put → IsUpTo put.number (known new put.place)
 put_up_to old new puts after put has = elim (after.put put has) [
   | inl written ↦ record { content = content_of old put; is = written.is; most = omega arith }
   | inr kept ↦ record { content = kept.content; is = kept.is; most = kept.number }
@@ -166,10 +170,6 @@ holds_given view [] steady holds s has = absurd has
 holds_given view (first ∷ shape) steady holds s has =
     (holds_facts steady (term_in view first) (map (term_in view) shape) holds).given (term_in view s)
     (contains (map (term_in view) (first ∷ shape)) (term_in view s) (among_terms view (first ∷ shape) s has))
-
-some_up : (held : Option Given) → IsSome held → IsGivenUpTo (number_of held) held
-some_up None some = absurd (cc)
-some_up (Some held) some = record { held = held; is = refl; most = omega arith }
 
 module _ (kind : Kind) (old : View) (puts : List Put) (facts : DispatchFacts kind old puts) (left : LeftBy kind old) where
   solved_term_facts : (solving : Solving kind old) → SolvedFacts (map (term_in old) (shape_of kind)) solving.place solving.number
@@ -209,9 +209,6 @@ module _ (kind : Kind) (old : View) (puts : List Put) (facts : DispatchFacts kin
       let s = term_of old (shape_of kind) of.term (among (map (term_in old) (shape_of kind)) of.term of.has) in
       falls_by solving content there s (given_in old s.at) refl
 
-  solving_of : (balanced : Balanced) (on : ℕ) (value : ℤ) (number : ℕ) → balanced_of kind old ≡ balanced → balanced ≡ Solves on value number → Solving kind old
-  solving_of balanced on value number is this = record { place = on; value = value; number = number; is = is ∙ this }
-
   -- what is known of a slot once the balance is settled has no greater a number than what the slot held
   after_falls : (balanced : Balanced) → balanced_of kind old ≡ balanced → (on : ℕ) (content : Content) → known old on ≡ Some content → (known_after old balanced on).number ≤ content.number
   after_falls (Solves place value number) is on content there = by (place == on) refl
@@ -231,16 +228,12 @@ module _ (kind : Kind) (old : View) (puts : List Put) (facts : DispatchFacts kin
       let most = up.most in let number = on.number in omega (arith, falls, most, number)
   own_fall put (plain none apart) content there own = omega (arith, none)
 
-  own_falls_each : (each : List Put) → AllByRecursion (PutIs kind old) each → AllByRecursion (IsOwnFall old) each
-  own_falls_each [] all = tt
-  own_falls_each (put ∷ each) all = (own_fall put all.0, own_falls_each each all.1)
-
   pub own_falls : AllByRecursion (IsOwnFall old) puts
-  own_falls = own_falls_each puts facts.each
+  own_falls = weaker_all (PutIs kind old) (IsOwnFall old) puts own_fall facts.each
 
   -- ---- what it leaves
 
-  module _ (new : View) (after : IsAfter old new puts) where
+  module _ (new : View) (after : IsAfterOwn old new puts) where
     solved_there : (solving : Solving kind old) (content : Content) → known new solving.place ≡ Some content → solving.number ≤ content.number
     solved_there solving content there =
         let put : Put = record { place = solving.place; value = solving.value; number = solving.number } in
@@ -255,14 +248,11 @@ module _ (kind : Kind) (old : View) (puts : List Put) (facts : DispatchFacts kin
 
     given_still : (s : Sort) → Among (shape_of kind) s → ((solving : Solving kind old) → s.place ≢ solving.place) → IsSome (given_in old s) → given_in new s ≡ None → ⊥
     given_still s has apart some none =
-        let still = facts.stays new after s has apart (number_of (given_in old s)) (some_up (given_in old s) some) in none-some still.held (sym none ∙ still.is)
+        let still = facts.stays new after s has apart (number_of (given_in old s)) (given_up_to (given_in old s) (number_of (given_in old s)) some (omega arith)) in none-some still.held (sym none ∙ still.is)
 
     up_some : (number : ℕ) (held : Option Given) → IsGivenUpTo number held → IsSome held
     up_some number None is = absurd (none-some is.held is.is)
     up_some number (Some held) is = search rules
-
-    one_solving : (one other : Solving kind old) → one.place ≡ other.place
-    one_solving one other = ap place_in (sym one.is ∙ other.is)
 
     terms_by : (s r : Sort) (content : Content) → Among (shape_of kind) s → Among (shape_of kind) r → r.place ≢ s.place → given_in new s ≡ None
         → known new s.place ≡ Some content → (balanced_of kind old ≡ Holds) ⊎ Solving kind old → IsGivenUpTo content.number (given_in new r)
@@ -272,13 +262,13 @@ module _ (kind : Kind) (old : View) (puts : List Put) (facts : DispatchFacts kin
       where
         by : (test : Bool) → (s.place == solving.place) ≡ test → IsGivenUpTo content.number (given_in new r)
         by false is =
-            absurd (given_still s has (λ other same. let at : s.place ≡ solving.place = same ∙ one_solving other solving in absurd (grind (arith, nat_tests, is, at)))
+            absurd (given_still s has (λ other same. let at : s.place ≡ solving.place = same ∙ one_solving kind old other solving in absurd (grind (arith, nat_tests, is, at)))
             (up_some solving.number (given_in old s) (others_given solving s has (λ same. absurd (grind (arith, nat_tests, is, same))))) none)
         by true is =
             let at : s.place ≡ solving.place = grind (arith, nat_tests, is) in
             let r_apart : r.place ≢ solving.place = (λ same. apart (same ∙ sym at)) in
             let n = solved_there solving content (ap (known new) (sym at) ∙ held) in
-            let up = facts.stays new after r there (λ other same. r_apart (same ∙ one_solving other solving)) solving.number (others_given solving r there r_apart) in
+            let up = facts.stays new after r there (λ other same. r_apart (same ∙ one_solving kind old other solving)) solving.number (others_given solving r there r_apart) in
             let most = up.most in record { held = up.held; is = up.is; most = omega (arith, n, most) }
 
     -- what it rests on has no greater a number

@@ -1,17 +1,16 @@
 -- The reservoir: where a dispatch answers puts, the balance of what is held then is true, storage and elevation go together, and each
 -- derived slot holds what is derived.
-use Rattle.rw_laws.proofs.Common.{Bool, Brings, Contains, HasParameters, Kind, List, None, Option, Put, Reservoir, Row, Some, Takes, View, [], ap, ap₂, arith, balanced_of, difference, evaporation_from, evaporation_of, evaporation_put, false, given, inl, inr, int_min, ints, is_some, known_after, known_value, level_puts, none-some, pos, refl, release_puts, same_Some, side_flows, solved_put, subst, sum_of, sym, true, unwrap_or, ℕ, ℤ, ◌++◌, ◌-ℤ◌, ◌∙◌, ◌∷◌, ◌≡◌, ◌≤◌}
-use Rattle.rw_laws.specs.Balances.{IsBalanced, IsHeld, IsLevel, IsLost, IsReleased}
-use Rattle.rw_laws.specs.Passing.{IsAfter}
-use Rattle.rw_laws.proofs.Answering.{Answered}
-use Rattle.rw_laws.proofs.Balancing.{after_value, both_there, same_sides}
-use Rattle.rw_laws.proofs.Leaving.{DispatchFacts}
-use Rattle.rw_laws.proofs.Netting.{net_zero, put_value, rest_value}
-use Rattle.rw_laws.proofs.OwnPuts.{Among, among_left, among_right}
-use Rattle.rw_laws.proofs.PlainKinds.{base_in}
-use Rattle.rw_laws.proofs.ReservoirFacts.{agreed, level_held, no_middle, past_elevation, reservoir_facts}
-use Rattle.rw_laws.proofs.Settled.{contains}
-use Rattle.rw_laws.proofs.Terms.{sort}
+use Rattle.rw_method.proofs.Common.{Bool, Brings, Contains, IsStored, Kind, List, None, Option, Put, Reservoir, Row, Some, Takes, View, [], ap, ap₂, arith, balanced_of, difference, evaporation_from, evaporation_of, evaporation_put, false, given, inl, inr, int_min, ints, is_some, known_after, known_value, level_puts, none-some, pos, refl, release_puts, same_Some, side_flows, solved_put, subst, sum_of, sym, true, unwrap_or, ℕ, ℤ, ◌++◌, ◌-ℤ◌, ◌∙◌, ◌∷◌, ◌≡◌, ◌≤◌}
+use Rattle.rw_method.specs.Balanced.{IsBalanced, IsHeld, IsLevel, IsLost, IsReleased}
+use Rattle.rw_method.specs.Passing.{IsAfterOwn}
+use Rattle.rw_method.proofs.Answering.{Answered}
+use Rattle.rw_method.proofs.Balancing.{after_value, both_there, same_sides}
+use Rattle.rw_method.proofs.Leaving.{DispatchFacts}
+use Rattle.rw_method.proofs.Netting.{net_zero, put_value, rest_value}
+use Rattle.rw_method.proofs.Among.{Among, among_left, among_right, contains}
+use Rattle.rw_method.proofs.PlainKinds.{base_in}
+use Rattle.rw_method.proofs.ReservoirFacts.{agreed, level_held, no_middle, past_elevation, reservoir_facts}
+use Rattle.rw_method.proofs.Terms.{sort}
 
 both_of : (a b : Option ℤ) (d : ℤ) → difference a b ≡ Some d → (x : ℤ) × ((y : ℤ) × ((a ≡ Some x) × ((b ≡ Some y) × (x -ℤ y ≡ d))))
 both_of None b d is = absurd (none-some d is)
@@ -25,8 +24,8 @@ same_evaporation true (Some rows) old new past rate = ap₂ (λ p r. evaporation
 same_evaporation false (Some rows) old new past rate = refl
 
 module _ (initial_storage : ℤ) (table : Option (List Row)) (local_inflow diversion return_flow evaporation : Bool) (max_release : Option ℤ) (old : View) (puts : List Put)
-    (sound : HasParameters initial_storage table evaporation max_release)
-    (is : Answered (Reservoir initial_storage table local_inflow diversion return_flow evaporation max_release) old puts) (new : View) (after : IsAfter old new puts) (same_past : new.past ≡ old.past) where
+    (sound : IsStored initial_storage table evaporation max_release)
+    (is : Answered (Reservoir initial_storage table local_inflow diversion return_flow evaporation max_release) old puts) (new : View) (after : IsAfterOwn old new puts) where
   abbrev kind : Kind
   kind = Reservoir initial_storage table local_inflow diversion return_flow evaporation max_release
 
@@ -51,13 +50,13 @@ module _ (initial_storage : ℤ) (table : Option (List Row)) (local_inflow diver
   evaporated_held false found choice at past evaporates past_is amount = tt
   evaporated_held true None choice at past evaporates past_is amount = tt
   evaporated_held true (Some rows) choice at past evaporates past_is amount =
-      let same = same_evaporation evaporation table old new same_past (middle 7 (omega arith) (omega arith)) in
+      let same = same_evaporation evaporation table old new after.past (middle 7 (omega arith) (omega arith)) in
       let put : Put = record { place = 8; value = unwrap_or (evaporation_of evaporation table old) (pos 0); number = 0 } in
       let has : Among (evaporation_put evaporation (evaporation_of evaporation table old)) put = subst (λ c. Among (evaporation_put c (evaporation_of evaporation table old)) put) (sym choice) (inl refl) in
       let known : evaporation_of evaporation table new ≡ Some evaporates = ap₂ (λ c t. evaporation_of c t new) choice at ∙ amount in
       record {
         held = put_value old new puts after put (evaporates_there put has) ∙ ap (λ a. Some (unwrap_or a (pos 0))) (sym same ∙ known);
-        elevation = ap is_some (past_elevation initial_storage table local_inflow diversion return_flow evaporation max_release old puts sound is rows at choice past (sym same_past ∙ past_is)).1;
+        elevation = ap is_some (past_elevation initial_storage table local_inflow diversion return_flow evaporation max_release old puts sound is rows at choice past (sym after.past ∙ past_is)).1;
         amount = λ rate lost rate_is lost_is.
             same_Some _ _ (sym amount ∙ ap₂ (λ p r. evaporation_from rows p r) past_is rate_is ∙ ap (λ z. Some (unwrap_or z (pos 0))) lost_is);
       }
@@ -87,10 +86,10 @@ module _ (initial_storage : ℤ) (table : Option (List Row)) (local_inflow diver
       (((λ same. omega (arith, same)), ((λ same. omega (arith, same)), tt)), (((λ same. omega (arith, same)), tt), (tt, tt)))
       (sort Brings 0) (inl refl) (inflow ∷ outflow ∷ stores ∷ []) (held_in, (held_out, (held_storage, tt))) in
       let same_side = same_sides old new 4 local_inflow diversion return_flow (middle 4 (omega arith) (omega arith)) (middle 5 (omega arith) (omega arith)) (middle 6 (omega arith) (omega arith)) in
-      let same_lost = same_evaporation evaporation table old new same_past (middle 7 (omega arith) (omega arith)) in
+      let same_lost = same_evaporation evaporation table old new after.past (middle 7 (omega arith) (omega arith)) in
       let parts = both_of (sum_of old.past (side_flows old 4 local_inflow diversion return_flow)) (evaporation_of evaporation table old) is.steady is.is_steady in
       let sums = both_there old.past (side_flows old 4 local_inflow diversion return_flow) parts.0 parts.1.1.0 in
-      let p : sums.0 ≡ past = same_Some _ _ (sym sums.1.1.0 ∙ sym same_past ∙ past_is) in
+      let p : sums.0 ≡ past = same_Some _ _ (sym sums.1.1.0 ∙ sym after.past ∙ past_is) in
       let f : sums.1.0 ≡ side = same_Some _ _ (sym sums.1.1.1.0 ∙ sym same_side ∙ sides) in
       let e : parts.1.0 ≡ evaporates = same_Some _ _ (sym parts.1.1.1.0 ∙ sym same_lost ∙ evaporates_is) in
       let sum = sums.1.1.1.1 in let less = parts.1.1.1.1 in

@@ -1,11 +1,11 @@
 -- How what an object sees goes on from one event to the next.
-use Rattle.std.specs.Prelude.{◌≡◌, ◌≢◌, ◌⊎◌, ℕ, ◌≤◌, false, List, Contains, Some}
+use Rattle.std.specs.Prelude.{◌≡◌, ◌≢◌, ◌⊎◌, ℕ, ◌≤◌, false, true, List, Contains, Some}
 use Rattle.rw_model.specs.declared.content.Content.{Content}
 use Rattle.rw_model.specs.declared.writer.Writer.TheVariants.{Object}
 use Rattle.rw_method.specs.declared.put.Put.{Put}
 use Rattle.rw_method.specs.declared.view.View.{View}
 use Rattle.rw_method.specs.View.{known}
-use Rattle.rw_laws.specs.Left.{is_own}
+use Rattle.rw_method.specs.Left.{is_own}
 
 -- another wrote to a slot, over a content with no lesser number if there was one
 pub record IsReplaced (old new : View) (place : ℕ) : Type 0 where
@@ -15,8 +15,9 @@ pub record IsReplaced (old new : View) (place : ℕ) : Type 0 where
   pub falls : (before : Content) → known old place ≡ Some before → content.number ≤ before.number
 
 -- what others leave: each slot holds what it held, or what another wrote
-pub record Passes (old new : View) : Type 0 where
+pub record IsAfterOthers (old new : View) : Type 0 where
   pub own : new.own ≡ old.own
+  pub past : new.past ≡ old.past
   pub slots : (place : ℕ) → (known new place ≡ known old place) ⊎ IsReplaced old new place
 
 -- the content that a put of the object makes
@@ -37,7 +38,12 @@ pub record IsKept (old new : View) (put : Put) : Type 0 where
   pub number : content.number ≤ put.number
 
 -- what the object's own puts leave: each is written or kept, and every other slot holds what it held
-pub record IsAfter (old new : View) (puts : List Put) : Type 0 where
+pub record IsAfterOwn (old new : View) (puts : List Put) : Type 0 where
   pub own : new.own ≡ old.own
+  pub past : new.past ≡ old.past
   pub put : (put : Put) → Contains puts put → IsWritten old new put ⊎ IsKept old new put
   pub rest : (place : ℕ) → ((put : Put) → Contains puts put → put.place ≢ place) → known new place ≡ known old place
+
+-- over a content that the object wrote itself a put has no greater number
+abbrev pub IsOwnFall : View → Put → Type 0
+IsOwnFall view put = (content : Content) → known view put.place ≡ Some content → is_own view content ≡ true → put.number ≤ content.number

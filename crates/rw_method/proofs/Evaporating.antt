@@ -1,5 +1,5 @@
 -- A table gives what evaporates of a storage that has an elevation, at a rate that isn't below 0.
-use Rattle.rw_laws.proofs.Common.{Bool, IsElevationInside, IsTable, IsVolumeInside, List, None, Row, Some, and_parts, ap, ap₂, arith, cond_both, difference, elev_held, elev_of, evaporated, false, first_row, greatest_up_to, has_volume_inside, if◌then◌else◌, int_le, int_lt, int_max, ints, last_row, none-some, option_and_then, pos, refl, same_Some, sym, true, unsigned_abs, vol_of, ℤ, ◌&&◌, ◌-ℤ◌, ◌∙◌, ◌≡◌, ◌≤ℤ◌}
+use Rattle.rw_method.proofs.Common.{Bool, IsElevationInside, IsTable, IsVolumeInside, List, None, Row, Some, and_parts, ap, ap₂, arith, cond_both, difference, elev_held, elev_of, evaporated, false, first_row, greatest_up_to, has_volume_inside, if◌then◌else◌, int_le, int_lt, int_max, ints, last_row, none-some, option_and_then, pos, refl, same_Some, sym, true, unsigned_abs, vol_of, ℤ, ◌&&◌, ◌-ℤ◌, ◌∙◌, ◌≡◌, ◌≤ℤ◌}
 
 -- a volume that has an elevation is inside the table
 inside_by : (rows : List Row) (s e : ℤ) (test : Bool) → (int_le (first_row rows).1 s && int_le s (last_row rows).1) ≡ test

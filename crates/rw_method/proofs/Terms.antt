@@ -1,8 +1,8 @@
 -- The terms of a balance, and by what each is given.
-use Rattle.rw_laws.proofs.Common.{AllByRecursion, Bifurcation, Bool, Brings, ByObject, ByRule, Canal, Confluence, Content, Conveys, DataObject, Elevation, Gage, Given, Kind, List, None, ObjectNo, Option, Reach, Request, Reservoir, Row, Share, Some, Storage, Takes, Term, View, WaterUser, [], ap, arith, balance_of, basis_of, contents_by, false, given, given_by, if◌then◌else◌, inl, inr, is_same_object, known, map, nat_le, nat_tests, none-some, pos, refl, same_Some, subst, suc, sym, true, unwrap_or, volume_of, zero, ℕ, ◌∙◌, ◌∷◌, ◌≡◌, ◌≤◌, ◌⊎◌}
-use Rattle.rw_laws.specs.Left.{IsGivenUpTo, is_own}
-use Rattle.rw_laws.specs.Passing.{Passes}
-use Rattle.rw_laws.proofs.OwnPuts.{Among}
+use Rattle.rw_method.proofs.Common.{AllByRecursion, Bifurcation, Bool, Brings, ByObject, ByRule, Canal, Confluence, Content, Conveys, DataObject, Elevation, Gage, Given, Kind, List, None, ObjectNo, Option, Reach, Request, Reservoir, Row, Share, Some, Storage, Takes, Term, View, WaterUser, [], ap, arith, balance_of, basis_of, contents_by, false, given, given_by, if◌then◌else◌, inl, inr, is_same_object, known, map, nat_le, nat_tests, none-some, option_map, pos, refl, same_Some, subst, suc, sym, true, unwrap_or, volume_of, zero, ℕ, ℤ, ◌∙◌, ◌∷◌, ◌≡◌, ◌≤◌, ◌⊎◌}
+use Rattle.rw_method.specs.Left.{IsGivenUpTo, is_own}
+use Rattle.rw_method.specs.Passing.{IsAfterOthers}
+use Rattle.rw_method.proofs.Among.{Among}
 
 -- ---- a term of a kind, apart from any view
 
@@ -91,6 +91,11 @@ among_terms view (first ∷ shape) s (inr later) = inr (among_terms view shape s
 
 -- ---- what is given
 
+-- what has a value is known
+pub some_value : (held : Option Content) (value : ℤ) → option_map (λ (content : Content). content.value) held ≡ Some value → (content : Content) × (held ≡ Some content)
+some_value None value is = absurd (none-some value is)
+some_value (Some content) value is = (content, refl)
+
 abbrev pub given_of : Content → Given
 given_of content = record { value = content.value; number = content.number }
 
@@ -130,6 +135,14 @@ given_as_by view place held (Some content) there is = given_as_when view place h
 
 pub given_as : (view : View) (place : ℕ) (held : Given) → given view place ≡ Some held → IsGivenAs view place held
 given_as view place held is = given_as_by view place held (known view place) refl is
+
+-- what is given in a slot has the number of what the slot holds
+pub given_number : (view : View) (place : ℕ) (held : Given) (content : Content) → given view place ≡ Some held → known view place ≡ Some content → held.number ≤ content.number
+given_number view place held content given_is there =
+    let seen = given_as view place held given_is in
+    let same : seen.content ≡ content = same_Some _ _ (sym seen.there ∙ there) in
+    let n : seen.content.number ≡ content.number = ap (λ (c : Content). c.number) same in
+    let m = seen.number in omega (arith, n, m)
 
 -- ---- contents
 
@@ -195,7 +208,7 @@ own_in view s content sorted none there = own_from view s.place s.source content
 pub same_given : (old new : View) (place : ℕ) → new.own ≡ old.own → known new place ≡ known old place → given new place ≡ given old place
 same_given old new place own same = ap (λ o. given_by o (known new place)) own ∙ ap (given_by old.own) same
 
-pub other_given : (old new : View) → Passes old new → (place number : ℕ) → IsGivenUpTo number (given old place) → IsGivenUpTo number (given new place)
+pub other_given : (old new : View) → IsAfterOthers old new → (place number : ℕ) → IsGivenUpTo number (given old place) → IsGivenUpTo number (given new place)
 other_given old new passes place number is = elim (passes.slots place) [
   | inl same ↦ record { held = is.held; is = same_given old new place passes.own same ∙ is.is; most = is.most }
   | inr replaced ↦
@@ -210,7 +223,7 @@ other_given old new passes place number is = elim (passes.slots place) [
       }
 ]
 
-other_from : (old new : View) → Passes old new → (place : ℕ) (source : Source) (number : ℕ) → IsGivenUpTo number (given_from old place source) → IsGivenUpTo number (given_from new place source)
+other_from : (old new : View) → IsAfterOthers old new → (place : ℕ) (source : Source) (number : ℕ) → IsGivenUpTo number (given_from old place source) → IsGivenUpTo number (given_from new place source)
 other_from old new passes place slot number is = other_given old new passes place number is
 other_from old new passes place (contents table) number is =
     to_contents table (given new 2) (given new 3) number (elim (from_contents table (given old 2) (given old 3) number is) [
@@ -218,5 +231,5 @@ other_from old new passes place (contents table) number is =
       | inr elevation ↦ inr (other_given old new passes 3 number elevation)
     ])
 
-pub other_in : (old new : View) → Passes old new → (s : Sort) (number : ℕ) → IsGivenUpTo number (given_in old s) → IsGivenUpTo number (given_in new s)
+pub other_in : (old new : View) → IsAfterOthers old new → (s : Sort) (number : ℕ) → IsGivenUpTo number (given_in old s) → IsGivenUpTo number (given_in new s)
 other_in old new passes s number is = other_from old new passes s.place s.source number is

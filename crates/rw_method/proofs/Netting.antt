@@ -1,11 +1,12 @@
 -- What the held values of a balance's terms bring, all together, once an object was dispatched.
-use Rattle.rw_laws.proofs.Common.{All, All-contains, AllByRecursion, Balanced, Bool, Contains, Contains-append_left, Contains-append_right, Contains-get_or, Content, Given, Holds, IsSome, Kind, List, None, Option, Put, Solves, Some, Term, View, [], ap, ap₂, arith, brought, brought_by, false, get_or, inl, inr, ints, known_value, map, net_of, option_map, pos, recursion_from_All, refl, same_Some, settled, solved_term, subst, sym, true, ℕ, ℤ, ◌++◌, ◌+ℤ◌, ◌∙◌, ◌∷◌, ◌≡◌, ◌≢◌}
-use Rattle.rw_laws.specs.Passing.{IsAfter}
-use Rattle.rw_laws.proofs.Answering.{Answered}
-use Rattle.rw_laws.proofs.Leaving.{DispatchFacts, Solving, holds_given}
-use Rattle.rw_laws.proofs.OwnPuts.{Among}
-use Rattle.rw_laws.proofs.Settled.{balanced_code, holds_facts}
-use Rattle.rw_laws.proofs.Terms.{Sort, given_in, shape_of, term_in}
+use Rattle.rw_method.proofs.Common.{All, All-contains, AllByRecursion, Bool, Contains, Contains-append_left, Contains-append_right, Contains-get_or, Content, Given, Holds, IsSome, Kind, List, None, Option, Put, Some, Term, View, [], ap, ap₂, arith, brought, brought_by, false, get_or, inl, inr, ints, known_value, map, net_of, option_map, pos, recursion_from_All, refl, same_Some, settled, subst, sym, true, ℕ, ℤ, ◌++◌, ◌+ℤ◌, ◌∙◌, ◌∷◌, ◌≡◌, ◌≢◌}
+use Rattle.rw_method.proofs.SolvedTerm.{solved_term}
+use Rattle.rw_method.specs.Passing.{IsAfterOwn}
+use Rattle.rw_method.proofs.Answering.{Answered}
+use Rattle.rw_method.proofs.Leaving.{DispatchFacts, Solving, holds_given, one_solving}
+use Rattle.rw_method.proofs.Among.{Among, all_among, all_mapped, both_all, weaker_all}
+use Rattle.rw_method.proofs.Settled.{balanced_code, holds_facts}
+use Rattle.rw_method.proofs.Terms.{Sort, given_in, shape_of, term_in}
 
 -- the slots of these sorts hold these values
 abbrev pub HeldIn : View → List Sort → List ℤ → Type 0
@@ -118,37 +119,21 @@ distinct_split (r ∷ before) s after apart =
 -- ---- what puts leave
 
 -- a put's value is there
-pub put_value : (old new : View) (puts : List Put) → IsAfter old new puts → (put : Put) → Contains puts put → known_value new put.place ≡ Some put.value
+pub put_value : (old new : View) (puts : List Put) → IsAfterOwn old new puts → (put : Put) → Contains puts put → known_value new put.place ≡ Some put.value
 put_value old new puts after put has = elim (after.put put has) [
   | inl written ↦ ap (option_map (λ (content : Content). content.value)) written.is
   | inr kept ↦ ap (option_map (λ (content : Content). content.value)) kept.is ∙ ap Some kept.value
 ]
 
-pub rest_value : (old new : View) (puts : List Put) → IsAfter old new puts → (place : ℕ) → ((put : Put) → Contains puts put → put.place ≢ place) → known_value new place ≡ known_value old place
+pub rest_value : (old new : View) (puts : List Put) → IsAfterOwn old new puts → (place : ℕ) → ((put : Put) → Contains puts put → put.place ≢ place) → known_value new place ≡ known_value old place
 rest_value old new puts after place none = ap (option_map (λ (content : Content). content.value)) (after.rest place none)
-
-sure_all : (old new : View) (P Q : Sort → Type 0) (shape : List Sort) → AllByRecursion P shape → AllByRecursion Q shape → ((s : Sort) → P s → Q s → IsSure old new s) → AllByRecursion (IsSure old new) shape
-sure_all old new P Q [] p q f = tt
-sure_all old new P Q (s ∷ shape) p q f = (f s p.0 q.0, sure_all old new P Q shape p.1 q.1 f)
-
--- each is one of them
-members : (shape : List Sort) → AllByRecursion (Among shape) shape
-members shape = by shape (λ s has. has)
-  where
-    by : (xs : List Sort) → ((s : Sort) → Among xs s → Among shape s) → AllByRecursion (Among shape) xs
-    by [] f = tt
-    by (x ∷ xs) f = (f x (inl refl), by xs (λ s has. f s (inr has)))
-
-given_terms : (old : View) (shape : List Sort) → AllByRecursion (λ (t : Term). IsSome t.given) (map (term_in old) shape) → AllByRecursion (λ (s : Sort). IsSome (given_in old s)) shape
-given_terms old [] all = tt
-given_terms old (s ∷ shape) all = (all.0, given_terms old shape all.1)
 
 all_holds : (old : View) (shape : List Sort) (steady : ℤ) → settled (Some steady) (map (term_in old) shape) ≡ Holds → (first : Sort) → Among shape first
     → (steady +ℤ net_of (map (term_in old) shape) ≡ pos 0)
 all_holds old [] steady holds first has = absurd has
 all_holds old (s ∷ shape) steady holds first has = (holds_facts steady (term_in old s) (map (term_in old) shape) holds).balances
 
-module _ (kind : Kind) (old : View) (puts : List Put) (is : Answered kind old puts) (facts : DispatchFacts kind old puts) (new : View) (after : IsAfter old new puts)
+module _ (kind : Kind) (old : View) (puts : List Put) (is : Answered kind old puts) (facts : DispatchFacts kind old puts) (new : View) (after : IsAfterOwn old new puts)
     (agreed : (s : Sort) → Among (shape_of kind) s → ((solving : Solving kind old) → s.place ≢ solving.place) → IsAgreed old new s) (apart : AreDistinct (shape_of kind)) where
   solved_zero : (solving : Solving kind old) (vs : List ℤ) → HeldIn new (shape_of kind) vs → is.steady +ℤ net_in (shape_of kind) vs ≡ pos 0
   solved_zero solving vs held =
@@ -157,22 +142,18 @@ module _ (kind : Kind) (old : View) (puts : List Put) (is : Answered kind old pu
       let parts = split old (shape_of kind) way.before of.term way.after way.among in
       let at : parts.at.place ≡ solving.place = ap (λ (t : Term). t.place) (sym parts.at_is) ∙ of.there in
       let distinct = distinct_split parts.first parts.at parts.later (subst AreDistinct parts.whole apart) in
-      let among_all = all_split (Among (shape_of kind)) parts.first parts.at parts.later (subst (AllByRecursion (Among (shape_of kind))) parts.whole (members (shape_of kind))) in
+      let among_all = all_split (Among (shape_of kind)) parts.first parts.at parts.later (subst (AllByRecursion (Among (shape_of kind))) parts.whole (all_among (Among (shape_of kind)) (shape_of kind) (λ s has. has))) in
       let given_all : All (λ (t : Term). IsSome t.given) (way.before ++ way.after) = of.given in
       let given_before : AllByRecursion (λ (s : Sort). IsSome (given_in old s)) parts.first =
-      given_terms old parts.first (subst (AllByRecursion (λ (t : Term). IsSome t.given)) parts.first_is
+      all_mapped (λ (t : Term). IsSome t.given) (term_in old) parts.first (subst (AllByRecursion (λ (t : Term). IsSome t.given)) parts.first_is
       (recursion_from_All (λ (t : Term). IsSome t.given) way.before (all_left (λ (t : Term). IsSome t.given) way.before way.after given_all))) in
       let given_after : AllByRecursion (λ (s : Sort). IsSome (given_in old s)) parts.later =
-      given_terms old parts.later (subst (AllByRecursion (λ (t : Term). IsSome t.given)) parts.later_is
+      all_mapped (λ (t : Term). IsSome t.given) (term_in old) parts.later (subst (AllByRecursion (λ (t : Term). IsSome t.given)) parts.later_is
       (recursion_from_All (λ (t : Term). IsSome t.given) way.after (all_right (λ (t : Term). IsSome t.given) way.before way.after given_all))) in
       let one : ((s : Sort) → Among (shape_of kind) s → s.place ≢ parts.at.place → IsAgreed old new s) = (λ s has far.
-      agreed s has (λ other same. far (same ∙ one_place other solving ∙ sym at))) in
-      let sure_before = sure_all old new (λ s. Among (shape_of kind) s × (s.place ≢ parts.at.place)) (λ s. IsSome (given_in old s)) parts.first
-      (pair_all (Among (shape_of kind)) (λ s. s.place ≢ parts.at.place) parts.first among_all.0 distinct.0) given_before
-      (λ s p some. (some, one s p.0 p.1)) in
-      let sure_after = sure_all old new (λ s. Among (shape_of kind) s × (parts.at.place ≢ s.place)) (λ s. IsSome (given_in old s)) parts.later
-      (pair_all (Among (shape_of kind)) (λ s. parts.at.place ≢ s.place) parts.later among_all.1.1 distinct.1) given_after
-      (λ s p some. (some, one s p.0 (λ same. p.1 (sym same)))) in
+      agreed s has (λ other same. far (same ∙ one_solving kind old other solving ∙ sym at))) in
+      let sure_before = sure_of parts.first given_before among_all.0 (λ s. s.place ≢ parts.at.place) distinct.0 (λ s has far. one s has far) in
+      let sure_after = sure_of parts.later given_after among_all.1.1 (λ s. parts.at.place ≢ s.place) distinct.1 (λ s has far. one s has (λ same. far (sym same))) in
       let put_held : known_value new solving.place ≡ Some solving.value =
       put_value old new puts after (record { place = solving.place; value = solving.value; number = solving.number }) (facts.has_solved solving) in
       let here : known_value new parts.at.place ≡ Some solving.value = ap (known_value new) at ∙ put_held in
@@ -184,22 +165,18 @@ module _ (kind : Kind) (old : View) (puts : List Put) (is : Answered kind old pu
       let zero_sum = of.balances in
       omega (arith, ints, net, share, first, later, whole, zero_sum)
     where
-      place_in : Balanced → ℕ
-      place_in (Solves place value number) = place
-      place_in balanced = 0
-
-      one_place : (one other : Solving kind old) → one.place ≡ other.place
-      one_place one other = ap place_in (sym one.is ∙ other.is)
-
       all_left : (P : Term → Type 0) (xs ys : List Term) → All P (xs ++ ys) → All P xs
       all_left P xs ys all k d lt = All-contains P (xs ++ ys) (get_or xs k d) all (Contains-append_left xs ys (get_or xs k d) (Contains-get_or xs k d lt))
 
       all_right : (P : Term → Type 0) (xs ys : List Term) → All P (xs ++ ys) → All P ys
       all_right P xs ys all k d lt = All-contains P (xs ++ ys) (get_or ys k d) all (Contains-append_right xs ys (get_or ys k d) (Contains-get_or ys k d lt))
 
-      pair_all : (P Q : Sort → Type 0) (shape : List Sort) → AllByRecursion P shape → AllByRecursion Q shape → AllByRecursion (λ s. P s × Q s) shape
-      pair_all P Q [] p q = tt
-      pair_all P Q (s ∷ shape) p q = ((p.0, q.0), pair_all P Q shape p.1 q.1)
+      sure_of : (part : List Sort) → AllByRecursion (λ (s : Sort). IsSome (given_in old s)) part → AllByRecursion (Among (shape_of kind)) part
+          → (IsFar : Sort → Type 0) → AllByRecursion IsFar part → ((s : Sort) → Among (shape_of kind) s → IsFar s → IsAgreed old new s) → AllByRecursion (IsSure old new) part
+      sure_of part given_all has_all IsFar far_all f =
+          both_all (λ (s : Sort). IsSome (given_in old s)) (IsAgreed old new) part given_all
+          (weaker_all (λ s. Among (shape_of kind) s × IsFar s) (IsAgreed old new) part (λ s both. f s both.0 both.1)
+          (both_all (Among (shape_of kind)) IsFar part has_all far_all))
 
   -- beside what else is brought, what is held comes to nothing
   pub net_zero : (first : Sort) → Among (shape_of kind) first → (vs : List ℤ) → HeldIn new (shape_of kind) vs → is.steady +ℤ net_in (shape_of kind) vs ≡ pos 0
@@ -207,8 +184,7 @@ module _ (kind : Kind) (old : View) (puts : List Put) (is : Answered kind old pu
     | inr solving ↦ solved_zero solving vs held
     | inl holds ↦
         let zero_sum = all_holds old (shape_of kind) is.steady (is.settles ∙ holds) first has in
-        let net = same_net old new (shape_of kind) vs held (sure_all old new (Among (shape_of kind)) (Among (shape_of kind)) (shape_of kind) (members (shape_of kind)) (members (shape_of kind))
-        (λ s in_shape also. (
+        let net = same_net old new (shape_of kind) vs held (all_among (IsSure old new) (shape_of kind) (λ s in_shape. (
           holds_given old (shape_of kind) is.steady (is.settles ∙ holds) s in_shape,
           agreed s in_shape (λ solving same. let differ : 1 ≡ 2 = ap balanced_code (sym holds ∙ solving.is) in omega (arith, differ)),
         ))) in

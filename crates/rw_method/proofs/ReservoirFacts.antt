@@ -1,13 +1,15 @@
 -- The reservoir, whose contents are given by its storage or by its elevation.
-use Rattle.rw_laws.proofs.Common.{All, AllByRecursion, AllFit, Balanced, Basis, Bool, Brings, Conflict, Conflicts, Contains, Content, Decides-int_eq, Elevation, Given, Holds, Idle, IsShare, IsSome, IsStored, Kind, List, None, Nothing, Option, OutOfRange, Put, Reservoir, Row, Solved, Solves, Some, Storage, Takes, Term, View, [], agree, and_parts, ap, ap₂, are_both_zero, arith, balanced_of, basis_of, beside_basis, beside_given, can_hold, contents_by, disagreement, elev_of, elevation_of, evaporation_of, evaporation_put, false, fault_of_basis, fault_of_past, first_misfit, fits, given, held_by, if◌then◌else◌, inl, inr, is_held, is_some, is_this, known, known_after, known_value, level_puts, map, nat_le, nat_tests, none-some, not, option_map, or_else, pos, put_found, refl, release_puts, same_Some, solved_put, subst, suc, sym, true, unwrap_or, vol_of, volume_of, zero, ℕ, ℤ, ◌&&◌, ◌++◌, ◌<◌, ◌==◌, ◌||◌, ◌∙◌, ◌∷◌, ◌≡◌, ◌≢◌, ◌≤◌, ◌⊎◌}
-use Rattle.rw_laws.specs.Left.{IsGivenUpTo, Rest, is_own, rest, rests_of}
-use Rattle.rw_laws.specs.Passing.{IsAfter}
-use Rattle.rw_laws.proofs.Answering.{Answered}
-use Rattle.rw_laws.proofs.Leaving.{DispatchFacts, IsBase, LeftBy, PutIs, Solving, holds_given, plain, rests, solved}
-use Rattle.rw_laws.proofs.OwnPuts.{Among, all_at, among, among_left, among_right}
-use Rattle.rw_laws.proofs.PlainKinds.{all_append, base_in, of_solving, shares_three, solved_at, solving_facts}
-use Rattle.rw_laws.proofs.Settled.{balanced_code, contains}
-use Rattle.rw_laws.proofs.Terms.{Sort, Source, contents, given_as, given_in, given_of, given_other, same_given, shape_of, slot, sort, term_in, to_contents}
+use Rattle.rw_method.proofs.Common.{All, AllByRecursion, AllFit, Balanced, Basis, Bool, Brings, Conflict, Conflicts, Contains, Content, Decides-int_eq, Elevation, Given, Holds, Idle, IsShare, IsStored, Kind, List, None, Nothing, Option, OutOfRange, Put, Reservoir, Row, Solved, Solves, Some, Storage, Takes, Term, View, [], agree, and_parts, ap, ap₂, are_both_zero, arith, balanced_of, basis_of, beside_basis, beside_given, can_hold, contents_by, disagreement, elev_of, elevation_of, evaporation_of, evaporation_put, false, fault_of_basis, fault_of_past, fits, given, held_by, if◌then◌else◌, inl, inr, is_held, is_some, is_this, known, known_after, known_value, level_puts, map, nat_le, nat_tests, none-some, not, option_map, or_else, pos, put_found, refl, release_puts, same_Some, solved_put, subst, suc, sym, true, unwrap_or, vol_of, volume_of, zero, ℕ, ℤ, ◌&&◌, ◌++◌, ◌<◌, ◌==◌, ◌||◌, ◌∙◌, ◌∷◌, ◌≡◌, ◌≢◌, ◌≤◌, ◌⊎◌}
+use Rattle.rw_method.specs.Left.{IsGivenUpTo, Rest, is_own, rest, rests_of}
+use Rattle.rw_method.specs.Passing.{IsAfterOwn}
+use Rattle.rw_method.proofs.Answering.{Answered}
+use Rattle.rw_method.proofs.Leaving.{DispatchFacts, IsBase, LeftBy, PutIs, Solving, holds_given, place_in, plain, rests, solved}
+use Rattle.rw_method.proofs.Among.{Among, all_append, all_at, among, among_left, among_right, contains, some_there, weaker_all}
+use Rattle.rw_method.proofs.Netting.{put_value}
+use Rattle.rw_method.proofs.PutFacts.{first_fits}
+use Rattle.rw_method.proofs.PlainKinds.{base_in, of_solving, shares_three, solved_at, solving_facts}
+use Rattle.rw_method.proofs.Settled.{balanced_code}
+use Rattle.rw_method.proofs.Terms.{Sort, Source, contents, given_as, given_in, given_number, given_of, given_other, same_given, shape_of, slot, sort, term_in, to_contents}
 
 -- ---- the basis
 
@@ -43,33 +45,21 @@ basis_cases table (Some s) (Some e) held is = by (nat_le s.number e.number) refl
       lesser = λ other is. let same : s.number ≡ other.number = ap (λ (g : Given). g.number) (same_Some _ _ is) in grind (arith, nat_tests, more, same);
     })
 
-abbrev storage_in : Basis → Option Given
-storage_in (Storage held) = Some held
-storage_in basis = None
+-- the basis is the storage or the elevation that is given
+abbrev IsFrom : Option Given → Option Given → Basis → Type 0
+IsFrom storage elevation Nothing = Unit {0}
+IsFrom storage elevation (Storage held) = storage ≡ Some held
+IsFrom storage elevation (Elevation held) = elevation ≡ Some held
 
-abbrev elevation_in : Basis → Option Given
-elevation_in (Elevation held) = Some held
-elevation_in basis = None
-
-storage_from : (s e : Option Given) (held : Given) → basis_of s e ≡ Storage held → s ≡ Some held
-storage_from (Some s) (Some e) held b = by (nat_le s.number e.number) b
+basis_from : (storage elevation : Option Given) → IsFrom storage elevation (basis_of storage elevation)
+basis_from None None = tt
+basis_from (Some s) None = refl
+basis_from None (Some e) = refl
+basis_from (Some s) (Some e) = by (nat_le s.number e.number)
   where
-    by : (test : Bool) → (if test then Storage s else Elevation e) ≡ Storage held → Some s ≡ Some held
-    by true b = ap storage_in b
-    by false b = absurd (none-some held (ap storage_in b))
-storage_from None None held b = ap storage_in b
-storage_from (Some s) None held b = ap storage_in b
-storage_from None (Some e) held b = ap storage_in b
-
-elevation_from : (s e : Option Given) (held : Given) → basis_of s e ≡ Elevation held → e ≡ Some held
-elevation_from (Some s) (Some e) held b = by (nat_le s.number e.number) b
-  where
-    by : (test : Bool) → (if test then Storage s else Elevation e) ≡ Elevation held → Some e ≡ Some held
-    by true b = absurd (none-some held (ap elevation_in b))
-    by false b = ap elevation_in b
-elevation_from None None held b = ap elevation_in b
-elevation_from (Some s) None held b = ap elevation_in b
-elevation_from None (Some e) held b = ap elevation_in b
+    by : (test : Bool) → IsFrom (Some s) (Some e) (if test then Storage s else Elevation e)
+    by true = refl
+    by false = refl
 
 none_first : (a b : Option Solved) → or_else a b ≡ None → (a ≡ None) × (b ≡ None)
 none_first None b e = (refl, e)
@@ -231,24 +221,23 @@ module _ (initial_storage : ℤ) (table : Option (List Row)) (local_inflow diver
     none_at_three : (solving : Solving kind view) → solving.place ≢ 3
     none_at_three solving same = let few = low_place solving in omega (arith, few, same)
 
-    basis_good : (none : (solving : Solving kind view) → solving.place ≢ 2) → (are_both_zero storage elevation ≡ true → ⊥) → (basis : Basis) → basis_of storage elevation ≡ basis
-        → ((held : Given) → basis_of storage elevation ≡ Storage held → storage ≡ Some held) → ((from : Given) → basis_of storage elevation ≡ Elevation from → elevation ≡ Some from)
+    basis_good : (none : (solving : Solving kind view) → solving.place ≢ 2) → (are_both_zero storage elevation ≡ true → ⊥) → (basis : Basis) → basis_of storage elevation ≡ basis → IsFrom storage elevation basis
         → AllByRecursion Good (beside_basis table basis)
-    basis_good none differ Nothing at from_storage from_elevation = tt
-    basis_good none differ (Storage held) at from_storage from_elevation = found_all Good 3 (elevation_of table held.value) held.number (λ read e.
-        let h = held_number 2 held (from_storage held at) in
+    basis_good none differ Nothing at is_from = tt
+    basis_good none differ (Storage held) at is_from = found_all Good 3 (elevation_of table held.value) held.number (λ read e.
+        let h = held_number 2 held is_from in
         elevation_good read held.number (rows_of table refl held.value read (inl e))
         (sym h.1.1 ∙ sym (ap (λ (g : Given). g.number) (not_solved (balanced_of kind view) refl 2 none))) (inl (h.0, h.1.0))
         (λ from other stores. let no : 1 ≡ 2 = sym (ap basis_code at) ∙ ap basis_code other in omega (arith, no)) (λ zeros stores. differ zeros))
-    basis_good none differ (Elevation from) at from_storage from_elevation = found_all Good 2 (volume_of table from.value) from.number (λ read e.
-        let h = held_number 3 from (from_elevation from at) in
+    basis_good none differ (Elevation from) at is_from = found_all Good 2 (volume_of table from.value) from.number (λ read e.
+        let h = held_number 3 from is_from in
         volume_good read from.number (rows_of table refl from.value read (inr e))
         (sym h.1.1 ∙ sym (ap (λ (g : Given). g.number) (not_solved (balanced_of kind view) refl 3 none_at_three))) (inl (h.0, h.1.0))
         (λ held other. let no : 2 ≡ 1 = sym (ap basis_code at) ∙ ap basis_code other in omega (arith, no)))
 
     given_good : (none : (solving : Solving kind view) → solving.place ≢ 2) → (test : Bool) → are_both_zero storage elevation ≡ test → AllByRecursion Good (if test then [] else beside_basis table (basis_of storage elevation))
     given_good none true zeros = tt
-    given_good none false zeros = basis_good none (λ both. let differ : true ≡ false = sym both ∙ zeros in cc) (basis_of storage elevation) refl (storage_from storage elevation) (elevation_from storage elevation)
+    given_good none false zeros = basis_good none (λ both. let differ : true ≡ false = sym both ∙ zeros in cc) (basis_of storage elevation) refl (basis_from storage elevation)
 
     level_is_good : (balanced : Balanced) → balanced_of kind view ≡ balanced → AllByRecursion Good (level_puts table storage elevation balanced)
     level_is_good Idle e = given_good (λ solving same. let no : 0 ≡ 2 = ap balanced_code (sym e ∙ solving.is) in omega (arith, no)) (are_both_zero storage elevation) refl
@@ -256,12 +245,8 @@ module _ (initial_storage : ℤ) (table : Option (List Row)) (local_inflow diver
     level_is_good (Conflicts place held found) e = given_good (λ solving same. let no : 3 ≡ 2 = ap balanced_code (sym e ∙ solving.is) in omega (arith, no)) (are_both_zero storage elevation) refl
     level_is_good (Solves place value number) e = by (place == 2) refl
       where
-        place_of : Balanced → ℕ
-        place_of (Solves place value number) = place
-        place_of balanced = 9
-
         by : (test : Bool) → (place == 2) ≡ test → AllByRecursion Good (if test then put_found 3 (elevation_of table value) number else beside_given table storage elevation)
-        by false apart = given_good (λ solving same. let at : place ≡ solving.place = ap place_of (sym e ∙ solving.is) in absurd (grind (arith, nat_tests, apart, at, same))) (are_both_zero storage elevation) refl
+        by false apart = given_good (λ solving same. let at : place ≡ solving.place = ap place_in (sym e ∙ solving.is) in absurd (grind (arith, nat_tests, apart, at, same))) (are_both_zero storage elevation) refl
         by true same =
             let at : place ≡ 2 = grind (arith, nat_tests, same) in
             let solves_two : balanced_of kind view ≡ Solves 2 value number = e ∙ ap (λ p. Solves p value number) at in
@@ -327,15 +312,10 @@ module _ (initial_storage : ℤ) (table : Option (List Row)) (local_inflow diver
         (among_left _ (evaporation_put evaporation (evaporation_of evaporation table view)) put
         (among_right (solved_put (balanced_of kind view)) (level_puts table storage elevation (balanced_of kind view)) put has)))
 
-    first_fits : (fit : Put → Bool) (put : Put) (rest_puts : List Put) (test : Bool) → fit put ≡ test → (if test then first_misfit fit rest_puts else Some put) ≡ None
-        → (fit put ≡ true) × AllFit fit rest_puts
-    first_fits fit put rest_puts true fine e = (fine, e)
-    first_fits fit put rest_puts false fine e = absurd (none-some put (sym e))
-
     fit_at : (fit : Put → Bool) (xs : List Put) (put : Put) → AllFit fit xs → Among xs put → fit put ≡ true
     fit_at fit [] put all has = absurd has
-    fit_at fit (x ∷ xs) put all (inl same) = subst (λ p. fit p ≡ true) same (first_fits fit x xs (fit x) refl all).0
-    fit_at fit (x ∷ xs) put all (inr later) = fit_at fit xs put (first_fits fit x xs (fit x) refl all).1 later
+    fit_at fit (x ∷ xs) put all (inl same) = subst (λ p. fit p ≡ true) same (first_fits fit x xs all).0
+    fit_at fit (x ∷ xs) put all (inr later) = fit_at fit xs put (first_fits fit x xs all).1 later
 
     elevation_there : (rows : List Row) → table ≡ Some rows → (value : ℤ) → can_hold table value ≡ true → (read : ℤ) × (elevation_of table value ≡ Some read)
     elevation_there rows at value holds = by (elevation_of table value) refl
@@ -346,18 +326,21 @@ module _ (initial_storage : ℤ) (table : Option (List Row)) (local_inflow diver
             let has : is_some (elevation_of table value) ≡ true = ap (λ z. is_some (elevation_of z value)) at ∙ sym (ap (λ z. can_hold z value) at) ∙ holds in
             absurd (let no : false ≡ true = sym (ap is_some e) ∙ has in cc)
 
+    -- nothing is wrong with the contents
+    faultless : (fault_of_past evaporation table view.past ≡ None) × ((fault_of_basis table (basis_of storage elevation) ≡ None) × (disagreement table storage elevation ≡ None))
+    faultless =
+        let first = none_first (fault_of_past evaporation table view.past) (or_else (fault_of_basis table (basis_of storage elevation)) (disagreement table storage elevation)) is.fine in
+        (first.0, none_first (fault_of_basis table (basis_of storage elevation)) (disagreement table storage elevation) first.1)
+
     -- where evaporation is chosen, the storage before has an elevation
     pub past_elevation : (rows : List Row) → table ≡ Some rows → evaporation ≡ true → (past : ℤ) → view.past ≡ Some past → (e : ℤ) × (elev_of rows past ≡ Some e)
     past_elevation rows at choice past past_is =
         let read = elevation_there rows at past (by (can_hold table past) refl) in (read.0, sym (ap (λ z. elevation_of z past) at) ∙ read.1)
       where
-        no_past_fault : fault_of_past evaporation table view.past ≡ None
-        no_past_fault = (none_first (fault_of_past evaporation table view.past) (or_else (fault_of_basis table (basis_of storage elevation)) (disagreement table storage elevation)) is.fine).0
-
         by : (test : Bool) → can_hold table past ≡ test → can_hold table past ≡ true
         by true e = e
         by false e = absurd (none-some (OutOfRange 2 past)
-            (sym no_past_fault ∙ ap (fault_of_past evaporation table) past_is ∙ ap₂ (λ (chosen holds : Bool). if chosen && not holds then Some (OutOfRange 2 past) else None) choice e))
+            (sym faultless.0 ∙ ap (fault_of_past evaporation table) past_is ∙ ap₂ (λ (chosen holds : Bool). if chosen && not holds then Some (OutOfRange 2 past) else None) choice e))
 
     -- with contents that are solved their elevation is put
     solved_level : (solving : Solving kind view) → solving.place ≡ 2 → (rows : List Row) → table ≡ Some rows
@@ -406,21 +389,14 @@ module _ (initial_storage : ℤ) (table : Option (List Row)) (local_inflow diver
     no_fault_basis : (from : Given) → basis_of storage elevation ≡ Elevation from → (read : ℤ) × (volume_of table from.value ≡ Some read)
     no_fault_basis from basis = by (volume_of table from.value) refl
       where
-        no_fault : fault_of_basis table (basis_of storage elevation) ≡ None
-        no_fault = (none_first _ _ (none_first (fault_of_past evaporation table view.past) _ is.fine).1).0
-
         by : (found : Option ℤ) → volume_of table from.value ≡ found → (read : ℤ) × (volume_of table from.value ≡ Some read)
         by (Some read) e = (read, e)
         by None e =
-            absurd (none-some (OutOfRange 3 from.value) (sym no_fault ∙ ap (fault_of_basis table) basis ∙ ap (λ (z : Option ℤ). if is_some z then None else Some (OutOfRange 3 from.value)) e))
+            absurd (none-some (OutOfRange 3 from.value) (sym faultless.1.0 ∙ ap (fault_of_basis table) basis ∙ ap (λ (z : Option ℤ). if is_some z then None else Some (OutOfRange 3 from.value)) e))
 
     contents_below : LeftBy kind view → (held : Given) (content : Content) → contents_by table (basis_of storage elevation) ≡ Some held → known view 2 ≡ Some content → held.number ≤ content.number
     contents_below left held content given_is there = elim (basis_cases table storage elevation held given_is) [
-      | inl by_storage ↦
-          let seen = given_as view 2 held by_storage.is in
-          let same : seen.content ≡ content = same_Some _ _ (sym seen.there ∙ there) in
-          let n : seen.content.number ≡ content.number = ap (λ (c : Content). c.number) same in
-          let m = seen.number in omega (arith, n, m)
+      | inl by_storage ↦ given_number view 2 held content by_storage.is there
       | inr by_elevation ↦ by by_elevation (is_own view content) refl
     ]
       where
@@ -438,7 +414,7 @@ module _ (initial_storage : ℤ) (table : Option (List Row)) (local_inflow diver
 
     -- ---- what isn't solved stays given
 
-    not_put : (place : ℕ) (P : Put → Type 0) → AllByRecursion P puts → ((put : Put) → P put → put.place ≢ place) → (new : View) → IsAfter view new puts → given new place ≡ given view place
+    not_put : (place : ℕ) (P : Put → Type 0) → AllByRecursion P puts → ((put : Put) → P put → put.place ≢ place) → (new : View) → IsAfterOwn view new puts → given new place ≡ given view place
     not_put place P all apart new after = same_given view new place after.own
         (after.rest place (λ put has. apart put (all_at P puts put all (among puts put has))))
 
@@ -448,10 +424,10 @@ module _ (initial_storage : ℤ) (table : Option (List Row)) (local_inflow diver
       | inr far ↦ elim low [ inl e ↦ far.0 (same ∙ e) | inr e ↦ far.1 (same ∙ e) ]
     ]
 
-    slot_stays : (place : ℕ) → (place ≡ 0) ⊎ (place ≡ 1) → ((solving : Solving kind view) → place ≢ solving.place) → (new : View) → IsAfter view new puts → given new place ≡ given view place
+    slot_stays : (place : ℕ) → (place ≡ 0) ⊎ (place ≡ 1) → ((solving : Solving kind view) → place ≢ solving.place) → (new : View) → IsAfterOwn view new puts → given new place ≡ given view place
     slot_stays place low none new after = same_given view new place after.own (after.rest place (untouched_at place low none))
 
-    contents_stay : (none : NoneStores) (new : View) → IsAfter view new puts → (number : ℕ) → IsGivenUpTo number (contents_by table (basis_of storage elevation))
+    contents_stay : (none : NoneStores) (new : View) → IsAfterOwn view new puts → (number : ℕ) → IsGivenUpTo number (contents_by table (basis_of storage elevation))
         → IsGivenUpTo number (contents_by table (basis_of (given new 2) (given new 3)))
     contents_stay none new after number up = elim (basis_cases table storage elevation up.held up.is) [
       | inl by_storage ↦ to_contents table (given new 2) (given new 3) number (inl (record {
@@ -466,22 +442,11 @@ module _ (initial_storage : ℤ) (table : Option (List Row)) (local_inflow diver
       }))
     ]
 
-    each_put : (xs : List Put) → AllByRecursion Good xs → AllByRecursion (PutIs kind view) xs
-    each_put [] all = tt
-    each_put (x ∷ xs) all = (all.0.is_put, each_put xs all.1)
-
-    slot_below : (place : ℕ) (held : Given) (content : Content) → given view place ≡ Some held → known view place ≡ Some content → held.number ≤ content.number
-    slot_below place held content given_is there =
-        let seen = given_as view place held given_is in
-        let same : seen.content ≡ content = same_Some _ _ (sym seen.there ∙ there) in
-        let n : seen.content.number ≡ content.number = ap (λ (c : Content). c.number) same in
-        let m = seen.number in omega (arith, n, m)
-
     below_at : LeftBy kind view → (s : Sort) (held : Given) (content : Content) → Among (shape_of kind) s → given_in view s ≡ Some held → known view s.place ≡ Some content → held.number ≤ content.number
     below_at left s held content has = by_sort (λ s. given_in view s ≡ Some held → known view s.place ≡ Some content → held.number ≤ content.number)
-        (slot_below 0 held content) (slot_below 1 held content) (contents_below left held content) s has
+        (given_number view 0 held content) (given_number view 1 held content) (contents_below left held content) s has
 
-    given_stays : (new : View) → IsAfter view new puts → (s : Sort) → Among (shape_of kind) s → ((solving : Solving kind view) → s.place ≢ solving.place)
+    given_stays : (new : View) → IsAfterOwn view new puts → (s : Sort) → Among (shape_of kind) s → ((solving : Solving kind view) → s.place ≢ solving.place)
         → (number : ℕ) → IsGivenUpTo number (given_in view s) → IsGivenUpTo number (given_in new s)
     given_stays new after s has apart number = by_sort (λ s. ((solving : Solving kind view) → s.place ≢ solving.place) → IsGivenUpTo number (given_in view s) → IsGivenUpTo number (given_in new s))
         (λ apart. subst (IsGivenUpTo number) (sym (slot_stays 0 (inl refl) apart new after))) (λ apart. subst (IsGivenUpTo number) (sym (slot_stays 1 (inr refl) apart new after)))
@@ -501,7 +466,7 @@ module _ (initial_storage : ℤ) (table : Option (List Row)) (local_inflow diver
       settles = is.settles;
       ends = is.ends;
       shares = shares view;
-      each = each_put puts all_good;
+      each = weaker_all Good (PutIs kind view) puts (λ put good. good.is_put) all_good;
       has_solved = λ solving. contains puts (of_solving kind view solving) (solved_there solving);
       beside = stored_beside;
       below = below_at;
@@ -520,15 +485,12 @@ module _ (initial_storage : ℤ) (table : Option (List Row)) (local_inflow diver
 
     -- ---- what it holds then
 
-    module _ (new : View) (after : IsAfter view new puts) where
+    module _ (new : View) (after : IsAfterOwn view new puts) where
       abbrev value_at : ℕ → Option ℤ
       value_at place = known_value new place
 
       put_held : (put : Put) → Among puts put → known_value new put.place ≡ Some put.value
-      put_held put has = elim (after.put put (contains puts put has)) [
-        | inl written ↦ ap (option_map (λ (content : Content). content.value)) written.is
-        | inr kept ↦ ap (option_map (λ (content : Content). content.value)) kept.is ∙ ap Some kept.value
-      ]
+      put_held put has = put_value view new puts after put (contains puts put has)
 
       -- what was given in a slot that isn't put
       given_held : (place : ℕ) (held : Given) → given view place ≡ Some held → ((put : Put) → Contains puts put → put.place ≢ place) → known_value new place ≡ Some held.value
@@ -592,14 +554,10 @@ module _ (initial_storage : ℤ) (table : Option (List Row)) (local_inflow diver
       -- where the contents weren't solved they were given
       contents_given : (none : NoneStores) → (held : Given) × (contents_by table (basis_of storage elevation) ≡ Some held)
       contents_given none = elim is.ends [
-        | inl holds ↦ some_of (contents_by table (basis_of storage elevation)) (holds_given view (shape_of kind) is.steady (is.settles ∙ holds) stored (inr (inr (inl refl))))
+        | inl holds ↦ some_there (contents_by table (basis_of storage elevation)) (holds_given view (shape_of kind) is.steady (is.settles ∙ holds) stored (inr (inr (inl refl))))
         | inr solving ↦
             let up = (solving_facts kind view puts (shares view) is solving).others (term_in view stored) (2, omega arith, refl) (none solving) in (up.held, up.is)
       ]
-        where
-          some_of : (held : Option Given) → IsSome held → (g : Given) × (held ≡ Some g)
-          some_of None some = absurd (cc)
-          some_of (Some g) some = (g, refl)
 
       -- ---- storage and elevation go together
 
@@ -618,19 +576,13 @@ module _ (initial_storage : ℤ) (table : Option (List Row)) (local_inflow diver
               let same : solving.value ≡ stores = same_Some _ _ (sym value ∙ held_storage) in
               (level.0, (put_held _ level.1.1, inl (as_rows stores level.0 (ap (elevation_of table) (sym same) ∙ level.1.0))))
 
-          no_basis_fault : fault_of_basis table (basis_of storage elevation) ≡ None
-          no_basis_fault = (none_first (fault_of_basis table (basis_of storage elevation)) (disagreement table storage elevation) (none_first (fault_of_past evaporation table view.past) (or_else (fault_of_basis table (basis_of storage elevation)) (disagreement table storage elevation)) is.fine).1).0
-
-          no_disagreement : disagreement table storage elevation ≡ None
-          no_disagreement = (none_first (fault_of_basis table (basis_of storage elevation)) (disagreement table storage elevation) (none_first (fault_of_past evaporation table view.past) (or_else (fault_of_basis table (basis_of storage elevation)) (disagreement table storage elevation)) is.fine).1).1
-
           holds_basis : (held : Given) → basis_of storage elevation ≡ Storage held → can_hold table held.value ≡ true
           holds_basis held basis = by_hold (can_hold table held.value) refl
             where
               by_hold : (test : Bool) → can_hold table held.value ≡ test → can_hold table held.value ≡ true
               by_hold true e = e
               by_hold false e = absurd (none-some (OutOfRange 2 held.value)
-                  (sym no_basis_fault ∙ ap (fault_of_basis table) basis ∙ ap (λ (test : Bool). if test then None else Some (OutOfRange 2 held.value)) e))
+                  (sym faultless.1.0 ∙ ap (fault_of_basis table) basis ∙ ap (λ (test : Bool). if test then None else Some (OutOfRange 2 held.value)) e))
 
           is_that : (found : Option ℤ) (value : ℤ) → is_this found value ≡ true → found ≡ Some value
           is_that None value e = absurd (cc)
@@ -663,7 +615,7 @@ module _ (initial_storage : ℤ) (table : Option (List Row)) (local_inflow diver
               let at_two = given_held 2 held s_is (no_put_at 2 (λ put good. good.by_storage held basis none)) in
               let same : held.value ≡ stores = same_Some _ _ (sym at_two ∙ held_storage) in
               let at_three = given_held 3 pool.0 pool.1 (no_put_at 3 (λ put good. good.by_zeros zeros none)) in
-              let agrees = agree_by held pool.0 (ap₂ (λ a b. are_both_zero a b) (sym s_is) (sym pool.1) ∙ zeros) (ap₂ (λ a b. disagreement table a b) (sym s_is) (sym pool.1) ∙ no_disagreement) in (
+              let agrees = agree_by held pool.0 (ap₂ (λ a b. are_both_zero a b) (sym s_is) (sym pool.1) ∙ zeros) (ap₂ (λ a b. disagreement table a b) (sym s_is) (sym pool.1) ∙ faultless.1.1) in (
                 pool.0.value,
                 (
                   at_three,
@@ -707,10 +659,6 @@ module _ (initial_storage : ℤ) (table : Option (List Row)) (local_inflow diver
                   → (read : ℤ) × ((known_value new 3 ≡ Some read) × ((elev_of rows stores ≡ Some read) ⊎ (vol_of rows read ≡ Some stores)))
               by_zeros_or s true zeros = zero_level none (contents_given none).0 s.is s.basis zeros
               by_zeros_or s false zeros = put_level none (contents_given none).0 s.is s.basis zeros
-
-          place_in : Balanced → ℕ
-          place_in (Solves place value number) = place
-          place_in balanced = 0
 
           by_ends : (balanced_of kind view ≡ Holds) ⊎ Solving kind view → (read : ℤ) × ((known_value new 3 ≡ Some read) × ((elev_of rows stores ≡ Some read) ⊎ (vol_of rows read ≡ Some stores)))
           by_ends (inl holds) = given_two (λ solving same. let differ : 1 ≡ 2 = ap balanced_code (sym holds ∙ solving.is) in omega (arith, differ))

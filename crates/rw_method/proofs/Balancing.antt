@@ -1,16 +1,16 @@
 -- Where a dispatch answers puts, the balance of what is held then is true, and each derived slot holds what is derived: every kind but the
 -- reservoir.
-use Rattle.rw_laws.proofs.Common.{AllByRecursion, Balanced, Bifurcation, Bool, Brings, ByRule, Canal, Conflicts, Confluence, Contains, Content, Conveys, Gage, Holds, Idle, IsKind, Kind, List, None, Option, Put, Reach, Request, Solves, Some, Supply, Takes, View, WaterUser, [], ap, ap₂, arith, balanced_of, chosen, difference, false, given, held_by, if◌then◌else◌, inl, inr, ints, known, known_after, known_value, nat_tests, none-some, option_map, per_mille, pos, refl, same_Some, seepage_put, side_flows, solved_put, subst, suc, sum_of, sym, true, user_puts, zero, ℕ, ℤ, ◌++◌, ◌+ℤ◌, ◌+◌, ◌-ℤ◌, ◌<◌, ◌==◌, ◌∙◌, ◌∷◌, ◌≡◌, ◌≢◌, ◌≤◌}
-use Rattle.rw_laws.specs.Balances.{IsBalanced, IsHeld, IsUsed}
-use Rattle.rw_laws.specs.Passing.{IsAfter}
-use Rattle.rw_laws.proofs.Answering.{Answered}
-use Rattle.rw_laws.proofs.LeftKept.{AreUpTo, low_solving, solved_up_to}
-use Rattle.rw_laws.proofs.Leaving.{DispatchFacts, IsBase, Solving}
-use Rattle.rw_laws.proofs.Netting.{IsAgreed, net_zero, put_value, rest_value}
-use Rattle.rw_laws.proofs.OwnPuts.{Among, all_at, among}
-use Rattle.rw_laws.proofs.PlainKinds.{all_append, base_in, one_sort, solved_at}
-use Rattle.rw_laws.proofs.Settled.{contains}
-use Rattle.rw_laws.proofs.Terms.{Sort, given_as, given_in, shape_of, slot, sort}
+use Rattle.rw_method.proofs.Common.{AllByRecursion, Balanced, Bifurcation, Bool, Brings, ByRule, Canal, Conflicts, Confluence, Contains, Content, Conveys, Gage, Holds, Idle, IsKind, Kind, List, None, Option, Put, Reach, Request, Solves, Some, Supply, Takes, View, WaterUser, [], ap, ap₂, arith, balanced_of, chosen, difference, false, given, held_by, if◌then◌else◌, inl, inr, ints, known, known_after, known_value, nat_tests, none-some, option_map, per_mille, pos, refl, same_Some, seepage_put, side_flows, solved_put, subst, suc, sum_of, sym, true, user_puts, zero, ℕ, ℤ, ◌+ℤ◌, ◌+◌, ◌-ℤ◌, ◌<◌, ◌==◌, ◌∙◌, ◌∷◌, ◌≡◌, ◌≢◌, ◌≤◌}
+use Rattle.rw_method.specs.Balanced.{IsBalanced, IsHeld, IsUsed}
+use Rattle.rw_method.specs.Passing.{IsAfterOwn}
+use Rattle.rw_method.proofs.Answering.{Answered}
+use Rattle.rw_method.proofs.LeftKept.{AreUpTo, low_solving, solved_up_to}
+use Rattle.rw_method.proofs.Leaving.{DispatchFacts, IsBase, Solving, place_in}
+use Rattle.rw_method.proofs.Netting.{IsAgreed, net_zero, put_value, rest_value}
+use Rattle.rw_method.proofs.Among.{Among, all_append, all_at, among, among_right, contains}
+use Rattle.rw_method.proofs.PlainKinds.{base_in, one_sort, solved_at}
+use Rattle.rw_method.proofs.Settled.{balanced_code}
+use Rattle.rw_method.proofs.Terms.{Sort, given_as, given_in, shape_of, slot, some_value, sort}
 
 -- ---- what isn't put stays
 
@@ -20,7 +20,7 @@ slot_agreed old new s source still g is =
     let seen = given_as old s.place g (sym plain ∙ is) in
     ap (option_map (λ (content : Content). content.value)) (still ∙ seen.there) ∙ ap Some seen.value
 
-module _ (kind : Kind) (old : View) (puts : List Put) (is : Answered kind old puts) (facts : DispatchFacts kind old puts) (new : View) (after : IsAfter old new puts) where
+module _ (kind : Kind) (old : View) (puts : List Put) (is : Answered kind old puts) (facts : DispatchFacts kind old puts) (new : View) (after : IsAfterOwn old new puts) where
   pub plain_agreed : AllByRecursion (λ (s : Sort). s.source ≡ slot) (shape_of kind) → (s : Sort) → Among (shape_of kind) s → ((solving : Solving kind old) → s.place ≢ solving.place) → IsAgreed old new s
   plain_agreed slots s has apart =
       let source = all_at (λ (s : Sort). s.source ≡ slot) (shape_of kind) s slots has in
@@ -31,10 +31,6 @@ module _ (kind : Kind) (old : View) (puts : List Put) (is : Answered kind old pu
       → known_value new on ≡ Some (known_after old (balanced_of kind old) on).value
   after_value on base untouched = by (balanced_of kind old) refl base
     where
-      place_of : Balanced → ℕ
-      place_of (Solves place value number) = place
-      place_of balanced = 13
-
       still : ((solving : Solving kind old) → on ≢ solving.place) → (content : Content) → known old on ≡ Some content → known_value new on ≡ Some (held_by (known old on)).value
       still none content there =
           rest_value old new puts after on (untouched none) ∙ ap (option_map (λ (content : Content). content.value)) there ∙ ap (λ held. Some (held_by held).value) (sym there)
@@ -43,27 +39,21 @@ module _ (kind : Kind) (old : View) (puts : List Put) (is : Answered kind old pu
       solved_here place value number e =
           put_value old new puts after (record { place = place; value = value; number = number }) (facts.has_solved (record { place = place; value = value; number = number; is = e }))
 
-      code : Balanced → ℕ
-      code Idle = 0
-      code Holds = 1
-      code (Solves place value number) = 2
-      code (Conflicts place held found) = 3
-
       by : (balanced : Balanced) → balanced_of kind old ≡ balanced → IsBase old balanced on → known_value new on ≡ Some (known_after old balanced on).value
-      by Idle e (inl known_there) = still (λ solving same. let differ : 0 ≡ 2 = ap code (sym e ∙ solving.is) in omega (arith, differ)) known_there.0 known_there.1
-      by Holds e (inl known_there) = still (λ solving same. let differ : 1 ≡ 2 = ap code (sym e ∙ solving.is) in omega (arith, differ)) known_there.0 known_there.1
-      by (Conflicts place held found) e (inl known_there) = still (λ solving same. let differ : 3 ≡ 2 = ap code (sym e ∙ solving.is) in omega (arith, differ)) known_there.0 known_there.1
-      by Idle e (inr solved) = absurd (let differ : 0 ≡ 2 = ap code solved.1.1 in omega (arith, differ))
-      by Holds e (inr solved) = absurd (let differ : 1 ≡ 2 = ap code solved.1.1 in omega (arith, differ))
-      by (Conflicts place held found) e (inr solved) = absurd (let differ : 3 ≡ 2 = ap code solved.1.1 in omega (arith, differ))
+      by Idle e (inl known_there) = still (λ solving same. let differ : 0 ≡ 2 = ap balanced_code (sym e ∙ solving.is) in omega (arith, differ)) known_there.0 known_there.1
+      by Holds e (inl known_there) = still (λ solving same. let differ : 1 ≡ 2 = ap balanced_code (sym e ∙ solving.is) in omega (arith, differ)) known_there.0 known_there.1
+      by (Conflicts place held found) e (inl known_there) = still (λ solving same. let differ : 3 ≡ 2 = ap balanced_code (sym e ∙ solving.is) in omega (arith, differ)) known_there.0 known_there.1
+      by Idle e (inr solved) = absurd (let differ : 0 ≡ 2 = ap balanced_code solved.1.1 in omega (arith, differ))
+      by Holds e (inr solved) = absurd (let differ : 1 ≡ 2 = ap balanced_code solved.1.1 in omega (arith, differ))
+      by (Conflicts place held found) e (inr solved) = absurd (let differ : 3 ≡ 2 = ap balanced_code solved.1.1 in omega (arith, differ))
       by (Solves place value number) e base = by_place (place == on) refl base
         where
           by_place : (test : Bool) → (place == on) ≡ test → IsBase old (Solves place value number) on
               → known_value new on ≡ Some (if test then record { value = value; number = number } else held_by (known old on)).value
           by_place true same base = let at : on ≡ place = grind (arith, nat_tests, same) in ap (known_value new) at ∙ solved_here place value number e
           by_place false apart (inl known_there) =
-              still (λ solving same. let at : place ≡ solving.place = ap place_of (sym e ∙ solving.is) in absurd (grind (arith, nat_tests, apart, at, same))) known_there.0 known_there.1
-          by_place false apart (inr solved) = absurd (let at : place ≡ on = ap place_of solved.1.1 in absurd (grind (arith, nat_tests, apart, at)))
+              still (λ solving same. let at : place ≡ solving.place = ap place_in (sym e ∙ solving.is) in absurd (grind (arith, nat_tests, apart, at, same))) known_there.0 known_there.1
+          by_place false apart (inr solved) = absurd (let at : place ≡ on = ap place_in solved.1.1 in absurd (grind (arith, nat_tests, apart, at)))
 
 -- puts up to a place
 far_from : (most place : ℕ) (puts : List Put) → AreUpTo most puts → most < place → (put : Put) → Contains puts put → put.place ≢ place
@@ -88,7 +78,7 @@ both_there None b sum is = absurd (none-some sum is)
 both_there (Some x) None sum is = absurd (none-some sum is)
 both_there (Some x) (Some y) sum is = (x, (y, (refl, (refl, same_Some _ _ is))))
 
-module _ (old : View) (puts : List Put) (new : View) (after : IsAfter old new puts) where
+module _ (old : View) (puts : List Put) (new : View) (after : IsAfterOwn old new puts) where
   pub gage_balanced : Answered Gage old puts → DispatchFacts Gage old puts → IsBalanced Gage new
   gage_balanced is facts inflow outflow held_in held_out =
       let zero_sum = net_zero Gage old puts is facts new after (plain_agreed Gage old puts is facts new after (refl, (refl, tt)))
@@ -124,9 +114,9 @@ module _ (old : View) (puts : List Put) (new : View) (after : IsAfter old new pu
       omega (arith, ints, zero_sum, steady)
 
   pub lagged_balanced : (lag : ℕ) (history : List ℤ) (local_inflow diversion return_flow : Bool) → Answered (Reach (suc lag) history local_inflow diversion return_flow) old puts
-      → DispatchFacts (Reach (suc lag) history local_inflow diversion return_flow) old puts → IsKind (Reach (suc lag) history local_inflow diversion return_flow) → new.past ≡ old.past
+      → DispatchFacts (Reach (suc lag) history local_inflow diversion return_flow) old puts → IsKind (Reach (suc lag) history local_inflow diversion return_flow)
       → IsBalanced (Reach (suc lag) history local_inflow diversion return_flow) new
-  lagged_balanced lag history local_inflow diversion return_flow is facts sound same_past past outflow side past_is held_out sides =
+  lagged_balanced lag history local_inflow diversion return_flow is facts sound past outflow side past_is held_out sides =
       let kind : Kind = Reach (suc lag) history local_inflow diversion return_flow in
       let zero_sum = net_zero kind old puts is facts new after (plain_agreed kind old puts is facts new after (refl, tt))
       (tt, tt) (sort Takes 1) (inl refl) (outflow ∷ []) (held_out, tt) in
@@ -134,7 +124,7 @@ module _ (old : View) (puts : List Put) (new : View) (after : IsAfter old new pu
       let same = same_sides old new 2 local_inflow diversion return_flow (rest_value old new puts after 2 (far_from 1 2 puts up (omega arith)))
       (rest_value old new puts after 3 (far_from 1 3 puts up (omega arith))) (rest_value old new puts after 4 (far_from 1 4 puts up (omega arith))) in
       let parts = both_there old.past (side_flows old 2 local_inflow diversion return_flow) is.steady is.is_steady in
-      let past_same : parts.0 ≡ past = same_Some _ _ (sym parts.1.1.0 ∙ sym same_past ∙ past_is) in
+      let past_same : parts.0 ≡ past = same_Some _ _ (sym parts.1.1.0 ∙ sym after.past ∙ past_is) in
       let side_same : parts.1.0 ≡ side = same_Some _ _ (sym parts.1.1.1.0 ∙ sym same ∙ sides) in
       let sum = parts.1.1.1.1 in
       omega (arith, ints, zero_sum, past_same, side_same, sum)
@@ -144,11 +134,7 @@ module _ (old : View) (puts : List Put) (new : View) (after : IsAfter old new pu
   user_puts_there : (depletion : ℕ) (supply : Supply) → Answered (WaterUser depletion supply) old puts → (put : Put)
       → Among (user_puts depletion (known_after old (balanced_of (WaterUser depletion supply) old) 1)) put → Contains puts put
   user_puts_there depletion supply is put has =
-      contains puts put (subst (λ ps. Among ps put) is.same (right (solved_put (balanced_of (WaterUser depletion supply) old)) (user_puts depletion (known_after old (balanced_of (WaterUser depletion supply) old) 1)) put has))
-    where
-      right : (xs ys : List Put) (put : Put) → Among ys put → Among (xs ++ ys) put
-      right [] ys put has = has
-      right (x ∷ xs) ys put has = inr (right xs ys put has)
+      contains puts put (subst (λ ps. Among ps put) is.same (among_right (solved_put (balanced_of (WaterUser depletion supply) old)) (user_puts depletion (known_after old (balanced_of (WaterUser depletion supply) old) 1)) put has))
 
   used_by : (depletion : ℕ) (supply : Supply) (diversion : ℤ) → Answered (WaterUser depletion supply) old puts → known_value new 1 ≡ Some (known_after old (balanced_of (WaterUser depletion supply) old) 1).value
       → IsHeld new 1 diversion → IsUsed depletion new diversion
@@ -160,58 +146,40 @@ module _ (old : View) (puts : List Put) (new : View) (after : IsAfter old new pu
         back = put_value old new puts after _ (user_puts_there depletion supply is _ (inr (inl refl))) ∙ ap (λ z. Some (z -ℤ per_mille z depletion)) same;
       }
 
-  -- where the diversion isn't solved, no put is in its place
-  no_diversion : (depletion : ℕ) (supply : Supply) → Answered (WaterUser depletion supply) old puts → ((solving : Solving (WaterUser depletion supply) old) → 1 ≢ solving.place)
-      → (put : Put) → Contains puts put → put.place ≢ 1
-  no_diversion depletion supply is none put has =
+  -- where a flow isn't solved, no put is in its place
+  no_flow_put : (depletion : ℕ) (supply : Supply) (place : ℕ) → place ≤ 1 → Answered (WaterUser depletion supply) old puts → ((solving : Solving (WaterUser depletion supply) old) → place ≢ solving.place)
+      → (put : Put) → Contains puts put → put.place ≢ place
+  no_flow_put depletion supply place low is none put has =
       let kind : Kind = WaterUser depletion supply in
-      all_at (λ (put : Put). put.place ≢ 1) puts put
-      (subst (AllByRecursion (λ (put : Put). put.place ≢ 1)) is.same
-      (all_append (λ (put : Put). put.place ≢ 1) (solved_put (balanced_of kind old)) (user_puts depletion (known_after old (balanced_of kind old) 1)) (by (balanced_of kind old) refl)
-      ((λ same. omega (arith, same)), ((λ same. omega (arith, same)), tt)))) (among puts put has)
+      all_at (λ (put : Put). put.place ≢ place) puts put
+      (subst (AllByRecursion (λ (put : Put). put.place ≢ place)) is.same
+      (all_append (λ (put : Put). put.place ≢ place) (solved_put (balanced_of kind old)) (user_puts depletion (known_after old (balanced_of kind old) 1)) (by (balanced_of kind old) refl)
+      ((λ same. omega (arith, low, same)), ((λ same. omega (arith, low, same)), tt)))) (among puts put has)
     where
-      by : (balanced : Balanced) → balanced_of (WaterUser depletion supply) old ≡ balanced → AllByRecursion (λ (put : Put). put.place ≢ 1) (solved_put balanced)
-      by (Solves place value number) e = ((λ same. none (record { place = place; value = value; number = number; is = e }) (sym same)), tt)
+      by : (balanced : Balanced) → balanced_of (WaterUser depletion supply) old ≡ balanced → AllByRecursion (λ (put : Put). put.place ≢ place) (solved_put balanced)
+      by (Solves at value number) e = ((λ same. none (record { place = at; value = value; number = number; is = e }) (sym same)), tt)
       by balanced e = tt
 
-  no_request : (depletion : ℕ) (supply : Supply) → IsKind (WaterUser depletion supply) → Answered (WaterUser depletion supply) old puts → ((solving : Solving (WaterUser depletion supply) old) → solving.place ≢ 0)
-      → (put : Put) → Contains puts put → put.place ≢ 0
-  no_request depletion supply sound is none put has =
-      let kind : Kind = WaterUser depletion supply in
-      all_at (λ (put : Put). put.place ≢ 0) puts put
-      (subst (AllByRecursion (λ (put : Put). put.place ≢ 0)) is.same
-      (all_append (λ (put : Put). put.place ≢ 0) (solved_put (balanced_of kind old)) (user_puts depletion (known_after old (balanced_of kind old) 1)) (by (balanced_of kind old) refl)
-      ((λ same. omega (arith, same)), ((λ same. omega (arith, same)), tt)))) (among puts put has)
-    where
-      by : (balanced : Balanced) → balanced_of (WaterUser depletion supply) old ≡ balanced → AllByRecursion (λ (put : Put). put.place ≢ 0) (solved_put balanced)
-      by (Solves place value number) e = (none (record { place = place; value = value; number = number; is = e }), tt)
-      by balanced e = tt
-
-  pub request_balanced : (depletion : ℕ) → Answered (WaterUser depletion Request) old puts → DispatchFacts (WaterUser depletion Request) old puts → IsKind (WaterUser depletion Request)
-      → IsBalanced (WaterUser depletion Request) new
-  request_balanced depletion is facts sound request diversion held_request held_diversion =
+  pub request_balanced : (depletion : ℕ) → Answered (WaterUser depletion Request) old puts → DispatchFacts (WaterUser depletion Request) old puts → IsBalanced (WaterUser depletion Request) new
+  request_balanced depletion is facts request diversion held_request held_diversion =
       let kind : Kind = WaterUser depletion Request in
       let zero_sum = net_zero kind old puts is facts new after (plain_agreed kind old puts is facts new after (refl, tt))
       (tt, tt) (sort Takes 1) (inl refl) (diversion ∷ []) (held_diversion, tt) in
       let at_one : ((solving : Solving kind old) → solving.place ≢ 0) = (λ solving same.
       let at = solved_at kind old puts facts.shares is solving in
       let one = one_sort (sort Takes 1) at.at at.has in let there = at.there in omega (arith, one, there, same)) in
-      let same = rest_value old new puts after 0 (no_request depletion Request sound is at_one) in
+      let same = rest_value old new puts after 0 (no_flow_put depletion Request 0 (omega arith) is (λ solving same. at_one solving (sym same))) in
       let steady : is.steady ≡ request = same_Some _ _ (sym is.is_steady ∙ sym same ∙ held_request) in
       let base = base_in kind old puts facts.shares is (sort Takes 1) (inl refl) refl in (
         omega (arith, ints, zero_sum, steady),
-        used_by depletion Request diversion is (after_value kind old puts is facts new after 1 base (no_diversion depletion Request is)) held_diversion,
+        used_by depletion Request diversion is (after_value kind old puts is facts new after 1 base (no_flow_put depletion Request 1 (omega arith) is)) held_diversion,
       )
-
-  some_value : (held : Option Content) (value : ℤ) → option_map (λ (content : Content). content.value) held ≡ Some value → (content : Content) × (held ≡ Some content)
-  some_value None value is = absurd (none-some value is)
-  some_value (Some content) value is = (content, refl)
 
   pub by_rule_balanced : (depletion : ℕ) → Answered (WaterUser depletion ByRule) old puts → DispatchFacts (WaterUser depletion ByRule) old puts → IsBalanced (WaterUser depletion ByRule) new
   by_rule_balanced depletion is facts diversion held_diversion =
       let kind : Kind = WaterUser depletion ByRule in
       let base : IsBase old (balanced_of kind old) 1 = inl (some_value (known old 1) is.steady is.is_steady) in
-      used_by depletion ByRule diversion is (after_value kind old puts is facts new after 1 base (no_diversion depletion ByRule is)) held_diversion
+      used_by depletion ByRule diversion is (after_value kind old puts is facts new after 1 base (no_flow_put depletion ByRule 1 (omega arith) is)) held_diversion
 
   -- ---- canals
 
@@ -228,11 +196,7 @@ module _ (old : View) (puts : List Put) (new : View) (after : IsAfter old new pu
       let same_zero : (known_after old (balanced_of kind old) 0).value ≡ inflow = same_Some _ _ (sym value_zero ∙ held_in) in
       let same_one : (known_after old (balanced_of kind old) 1).value ≡ outflow = same_Some _ _ (sym value_one ∙ held_out) in
       let put : Put = record { place = 2; value = (known_after old (balanced_of kind old) 0).value -ℤ (known_after old (balanced_of kind old) 1).value; number = (known_after old (balanced_of kind old) 0).number } in
-      let has : Contains puts put = contains puts put (subst (λ ps. Among ps put) is.same (right (solved_put (balanced_of kind old)) (seepage_put (known_after old (balanced_of kind old) 0) (known_after old (balanced_of kind old) 1)) put (inl refl))) in (
+      let has : Contains puts put = contains puts put (subst (λ ps. Among ps put) is.same (among_right (solved_put (balanced_of kind old)) (seepage_put (known_after old (balanced_of kind old) 0) (known_after old (balanced_of kind old) 1)) put (inl refl))) in (
         omega (arith, ints, zero_sum, steady),
         put_value old new puts after put has ∙ ap₂ (λ a b. Some (a -ℤ b)) same_zero same_one,
       )
-    where
-      right : (xs ys : List Put) (put : Put) → Among ys put → Among (xs ++ ys) put
-      right [] ys put has = has
-      right (x ∷ xs) ys put has = inr (right xs ys put has)

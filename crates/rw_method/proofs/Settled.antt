@@ -1,13 +1,9 @@
 -- What a settled balance tells of its terms.
-use Rattle.rw_laws.proofs.Common.{All, All-contains, Balanced, Conflicts, Contains, Contains-append_cases, Contains-append_left, Contains-append_right, Decides-int_eq, Given, Holds, Idle, IsNoWeaker, IsShare, IsSome, IsStronger, List, None, Option, Solves, Some, Term, [], ap, arith, cases_Bool, gives_way, inl, inr, int_eq, missing, nat_le, net_of, number_of, number_of_solved, pos, refl, rules, settled, settled_at, solved_term, solves, subst, suc, sym, value_from_others, weakest, ℕ, ℤ, ◌++◌, ◌+ℤ◌, ◌==◌, ◌∙◌, ◌∷◌, ◌≡◌, ◌≢◌, ◌≤◌, ◌⊎◌}
-use Rattle.rw_laws.specs.Left.{IsGivenUpTo}
-use Rattle.rw_laws.proofs.OwnPuts.{Among, among}
-
--- one of these, and back
-pub contains : {A : Type 0} (xs : List A) (x : A) → Among xs x → Contains xs x
-contains [] x has = absurd has
-contains (y ∷ ys) x (inl same) = (0, omega arith, same)
-contains (y ∷ ys) x (inr later) = let at = contains ys x later in let lt = at.1 in (suc at.0, omega (arith, lt), at.2)
+use Rattle.rw_method.proofs.Common.{All, All-contains, Balanced, Conflicts, Contains, Contains-append_cases, Contains-append_left, Contains-append_right, Decides-int_eq, Given, Holds, Idle, IsNoWeaker, IsShare, IsSome, IsStronger, List, None, Option, Solves, Some, Term, ap, arith, cases_Bool, inl, inr, int_eq, missing, nat_le, net_of, number_of, pos, refl, rules, settled, settled_at, solves, subst, sym, value_from_others, weakest, ℕ, ℤ, ◌++◌, ◌+ℤ◌, ◌==◌, ◌∙◌, ◌∷◌, ◌≡◌, ◌≢◌, ◌≤◌, ◌⊎◌}
+use Rattle.rw_method.proofs.GivingWay.{gives_way}
+use Rattle.rw_method.proofs.SolvedTerm.{number_of_solved, solved_term}
+use Rattle.rw_method.specs.Left.{IsGivenUpTo}
+use Rattle.rw_method.proofs.Among.{among, contains}
 
 abbrev pub balanced_code : Balanced → ℕ
 balanced_code Idle = 0
@@ -25,7 +21,7 @@ pub record SolvedFacts (terms : List Term) (place number : ℕ) : Type 0 where
   pub self : (held : Given) → term.given ≡ Some held → number ≤ held.number
   pub one : (number ≡ 0) ⊎ ((other : Term) × Contains terms other × (other.place ≢ place) × (number_of other.given ≡ number))
 
-given_up_to : (given : Option Given) (number : ℕ) → IsSome given → number_of given ≤ number → IsGivenUpTo number given
+pub given_up_to : (given : Option Given) (number : ℕ) → IsSome given → number_of given ≤ number → IsGivenUpTo number given
 given_up_to None number some most = absurd (cc)
 given_up_to (Some held) number some most = record { held = held; is = refl; most = most }
 
