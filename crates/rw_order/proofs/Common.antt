@@ -64,7 +64,8 @@ pub use Rattle.rw_inputs.specs.Inputs.{Inputs, IsInputsOf, value_at}
 pub use Rattle.rw_run.proofs.Lists.{any-times, times-numbers}
 pub use Rattle.rw_run.proofs.Waits.{times-waiting}
 pub use Rattle.rw_run.specs.Choice.{CanBeChosen, MayFollow, MayLead}
-pub use Rattle.rw_run.specs.Dispatch.{Past, answered, asked_by, asked_for, bounds_in_place, cell_at, cell_in, content_in, denied_by, dispatch_of, dispatched, end_in, is_written, judged, looks_of, or_fault, past_at, past_in, past_of, past_value, places, puts_written, solved_by, value_of_past, view_of}
+pub use Rattle.rw_method.specs.Past.{past_in}
+pub use Rattle.rw_run.specs.Dispatch.{Past, answered, asked_by, asked_for, bounds_in_place, cell_at, cell_in, content_in, denied_by, dispatch_of, dispatched, end_in, is_written, judged, looks_of, or_fault, past_at, past_of, past_value, places, puts_written, solved_by, value_of_past, view_of}
 pub use Rattle.rw_run.specs.Frame.{IsFault}
 pub use Rattle.rw_run.specs.Log.{Asked, Cells, Event, Log, cells_of, closed, fault, fired, given as given_to, held_after, idle, input_content, is_number, last_put, opened, solved, value_in, written_by}
 pub use Rattle.rw_run.specs.Next.{after_objects, agenda_of, asked_next, dispatches, is_due, no_rules}
