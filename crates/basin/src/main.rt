@@ -4,7 +4,9 @@
 
 ghost use Rattle.std.specs.Prelude.{◌≡◌, ◌<◌};
 
-use rpl_predef::{Predef, Predefs, absolute, clamped, greatest, least, mul_div, rounded_down, sign};
+use rpl_predef::{
+    Predef, Predefs, absolute, clamped, greatest, least, mul_div, rounded_down, sign,
+};
 use rw_base::NoMemory;
 use rw_io::{FileShelf, Shelf, Sink, StdSink};
 use rw_method::{Catalogue, Method};

@@ -5,7 +5,9 @@ ghost use Rattle.rpl_verify.specs.Verified.{verified};
 use crate::written::the_later_is_written;
 use rpl_code::read_code;
 use rpl_machine::{Fired, Machine};
-use rpl_predef::{Predef, Predefs, absolute, clamped, greatest, least, mul_div, rounded_down, sign};
+use rpl_predef::{
+    Predef, Predefs, absolute, clamped, greatest, least, mul_div, rounded_down, sign,
+};
 use rpl_verify::{Verified, verify};
 use rw_base::{RuleNo, SlotNo, StepNo};
 use rw_calendar::{Stamps, Start, StepLength};

@@ -1,7 +1,6 @@
 //! Tables of predefined functions: one that is whole, and those that are refused.
 use rpl_predef::{
-    Predef, Predefs, PredefsFault, absolute, clamped, greatest, least, mul_div, rounded_down,
-    sign,
+    Predef, Predefs, PredefsFault, absolute, clamped, greatest, least, mul_div, rounded_down, sign,
 };
 use rw_base::Qty;
 use std::test::Fail;
@@ -26,7 +25,10 @@ fn functions_are_called_by_number(rt: HostRuntime) -> Result<(), Fail> {
     let (seven, three, zero) = (quantity(7)?, quantity(3)?, quantity(0)?);
     assert_eq!(rt; predefs.call(5, quantity(-7)?, three, zero).get(), -6);
     assert_eq!(rt; predefs.call(5, seven, zero, zero).get(), 7);
-    assert_eq!(rt; predefs.call(7, quantity(-7)?, three, quantity(2)?).get(), -11);
+    assert_eq!(rt;
+        predefs.call(7, quantity(-7)?, three, quantity(2)?).get(),
+        -11
+    );
     Ok(())
 }
 

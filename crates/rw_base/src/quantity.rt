@@ -61,18 +61,29 @@ fn floor_of(a: i64, b: i64) -> i64
     }
 }
 
+// The product of what two quantities hold.
+fn product_of(a: i64, b: i64) -> i128
+    requires first { IsQuantity a }
+    requires second { IsQuantity b }
+    ensures exact { result ≡ a *ℤ b }
+    ensures low { (pos 0 -ℤ (quantity_max *ℤ quantity_max)) ≤ℤ result }
+    ensures high { result ≤ℤ (quantity_max *ℤ quantity_max) }
+{
+    i128::from(a) * i128::from(b)
+}
+
 // The floor of the quotient of a product of two quantities, over a third.
-fn floor_of_product(product: i128, c: i64) -> i128
-    requires low { (pos 0 -ℤ quantity_max *ℤ quantity_max) ≤ℤ product }
-    requires high { product ≤ℤ quantity_max *ℤ quantity_max }
+fn floor_of_product(product: i128, c: i128) -> i128
+    requires low { (pos 0 -ℤ (quantity_max *ℤ quantity_max)) ≤ℤ product }
+    requires high { product ≤ℤ (quantity_max *ℤ quantity_max) }
     requires divisor { IsQuantity c }
     requires nonzero { c ≢ pos 0 }
     ensures exact { result ≡ floor_div product c }
 {
     if c > 0 {
-        product.div_euclid(i128::from(c))
+        product.div_euclid(c)
     } else {
-        (-product).div_euclid(i128::from(-c))
+        (-product).div_euclid(-c)
     }
 }
 
@@ -94,6 +105,17 @@ fn nearest(exact: i128) -> Qty
             value: exact as i64,
         }
     }
+}
+
+// The floor of a * b / c, brought within -Q and Q.
+fn floor_over(a: i64, b: i64, c: i64) -> Qty
+    requires first { IsQuantity a }
+    requires second { IsQuantity b }
+    requires divisor { IsQuantity c }
+    requires nonzero { c ≢ pos 0 }
+    ensures { result ≡ mul_div a b c }
+{
+    nearest(floor_of_product(product_of(a, b), i128::from(c)))
 }
 
 impl Qty {
@@ -159,7 +181,6 @@ impl Qty {
         if c.value == 0 {
             return Qty { value: 0 };
         }
-        let product = i128::from(self.value) * i128::from(b.value);
-        nearest(floor_of_product(product, c.value))
+        floor_over(self.value, b.value, c.value)
     }
 }

@@ -80,7 +80,7 @@ no_slot objects owner place kind (Some number) is none found = let stands = stan
 
 -- ---- the view
 
-known-view : (basin : Draft) (cells : Cells) (object step place : ℕ) → place < 12 → known (view_of basin cells object step) place ≡ content_in basin cells object step place
+pub known-view : (basin : Draft) (cells : Cells) (object step place : ℕ) → place < 12 → known (view_of basin cells object step) place ≡ content_in basin cells object step place
 known-view basin cells object step place near =
     let at : 0 + place ≡ place = omega arith in
     get_or-map-range_with_len (content_in basin cells object step) 0 12 place place None near at

@@ -5,7 +5,9 @@ ghost use Rattle.rw_method.specs.Catalogue.{AreInOrder};
 use crate::kinds::{ALL, methods};
 use crate::runs::none_is_wrong;
 use crate::statuses::Text::{Any, Front, Whole};
-use rpl_predef::{Predef, Predefs, absolute, clamped, greatest, least, mul_div, rounded_down, sign};
+use rpl_predef::{
+    Predef, Predefs, absolute, clamped, greatest, least, mul_div, rounded_down, sign,
+};
 use rw_base::NoMemory;
 use rw_io::{MemShelf, MemSink};
 use rw_method::Catalogue;
