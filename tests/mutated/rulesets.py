@@ -21,7 +21,7 @@ SLOTS = (
     "Dam.Inflow Dam.Outflow Dam.Storage Dam.Release Dam.Spill Lake.PoolElevation Lake.Inflow Lake.Storage Plan.Count"
     " Plan.Level Plan.Target Plan.Least Plan.Days Plan.Nothing Sea.Inflow"
 ).split()
-NAMES = "Min Max Abs Clamp RoundDown Sign Twice f g x y a t Dam Lake Plan Sea".split()
+NAMES = "Min Max Abs Clamp RoundDown Sign MulDiv Twice f g x y a t Dam Lake Plan Sea".split()
 NUMBERS = "0 1 2 3 4095 4096 4097 100000000000000000 100000000000000001".split()
 WORDS = (
     "IF THEN ELSE ENDIF WITH DO ENDWITH LET IN ENDLET FOR ENDFOR MAP ENDMAP AND OR NOT TRUE FALSE KNOWN APPEND ITEM"

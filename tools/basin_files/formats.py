@@ -15,6 +15,8 @@ DATA_SLOTS = (1, 8)
 LINK_SLOTS = (2, 8)
 NAME_LENGTH = 32  # in bytes
 
+MOST_AHEAD = {1: 0, 2: 30}  # timesteps that a rule puts ahead, by the format of the model
+
 STEP_HOURS = {"1h": 1, "6h": 6, "12h": 12, "24h": 24}
 STEP_WORDS = (*STEP_HOURS, "1month")
 

@@ -225,8 +225,9 @@ def lines_of_object(run, thing, step):
     puts = puts_behind(run, thing, step)
     for slot, event in puts[:FEW_PUTS]:
         value = next(value for name, at, value in event.written if (name, at) == (slot, step))
-        lines.append(f"{run.rule(event.rule)} led there: it put {slot} = {value:,} in this timestep.")
-    return lines if puts else [*lines, "No rule put in this timestep what that came from."]
+        when = "this timestep" if event.step == step else f"timestep {event.step}"
+        lines.append(f"{run.rule(event.rule)} led there: it put {slot} = {value:,} in {when}.")
+    return lines if puts else [*lines, "No rule put for this timestep what that came from."]
 
 
 def what_of_object(run, thing):
@@ -249,14 +250,14 @@ def what_of_object(run, thing):
 
 
 def puts_behind(run, thing, step):
-    """The puts of rules in a timestep from which came what an object held then, the latest first."""
+    """The puts of rules for a timestep from which came what an object held then, the latest first."""
     waiting = deque((slot.full_name, END) for slot in thing.slots)
     seen, found = set(), {}
     while waiting:
         slot, before = waiting.popleft()
         content = run.walk.held(slot, step, before)
         event = content.event
-        if not event or event.step != step or event.place in seen:
+        if not event or event.place in seen:
             continue
         seen.add(event.place)
         if event.rule:

@@ -4,7 +4,7 @@ from dataclasses import dataclass, field
 
 from basin_files.reasons import nearest, shown, why_unknown
 
-from . import verifier
+from . import meant, verifier
 from .costs import Budget, words_above
 from .findings import Finding
 from .places import Span
@@ -69,7 +69,7 @@ def read_code(source, model):
     code = CodeFile(source)
     try:
         code.blocks = verifier.blocks_of(source.text)
-        code.budgets = verifier.ruling(basin_of(model), code.blocks)
+        code.budgets = verifier.ruling(basin_of(model), code.blocks, model.ahead)
     except verifier.Refused as refused:
         code.findings.append(finding_of(refused, source, model))
     return code
@@ -204,6 +204,12 @@ def not_settable(site):
     return f"{owner} derives {owner}.{name} from its other slots, so no rule sets it", f"one of {', '.join(names)}"
 
 
+def target_step(site):
+    """A put for another timestep."""
+    says, hint = meant.target_step(site.model.ahead)
+    return f"{says}, which is 0 behind the slot" if not site.model.ahead else says, hint
+
+
 def jumped(site):
     """A jump that leads to no place where it may."""
     to, lines = site.things[0], site.block.lines
@@ -299,7 +305,7 @@ MISFITS = {
     "no such name": no_name,
     "not settable": not_settable,
     "put in function": lambda site: ("a function puts nothing: only rules do", ""),
-    "target step": lambda site: ("a put is for this timestep alone, with 0 behind the slot", ""),
+    "target step": target_step,
     "backward jump": jumped,
     "jump outside": jumped,
     "later call": later_call,

@@ -211,8 +211,8 @@ class Judge:
             if not slot.settable:
                 says = f"{slot.owner} derives {slot.full_name} from its other slots, so no rule sets it"
                 raise Wrong("not settable", says, meant.settable(self.model, slot))
-            if statement.ahead:
-                raise Wrong("target step", *meant.TARGET_STEP)
+            if statement.ahead > self.model.ahead:
+                raise Wrong("target step", *meant.target_step(self.model.ahead))
             asked = Type("number", UNITS[slot.unit][0])
             wrong = misfit(given, asked, self.text(statement.parts[0]), slot.full_name)
             if wrong:
@@ -291,9 +291,23 @@ class Judge:
     def predefined(self, node, given):
         """A call of a predefined function."""
         self.count(node, PREDEFINED[node.name])
+        if node.name == "MulDiv":
+            return self.product_over(node, *given)
         self.is_number(node.parts[0], given[0], f"an argument of {node.name}")
         self.alike(node.parts, given)
         return NUMBER if node.name == "Sign" else given[0]
+
+    def product_over(self, node, value, by, over):
+        """A product of two numbers over a third."""
+        for part in node.parts:
+            self.is_number(part, part.type, f"an argument of {node.name}")
+        return self.measuring(per(times(value.measure, by.measure), over.measure))
+
+    def measuring(self, powers):
+        """A number that measures these powers of units, where it can."""
+        if not is_measure(powers):
+            raise Wrong("wrong unit", f"it would measure {unit_words(powers)}, and powers go from -6 to 6")
+        return Type("number", powers)
 
     def is_number(self, node, given, whose):
         """Judges whether a value is a number."""
@@ -447,10 +461,7 @@ class Judge:
         """A product or a quotient."""
         for part, given in zip(node.parts, (left, right)):
             self.is_number(part, given, f"what stands beside {node.word}")
-        powers = (times if node.word == "*" else per)(left.measure, right.measure)
-        if not is_measure(powers):
-            raise Wrong("wrong unit", f"it would measure {unit_words(powers)}, and powers go from -6 to 6")
-        return Type("number", powers)
+        return self.measuring((times if node.word == "*" else per)(left.measure, right.measure))
 
     def append(self, node, items, one):
         """A list with an item more."""

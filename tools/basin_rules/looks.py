@@ -53,12 +53,18 @@ class Look:
 
 @dataclass
 class Setting:
-    """A slot that a rule sets: where, whether each whole firing does, and the expression of its value."""
+    """A slot that a rule sets: where, whether each whole firing does, the expression of its value, and how far ahead."""
 
     slot: str
     sure: bool
     span: object
     value: object
+    ahead: int = 0
+
+    @property
+    def cell(self):
+        """The slot, with how far ahead it is set."""
+        return f"{self.slot}[t + {self.ahead}]" if self.ahead else self.slot
 
 
 @dataclass
@@ -72,8 +78,8 @@ class RuleFacts:
     settings: list = field(default_factory=list)
 
     def slots(self, sure=False):
-        """The slots that it sets, each once."""
-        return list(dict.fromkeys(one.slot for one in self.settings if one.sure or not sure))
+        """The slots that it sets, each once, or those that each whole firing sets at this timestep."""
+        return list(dict.fromkeys(one.slot for one in self.settings if not sure or (one.sure and not one.ahead)))
 
     def needs(self):
         """The looks at which a firing ends unknown where the slot isn't known."""
@@ -140,7 +146,8 @@ class Looking:
                 self.statements(scope, statement.yes, inner)
                 self.statements(scope, statement.no, inner)
             else:
-                setting = Setting(statement.full_name, way.sure, statement.target, statement.parts[0])
+                value = statement.parts[0]
+                setting = Setting(statement.full_name, way.sure, statement.target, value, statement.ahead)
                 self.facts.settings.append(setting)
 
     def asked(self, scope, condition):

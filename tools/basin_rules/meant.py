@@ -42,10 +42,6 @@ OTHER_FUNCTIONS = {
     "Sqrt": "there are whole numbers alone, and no roots",
     "Pow": "x * x: there are no powers",
 }
-TARGET_STEP = (
-    "a rule sets slots at this timestep alone, `[t]`",
-    'set a slot of a data object now, and read it at `[t - 1 "step"]` later',
-)
 NOT_EARLIER = (
     "the function stands here or later, and a function calls those that stand before it",
     "move it up; what calls itself is a FOR with what it carries along",
@@ -67,6 +63,14 @@ def unit(word):
         return says, OTHER_UNITS[bare]
     near = bare if bare in UNITS else nearest(bare, [one for one in UNITS if one])
     return says, f'"{near}"' if near else ""
+
+
+def target_step(most):
+    """What is told of a slot that is set too far ahead, where rules set so many timesteps ahead at most."""
+    later = 'a slot of a data object that is set now, and read at `[t - 1 "step"]` later'
+    if most:
+        return f"a rule sets slots at most {most} timesteps ahead, `[t + {most}]`", later
+    return "a rule sets slots at this timestep alone, `[t]`", f"`format = 2` in the model, which lets rules set ahead; or {later}"
 
 
 def settable(model, slot):

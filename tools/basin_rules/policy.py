@@ -81,7 +81,8 @@ def rows_of_ruleset(ruleset, model):
         looks = list(dict.fromkeys(f"{look.slot}{look.time}" for look in facts.looks))
         budget = rule.budget
         amounts = (budget.instructions, budget.reads, budget.puts, budget.words)
-        rows.append(RuleRow(rule.rule, rule.name, facts.slots(), looks, amounts))
+        sets = list(dict.fromkeys(setting.cell for setting in facts.settings))
+        rows.append(RuleRow(rule.rule, rule.name, sets, looks, amounts))
     return rows
 
 
@@ -93,7 +94,8 @@ def rows_of_code(code):
         named += [slot for line in block.lines if line[0] == "invoke" for slot in slots[line[1] - 1]]
         slots.append(list(dict.fromkeys(named)))
         if block.is_rule:
-            sets = list(dict.fromkeys(".".join(line[1]) for line in block.lines if line[0] == "put"))
+            puts = [Setting(".".join(line[1]), False, None, None, line[2]) for line in block.lines if line[0] == "put"]
+            sets = list(dict.fromkeys(put.cell for put in puts))
             rows.append(RuleRow(len(rows) + 1, "", sets, slots[-1], tuple(budget)))
     return rows
 
@@ -114,7 +116,7 @@ def facts_of_code(code):
             sure &= line[0] not in ("branch", "jump", "foreach", "map")
             span = codefile.line_span(code.source, block.line + 2 + place)
             if line[0] == "put":
-                facts[-1].settings.append(Setting(".".join(line[1]), sure, span, None))
+                facts[-1].settings.append(Setting(".".join(line[1]), sure, span, None, line[2]))
             elif line == ("read",) and block.lines[place - 1] == ("now",) and block.lines[place - 2][0] == "slot":
                 slot = ".".join(block.lines[place - 2][1])
                 facts[-1].looks.append(Look(slot, 0, False, False, sure, span))

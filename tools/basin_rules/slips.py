@@ -14,7 +14,7 @@ from .tokens import DIGITS
 ENDS = {"RULE": "ENDRULE", "FUNCTION": "ENDFUNCTION", "IF": "ENDIF", "WITH": "ENDWITH", "LET": "ENDLET"}
 ENDS |= {"FOR": "ENDFOR", "MAP": "ENDMAP"}
 NO_NUMBER = "values are whole numbers in base units: 1500 \"mm\" for 1.5 m, and x * 15 / 10 for 1.5 times x"
-AT_T = "`[t]`: a rule sets slots at this timestep alone"
+AT_T = "`[t]`, this timestep, or in a model of `format = 2` `[t + 3]`, three of them ahead, without a unit"
 # Signs that aren't there, and what is here for them.
 OTHER_SIGNS = {
     "@": 't, or t - 1 "step", in the brackets: [t - 1 "step"]',

@@ -327,11 +327,12 @@ def picked(kinds):
 
 @dataclass
 class Scope:
-    """What a block is judged against: the basin, all blocks, and its number, counted from 1."""
+    """What a block is judged against: the basin, all blocks, its number, counted from 1, and how far ahead it puts."""
 
     basin: dict
     blocks: list
     number: int
+    ahead: int = 0
 
     @property
     def block(self):
@@ -369,7 +370,7 @@ def judge_put(scope, slot, ahead):
         raise Misfit("not settable")
     if not scope.block.is_rule:
         raise Misfit("put in function")
-    if ahead != 0:
+    if ahead > scope.ahead:
         raise Misfit("target step")
 
 
@@ -619,11 +620,11 @@ def budget_of(scope, befores, budgets):
 # ---- code
 
 
-def ruling(basin, blocks):
+def ruling(basin, blocks, ahead=0):
     """The budgets of all blocks, or the first refusal: a block is judged whole before the next one is."""
     budgets = []
     for number, block in enumerate(blocks, 1):
-        scope = Scope(basin, blocks, number)
+        scope = Scope(basin, blocks, number, ahead)
         refused_at(scope, 0, judge_alike, scope)
         befores = befores_of(scope)
         budgets.append(refused_at(scope, len(block.lines), budget_of, scope, befores, budgets))
