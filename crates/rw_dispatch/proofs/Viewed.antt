@@ -107,7 +107,7 @@ pub bounds-slot : (basin : Draft) (object place number : ℕ) → slot_in_place 
 bounds-slot basin object place number found =
     ap (λ slot. unwrap_or (option_map (bounds_in basin.objects basin.links basin.bounds) slot) (pos 0, pos 0)) found
 
-content-slot : (basin : Draft) (cells : Cells) (object step place : ℕ) (found : Option ℕ) → slot_in_place basin.objects object place ≡ found
+pub content-slot : (basin : Draft) (cells : Cells) (object step place : ℕ) (found : Option ℕ) → slot_in_place basin.objects object place ≡ found
     → content_in basin cells object step place ≡ option_and_then cells (option_map (λ slot. cell_at slot step) found)
 content-slot basin cells object step place found is = ap (λ slot. option_and_then cells (option_map (λ s. cell_at s step) slot)) is
 
