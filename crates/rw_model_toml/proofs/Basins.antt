@@ -94,14 +94,17 @@ run-inside ms = next InLimits (start_of ms) _ (λ start. next InLimits (step_len
     (λ objects p. next-by (IsFromTo 1 100) InLimits (optional 20 (count_of 1 100) (codes "run") (codes "rule_limit") ms) _ (limit-inside 20 1 100 (codes "rule_limit") ms (omega arith, omega arith))
     (λ rules q. next InLimits (only_listed run_keys (codes "run") ms) _ (λ listed. (p, q, r))))))))
 
-ahead-inside : (format : ℕ) → (ahead_in format ≡ 0) ⊎ (ahead_in format ≡ 30)
+abbrev IsAhead : ℕ → Type 0
+IsAhead ahead = (ahead ≡ 0) ⊎ (ahead ≡ 30)
+
+ahead-inside : (format : ℕ) → IsAhead (ahead_in format)
 ahead-inside format = by (format == 1)
   where
-    by : (first : Bool) → ((if first then 0 else 30) ≡ 0) ⊎ ((if first then 0 else 30) ≡ 30)
+    by : (first : Bool) → IsAhead (if first then 0 else 30)
     by true = inl refl
     by false = inr refl
 
-control-inside : (ahead : ℕ) (run : Run) → (ahead ≡ 0) ⊎ (ahead ≡ 30) → InLimits run → IfOk (control_of ahead run) IsControl
+control-inside : (ahead : ℕ) (run : Run) → IsAhead ahead → InLimits run → IfOk (control_of ahead run) IsControl
 control-inside ahead run steps p = next-by AreTimesteps IsControl (refused_as bad_calendar (stamps_of run.start run.step_length run.steps)) _
     (kept-by AreTimesteps bad_calendar (stamps_refusal run.start run.step_length run.steps) (timesteps_of run.start run.step_length run.steps)
     (λ none. are_stamped run.start run.step_length run.steps p.2.0 p.2.1 ((stamped-iff run.start run.step_length run.steps).0 none)))
