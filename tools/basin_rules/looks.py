@@ -53,7 +53,7 @@ class Look:
 
 @dataclass
 class Setting:
-    """A slot that a rule sets: where, whether each whole firing does, the expression of its value, and how far ahead."""
+    """A slot that a rule sets: whether each whole firing does, where, the expression of its value, and how far ahead."""
 
     slot: str
     sure: bool

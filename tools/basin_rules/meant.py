@@ -70,7 +70,8 @@ def target_step(most):
     later = 'a slot of a data object that is set now, and read at `[t - 1 "step"]` later'
     if most:
         return f"a rule sets slots at most {most} timesteps ahead, `[t + {most}]`", later
-    return "a rule sets slots at this timestep alone, `[t]`", f"`format = 2` in the model, which lets rules set ahead; or {later}"
+    hint = f"`format = 2` in the model, which lets rules set ahead; or {later}"
+    return "a rule sets slots at this timestep alone, `[t]`", hint
 
 
 def settable(model, slot):

@@ -179,7 +179,7 @@ class Block:
 
     @cached_property
     def loops(self):
-        """Where the innermost loop begins that is open at each place, if there is one, and the place behind each loop."""
+        """Where the innermost loop begins that is open at each place, or `None`, and the place behind each loop."""
         starts, behind, opened = [], {}, []
         for place, (word, *_) in enumerate(self.lines):
             starts.append(opened[-1][0] if opened else None)
