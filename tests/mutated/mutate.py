@@ -22,7 +22,7 @@ SLOTS = (
     "Dam.Inflow Dam.Outflow Dam.Storage Dam.Release Dam.Spill Dam.PoolElevation Lake.PoolElevation Lake.Inflow"
     " Lake.Spill Plan.Count Plan.Level Plan.Nothing Sea.Inflow Dam.9"
 ).split() + ["Dam." + "x" * 32, "x" * 33 + ".Inflow"]
-NAMES = "Min Max Abs Clamp RoundDown Sign Twice Dam Lake Plan Sea _ 9".split() + ["x" * 32, "x" * 33]
+NAMES = "Min Max Abs Clamp RoundDown Sign MulDiv Twice Dam Lake Plan Sea _ 9".split() + ["x" * 32, "x" * 33]
 
 # lines that leave the operands as they are, the last two only where there are none; `@` is a local of its own
 # for a number, and `+4` the place of the line that is the fourth behind the piece's first one

@@ -15,6 +15,8 @@ DATA_SLOTS = (1, 8)
 LINK_SLOTS = (2, 8)
 NAME_LENGTH = 32  # in bytes
 
+MOST_AHEAD = {1: 0, 2: 30}  # timesteps that a rule puts ahead, by the format of the model
+
 STEP_HOURS = {"1h": 1, "6h": 6, "12h": 12, "24h": 24}
 STEP_WORDS = (*STEP_HOURS, "1month")
 
@@ -75,7 +77,7 @@ def option(name):
 
 
 FILE_KEYS = (
-    Key("format", "integer", 1, 1),
+    Key("format", "integer", 1, 2),
     Key("run", "table"),
     Key("object", "tables"),
     Key("link", "tables", default=()),
@@ -218,7 +220,10 @@ AMOUNTS = {
     "dam3": ("m3", Fraction(1000)),
     "hm3": ("m3", Fraction(10**6)),
     "Mm3": ("m3", Fraction(10**6)),
+    "MCM": ("m3", Fraction(10**6)),
     "km3": ("m3", Fraction(10**9)),
+    "ft3": ("m3", Fraction(28_316_846_592, 10**12)),
+    "acre-ft": ("m3", Fraction(123_348_183_754_752, 10**11)),
     "mm": ("mm", Fraction(1)),
     "cm": ("mm", Fraction(10)),
     "m": ("mm", Fraction(1000)),
@@ -228,6 +233,7 @@ AMOUNTS = {
     "": ("", Fraction(1)),
 }
 SECONDS = {"s": 1, "min": 60, "h": 3600, "d": 86400, "day": 86400}
+RATES = {"cms": "m3/s", "cfs": "ft3/s"}  # flows that have a word of their own
 
 
 def widest_bounds(slot_name, kind):

@@ -43,7 +43,9 @@ class ModelReader:
 
     def read(self):
         """The model, with all findings."""
-        self.value(formats.FILE_KEYS[0], self.table, "")
+        number = self.value(formats.FILE_KEYS[0], self.table, "")
+        if number is not WRONG:
+            self.model.ahead = formats.MOST_AHEAD[number]
         run = self.value(formats.FILE_KEYS[1], self.table, "")
         if run is not WRONG:
             self.read_run(run)

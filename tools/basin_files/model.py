@@ -59,6 +59,7 @@ class Model:
 
     timesteps: Timesteps | None = None
     object_limit: int = 50
+    ahead: int = 0  # how many timesteps ahead a rule may put
     objects: list = field(default_factory=list)
     slots: dict = field(default_factory=dict)  # by full name, in the order of a table's columns
     links: list = field(default_factory=list)  # lists of full names

@@ -10,6 +10,10 @@ from .judging import read_model
 from .reasons import plain
 
 TOP = Path(__file__).resolve().parents[2]
+HOW_BUILT = (
+    "`./basin --build` proves and builds it, which takes some 55 minutes of a quick processor and tells how far it"
+    " is; BASIN=PATH in front of the tool names another program"
+)
 CANNOT = 2  # the status of a tool that can't do what it was asked
 INTERRUPTED = 130
 
@@ -67,15 +71,22 @@ def good_model(path):
 
 
 def built():
-    """The program: the one that BASIN names, or that of this repository, which ./basin builds first where that is due.
-
-    What it says of that goes to the error stream, since it takes long.
-    """
+    """The program: the one that BASIN names, or this repository's. Nothing is built, since that takes long."""
     if named := os.environ.get("BASIN"):
         return named
-    if subprocess.run([TOP / "basin", "--build"], stdin=subprocess.DEVNULL, check=False).returncode:
-        raise Unable("the program isn't built (BASIN=path names another one)")
-    return TOP / "crates/basin/out/basin"
+    program = TOP / "crates/basin/out/basin"
+    if not program.exists():
+        raise Unable(f"the program isn't built. {HOW_BUILT}")
+    if any(path.stat().st_mtime > program.stat().st_mtime for path in sources()):
+        raise Unable(f"the program is older than its sources. {HOW_BUILT}")
+    return program
+
+
+def sources():
+    """The files that the program is made of."""
+    yield TOP / "crates.txt"
+    for ending in ("*.rt", "*.antt"):
+        yield from (path for path in (TOP / "crates").rglob(ending) if "out" not in path.parts)
 
 
 def basin(*words):

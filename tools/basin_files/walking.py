@@ -118,11 +118,15 @@ class Walk:
 
     def fired(self, event):
         """A firing of the trace, gone through again."""
+        return self.refired(event.rule, event.step, event.place)
 
-        def held(slot, step):
-            return self.held(slot, step, event.place).value
+    def refired(self, rule, step, before=END):
+        """A firing of a rule with what cells held before a place of the trace, or at its end."""
 
-        return Firing(self.model, self.blocks, event.step, held).run(event.rule)
+        def held(slot, at):
+            return self.held(slot, at, before).value
+
+        return Firing(self.model, self.blocks, step, held).run(rule)
 
     def of_object(self, event):
         """Those of a dispatch: what it goes by and hadn't solved itself, and its past."""

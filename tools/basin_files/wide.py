@@ -88,9 +88,10 @@ def factor_of(unit, slot_unit, timesteps):
     that of the slot.
     """
     word = unit.replace("³", "3").replace("^", "").replace(" ", "")
+    word = formats.RATES.get(word, word)
     whole, _, time = (word, "", "") if word in formats.AMOUNTS else word.partition("/")
     if whole not in formats.AMOUNTS:
-        raise ValueError(f"[{unit}] is no unit that this tool knows")
+        raise ValueError(unknown_unit(unit))
     base, factor = formats.AMOUNTS[whole]
     wanted = slot_unit.removesuffix("/step") if slot_unit is not None else base
     if base != wanted or (time and slot_unit is not None and not slot_unit.endswith("/step")):
@@ -102,8 +103,18 @@ def factor_of(unit, slot_unit, timesteps):
     if time == "month" and timesteps.step == "1month":
         return lambda step: factor
     if time not in formats.SECONDS:
-        raise ValueError(f"[{unit}] is no unit that this tool knows")
+        raise ValueError(unknown_unit(unit))
     return lambda step: factor * timesteps.seconds(step) / formats.SECONDS[time]
+
+
+def unknown_unit(unit):
+    """What is told of a unit that isn't known: which ones are."""
+    amounts = ", ".join(word for word in formats.AMOUNTS if word)
+    times = ", ".join(f"/{time}" for time in (*formats.SECONDS, "step"))
+    return (
+        f"[{unit}] is no unit that this tool knows; it knows {amounts}, a flow or a rate with {times} behind"
+        f" (/month in a model of months), and {' and '.join(formats.RATES)}"
+    )
 
 
 def number_of(text, comma):

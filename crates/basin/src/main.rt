@@ -4,7 +4,9 @@
 
 ghost use Rattle.std.specs.Prelude.{◌≡◌, ◌<◌};
 
-use rpl_predef::{Predef, Predefs, absolute, clamped, greatest, least, rounded_down, sign};
+use rpl_predef::{
+    Predef, Predefs, absolute, clamped, greatest, least, mul_div, rounded_down, sign,
+};
 use rw_base::NoMemory;
 use rw_io::{FileShelf, Shelf, Sink, StdSink};
 use rw_method::{Catalogue, Method};
@@ -61,6 +63,7 @@ fn status<S: Shelf, K: Sink, E: Sink, L: Ledger>(
     functions.push(Predef::of(4, clamped))?;
     functions.push(Predef::of(5, rounded_down))?;
     functions.push(Predef::of(6, sign))?;
+    functions.push(Predef::of(7, mul_div))?;
     let Ok(predefs) = Predefs::of(functions) else {
         return Err(NoMemory);
     };

@@ -148,6 +148,7 @@ fn predefined(alloc: Global) -> Result<Vec<Known<'static>>, NoMemory>
 {
     let one = TreeKind::Number;
     let mut known = Vec::new(alloc);
+    known.push(of_numbers(b"MulDiv", vec![in alloc; one, one, one]?))?;
     known.push(of_numbers(b"Sign", vec![in alloc; one]?))?;
     known.push(of_numbers(b"RoundDown", vec![in alloc; one, one]?))?;
     known.push(of_numbers(b"Clamp", vec![in alloc; one, one, one]?))?;

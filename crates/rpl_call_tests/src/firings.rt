@@ -5,7 +5,9 @@ ghost use Rattle.rpl_verify.specs.Verified.{verified};
 use crate::written::the_later_is_written;
 use rpl_code::read_code;
 use rpl_machine::{Fired, Machine};
-use rpl_predef::{Predef, Predefs, absolute, clamped, greatest, least, rounded_down, sign};
+use rpl_predef::{
+    Predef, Predefs, absolute, clamped, greatest, least, mul_div, rounded_down, sign,
+};
 use rpl_verify::{Verified, verify};
 use rw_base::{RuleNo, SlotNo, StepNo};
 use rw_calendar::{Stamps, Start, StepLength};
@@ -197,6 +199,7 @@ pub(crate) fn dam(rt: &impl Abort, alloc: Global) -> Basin {
         agenda: AgendaOrder::HighFirst,
         object_limit: 16,
         rule_limit: 1,
+        ahead: 0,
     };
     let mut builder = BasinBuilder::begin(alloc, control).expect(rt, "limits in range");
     let rating = Rating::of(alloc, &[(0, 0), (1000, 2000)]).expect(rt, "a table");
@@ -327,6 +330,7 @@ fn rules_do_what_was_worked_out(rt: HostRuntime) -> Result<(), Fail> {
     rows.push(Predef::of(4, clamped))?;
     rows.push(Predef::of(5, rounded_down))?;
     rows.push(Predef::of(6, sign))?;
+    rows.push(Predef::of(7, mul_div))?;
     let Ok(predefs) = Predefs::of(rows) else {
         return Err(Fail::from("no predefined functions"));
     };

@@ -1,6 +1,6 @@
 //! Tables of predefined functions: one that is whole, and those that are refused.
 use rpl_predef::{
-    Predef, Predefs, PredefsFault, absolute, clamped, greatest, least, rounded_down, sign,
+    Predef, Predefs, PredefsFault, absolute, clamped, greatest, least, mul_div, rounded_down, sign,
 };
 use rw_base::Qty;
 use std::test::Fail;
@@ -18,12 +18,17 @@ fn functions_are_called_by_number(rt: HostRuntime) -> Result<(), Fail> {
     rows.push(Predef::of(4, clamped))?;
     rows.push(Predef::of(5, rounded_down))?;
     rows.push(Predef::of(6, sign))?;
+    rows.push(Predef::of(7, mul_div))?;
     let Ok(predefs) = Predefs::of(rows) else {
         return Err(Fail::from("a table is refused"));
     };
     let (seven, three, zero) = (quantity(7)?, quantity(3)?, quantity(0)?);
     assert_eq!(rt; predefs.call(5, quantity(-7)?, three, zero).get(), -6);
     assert_eq!(rt; predefs.call(5, seven, zero, zero).get(), 7);
+    assert_eq!(rt;
+        predefs.call(7, quantity(-7)?, three, quantity(2)?).get(),
+        -11
+    );
     Ok(())
 }
 
@@ -36,18 +41,20 @@ fn exchanged_functions_are_refused(rt: HostRuntime) -> Result<(), Fail> {
     rows.push(Predef::of(4, clamped))?;
     rows.push(Predef::of(5, rounded_down))?;
     rows.push(Predef::of(6, sign))?;
+    rows.push(Predef::of(7, mul_div))?;
     assert!(rt; matches!(Predefs::of(rows), Err(PredefsFault::WrongPlace(1))));
     Ok(())
 }
 
 #[test]
-fn five_functions_are_too_few(rt: HostRuntime) -> Result<(), Fail> {
+fn six_functions_are_too_few(rt: HostRuntime) -> Result<(), Fail> {
     let mut rows = Vec::new(rt.alloc());
     rows.push(Predef::of(1, least))?;
     rows.push(Predef::of(2, greatest))?;
     rows.push(Predef::of(3, absolute))?;
     rows.push(Predef::of(4, clamped))?;
     rows.push(Predef::of(5, rounded_down))?;
-    assert!(rt; matches!(Predefs::of(rows), Err(PredefsFault::WrongCount(5))));
+    rows.push(Predef::of(6, sign))?;
+    assert!(rt; matches!(Predefs::of(rows), Err(PredefsFault::WrongCount(6))));
     Ok(())
 }

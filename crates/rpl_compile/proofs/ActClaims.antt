@@ -1,5 +1,5 @@
 -- The lines of statements are those that TRANSLATE gives.
-use Rattle.rw_base.proofs.Common.{◌≡◌, ℕ, ◌+◌, ℤ, List, [], ◌∷◌, ◌++◌, length, length-map, reverse, Option, None, Some, IsSome, IsSomeAnd, unsigned_abs, refl, sym, ap, ◌∙◌, AllByRecursion, append-nil, append_assoc}
+use Rattle.rw_base.proofs.Common.{◌≡◌, ℕ, ◌+◌, ℤ, List, [], ◌∷◌, ◌++◌, length, length-map, reverse, Option, None, Some, IsSome, IsSomeAnd, unsigned_abs, refl, sym, ap, ◌∙◌, AllByRecursion, append-nil, append_assoc, arith}
 use Rattle.rw_model.proofs.Common.{Draft, IsBasin, slot_named}
 use Rattle.rpl_code.specs.declared.kind.ValueKind.{ValueKind}
 use Rattle.rpl_code.specs.declared.kind.ValueKind.TheVariants.{N}
@@ -7,6 +7,7 @@ use Rattle.rpl_code.specs.declared.instruction.Instruction.{Instruction}
 use Rattle.rpl_code.specs.declared.instruction.Instruction.TheVariants as I
 use Rattle.rpl_tree.specs.Count.{act_locals, acts_locals}
 use Rattle.rpl_tree.proofs.Common.{Kind, act_local_kinds, acts_local_kinds, local_kinds, Tree, Act, Acts, assign, branch, with_name, no_acts, act}
+use Rattle.rpl_tree.proofs.PutsAhead.{at_most_30}
 use Rattle.rpl_compile.specs.Kinded.{AreKindedActs, IsKindedAct}
 use Rattle.rpl_compile.specs.Operations.{code_kind, code_kinds, target}
 use Rattle.rpl_compile.specs.Site.{Site, bound, keeping, knowing, names_in, on}
@@ -16,7 +17,7 @@ use Rattle.rpl_compile.specs.Written.{Written, compiled, compiled_act, compiled_
 use Rattle.rpl_compile.proofs.Claims.{claim}
 use Rattle.rpl_compile.proofs.Forms.{behind_one, branch_lines, three_more, two_more, value_lines}
 use Rattle.rpl_compile.proofs.KindsFound.{act_counted, acts_counted}
-use Rattle.rpl_compile.proofs.Plain.{IsSpelt, no_steps, owner_spelt, slot_spelt}
+use Rattle.rpl_compile.proofs.Plain.{IsSpelt, byte_is, owner_spelt, slot_spelt}
 use Rattle.rpl_compile.proofs.Sizes.{act-size, acts-size}
 use Rattle.rpl_compile.proofs.AtSites.{At, as_long, end_at, kind_at, line_at, lines_as, local_at, locals_as, longer, name_at, second_at}
 
@@ -68,11 +69,13 @@ module _ (basin : Draft) (callees : List Callee) (spelled : AllByRecursion IsSpe
       (act-size basin callees s a h) scope below locals lines
 
   on_assign : (o x : List ℕ) (ahead : ℤ) (e : Tree) → ClaimAct (assign o x ahead e)
-  on_assign o x ahead e w s ls is start (kinded, number, (found, now)) =
+  on_assign o x ahead e w s ls is start (kinded, number, (found, near)) =
       let own = claim basin callees spelled valid e w s ls is start kinded in
       let there = is_there (slot_named basin.objects o x) _ found in
-      act_ended (assign o x ahead e) start (kinded, number, (found, now)) own.on.scope own.on.below own.on.locals
-      ((λ i. own.on.lines i ++ I.Put (owner_spelt basin valid o x there i) (slot_spelt basin valid o x there i) (no_steps ahead now i) ∷ [])
+      let few = at_most_30 basin ahead valid near in
+      let steps = byte_is (unsigned_abs ahead) (omega (arith, few)) in
+      act_ended (assign o x ahead e) start (kinded, number, (found, near)) own.on.scope own.on.below own.on.locals
+      ((λ i. own.on.lines i ++ I.Put (owner_spelt basin valid o x there i) (slot_spelt basin valid o x there i) (steps i) ∷ [])
       ∙ append_assoc is (code_of callees s e) (I.Put o x (unsigned_abs ahead) ∷ []))
 
   on_branch : (c : Tree) (first second : Acts) → ClaimActs first → ClaimActs second → ClaimAct (branch c first second)

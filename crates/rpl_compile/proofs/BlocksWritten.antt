@@ -46,7 +46,7 @@ takes_long (p ∷ ps) = let rest = takes_long ps in omega (arith, rest)
 predefined_spelt : AllByRecursion IsSpelt predefined_callees
 predefined_spelt = (
   λ none. small_text _ refl,
-  (λ none. small_text _ refl, (λ none. small_text _ refl, (λ none. small_text _ refl, (λ none. small_text _ refl, (λ none. small_text _ refl, tt))))),
+  (λ none. small_text _ refl, (λ none. small_text _ refl, (λ none. small_text _ refl, (λ none. small_text _ refl, (λ none. small_text _ refl, (λ none. small_text _ refl, tt)))))),
 )
 
 module _ (basin : Draft) (valid : IsBasin basin) where

@@ -170,10 +170,10 @@ module _ (scope : Scope) (budgets : List Budget) (b : Before) (f : List ℕ) whe
 -- ---- predefined functions
 
 pub predefined_costed : (budgets : List Budget) → AreCosted (call_count budgets) predefined_callees (predefined_costs 1)
-predefined_costed budgets = (refl, refl, (refl, refl, (refl, refl, (refl, refl, (refl, refl, (refl, refl, tt))))))
+predefined_costed budgets = (refl, refl, (refl, refl, (refl, refl, (refl, refl, (refl, refl, (refl, refl, (refl, refl, tt)))))))
 
 pub predefined_free : (part : Budget → ℕ) (budgets : List Budget) → AreCosted (call_part part budgets) predefined_callees (predefined_costs 0)
-predefined_free part budgets = (refl, refl, (refl, refl, (refl, refl, (refl, refl, (refl, refl, (refl, refl, tt))))))
+predefined_free part budgets = (refl, refl, (refl, refl, (refl, refl, (refl, refl, (refl, refl, (refl, refl, (refl, refl, tt)))))))
 
 -- ---- with one budget more
 

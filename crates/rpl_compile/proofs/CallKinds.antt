@@ -1,7 +1,7 @@
 -- A call finds the function that its type was found by: predefined ones and declared ones are looked up in different orders, but no two
 -- have one name.
-use Rattle.rw_base.proofs.Common.{◌≡◌, ◌==◌, inl, arith, nat_tests, subst, ℕ, ℤ, pos, int_le, unsigned_abs, Bool, true, false, ◌&&◌, ◌||◌, List, [], ◌∷◌, ◌++◌, length, map, replicate, bytes_eq, Option, Some, None, is_some, Ok, Err, refl, sym, ap, ap₂, ◌∙◌, if◌then◌else◌, bytes_eq-Decides}
-use Rattle.rw_base.specs.Dimension.{Dimension}
+use Rattle.rw_base.proofs.Common.{◌≡◌, ◌==◌, inl, arith, nat_tests, subst, ℕ, ℤ, pos, int_le, unsigned_abs, Bool, true, false, ◌&&◌, ◌||◌, List, [], ◌∷◌, ◌++◌, length, map, replicate, bytes_eq, Option, Some, None, is_some, Ok, Err, refl, sym, ap, ap₂, ◌∙◌, if◌then◌else◌, bytes_eq-Decides, codes}
+use Rattle.rw_base.specs.Dimension.{Dimension, times_per_of}
 use Rattle.rw_base.specs.Unit.{units, unit_in}
 use Rattle.std.specs.List.{list_any}
 use Rattle.rpl_tree.specs.declared.rpl_type.RplType.{RplType}
@@ -11,13 +11,13 @@ use Rattle.rpl_tree.specs.Tree.{TypeName, numeric, boolean, datetime, slot_type,
 use Rattle.rpl_tree.specs.Kinds.{Head, Names, kind_of_type, result_named, takes_named}
 use Rattle.rpl_tree.specs.Cost.{param_names}
 use Rattle.rpl_tree.specs.Mean.{heads_of, param_kinds, predefined_functions}
-use Rattle.rpl_types.specs.declared.type_kind.TypeKind.TheVariants.{DuplicateName, ListTooLong, NotEarlier, UnknownName, WrongCount}
+use Rattle.rpl_types.specs.declared.type_kind.TypeKind.TheVariants.{DuplicateName, ListTooLong, NotEarlier, UnknownName, WrongCount, WrongType}
 use Rattle.rpl_types.specs.Fits.{Typed, arguments_misfit, longest, misfit, misfit_among, misfit_in_places}
-use Rattle.rpl_types.specs.Forms.{Scope}
-use Rattle.rpl_types.specs.Functions.{Callable, Signature, call_type, called_type, count_named, declared_type, head_misfit, is_duplicate, measured_by, numbers_type, param_scope, predefined_count, refusal_in, repeats_name, signature, signature_named, type_here, type_or_plain, unknown_type, with_room, with_unit, written_type}
+use Rattle.rpl_types.specs.Forms.{Scope, a_dimension}
+use Rattle.rpl_types.specs.Functions.{Callable, Signature, call_type, called_type, count_named, declared_type, head_misfit, is_duplicate, made_by, measured_by, numbers_type, param_scope, predefined_count, product_over_type, refusal_in, repeats_name, signature, signature_named, type_here, type_or_plain, unknown_type, with_room, with_unit, written_type}
 use Rattle.rpl_types.specs.Judged.{head_refusal}
 use Rattle.rpl_compile.specs.Kinded.{FitsIn, HasHead}
-use Rattle.rpl_compile.proofs.TypeKinds.{AreAlike, kind_of_rpl_type, kinds_fit, none_of_two, numbers_alike, same_kind, typed, unrefused}
+use Rattle.rpl_compile.proofs.TypeKinds.{AreAlike, kind_of_rpl_type, kinds_fit, measured, none_of_two, numbers_alike, same_kind, typed, unrefused}
 
 abbrev pub kinds_of_types : List RplType → List Kind
 kinds_of_types ts = map kind_of_rpl_type ts
@@ -86,7 +86,7 @@ pub record Matches (earlier : List Signature) (heads : List Head) : Type 0 where
 pub matches_none : Matches [] (heads_of predefined_functions)
 matches_none = record {
   predefined = λ f count h. found_numbers (heads_of predefined_functions) f count
-      (refl, refl, (refl, refl, (refl, refl, (refl, refl, (refl, refl, (refl, refl, tt)))))) h;
+      (refl, refl, (refl, refl, (refl, refl, (refl, refl, (refl, refl, (refl, refl, (refl, refl, tt))))))) h;
   declared = λ f known h e. absurd (cc e);
 }
 
@@ -276,16 +276,34 @@ made_of_numbers made (Numeric d ∷ ts) t h =
     let q = unrefused (misfit_among ts (Numeric d)) (Numeric (made d)) t h in (q.1, (refl, numbers_alike ts d q.0))
 made_of_numbers made (_ ∷ ts) t h = absurd (cc h)
 
+made_of_product : (ts : List RplType) (t : RplType) → product_over_type ts ≡ Ok t → (number_kind ≡ kind_of_rpl_type t) × AreAlike number_kind ts
+made_of_product (Numeric a ∷ Numeric b ∷ Numeric c ∷ []) t h = (measured (a_dimension (times_per_of a b c)) t h, (refl, (refl, (refl, tt))))
+made_of_product [] t h = absurd (cc h)
+made_of_product (Numeric a ∷ []) t h = absurd (cc h)
+made_of_product (Numeric a ∷ Numeric b ∷ []) t h = absurd (cc h)
+made_of_product (Numeric a ∷ Numeric b ∷ Numeric c ∷ d ∷ ts) t h = absurd (cc h)
+made_of_product (Numeric a ∷ Numeric b ∷ _ ∷ ts) t h = absurd (cc h)
+made_of_product (Numeric a ∷ _ ∷ ts) t h = absurd (cc h)
+made_of_product (_ ∷ ts) t h = absurd (cc h)
+
+made_of_arguments : (f : List ℕ) (ts : List RplType) (t : RplType) → made_by f ts ≡ Ok t → (number_kind ≡ kind_of_rpl_type t) × AreAlike number_kind ts
+made_of_arguments f ts t h = by (bytes_eq (codes "MulDiv") f) h
+  where
+    by : (test : Bool) → (if test then product_over_type ts else numbers_type (measured_by f) ts) ≡ Ok t
+        → (number_kind ≡ kind_of_rpl_type t) × AreAlike number_kind ts
+    by true h = made_of_product ts t h
+    by false h = made_of_numbers (measured_by f) ts t h
+
 pub call_takes : (callable : Callable) (heads : List Head) (f : List ℕ) (ts : List RplType) (t : RplType) → Matches callable.earlier heads
     → call_type callable f ts ≡ Ok t
     → Called heads f ts t
 call_takes callable heads f ts t matches h = by (predefined_count f) refl h
   where
     counted : (count : ℕ) → predefined_count f ≡ Some count → (test : Bool) → (length ts == count) ≡ test
-        → (if test then numbers_type (measured_by f) ts else Err WrongCount) ≡ Ok t → Called heads f ts t
+        → (if test then made_by f ts else Err WrongCount) ≡ Ok t → Called heads f ts t
     counted count e false g h = absurd (cc h)
     counted count e true g h =
-        let q = made_of_numbers (measured_by f) ts t h in
+        let q = made_of_arguments f ts t h in
         let n : length ts ≡ count = grind (arith, nat_tests, g) in
         called_so heads f ts t _ _ (matches.predefined f count e) q.0 (subst (λ m. FitTypes (replicate m number_kind) ts) n (numbers_stand ts q.1))
 

@@ -66,7 +66,7 @@ AreNumeric [] = Unit {0}
 AreNumeric (f ∷ fs) = IsNumeric f × AreNumeric fs
 
 all_numeric : AreNumeric predefined_functions
-all_numeric = ((refl, refl), ((refl, refl), ((refl, refl), ((refl, refl), ((refl, refl), ((refl, refl), tt))))))
+all_numeric = ((refl, refl), ((refl, refl), ((refl, refl), ((refl, refl), ((refl, refl), ((refl, refl), ((refl, refl), tt)))))))
 
 named_numeric : (fs : List Function) (f : List ℕ) (known : Function) → AreNumeric fs → function_named fs f ≡ Some known → IsNumeric known
 named_numeric [] f known all h = absurd (cc h)

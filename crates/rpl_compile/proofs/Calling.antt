@@ -76,7 +76,7 @@ predefined_callable all number = (
           record { known = _; named = refl; takes = refl; result = refl },
           (
             record { known = _; named = refl; takes = refl; result = refl },
-            tt,
+            (record { known = _; named = refl; takes = refl; result = refl }, tt),
           ),
         ),
       ),

@@ -1,5 +1,6 @@
 -- Lines that stand in the code of a form fit, where the operands are of the kinds that the form asks for.
 use Rattle.rw_base.proofs.Common.{◌≡◌, ◌≤◌, inl, inr, ℕ, zero, suc, ℤ, unsigned_abs, true, ◌&&◌, List, [], ◌∷◌, ◌++◌, replicate, length-replicate, Option, Some, None, IsSome, IsSomeAnd, IsTrue, option_map, Result, Ok, rules, refl, sym, ap, ap₂, ◌∙◌, subst, arith, list_all, if◌then◌else◌, slice_get}
+use Rattle.rw_base.proofs.Tests.{Decides-le}
 use Rattle.rpl_code.specs.declared.kind.ValueKind.{ValueKind}
 use Rattle.rpl_code.specs.declared.kind.ValueKind.TheVariants as K
 use Rattle.rpl_code.specs.declared.instruction.Instruction.{Instruction}
@@ -8,8 +9,9 @@ use Rattle.rpl_code.specs.declared.block.BlockHead.TheVariants.{Rule}
 use Rattle.rw_model.specs.Objects.{slot_named}
 use Rattle.rpl_tree.specs.Value.{Kind, number_kind, truth_kind, date_kind, slot_kind, numbers_kind, slots_kind, element_of, is_same_kind, list_kind, room_of}
 use Rattle.rpl_tree.specs.World.{can_set}
+use Rattle.rpl_tree.proofs.PutsAhead.{is_near}
 use Rattle.rpl_verify.specs.declared.verify_kind.VerifyKind.{VerifyKind}
-use Rattle.rpl_verify.specs.declared.verify_kind.VerifyKind.TheVariants.{NotSettable}
+use Rattle.rpl_verify.specs.declared.verify_kind.VerifyKind.TheVariants.{NotSettable, TargetStep}
 use Rattle.rpl_verify.specs.Kinds as V
 use Rattle.rpl_verify.specs.Places.{Loop, mapping, visiting}
 use Rattle.rpl_verify.specs.Table.{goes_by, listed, load_row, of_list, row, store_row}
@@ -118,21 +120,22 @@ module _ (scope : Scope) where
       → IsTarget scope.basin [] (slot_named scope.basin.objects o s) ahead
       → judged scope p (before (K.N ∷ ls) os) (I.Put o s (unsigned_abs ahead)) ≡ Ok (before ls os)
   put_fits p o s ahead ls os rule h =
-      ap (λ n. unless_misfit (put_misfit scope (slot_named scope.basin.objects o s) (unsigned_abs n))
-      (taken scope (I.Put o s (unsigned_abs ahead)) (before (K.N ∷ ls) os))) h.1
-      ∙ named (slot_named scope.basin.objects o s) h.0 ∙ takes_kinds scope (I.Put o s (unsigned_abs ahead)) (K.N ∷ []) [] ls os refl
+      named (slot_named scope.basin.objects o s) h.0 ∙ takes_kinds scope (I.Put o s (unsigned_abs ahead)) (K.N ∷ []) [] ls os refl
     where
-      step : put_step_misfit scope.head 0 ≡ None
-      step = ap (λ head. put_step_misfit head 0) rule
+      near : put_step_misfit scope.basin.control.ahead scope.head (unsigned_abs ahead) ≡ None
+      near =
+          ap (λ head. put_step_misfit scope.basin.control.ahead head (unsigned_abs ahead)) rule
+          ∙ ap (λ t. if t then None else Some TargetStep)
+          ((Decides-le (unsigned_abs ahead) scope.basin.control.ahead).1 (is_near scope.basin ahead h.1))
 
       named : (found : Option ℕ) → IsSomeAnd found (λ s. IsTrue (can_set scope.basin s))
-          → unless_misfit (put_misfit scope found 0) (taken scope (I.Put o s (unsigned_abs ahead)) (before (K.N ∷ ls) os))
+          → unless_misfit (put_misfit scope found (unsigned_abs ahead)) (taken scope (I.Put o s (unsigned_abs ahead)) (before (K.N ∷ ls) os))
           ≡ taken scope (I.Put o s (unsigned_abs ahead)) (before (K.N ∷ ls) os)
       named None h = absurd h
       named (Some n) h =
-          ap (λ t. unless_misfit (if t then put_step_misfit scope.head 0 else Some NotSettable)
+          ap (λ t. unless_misfit (if t then put_step_misfit scope.basin.control.ahead scope.head (unsigned_abs ahead) else Some NotSettable)
           (taken scope (I.Put o s (unsigned_abs ahead)) (before (K.N ∷ ls) os))) h
-          ∙ ap (λ misfit. unless_misfit misfit (taken scope (I.Put o s (unsigned_abs ahead)) (before (K.N ∷ ls) os))) step
+          ∙ ap (λ misfit. unless_misfit misfit (taken scope (I.Put o s (unsigned_abs ahead)) (before (K.N ∷ ls) os))) near
 
   all_same : (n : ℕ) (k : ValueKind) → list_all (V.is_same_kind k) (replicate n k) ≡ true
   all_same zero k = refl

@@ -24,8 +24,8 @@ by_test false x y e = absurd (grind arith)
 pub short_is : (n : ℕ) → n ≤ 4096 → short n ≡ n
 short_is n h = by_test (nat_lt n 65536) n 0 (lt-ltb n 65536 (omega (arith, h)))
 
-pub no_steps : (ahead : ℤ) → ahead ≡ pos 0 → byte (unsigned_abs ahead) ≡ unsigned_abs ahead
-no_steps ahead e = rw e refl
+pub byte_is : (n : ℕ) → n ≤ 255 → byte n ≡ n
+byte_is n h = by_test (nat_lt n 256) n 0 (lt-ltb n 256 (omega (arith, h)))
 
 literal_by : (n : ℤ) (found : Option (Dimension × ℤ)) → IsLiteral n found → within (n *ℤ factor_of found) ≡ n *ℤ factor_of found
 literal_by n None h = absurd h

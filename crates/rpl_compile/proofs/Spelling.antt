@@ -112,7 +112,7 @@ predefined_spelt = (
   (tt, (tt, tt)),
   tt,
   refl,
-  ((tt, (tt, tt)), tt, refl, ((tt, tt), tt, refl, ((tt, (tt, (tt, tt))), tt, refl, ((tt, (tt, tt)), tt, refl, ((tt, tt), tt, refl, tt))))),
+  ((tt, (tt, tt)), tt, refl, ((tt, tt), tt, refl, ((tt, (tt, (tt, tt))), tt, refl, ((tt, (tt, tt)), tt, refl, ((tt, tt), tt, refl, ((tt, (tt, (tt, tt))), tt, refl, tt)))))),
 )
 
 as_many_blocks : (callees : List Callee) (number : ℕ) (ds : List Declared) → length (blocks_from callees number ds) ≡ length ds

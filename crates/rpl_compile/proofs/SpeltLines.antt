@@ -19,6 +19,7 @@ use Rattle.rpl_tree.specs.declared.words.TwoWord.TheVariants.{Or, And, Equal, Un
 use Rattle.rpl_tree.specs.Value.{Kind, number_kind, truth_kind, date_kind, slot_kind, numbers_kind, slots_kind, is_same_kind, room_of}
 use Rattle.rpl_tree.specs.World.{can_set}
 use Rattle.rpl_tree.specs.Kinds.{Head}
+use Rattle.rpl_tree.proofs.PutsAhead.{at_most_30}
 use Rattle.rpl_compile.specs.Operations.{code_kinds, convert_line, difference_line, factor_of, number_line, one_line, sum_line, target, test_line, two_lines, widening}
 use Rattle.rpl_compile.specs.Site.{Bound, Site, local_named, names_in}
 use Rattle.rpl_compile.specs.Kinded.{FitsIn, HasHead, IsLiteral, IsTarget}
@@ -95,7 +96,7 @@ put_spelt basin o s ahead valid h = by (slot_found basin valid o s (some (slot_n
     some (Some n) h = refl
 
     by : CanBeSpelt o × CanBeSpelt s → IsInstruction (I.Put o s (unsigned_abs ahead))
-    by names = subst (λ z. IsInstruction (I.Put o s (unsigned_abs z))) (sym h.1) (names.0, names.1, omega arith)
+    by names = let few = at_most_30 basin ahead valid h.1 in (names.0, names.1, omega (arith, few))
 
 pub target_spelt : (kinds : List Kind) → AreSpelt kinds → IsInstruction (target kinds)
 target_spelt kinds h = all_reverse _ (code_kinds kinds) (kinds_of_code kinds h)

@@ -1,12 +1,12 @@
 -- The code of statements does what they mean.
-use Rattle.rw_base.proofs.Common.{◌≡◌, ℕ, suc, ◌+◌, ◌≤◌, ℤ, pos, Bool, true, false, ◌&&◌, List, [], ◌∷◌, ◌++◌, Option, Some, None, refl, sym, ap, ◌∙◌, subst, arith, unsigned_abs, if◌then◌else◌}
-use Rattle.std.specs.Ordering.{int_eq}
+use Rattle.rw_base.proofs.Common.{◌≡◌, ℕ, suc, ◌+◌, ◌≤◌, ℤ, pos, Bool, true, false, ◌&&◌, List, [], ◌∷◌, ◌++◌, Option, Some, None, refl, sym, ap, ap₂, ◌∙◌, subst, arith, unsigned_abs, if◌then◌else◌}
 use Rattle.rw_model.specs.Objects.{slot_named}
 use Rattle.rpl_code.specs.declared.instruction.Instruction.{Instruction}
 use Rattle.rpl_code.specs.declared.instruction.Instruction.TheVariants as I
 use Rattle.rpl_tree.specs.Value.{Kind, Value, a_number}
 use Rattle.rpl_tree.specs.Outcome.{Outcome, gives, is_stuck, ◌>>=◌}
 use Rattle.rpl_tree.specs.World.{bounds_at, is_within, put_of, within_or_end}
+use Rattle.rpl_tree.proofs.PutsAhead.{never_behind}
 use Rattle.rpl_tree.specs.Operators.{chosen}
 use Rattle.rpl_tree.specs.Tree.{Tree, Act, Acts, assign, branch, with_name, no_acts, act}
 use Rattle.rpl_tree.specs.Mean.{Env, act_done, acts_done, value_of}
@@ -67,17 +67,13 @@ module _ (g : Setting) where
       → Made (put_of g.world.basin found ahead (a_number z)).answer P
   put_made P None ahead z t p = absurd t.0
   put_made P (Some s) ahead z t p =
-      subst (λ d. Made (put_of g.world.basin (Some s) d (a_number z)).answer P) (sym t.1)
-      (subst (λ (b : Bool). Made (if b && int_eq (pos 0) (pos 0) then within_or_end (is_within (bounds_at g.world.basin s) z) s z else
-      is_stuck).answer P) (sym t.0)
-      (by (is_within (bounds_at g.world.basin s) z)))
+      subst (λ (b : Bool). Made (if b then within_or_end (is_within (bounds_at g.world.basin s) z) s (unsigned_abs ahead) z else is_stuck).answer P)
+      (sym (ap₂ (λ p q. p && q) t.0 t.1))
+      (by (is_within (bounds_at g.world.basin s) z))
     where
-      by : (b : Bool) → Made (within_or_end b s z).answer P
+      by : (b : Bool) → Made (within_or_end b s (unsigned_abs ahead) z).answer P
       by true = p
       by false = tt
-
-  same_ahead : (found : Option ℕ) (ahead : ℤ) → IsTarget g.world.basin (H g) found ahead → pos (unsigned_abs ahead) ≡ ahead
-  same_ahead found ahead t = ap (λ d. pos (unsigned_abs d)) t.1 ∙ sym t.1
 
   on_assign : (o s : List ℕ) (ahead : ℤ) (e : Tree) → ClaimAct (assign o s ahead e)
   on_assign o s ahead e site env ls ops lo rest placed loc kinded h =
@@ -99,7 +95,7 @@ module _ (g : Setting) where
       (at_head g.block.lines q i [] (at_back g.block.lines site.place n (code_of g.callees site e) (i ∷ [])
       (code-size g.world.basin g.callees site e kinded.0) placed)) refl refl
       ∙ ap (λ d. put_of g.world.basin found d (a_number z.0) >>= (λ (u : Unit {0}). gives (fr g (suc q) us ops lo) 0) >>=
-      (λ (f : Frame). gives (f ∷ rest) 0)) (same_ahead found ahead kinded.2)
+      (λ (f : Frame). gives (f ∷ rest) 0)) (never_behind g.world.basin ahead kinded.2.1)
       ∙ two_binds (put_of g.world.basin found ahead (a_number z.0)) (λ d. fr g (suc q) us ops lo) (λ (f : Frame). f ∷ rest))
       (put_made (λ d. Q d (fr g (suc q) us ops lo ∷ rest)) found ahead z.0 kinded.2
       (record { locals1 = us; is = (let y : suc q ≡ past = omega arith in ap (λ n. fr g n us ops lo ∷ rest) y); kept = ku }))))

@@ -198,7 +198,7 @@ parted (Numeric a) (Numeric b) t h = ((unrefused (unit_misfit a b) (Numeric a) t
 parted Datetime (Numeric b) t h = ((unrefused (unit_misfit b _) Datetime t h).1, inl (inr (refl, refl)))
 parted _ _ t h = absurd (cc h)
 
-measured : (d : Option Dimension) (t : RplType) → measured_in d ≡ Ok t → number_kind ≡ kind_of_rpl_type t
+pub measured : (d : Option Dimension) (t : RplType) → measured_in d ≡ Ok t → number_kind ≡ kind_of_rpl_type t
 measured None t h = absurd (cc h)
 measured (Some d) t h = same_kind (Numeric d) t h
 

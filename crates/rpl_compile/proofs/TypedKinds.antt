@@ -1,5 +1,5 @@
 -- A ruleset that is accepted is of the kinds that its code asks for: by recursion on the tree, a line or two for each form.
-use Rattle.rw_base.proofs.Common.{◌≡◌, ℕ, ◌+◌, ℤ, pos, Bool, true, false, ◌||◌, List, [], ◌∷◌, length, bytes_eq, Option, Some, None, is_some, IsSome, IsSomeAnd, IsTrue, unwrap_or, Ok, Err, refl, sym, ap, ap₂, ◌∙◌, subst, arith, if◌then◌else◌, int_eq, ◌*ℤ◌, Decides-int_eq}
+use Rattle.rw_base.proofs.Common.{◌≡◌, ℕ, ◌+◌, ℤ, pos, Bool, true, false, ◌||◌, List, [], ◌∷◌, length, bytes_eq, Option, Some, None, is_some, IsSome, IsSomeAnd, IsTrue, unwrap_or, Ok, Err, refl, sym, ap, ap₂, ◌∙◌, subst, arith, if◌then◌else◌, ◌*ℤ◌}
 use Rattle.std.specs.List.{list_any}
 use Rattle.rw_base.specs.Dimension.{Dimension}
 use Rattle.rw_base.specs.Unit.{units, unit_in}
@@ -14,7 +14,7 @@ use Rattle.rpl_tree.specs.declared.rpl_type.RplType.{RplType}
 use Rattle.rpl_tree.specs.declared.rpl_type.RplType.TheVariants.{Numeric, Boolean, Slot}
 use Rattle.rpl_tree.specs.Value.{Kind, number_kind, numbers_kind, slot_kind, element_of, list_kind, room_of}
 use Rattle.rpl_tree.specs.Operators.{is_quantity}
-use Rattle.rpl_tree.specs.World.{can_set, table_named}
+use Rattle.rpl_tree.specs.World.{can_put_ahead, can_set, table_named}
 use Rattle.rpl_tree.specs.Tree.{Tree, Trees, literal, truth, now, slot, name, call, brackets, list, choice, bind, each, mapped, one, two, convert, at, no_trees, tree, Act, Acts, assign, branch, with_name, no_acts, act, Declared, rule, function}
 use Rattle.rpl_tree.specs.Kinds.{Head, Names, count_of, join, kind_named, kind_of_type, takes_named, tree_kind, two_kind}
 use Rattle.rpl_tree.specs.Mean.{heads_of, predefined_functions}
@@ -55,16 +55,16 @@ name_found (variable ∷ scope) x t h = by (bytes_eq variable.0 x) h (λ g. name
     by false h later = later h
 
 target_found : (basin : Draft) (found : Option ℕ) (ahead : ℤ) (t : RplType) → found_target_misfit basin found ahead t ≡ None
-    → (kind_of_rpl_type t ≡ number_kind) × IsSomeAnd found (λ s. IsTrue (can_set basin s)) × (ahead ≡ pos 0)
+    → (kind_of_rpl_type t ≡ number_kind) × IsSomeAnd found (λ s. IsTrue (can_set basin s)) × IsTrue (can_put_ahead basin ahead)
 target_found basin None ahead t h = absurd (cc h)
-target_found basin (Some s) ahead t h = by (can_set basin s) (int_eq ahead (pos 0)) refl h
+target_found basin (Some s) ahead t h = by (can_set basin s) (can_put_ahead basin ahead) h
   where
-    by : (settable here : Bool) → int_eq ahead (pos 0) ≡ here
-        → (if settable then (if here then misfit t (Numeric (dim_of basin.objects s)) else Some TargetStep) else Some NotSettable) ≡ None
-        → (kind_of_rpl_type t ≡ number_kind) × IsTrue settable × (ahead ≡ pos 0)
-    by true true e h = (measured_number t (dim_of basin.objects s) h, refl, (Decides-int_eq ahead (pos 0)).0 e)
-    by true false e h = absurd (cc h)
-    by false here e h = absurd (cc h)
+    by : (settable near : Bool)
+        → (if settable then (if near then misfit t (Numeric (dim_of basin.objects s)) else Some TargetStep) else Some NotSettable) ≡ None
+        → (kind_of_rpl_type t ≡ number_kind) × IsTrue settable × IsTrue near
+    by true true h = (measured_number t (dim_of basin.objects s) h, refl, refl)
+    by true false h = absurd (cc h)
+    by false near h = absurd (cc h)
 
 -- ---- words
 

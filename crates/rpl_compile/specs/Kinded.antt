@@ -12,7 +12,7 @@ use Rattle.rpl_tree.specs.declared.words.TwoWord.{TwoWord}
 use Rattle.rpl_tree.specs.declared.words.TwoWord.TheVariants.{Or, And, Equal, Unequal, Less, LessEqual, Greater, GreaterEqual, Plus, Minus as Less_by, Times, Divide, Append, Item}
 use Rattle.rpl_tree.specs.Value.{Kind, number_kind, truth_kind, date_kind, slot_kind, numbers_kind, slots_kind, element_of}
 use Rattle.rpl_tree.specs.Operators.{is_quantity}
-use Rattle.rpl_tree.specs.World.{can_set, table_named}
+use Rattle.rpl_tree.specs.World.{can_put_ahead, can_set, table_named}
 use Rattle.rpl_tree.specs.Tree.{Tree, Trees, literal, truth, now, slot, name, call, brackets, list, choice, bind, each, mapped, one, two, convert, at, no_trees, tree, Act, Acts, assign, branch, with_name, no_acts, act, Declared, rule, function}
 use Rattle.rpl_tree.specs.Kinds.{Head, Names, count_of, first_kind, kind_of_type, takes_named, tree_kind}
 use Rattle.rpl_tree.specs.Cost.{param_names}
@@ -146,9 +146,9 @@ module _ (basin : Draft) (heads : List Head) where
         IsKinded names t × FitsIn kind (tree_kind heads names t) × AreArguments names kinds ts
     AreArguments names _ _ = ⊥
 
-  -- a slot that can be set, at the timestep itself
+  -- a slot that can be set, not too many timesteps ahead
   abbrev pub IsTarget : Option ℕ → ℤ → Type 0
-  IsTarget found ahead = IsSomeAnd found (λ s. IsTrue (can_set basin s)) × (ahead ≡ pos 0)
+  IsTarget found ahead = IsSomeAnd found (λ s. IsTrue (can_set basin s)) × IsTrue (can_put_ahead basin ahead)
 
   abbrev mutual
     pub IsKindedAct : Names → Act → Type 0

@@ -5,7 +5,7 @@ ghost use Rattle.rpl_tree.specs.declared.words.ConvertWord.TheVariants.{Elevatio
 ghost use Rattle.rpl_tree.specs.declared.words.OneWord.TheVariants.{Day, Known, Length, Minus, Month, Not, Year};
 ghost use Rattle.rpl_tree.specs.declared.words.TwoWord.TheVariants.{And, Divide, Equal, Greater, GreaterEqual, Item, Less, LessEqual, Minus as Less_by, Or, Plus, Times, Unequal};
 ghost use Rattle.rpl_tree.specs.Tree.{bind, branch, choice, convert, mapped, no_acts, now, one, truth, two, with_name};
-ghost use Rattle.rpl_tree.specs.Worked.{all_cells, basin_of, both_call, call_of, cap_and_base, count_call, dam, first_of_l, flow_object, hundredth, n_name, n_to_x, negative_outflow, numbers_object, of_unit, one_more, one_or_two, one_to_x, only_slot, over, pair, part_of_n, raise_and_reset, storage_after, storage_before, sum_ahead, sum_of_slots, three, turns_of_one_name, twice_each, unknown_cells, whole, x_put, x_rule, y_now, y_put};
+ghost use Rattle.rpl_tree.specs.Worked.{all_cells, basin_of, both_call, call_of, cap_and_base, count_call, dam, first_of_l, flow_object, hundredth, n_name, n_to_x, negative_outflow, numbers_object, of_unit, one_more, one_or_two, one_to_x, only_slot, over, pair, part_of_n, putting_ahead, raise_and_reset, storage_after, storage_before, sum_ahead, sum_of_slots, three, turns_of_one_name, twice_each, unknown_cells, whole, x_ahead_rule, x_put, x_rule, y_now, y_put};
 ghost use Rattle.rpl_compile.specs.Fires.{ActsAlike, CallAlike, FiresAlike, PoolAlike, RulesAlike, TreeAlike};
 
 /// Whole rulesets: rules that look, rules that call functions, and ends by an unknown value and by a division by 0.
@@ -21,6 +21,8 @@ pub fn rulesets()
     ensures zero { RulesAlike hundredth (only_slot 2 (pos 0)) }
     ensures sum { FiresAlike sum_ahead (basin_of 3 (dam ∷ flow_object ∷ [])) 1 1
         (only_slot 1 (pos 100)) }
+    ensures ahead { FiresAlike (x_ahead_rule (pos 30) (whole (pos 7)))
+        (putting_ahead 30 (basin_of 2 (numbers_object ∷ []))) 1 1 unknown_cells }
     ensures last { FiresAlike sum_ahead (basin_of 3 (dam ∷ flow_object ∷ [])) 1 3
         (only_slot 1 (pos 100)) }
 {}

@@ -19,3 +19,4 @@ mod Price
 mod Ranges
 mod Silent
 mod Stepping
+mod Straight

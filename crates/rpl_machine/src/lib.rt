@@ -22,6 +22,7 @@ mod state;
 mod step;
 mod turn;
 mod turns;
+mod way;
 
 pub use fired::Fired;
 pub use machine::Machine;

@@ -1,7 +1,6 @@
 -- Whatever a firing of code asks for, it can ask for: a slot that can be set, and a value that it can have.
-use Rattle.rw_base.proofs.Common.{◌≡◌, ℕ, zero, suc, ◌-◌, ◌<◌, ◌≤◌, ℤ, pos, Bool, true, false, ◌&&◌, nat_le, List, [], ◌∷◌, drop, length, take, reverse, All, All-append, All-cons, All-nil, Option, Some, None, refl, sym, subst, arith, if◌then◌else◌, nat_tests, none-some, slice_get, slice_get_within}
+use Rattle.rw_base.proofs.Common.{◌≡◌, ℕ, zero, suc, ◌-◌, ◌<◌, ◌≤◌, ℤ, pos, unsigned_abs, Bool, true, false, ◌&&◌, nat_le, List, [], ◌∷◌, drop, length, take, reverse, All, All-append, All-cons, All-nil, Option, Some, None, refl, sym, subst, arith, if◌then◌else◌, nat_tests, none-some, slice_get, slice_get_within}
 use Rattle.std.specs.Prelude.{is_ok}
-use Rattle.std.specs.Ordering.{int_eq}
 use Rattle.rw_base.specs.declared.number.Cell.{Cell}
 use Rattle.rw_base.proofs.Tests.{Decides-from_to}
 use Rattle.rw_model.proofs.Common.{Draft, Placed, all_slots, numbered, slot_at, slot_named}
@@ -13,7 +12,8 @@ use Rattle.rpl_code.specs.declared.block.Block.{Block}
 use Rattle.rpl_code.specs.declared.instruction.Instruction.{Instruction}
 use Rattle.rpl_code.specs.declared.instruction.Instruction.TheVariants as I
 use Rattle.rpl_tree.proofs.Common.{Answer, Outcome, Trail, Value, World, a_date, a_number, a_slot, a_truth, bounds_at, can_set, ended, fire_of, gives, goes_on, is_stuck, is_within, numbers, put_of, slots, stuck, value, with_elements, within_or_end, ◌>>=◌}
-use Rattle.rpl_tree.specs.World.{is_settable_slot, put_to}
+use Rattle.rpl_tree.specs.World.{can_put_ahead, is_settable_slot, put_ahead}
+use Rattle.rpl_tree.proofs.PutsAhead.{is_near}
 use Rattle.rpl_tree.specs.Operators.{elements_of}
 use Rattle.rpl_tree.proofs.FramedTrees.{puts_in}
 use Rattle.rpl_verify.specs.Fits.{end_kinds, locals_of}
@@ -37,8 +37,9 @@ slot_there : (found : Option Placed) → is_settable_slot found ≡ true → (pl
 slot_there None can = absurd (cc can)
 slot_there (Some placed) can = (placed, refl)
 
-can_ask : (basin : Draft) (s : ℕ) (z : ℤ) → can_set basin s ≡ true → is_within (bounds_at basin s) z ≡ true → CanAsk basin (put_to s z)
-can_ask basin s z can within =
+can_ask : (basin : Draft) (s : ℕ) (ahead z : ℤ) → can_set basin s ≡ true → can_put_ahead basin ahead ≡ true
+    → is_within (bounds_at basin s) z ≡ true → CanAsk basin (put_ahead s (unsigned_abs ahead) z)
+can_ask basin s ahead z can near within =
     let there = slot_there (slot_at basin.objects s) can in
     let first : 1 ≤ s = first_known (all_slots basin.objects) s there.0 there.1 in
     let below : s - 1 < length (all_slots basin.objects) = slice_get_within (all_slots basin.objects) (s - 1) there.0 (numbered-found (all_slots basin.objects) s there.0 there.1) in
@@ -47,6 +48,7 @@ can_ask basin s z can within =
       slot = record { first = first; last = omega (arith, first, below) };
       settable = λ placed found. subst (λ (o : Option Placed). is_settable_slot o ≡ true) found can;
       within = record { low = between.0; high = between.1 };
+      ahead = is_near basin ahead near;
     }
 
 -- ---- outcomes
@@ -71,13 +73,15 @@ module _ (basin : Draft) where
   by_test false r s ar as_ = as_
 
   put_asks : (slot : Option ℕ) (ahead : ℤ) (v : Value) → Asks (put_of basin slot ahead v)
-  put_asks (Some s) ahead (a_number z) = by (can_set basin s) (int_eq ahead (pos 0)) (is_within (bounds_at basin s) z) refl refl
+  put_asks (Some s) ahead (a_number z) = by (can_set basin s) (can_put_ahead basin ahead) (is_within (bounds_at basin s) z) refl refl refl
     where
-      by : (can now within : Bool) → can_set basin s ≡ can → is_within (bounds_at basin s) z ≡ within → Asks (if can && now then within_or_end within s z else is_stuck)
-      by true true true can within = All-cons (CanAsk basin) (put_to s z) [] (can_ask basin s z can within) (All-nil (CanAsk basin))
-      by true true false can within = All-nil (CanAsk basin)
-      by true false w can within = All-nil (CanAsk basin)
-      by false now w can within = All-nil (CanAsk basin)
+      by : (can near within : Bool) → can_set basin s ≡ can → can_put_ahead basin ahead ≡ near → is_within (bounds_at basin s) z ≡ within
+          → Asks (if can && near then within_or_end within s (unsigned_abs ahead) z else is_stuck)
+      by true true true can near within =
+          All-cons (CanAsk basin) (put_ahead s (unsigned_abs ahead) z) [] (can_ask basin s ahead z can near within) (All-nil (CanAsk basin))
+      by true true false can near within = All-nil (CanAsk basin)
+      by true false w can near within = All-nil (CanAsk basin)
+      by false n w can near within = All-nil (CanAsk basin)
   put_asks (Some s) ahead _ = All-nil (CanAsk basin)
   put_asks None ahead v = All-nil (CanAsk basin)
 

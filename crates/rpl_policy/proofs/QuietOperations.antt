@@ -159,7 +159,7 @@ AreQuiet [] = Unit {0}
 AreQuiet (f ∷ fs) = ((args : List Value) → Quiet (f.does args)) × AreQuiet fs
 
 all_quiet : AreQuiet predefined_functions
-all_quiet = (answer_quiet 1, (answer_quiet 2, (answer_quiet 3, (answer_quiet 4, (answer_quiet 5, (answer_quiet 6, tt))))))
+all_quiet = (answer_quiet 1, (answer_quiet 2, (answer_quiet 3, (answer_quiet 4, (answer_quiet 5, (answer_quiet 6, (answer_quiet 7, tt)))))))
 
 by_name : (b : Bool) (f : Function) (found : Option Function) (args : List Value) → Quiet (f.does args) → Quiet (of_function found args)
     → Quiet (of_function (if b then Some f else found) args)

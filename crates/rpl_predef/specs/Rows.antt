@@ -5,7 +5,7 @@ use Rattle.rw_base.specs.Predefined.{predefined_of}
 
 -- the table's rows, by number
 abbrev pub IsRow : ℕ → Type 0
-IsRow k = (1 ≤ k) × (k ≤ 6)
+IsRow k = (1 ≤ k) × (k ≤ 7)
 
 -- whatever is answered on quantities is what row k of the table says
 abbrev pub Computes : ℕ → (ℤ → ℤ → ℤ → ℤ → Type 0) → Type 0

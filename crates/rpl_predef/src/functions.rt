@@ -1,4 +1,4 @@
-// The six functions of the table, each of which is proved to be its row. A row with fewer than three arguments doesn't
+// The seven functions of the table, each of which is proved to be its row. A row with fewer than three arguments doesn't
 // look at the others.
 ghost use Rattle.std.specs.Prelude.{◌≡◌};
 ghost use Rattle.rw_base.specs.Predefined.{predefined_of};
@@ -50,4 +50,11 @@ pub fn sign(a: Qty, _b: Qty, _c: Qty) -> Qty
     ensures { result ≡ predefined_of 6 a _b _c }
 {
     Qty::of(a.get().signum()).unwrap()
+}
+
+/// The floor of a * b / c, brought within -Q and Q, and 0 where c is 0.
+pub fn mul_div(a: Qty, b: Qty, c: Qty) -> Qty
+    ensures { result ≡ predefined_of 7 a b c }
+{
+    a.mul_div(b, c)
 }

@@ -7,7 +7,7 @@ use rw_base::Qty;
 /// A function beside the row of the table that it computes.
 #[derive(Drop)]
 pub struct Predef {
-    /// The number of its row, from 1 to 6.
+    /// The number of its row, from 1 to 7.
     pub row: u8,
     /// The function, which may be called on all quantities.
     pub function: fn(Qty, Qty, Qty) -> Qty,

@@ -7,12 +7,12 @@ use crate::Predef;
 use rw_base::Qty;
 
 // How many rows the table has.
-const ROWS: usize = 6;
+const ROWS: usize = 7;
 
 /// Why functions are no table.
 #[derive(Clone, Copy, Debug, PartialEq, Eq)]
 pub enum PredefsFault {
-    /// There aren't 6 functions, but so many.
+    /// There aren't 7 functions, but so many.
     WrongCount(usize),
     /// The function in this place, counted from 1, is of another row.
     WrongPlace(u8),
@@ -23,13 +23,13 @@ pub enum PredefsFault {
 pub struct Predefs {
     /// The functions, in that order.
     pub rows: Vec<Predef>,
-    ghost whole: { length rows.items ≡ 6 },
+    ghost whole: { length rows.items ≡ 7 },
     ghost ordered: { AreInOrder (map (λ p. p.row) rows.items) },
 }
 
 // The first place, counted from 1, with a function of another row.
 fn first_wrong(rows: &[Predef]) -> Option<u8>
-    requires { length rows.now ≤ 6 }
+    requires { length rows.now ≤ 7 }
     ensures { result ≡ first_wrong 1 (map (λ p. p.row) rows.now) }
 {
     let mut place = 1u8;
@@ -43,17 +43,17 @@ fn first_wrong(rows: &[Predef]) -> Option<u8>
 }
 
 impl Predefs {
-    /// The table of these functions: Min, Max, Abs, Clamp, RoundDown, Sign.
+    /// The table of these functions: Min, Max, Abs, Clamp, RoundDown, Sign, MulDiv.
     ///
     /// Their count is judged first. `WrongPlace` names the first function of another row.
     pub fn of(rows: Vec<Predef>) -> Result<Predefs, PredefsFault>
         ensures accepted { IsOk result
-            ↔ ((length rows.items ≡ 6) × AreInOrder (map (λ p. p.row) rows.items)) }
+            ↔ ((length rows.items ≡ 7) × AreInOrder (map (λ p. p.row) rows.items)) }
         ensures rows { IfOk result (λ predefs. predefs.rows ≡ rows) }
         ensures count { (found : ℕ) → result ≡ Err (PredefsFault.WrongCount found)
-            → (found ≡ length rows.items) × (found ≢ 6) }
+            → (found ≡ length rows.items) × (found ≢ 7) }
         ensures place { (place : ℕ) → result ≡ Err (PredefsFault.WrongPlace place)
-            → (length rows.items ≡ 6) × (first_wrong 1 (map (λ p. p.row) rows.items) ≡ Some place) }
+            → (length rows.items ≡ 7) × (first_wrong 1 (map (λ p. p.row) rows.items) ≡ Some place) }
     {
         if rows.len() != ROWS {
             return Err(PredefsFault::WrongCount(rows.len()));

@@ -3,3 +3,4 @@ pub mod FramedTrees
 pub mod Standing
 pub mod Viewed
 pub mod Common
+pub mod PutsAhead

@@ -68,6 +68,7 @@ predefined_functions =
     predefined 4 (codes "Clamp") (number_kind ∷ number_kind ∷ number_kind ∷ []) ∷
     predefined 5 (codes "RoundDown") (number_kind ∷ number_kind ∷ []) ∷
     predefined 6 (codes "Sign") (number_kind ∷ []) ∷
+    predefined 7 (codes "MulDiv") (number_kind ∷ number_kind ∷ number_kind ∷ []) ∷
     []
 
 -- ---- expressions

@@ -29,11 +29,16 @@ basin_of days objects = record {
     agenda = HighFirst;
     object_limit = 50;
     rule_limit = 20;
+    ahead = 0;
   };
   objects = objects;
   links = [];
   bounds = [];
 }
+
+-- the basin, where rules put up to so many days ahead
+abbrev pub putting_ahead : ℕ → Draft → Draft
+putting_ahead most basin = let control = basin.control in record basin { control = record control { ahead = most } }
 
 -- a reservoir that begins with 1000 m3; its slots are Inflow, Outflow and Storage
 abbrev pub dam : Object
@@ -192,6 +197,13 @@ n_to_x = acts_of (x_put n_name ∷ [])
 abbrev pub x_rule : Tree → List Declared
 x_rule e = rule_of (x_put e ∷ []) ∷ []
 
+-- `D.X[t + n] := e;`
+abbrev pub x_put_ahead : ℤ → Tree → Act
+x_put_ahead n e = assign (codes "D") (codes "X") n e
+
+abbrev pub x_ahead_rule : ℤ → Tree → List Declared
+x_ahead_rule n e = rule_of (x_put_ahead n e ∷ []) ∷ []
+
 -- `Dam.Outflow[t] := -1;` and `Canal.Seepage[t] := 1;`
 abbrev pub negative_outflow : List Declared
 negative_outflow = rule_of (puts_at (codes "Dam") (codes "Outflow") (one Minus (whole (pos 1))) ∷ []) ∷ []
@@ -290,6 +302,10 @@ ended_by end looked count = fire end looked [] count
 -- what the first rule does at the first of two days of the data object with plain numbers
 abbrev pub rules_do : List Declared → (Cell → Option ℤ) → Option Fire
 rules_do rules values = mean rules (basin_of 2 (numbers_object ∷ [])) 1 1 values
+
+-- what the rule `D.X[t + n] := 7;` does there, where rules put up to so many days ahead
+abbrev pub x_ahead_by : ℕ → ℤ → Option Fire
+x_ahead_by most n = mean (x_ahead_rule n (whole (pos 7))) (putting_ahead most (basin_of 2 (numbers_object ∷ []))) 1 1 unknown_cells
 
 -- what the rule `D.X[t] := e;` does there, where nothing is known
 abbrev pub x_by : Tree → Option Fire

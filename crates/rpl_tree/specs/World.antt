@@ -1,6 +1,6 @@
 -- What a firing sees of the basin: slots, the values of cells and those before the run, dates, tables, and the slots that it sets.
 use Rattle.std.specs.Prelude.{ℕ, ℤ, pos, int_le, unsigned_abs, Bool, true, false, ◌&&◌, List, [], ◌∷◌, Option, Some, None, is_some, option_and_then, if◌then◌else◌}
-use Rattle.std.specs.Ordering.{int_eq}
+use Rattle.rw_base.specs.Range.{is_from_to}
 use Rattle.rw_base.specs.declared.number.Cell.{Cell}
 use Rattle.rw_calendar.specs.declared.moment.Moment.{Moment}
 use Rattle.rw_calendar.specs.Stamps.{begin_of}
@@ -119,16 +119,27 @@ is_within bounds z = int_le bounds.0 z && int_le z bounds.1
 abbrev pub bounds_at : Draft → ℕ → Bounds
 bounds_at basin slot = bounds_in basin.objects basin.links basin.bounds slot
 
+-- rules can put so many timesteps ahead
+abbrev pub can_put_ahead : Draft → ℤ → Bool
+can_put_ahead basin ahead = is_from_to (pos 0) (pos basin.control.ahead) ahead
+
+-- a put so many timesteps ahead
+abbrev pub put_ahead : ℕ → ℕ → ℤ → RulePut
+put_ahead slot ahead z = record { value = z; slot = record { 0 = slot }; ahead = ahead }
+
+-- a put at the timestep itself
 abbrev pub put_to : ℕ → ℤ → RulePut
-put_to slot z = record { value = z; slot = record { 0 = slot }; ahead = 0 }
+put_to slot z = put_ahead slot 0 z
 
 -- a put of a value that the slot can have is executed; any other ends the firing
-abbrev pub within_or_end : Bool → ℕ → ℤ → Outcome (Unit {0})
-within_or_end true slot z = record { answer = value tt; trail = record { looked = []; puts = put_to slot z ∷ []; count = 1 } }
-within_or_end false slot z = ends (OutOfRange z) 1
+abbrev pub within_or_end : Bool → ℕ → ℕ → ℤ → Outcome (Unit {0})
+within_or_end true slot ahead z =
+    record { answer = value tt; trail = record { looked = []; puts = put_ahead slot ahead z ∷ []; count = 1 } }
+within_or_end false slot ahead z = ends (OutOfRange z) 1
 
--- a put of a number to a slot that can be set, at the timestep in which the rule fires
+-- a put of a number to a slot that can be set, not too many timesteps ahead
 abbrev pub put_of : Draft → Option ℕ → ℤ → Value → Outcome (Unit {0})
 put_of basin (Some s) ahead (a_number z) =
-    if can_set basin s && int_eq ahead (pos 0) then within_or_end (is_within (bounds_at basin s) z) s z else is_stuck
+    if can_set basin s && can_put_ahead basin ahead then within_or_end (is_within (bounds_at basin s) z) s (unsigned_abs ahead) z
+    else is_stuck
 put_of basin _ ahead _ = is_stuck

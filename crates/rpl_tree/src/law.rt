@@ -12,11 +12,11 @@ ghost use Rattle.rpl_tree.specs.Frame.{AreAlike};
 ghost use Rattle.rpl_tree.specs.Operators.{is_quantity};
 ghost use Rattle.rpl_tree.specs.Value.{truth_kind};
 ghost use Rattle.rpl_tree.specs.Tree.{Declared, Tree, brackets, bind, branch, call, choice, convert, each, list, mapped, name, no_acts, now, one, slot, truth, two, at, with_name};
-ghost use Rattle.rpl_tree.specs.World.{World, cell_of, put_to};
+ghost use Rattle.rpl_tree.specs.World.{World, cell_of, put_ahead, put_to};
 ghost use Rattle.rpl_tree.specs.Mean.{Env, Function, kind_in, mean, value_of};
 ghost use Rattle.rpl_tree.specs.Count.{locals_of, nodes_of};
 ghost use Rattle.rpl_tree.specs.Budget.{budget, budget_of};
-ghost use Rattle.rpl_tree.specs.Worked.{acts_do, ahead, all_cells, basin_of, both_call, call_of, called_by, canal, cap_and_base, count_call, dam, done_by, ended_by, fire, first_of_l, flow_object, hundredth, n_name, n_to_x, negative_outflow, numbers_object, of_unit, one_more, one_or_two, one_to_x, only_slot, over, pair, part_of_n, pool_by, raise_and_reset, rules_do, seepage_set, storage_after, storage_before, sum, sum_ahead, sum_of_slots, sum_too_early, three, trees_of, turns_of_one_name, twice_each, unknown_cells, whole, with_functions, x_by, x_ends, x_is, x_put, x_rule, x_wants_y, y_now, y_put};
+ghost use Rattle.rpl_tree.specs.Worked.{acts_do, ahead, all_cells, basin_of, both_call, call_of, called_by, canal, cap_and_base, count_call, dam, done_by, ended_by, fire, first_of_l, flow_object, hundredth, n_name, n_to_x, negative_outflow, numbers_object, of_unit, one_more, one_or_two, one_to_x, only_slot, over, pair, part_of_n, pool_by, raise_and_reset, rules_do, seepage_set, storage_after, storage_before, sum, sum_ahead, sum_of_slots, sum_too_early, three, trees_of, turns_of_one_name, twice_each, unknown_cells, whole, with_functions, x_ahead_by, x_by, x_ends, x_is, x_put, x_rule, x_wants_y, y_now, y_put};
 
 /// A firing depends on nothing but the cells at which it looks: where others hold something else, the rule does the same.
 /// One that isn't done asks for nothing.
@@ -245,6 +245,15 @@ pub fn calls()
     ensures argument_budget { budget_of (with_functions (count_call (whole (pos 1)))) 3
         ≡ budget 22 0 1 14 }
     ensures result_budget { budget_of (with_functions both_call) 3 ≡ budget 12 0 1 4 }
+{}
+
+/// Puts ahead: as many timesteps as the basin allows, past the last one too, where the run leaves them out.
+pub fn puts_ahead()
+    ensures thirty { x_ahead_by 30 (pos 30) ≡ fire Done [] (put_ahead 1 30 (pos 7) ∷ []) 2 }
+    ensures tomorrow { x_ahead_by 30 (pos 1) ≡ fire Done [] (put_ahead 1 1 (pos 7) ∷ []) 2 }
+    ensures too_far { x_ahead_by 30 (pos 31) ≡ None }
+    ensures never { x_ahead_by 0 (pos 1) ≡ None }
+    ensures behind { x_ahead_by 30 (neg_ℤ (pos 1)) ≡ None }
 {}
 
 /// Statements: puts are asked for in the order in which they are executed, all or, where the firing ends before, none. A

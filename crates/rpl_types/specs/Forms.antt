@@ -1,6 +1,5 @@
 -- The type that each form has by the types of its parts, or why it has none.
 use Rattle.std.specs.Prelude.{ℕ, ◌+◌, ℤ, pos, neg_ℤ, ◌*ℤ◌, bytes_eq, Bool, true, false, ◌&&◌, List, [], ◌∷◌, length, Option, Some, None, unwrap_or, Ok, Err, if◌then◌else◌}
-use Rattle.std.specs.Ordering.{int_eq}
 use Rattle.rw_base.specs.Answers.{unless_refused}
 use Rattle.rw_base.specs.Dimension.{Dimension, times_of, per_of}
 use Rattle.rw_base.specs.Range.{is_from_to}
@@ -15,7 +14,7 @@ use Rattle.rpl_tree.specs.declared.words.TwoWord.TheVariants.{Or, And, Equal, Un
 use Rattle.rpl_tree.specs.declared.words.ConvertWord.{ConvertWord}
 use Rattle.rpl_tree.specs.declared.words.ConvertWord.TheVariants.{StorageToElevation, ElevationToStorage}
 use Rattle.rpl_tree.specs.Operators.{is_quantity}
-use Rattle.rpl_tree.specs.World.{can_set}
+use Rattle.rpl_tree.specs.World.{can_put_ahead, can_set}
 use Rattle.rpl_tree.specs.Tree.{Tree, at}
 use Rattle.rpl_tree.specs.declared.rpl_type.RplType.{RplType}
 use Rattle.rpl_tree.specs.declared.rpl_type.RplType.TheVariants.{Numeric, Boolean, Datetime, Slot, NumericList, SlotList}
@@ -216,7 +215,8 @@ total_type total body = unless_refused (misfit body total) total
 abbrev pub found_target_misfit : Draft → Option ℕ → ℤ → RplType → Option TypeKind
 found_target_misfit basin None ahead t = Some UnknownSlot
 found_target_misfit basin (Some s) ahead t =
-    if can_set basin s then (if int_eq ahead (pos 0) then misfit t (Numeric (dim_of basin.objects s)) else Some TargetStep) else Some NotSettable
+    if can_set basin s then (if can_put_ahead basin ahead then misfit t (Numeric (dim_of basin.objects s)) else Some TargetStep)
+    else Some NotSettable
 
 abbrev pub target_misfit : Draft → List ℕ → List ℕ → ℤ → RplType → Option TypeKind
 target_misfit basin o s ahead t = found_target_misfit basin (slot_named basin.objects o s) ahead t

@@ -2,7 +2,7 @@
 use Rattle.std.specs.Prelude.{ℕ, ◌==◌, ℤ, pos, int_le, unsigned_abs, codes, bytes_eq, Bool, false, ◌&&◌, ◌||◌, List, [], ◌∷◌, length, map, Option, Some, None, is_some, Ok, Err, if◌then◌else◌}
 use Rattle.std.specs.List.{list_any}
 use Rattle.rw_base.specs.Answers.{unless_refused}
-use Rattle.rw_base.specs.Dimension.{Dimension}
+use Rattle.rw_base.specs.Dimension.{Dimension, times_per_of}
 use Rattle.rw_base.specs.Unit.{units, unit_in, plain_number}
 use Rattle.rpl_tree.specs.Kinds.{Head}
 use Rattle.rpl_tree.specs.Mean.{heads_of, predefined_functions}
@@ -12,7 +12,7 @@ use Rattle.rpl_tree.specs.declared.rpl_type.RplType.TheVariants.{Numeric, Boolea
 use Rattle.rpl_types.specs.declared.type_kind.TypeKind.{TypeKind}
 use Rattle.rpl_types.specs.declared.type_kind.TypeKind.TheVariants.{ListTooLong, NotEarlier, UnknownName, UnknownUnit, WrongCount, WrongType}
 use Rattle.rpl_types.specs.Fits.{Typed, arguments_misfit, longest, misfit_among, sooner}
-use Rattle.rpl_types.specs.Forms.{Scope, plain}
+use Rattle.rpl_types.specs.Forms.{Scope, a_dimension, measured_in, plain}
 
 -- ---- calls
 
@@ -44,13 +44,22 @@ abbrev pub numbers_type : (Dimension → Dimension) → List RplType → Typed
 numbers_type made (Numeric d ∷ ts) = unless_refused (misfit_among ts (Numeric d)) (Numeric (made d))
 numbers_type made _ = Err WrongType
 
--- a sign measures nothing, and any other predefined function answers what its arguments are
+-- a sign measures nothing, and any other function of numbers that measure the same answers what its arguments are
 abbrev pub measured_by : List ℕ → Dimension → Dimension
 measured_by f d = if bytes_eq (codes "Sign") f then plain_number else d
 
--- the types of its arguments, where it takes so many
+-- a product of two numbers over a third measures what they do together
+abbrev pub product_over_type : List RplType → Typed
+product_over_type (Numeric a ∷ Numeric b ∷ Numeric c ∷ []) = measured_in (a_dimension (times_per_of a b c))
+product_over_type _ = Err WrongType
+
+-- what a predefined function makes of its arguments
+abbrev pub made_by : List ℕ → List RplType → Typed
+made_by f ts = if bytes_eq (codes "MulDiv") f then product_over_type ts else numbers_type (measured_by f) ts
+
+-- by the types of its arguments, where it takes so many
 abbrev pub predefined_type : List ℕ → ℕ → List RplType → Typed
-predefined_type f count ts = if length ts == count then numbers_type (measured_by f) ts else Err WrongCount
+predefined_type f count ts = if length ts == count then made_by f ts else Err WrongCount
 
 abbrev pub unknown_type : List (List ℕ) → List ℕ → Typed
 unknown_type later f = if list_any (bytes_eq f) later then Err NotEarlier else Err UnknownName

@@ -6,7 +6,7 @@ use Rattle.rw_model.specs.Draft.{Draft}
 use Rattle.rw_model.specs.Slot.{flow_unit}
 use Rattle.rpl_tree.specs.declared.words.TwoWord.TheVariants.{Plus, Times}
 use Rattle.rpl_tree.specs.Tree.{numeric, numeric_list, Tree, name, slot, each, two, Act, Parameter, Declared, function}
-use Rattle.rpl_tree.specs.Worked.{at_now, basin_of, call_of, canal, dam, flow_object, l_name, n_name, numbers_object, of_unit, pool, puts_at, rule_of, s_name, whole, x_rule}
+use Rattle.rpl_tree.specs.Worked.{at_now, basin_of, call_of, canal, dam, flow_object, l_name, n_name, numbers_object, of_unit, pool, putting_ahead, puts_at, rule_of, s_name, whole, x_ahead_rule, x_rule}
 use Rattle.rpl_tree.specs.declared.rpl_type.RplType.{RplType}
 use Rattle.rpl_tree.specs.declared.rpl_type.RplType.TheVariants.{Datetime, Numeric, NumericList, Slot}
 use Rattle.rpl_types.specs.declared.type_kind.TypeKind.{TypeKind}
@@ -35,6 +35,10 @@ judged_acts acts = judged worked_basin (rule_of acts ∷ [])
 -- what is answered to `D.X[t] := e;`, where e is node 2
 abbrev pub judged_x : Tree → Answer
 judged_x e = judged worked_basin (x_rule e)
+
+-- what is answered to `D.X[t + n] := 7;`, where rules put up to so many days ahead
+abbrev pub judged_ahead : ℕ → ℤ → Answer
+judged_ahead most n = judged (putting_ahead most worked_basin) (x_ahead_rule n (whole (pos 7)))
 
 -- what is answered to `Object.Slot[t] := e;`
 abbrev pub judged_put : List ℕ → List ℕ → Tree → Answer

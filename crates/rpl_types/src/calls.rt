@@ -4,13 +4,13 @@ ghost use Rattle.std.specs.List.{list_any};
 ghost use Rattle.rpl_tree.specs.Seen.{declared_of};
 ghost use Rattle.rpl_types.specs.Fits.{arguments_misfit, length_misfit, longest, misfit_among, misfit_in_places, sooner};
 ghost use Rattle.rpl_types.specs.Forms.{list_type};
-ghost use Rattle.rpl_types.specs.Functions.{call_type, measured_by, numbers_type, predefined_count, predefined_type, signature_named, unknown_type, declared_type};
+ghost use Rattle.rpl_types.specs.Functions.{call_type, measured_by, numbers_type, predefined_count, predefined_type, product_over_type, signature_named, unknown_type, declared_type};
 ghost use Rattle.rpl_types.specs.Judged.{function_names};
 ghost use Rattle.rpl_types.specs.Seen.{callable_of, signature_of, signatures_of};
 
 use crate::TypeKind;
 use crate::fits::{LONGEST, length_misfit, misfit, sooner};
-use crate::forms::plain_number;
+use crate::forms::{measured, plain_number};
 use rpl_tree::{Declaration, RplType};
 use rw_base::Dim;
 
@@ -108,6 +108,8 @@ pub fn predefined_count(name: &[u8]) -> Option<usize>
         Some(2)
     } else if is_same_name(b"Sign", name) {
         Some(1)
+    } else if is_same_name(b"MulDiv", name) {
+        Some(3)
     } else {
         None
     }
@@ -138,13 +140,30 @@ fn numbers_type(name: &[u8], args: &[RplType]) -> Result<RplType, TypeKind>
     }
 }
 
+// A product of two numbers over a third.
+#[tactic(auto, using(crate::proofs::Dimensions::product_found))]
+fn product_over_type(args: &[RplType]) -> Result<RplType, TypeKind>
+    ensures { result ≡ product_over_type args.now }
+{
+    match args {
+        [
+            RplType::Numeric(a),
+            RplType::Numeric(b),
+            RplType::Numeric(c),
+        ] => measured(a.times_per(*b, *c)),
+        _ => Err(TypeKind::WrongType),
+    }
+}
+
 fn predefined_type(name: &[u8], count: usize, args: &[RplType]) -> Result<RplType, TypeKind>
     ensures { result ≡ predefined_type name.now count args.now }
 {
-    if args.len() == count {
-        numbers_type(name, args)
-    } else {
+    if args.len() != count {
         Err(TypeKind::WrongCount)
+    } else if is_same_name(b"MulDiv", name) {
+        product_over_type(args)
+    } else {
+        numbers_type(name, args)
     }
 }
 

@@ -182,7 +182,7 @@ fn divide_type(a: &RplType, b: &RplType) -> Result<RplType, TypeKind>
 }
 
 // A number of a dimension that a product has, if it has one.
-fn measured(dim: Option<Dim>) -> Result<RplType, TypeKind>
+pub fn measured(dim: Option<Dim>) -> Result<RplType, TypeKind>
     ensures { result ≡ measured_in dim }
 {
     match dim {

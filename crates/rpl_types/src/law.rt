@@ -16,7 +16,7 @@ ghost use Rattle.rpl_types.specs.HasType.{IsTyped};
 ghost use Rattle.rpl_types.specs.Nodes.{Types};
 ghost use Rattle.rpl_tree.specs.Budget.{budget, limits};
 ghost use Rattle.rpl_types.specs.Judged.{cost_refusal, judged, judged_types, type_at};
-ghost use Rattle.rpl_types.specs.Worked.{a_count, a_flow, a_length, a_step, a_volume, accepted, added_to_storage, cubed, dam_and_flow, function_of_list, inflow_now, inflow_slot, judged_acts, judged_put, judged_with, judged_x, list_function, look_types, metre, nested_loops, number_function, number_param, numbers, one_step, pool_storage, refused, twice, twice_call, worked_basin, x_slot};
+ghost use Rattle.rpl_types.specs.Worked.{a_count, a_flow, a_length, a_step, a_volume, accepted, added_to_storage, cubed, dam_and_flow, function_of_list, inflow_now, inflow_slot, judged_acts, judged_ahead, judged_put, judged_with, judged_x, list_function, look_types, metre, nested_loops, number_function, number_param, numbers, one_step, pool_storage, refused, twice, twice_call, worked_basin, x_slot};
 
 /// What is accepted is typed: each expression has a type by those of its parts, each value fits the slot that it is set to,
 /// each condition is a truth, what a function answers fits what its head says, and each cost is within its limit.
@@ -77,6 +77,8 @@ pub fn targets()
         ≡ refused NotSettable 1 1 }
     ensures later { judged_acts (assign (codes "D") (codes "X") (pos 1) (whole (pos 1)) ∷ [])
         ≡ refused TargetStep 1 1 }
+    ensures thirty { judged_ahead 30 (pos 30) ≡ accepted (None ∷ a_count ∷ []) }
+    ensures too_far { judged_ahead 30 (pos 31) ≡ refused TargetStep 1 1 }
     ensures value_first { judged_put (codes "Dam") (codes "Level") n_name ≡ refused UnknownName 1 2 }
     ensures slot_first { judged_acts (assign (codes "Dam") (codes "Level") (pos 1) now ∷ [])
         ≡ refused UnknownSlot 1 1 }

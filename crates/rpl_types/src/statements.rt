@@ -2,6 +2,7 @@
 ghost use Rattle.std.specs.Prelude.{◌≡◌};
 ghost use Rattle.rpl_tree.specs.Seen.{act_of, acts_in, tree_of};
 ghost use Rattle.rpl_tree.specs.Tree.{assign, branch, with_name};
+ghost use Rattle.rpl_tree.specs.World.{can_put_ahead};
 ghost use Rattle.rpl_types.specs.Forms.{target_misfit};
 ghost use Rattle.rpl_types.specs.Gives.{Stands, VisitsAct, VisitsActs};
 
@@ -26,6 +27,13 @@ fn stand(node: usize, found: Option<TypeKind>) -> Result<(), Stop>
     }
 }
 
+/// Whether rules can put so many timesteps ahead.
+fn can_put_ahead(basin: &Basin, ahead: i64) -> bool
+    ensures { result ≡ can_put_ahead basin.now ahead }
+{
+    0 <= ahead && ahead <= i64::from(basin.control().ahead)
+}
+
 /// Why a value of the type can't be set there.
 fn target_misfit(basin: &Basin, target: &SlotText, ahead: i64, t: &RplType) -> Option<TypeKind>
     ensures { result ≡ target_misfit basin.now target.now.object.items target.now.slot.items ahead t.now }
@@ -36,7 +44,7 @@ fn target_misfit(basin: &Basin, target: &SlotText, ahead: i64, t: &RplType) -> O
     if !basin.settable(slot) {
         return Some(TypeKind::NotSettable);
     }
-    if ahead != 0 {
+    if !can_put_ahead(basin, ahead) {
         return Some(TypeKind::TargetStep);
     }
     misfit(t, &RplType::Numeric(basin.dim(slot)))

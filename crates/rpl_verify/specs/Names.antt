@@ -1,5 +1,5 @@
 -- Names that instructions use: what is refused of them, whatever the operands are.
-use Rattle.std.specs.Prelude.{ℕ, ◌==◌, nat_lt, List, Option, Some, None, if◌then◌else◌}
+use Rattle.std.specs.Prelude.{ℕ, ◌==◌, nat_le, nat_lt, List, Option, Some, None, if◌then◌else◌}
 use Rattle.rw_model.specs.Draft.{Draft}
 use Rattle.rw_model.specs.Objects.{slot_named, numbered}
 use Rattle.rpl_code.specs.declared.kind.ValueKind.{ValueKind}
@@ -28,15 +28,15 @@ abbrev pub unless_there : {A : Type 0} → Option A → Option VerifyKind
 unless_there None = Some NoSuchName
 unless_there (Some thing) = None
 
--- a rule puts at the timestep in which it fires, and a function never
-abbrev pub put_step_misfit : BlockHead → ℕ → Option VerifyKind
-put_step_misfit (Function result parameters) ahead = Some PutInFunction
-put_step_misfit Rule ahead = if ahead == 0 then None else Some TargetStep
+-- a rule puts at most so many timesteps ahead, and a function never
+abbrev pub put_step_misfit : ℕ → BlockHead → ℕ → Option VerifyKind
+put_step_misfit most (Function result parameters) ahead = Some PutInFunction
+put_step_misfit most Rule ahead = if nat_le ahead most then None else Some TargetStep
 
 abbrev pub put_misfit : Scope → Option ℕ → ℕ → Option VerifyKind
 put_misfit scope None ahead = Some NoSuchName
 put_misfit scope (Some slot) ahead =
-    if can_set scope.basin slot then put_step_misfit scope.head ahead else Some NotSettable
+    if can_set scope.basin slot then put_step_misfit scope.basin.control.ahead scope.head ahead else Some NotSettable
 
 -- a call of a block, from the block of a number
 abbrev pub call_misfit : ℕ → ℕ → Option BlockHead → Option VerifyKind

@@ -13,7 +13,7 @@ use Rattle.rpl_code.specs.declared.block.BlockHead.TheVariants.{Rule, Function}
 use Rattle.rpl_code.specs.declared.block.Block.{Block}
 use Rattle.rpl_code.specs.Worked.{plain_rule}
 use Rattle.rpl_tree.specs.Budget.{Budget, budget}
-use Rattle.rpl_tree.specs.Worked.{basin_of, dam, flow_object, numbers_object, pool, unknown_cells}
+use Rattle.rpl_tree.specs.Worked.{basin_of, dam, flow_object, numbers_object, pool, putting_ahead, unknown_cells}
 use Rattle.rpl_verify.specs.declared.resolved.Resolved.{Resolved}
 use Rattle.rpl_verify.specs.declared.verify_kind.VerifyKind.{VerifyKind}
 use Rattle.rpl_verify.specs.Names.{Scope}
@@ -79,7 +79,11 @@ misfit_in blocks = first_misfit one_dam blocks
 abbrev pub misfit_of : List ValueKind → List Instruction → Option Refusal
 misfit_of locals lines = misfit_in (rule_with locals lines ∷ [])
 
--- the same behind a list of two numbers, in a rule with one local
+-- the same where rules put up to so many days ahead
+abbrev pub misfit_ahead : ℕ → List Instruction → Option Refusal
+misfit_ahead most lines = first_misfit (putting_ahead most one_dam) (rule_with [] lines ∷ [])
+
+-- behind a list of two numbers, in a rule with one local
 abbrev pub over_a_list : ValueKind → List Instruction → Option Refusal
 over_a_list local lines = misfit_of (local ∷ []) (pair_then lines)
 

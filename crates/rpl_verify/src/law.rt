@@ -22,7 +22,7 @@ ghost use Rattle.rpl_verify.specs.Fits.{AreFit, Before, Refusal, before, befores
 ghost use Rattle.rpl_verify.specs.Names.{Scope};
 ghost use Rattle.rpl_verify.specs.Places.{spots};
 ghost use Rattle.rpl_verify.specs.Ways.{AreAcceptable, IsMost, sum_on, words_on};
-ghost use Rattle.rpl_verify.specs.Worked.{IsWayIn, along, along_rule, put_or_not, cap_and_base_code, code_does, dam_and_flow, doubled_items, earlier_code, endless, hundredth_code, long_locals, many_puts, misfit_at, misfit_in, function_with, misfit_of, nested, number, number_function, numbers_basin, looks_of_firing, one_dam, one_or_sum, one_or_two, over_a_list, pair_then, put_before_look, put_outflow, put_spill, puts_of_firing, raise_and_reset_code, rule_with, ruled, second_slot, seen_before, skipped, sum_of_slots, spilling_dam, sum_ahead_code, sum_or_two, three_counted, tower, words_of_firing, x_by_truth, x_of, x_of_pool, x_slot, y_slot, put_x, resolved_of};
+ghost use Rattle.rpl_verify.specs.Worked.{IsWayIn, along, along_rule, put_or_not, cap_and_base_code, code_does, dam_and_flow, doubled_items, earlier_code, endless, hundredth_code, long_locals, many_puts, misfit_ahead, misfit_at, misfit_in, function_with, misfit_of, nested, number, number_function, numbers_basin, looks_of_firing, one_dam, one_or_sum, one_or_two, over_a_list, pair_then, put_before_look, put_outflow, put_spill, puts_of_firing, raise_and_reset_code, rule_with, ruled, second_slot, seen_before, skipped, sum_of_slots, spilling_dam, sum_ahead_code, sum_or_two, three_counted, tower, words_of_firing, x_by_truth, x_of, x_of_pool, x_slot, y_slot, put_x, resolved_of};
 
 /// Codes that fit. What a jump leaves out is judged as well, with the operands that the target behind the jump declares.
 pub fn codes_that_fit()
@@ -53,6 +53,8 @@ pub fn misfits_of_names()
     ensures in_function { misfit_in (number_function (number 1 ∷ put_outflow 0 ∷ []) ∷ [])
         ≡ misfit_at PutInFunction 1 }
     ensures ahead { misfit_of [] (number 1 ∷ put_outflow 1 ∷ []) ≡ misfit_at TargetStep 1 }
+    ensures thirty { misfit_ahead 30 (number 1 ∷ put_outflow 30 ∷ []) ≡ None }
+    ensures too_far { misfit_ahead 30 (number 1 ∷ put_outflow 31 ∷ []) ≡ misfit_at TargetStep 1 }
     ensures derived_first { first_misfit spilling_dam (number_function (put_spill 1 ∷ []) ∷ [])
         ≡ misfit_at NotSettable 0 }
     ensures function_first { misfit_in (number_function (put_outflow 1 ∷ []) ∷ [])
@@ -271,19 +273,19 @@ pub fn lists()
 /// of a block that doesn't fit there is nothing.
 pub fn resolved_codes()
     ensures seven_kept { resolved_code one_dam seven_kept
-        ≡ (R.Push (pos 7) ∷ R.Store 0 1 ∷ R.Push (pos 50) ∷ R.Put 2 ∷ R.End ∷ []) ∷ [] }
+        ≡ (R.Push (pos 7) ∷ R.Store 0 1 ∷ R.Push (pos 50) ∷ R.Put 2 0 ∷ R.End ∷ []) ∷ [] }
     ensures sum_ahead { resolved_code dam_and_flow sum_ahead_code
         ≡ (R.Push (pos 0) ∷ R.Now ∷ R.Load 0 1 ∷ R.Sum ∷ R.Read ∷ R.End ∷ [])
         ∷ (R.Push (pos 0) ∷ R.Push (pos 1) ∷ R.List 2 ∷ R.Push (pos 0) ∷ R.Store 1 1
         ∷ R.Foreach 0 2 12 ∷ R.Load 1 1 ∷ R.Load 0 1 ∷ R.Invoke 1 1 0 ∷ R.Sum ∷ R.Store 1 1 ∷ R.Next
-        ∷ R.Load 1 1 ∷ R.Put 4 ∷ R.End ∷ []) ∷ [] }
+        ∷ R.Load 1 1 ∷ R.Put 4 0 ∷ R.End ∷ []) ∷ [] }
     ensures doubled_items { resolved_code one_dam doubled_items
         ≡ (R.Push (pos 4) ∷ R.Push (pos 5) ∷ R.List 2 ∷ R.Map 0 2 8 ∷ R.Load 0 1 ∷ R.Load 0 1 ∷ R.Sum
-        ∷ R.Yield ∷ R.Widen 1 3 ∷ R.Push (pos 2) ∷ R.Item 3 ∷ R.Put 2 ∷ R.End ∷ []) ∷ [] }
+        ∷ R.Yield ∷ R.Widen 1 3 ∷ R.Push (pos 2) ∷ R.Item 3 ∷ R.Put 2 0 ∷ R.End ∷ []) ∷ [] }
     ensures sum_of_slots { resolved_code numbers_basin sum_of_slots
         ≡ (R.Push (pos 0) ∷ R.List 1 ∷ R.Push (pos 1) ∷ R.Append 1 ∷ R.Widen 3 5 ∷ R.Foreach 0 5 13
         ∷ R.Load 1 1 ∷ R.Load 0 1 ∷ R.Now ∷ R.Read ∷ R.Sum ∷ R.Store 1 1 ∷ R.Next ∷ R.Load 1 1
-        ∷ R.Put 1 ∷ R.End ∷ []) ∷ [] }
+        ∷ R.Put 1 0 ∷ R.End ∷ []) ∷ [] }
     ensures nested { resolved_code one_dam nested
         ≡ (R.Push (pos 4) ∷ R.Push (pos 5) ∷ R.List 2 ∷ R.Foreach 0 2 10 ∷ R.Push (pos 4)
         ∷ R.Push (pos 5) ∷ R.List 2 ∷ R.Foreach 1 2 9 ∷ R.Next ∷ R.Next ∷ R.End ∷ []) ∷ [] }
@@ -295,14 +297,14 @@ pub fn resolved_instructions()
     ensures locals { resolved_of (K.NList 3 ∷ K.N ∷ []) (I.Load 0 ∷ I.Foreach 1 ∷ I.Next ∷ [])
         ≡ R.Load 0 4 ∷ R.Foreach 4 3 3 ∷ R.Next ∷ R.End ∷ [] }
     ensures call { resolved_of [] (number 1 ∷ number 2 ∷ I.Call (codes "Max") ∷ put_x ∷ [])
-        ≡ R.Push (pos 1) ∷ R.Push (pos 2) ∷ R.Call 2 2 ∷ R.Put 1 ∷ R.End ∷ [] }
+        ≡ R.Push (pos 1) ∷ R.Push (pos 2) ∷ R.Call 2 2 ∷ R.Put 1 0 ∷ R.End ∷ [] }
     ensures object { resolved_of [] (number 250 ∷ I.ToStorage (codes "Pool") ∷ put_x ∷ [])
-        ≡ R.Push (pos 250) ∷ R.ToStorage 2 ∷ R.Put 1 ∷ R.End ∷ [] }
+        ≡ R.Push (pos 250) ∷ R.ToStorage 2 ∷ R.Put 1 0 ∷ R.End ∷ [] }
     ensures invoke { resolved_code one_dam
         (function_with (K.NList 3 ∷ []) K.N (K.N ∷ K.N ∷ []) (I.Load 0 ∷ I.Length ∷ [])
         ∷ rule_with (K.NList 3 ∷ []) (I.Load 0 ∷ I.Invoke 1 ∷ put_outflow 0 ∷ []) ∷ [])
         ≡ (R.Load 0 4 ∷ R.Length 3 ∷ R.End ∷ [])
-        ∷ (R.Load 0 4 ∷ R.Invoke 1 4 2 ∷ R.Put 2 ∷ R.End ∷ []) ∷ [] }
+        ∷ (R.Load 0 4 ∷ R.Invoke 1 4 2 ∷ R.Put 2 0 ∷ R.End ∷ []) ∷ [] }
     ensures no_place { resolved_at ((R.Now ∷ R.End ∷ []) ∷ []) 1 2 ≡ R.End }
     ensures no_block { resolved_at ((R.Now ∷ R.End ∷ []) ∷ []) 0 0 ≡ R.End }
 {}

@@ -41,6 +41,8 @@ pub(crate) fn predefined_count(name: &Name) -> Option<u8>
         Some(2)
     } else if is_called(name, "Sign") {
         Some(1)
+    } else if is_called(name, "MulDiv") {
+        Some(3)
     } else {
         None
     }
@@ -62,6 +64,8 @@ pub(crate) fn call_of(name: &Name) -> Resolved
         Resolved::Call { row: 5, takes: 2 }
     } else if is_called(name, "Sign") {
         Resolved::Call { row: 6, takes: 1 }
+    } else if is_called(name, "MulDiv") {
+        Resolved::Call { row: 7, takes: 3 }
     } else {
         Resolved::Call { row: 0, takes: 0 }
     }
@@ -152,14 +156,14 @@ fn predefined_misfit(name: &Name) -> Option<VerifyKind>
     }
 }
 
-// A rule puts at the timestep in which it fires, and a function never.
-fn put_step_misfit(head: &BlockHead, ahead: u8) -> Option<VerifyKind>
-    ensures { result ≡ put_step_misfit head.now ahead }
+// A rule puts at most so many timesteps ahead, and a function never.
+fn put_step_misfit(most: u8, head: &BlockHead, ahead: u8) -> Option<VerifyKind>
+    ensures { result ≡ put_step_misfit most head.now ahead }
 {
     match head {
         BlockHead::Function { .. } => Some(VerifyKind::PutInFunction),
         BlockHead::Rule => {
-            if ahead == 0 {
+            if ahead <= most {
                 None
             } else {
                 Some(VerifyKind::TargetStep)
@@ -184,7 +188,7 @@ fn put_misfit(
         None => Some(VerifyKind::NoSuchName),
         Some(number) => {
             if basin.settable(number) {
-                put_step_misfit(head, ahead)
+                put_step_misfit(basin.control().ahead, head, ahead)
             } else {
                 Some(VerifyKind::NotSettable)
             }

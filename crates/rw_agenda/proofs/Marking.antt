@@ -1,9 +1,11 @@
 -- Which rules are marked, by their turns and by what they looked at.
 use Rattle.rw_base.proofs.Common.{◌≡◌, ◌∙◌, ◌≢◌, ◌+◌, ◌-◌, ◌<◌, ◌≤◌, ◌/◌, ◌%◌, ◌^◌, ◌==◌, ◌||◌, ◌&&◌, ◌⊎◌, ℕ, zero, suc, inl, inr, All, Bool, true, false, false≢true, not, List, [], ◌∷◌, Option, None, Some, ap, ap₂, arith, drop, find, get_or, get_or-replicate, get_or-set_other, get_or-set_same, get_or_past, if◌then◌else◌, length, length-replicate, length-set, list_any, map, nat_eq, nat_lt, nat_tests, none-some, refl, replicate, set, slice_index_or, subst, sym}
 use Rattle.std.proofs.Math.ListN.{get_or-map}
+use Rattle.std.proofs.Math.Bool.{or-false}
 use Rattle.std.proofs.lemmas.Bool.{cases_lt}
 use Rattle.std.proofs.lemmas.Bool.{and_parts}
 use Rattle.std.proofs.lemmas.List.Elements.{All-head, All-tail}
+use Rattle.std.proofs.lemmas.List.Folds.{list_any_none}
 use Rattle.std.proofs.lemmas.Nat.Bits.{bit_at_ones}
 use Rattle.std.specs.Int.{bit_at}
 use Rattle.std.specs.List.{slice_get}
@@ -26,7 +28,7 @@ use Rattle.rw_agenda.specs.declared.watch.Watch.{Watch}
 use Rattle.rw_agenda.specs.declared.limits.TheConstants.{RULES_MAX}
 use Rattle.rw_agenda.proofs.Watches.{met_last, met_next, or_right}
 use Rattle.rw_agenda.proofs.Order.{high_turn, in_no_turn, low_turn, not_in_turn}
-use Rattle.rw_agenda.specs.Marks.{AreTurns, IsFirst, IsFirstMarked, IsFirstOf, Marks, has_turn, is_marked_in, turn_of}
+use Rattle.rw_agenda.specs.Marks.{AreTurns, IsFirst, IsFirstMarked, IsFirstOf, Marks, MarksMore, has_turn, is_flagged, is_marked_in, turn_of}
 
 -- ---- turns
 
@@ -353,3 +355,15 @@ marks_next watches times left number rule watch old new more found near is =
         let other : (watch.rule == rule) ≡ false = grind (arith, nat_tests, away) in
         ap (λ t. t || is_met watches left watch.before rule) (get_or-set_other old watch.rule rule true true away)
         ∙ ap (λ t. slice_index_or old rule true || (t || is_met watches left watch.before rule)) (sym other)
+
+-- where no rule watches a cell none is marked
+pub unwatched : (index : CellIndex) (step : ℕ) (group : List ℕ) (marks : Marks) → ((cell : Cell) (rule : ℕ) → is_watching index cell rule ≡ false)
+    → MarksMore (λ rule. list_any (λ slot. is_watching index (cell_at slot step) rule) group) marks marks
+unwatched index step group marks none = record {
+  order = refl;
+  many = refl;
+  marked = λ rule near.
+      sym (ap (λ any. is_flagged marks rule || any)
+      (list_any_none (λ slot. is_watching index (cell_at slot step) rule) group (λ k d there. none (cell_at (get_or group k d) step) rule))
+      ∙ or-false (is_flagged marks rule));
+}

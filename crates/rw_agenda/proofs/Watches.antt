@@ -1,5 +1,5 @@
 -- Rules that are met, going from watch to watch.
-use Rattle.rw_base.proofs.Common.{◌≡◌, ◌∙◌, ◌+◌, ◌-◌, ◌<◌, ◌≤◌, ◌==◌, ◌||◌, ℕ, zero, suc, Bool, true, false, List, [], ◌∷◌, ◌++◌, Option, None, Some, IsSomeAnd, All, All-push, take, take_more, ap, arith, if◌then◌else◌, false≢true, get_or, get_or-set_other, get_or-set_same, get_or_append_left, get_or_from_slice_get, length, length-append, nat_eq, nat_eq_equiv, nat_le, nat_tests, none-some, option_map, refl, set, slice_get-get_or, slice_get_within, slice_index_or, subst, sym, unwrap_or}
+use Rattle.rw_base.proofs.Common.{◌≡◌, ◌∙◌, ◌+◌, ◌-◌, ◌<◌, ◌≤◌, ◌==◌, ◌||◌, ℕ, zero, suc, Bool, true, false, List, [], ◌∷◌, ◌++◌, Option, None, Some, IfSome, IsSomeAnd, All, All-push, take, take_more, ap, ap₂, arith, if◌then◌else◌, false≢true, get_or, get_or-set_other, get_or-set_same, get_or_append_left, get_or_from_slice_get, length, length-append, nat_eq, nat_eq_equiv, nat_le, nat_tests, none-some, option_map, refl, set, slice_get-get_or, slice_get_within, slice_index_or, subst, sym, unwrap_or}
 use Rattle.std.proofs.lemmas.List.{get_or_push}
 use Rattle.std.proofs.lemmas.Option.{slice_get_past}
 use Rattle.std.specs.List.{slice_get}
@@ -88,12 +88,12 @@ met_past watches (suc times) number rule past = ap (met_in watches times rule) (
 
 -- ---- an index with one watch more
 
-module _ (slots steps room : ℕ) (newest : List ℕ) (watches : List Watch) (full : Bool) (place rule : ℕ) (here : Cell) where
+module _ (slots steps room : ℕ) (newest : List ℕ) (watches : List Watch) (full : Bool) (place rule : ℕ) where
   abbrev before_it : ℕ
   before_it = before_in watches (slice_index_or newest place 0)
 
   abbrev whole : List Watch
-  whole = watches ++ record { rule = rule; cell = here; before = before_it } ∷ []
+  whole = watches ++ record { rule = rule; place = place; before = before_it } ∷ []
 
   abbrev old : CellIndex
   old = record { slots = slots; steps = steps; newest = newest; watches = watches; room = room; is_full = full }
@@ -115,7 +115,7 @@ module _ (slots steps room : ℕ) (newest : List ℕ) (watches : List Watch) (fu
   met_here : (earlier : ℕ) → is_met watches (length watches) (slice_index_or newest place 0) earlier ≡ true
       → is_met whole (length whole) (length whole) earlier ≡ true
   met_here earlier is =
-      met_newest watches (record { rule = rule; cell = here; before = before_it }) earlier ∙ or_right (rule == earlier) _ (met_before earlier is)
+      met_newest watches (record { rule = rule; place = place; before = before_it }) earlier ∙ or_right (rule == earlier) _ (met_before earlier is)
 
   pub kept_watch : place < length newest → (other : Cell) (earlier : ℕ) → is_watching old other earlier ≡ true → is_watching new other earlier ≡ true
   kept_watch near other earlier is =
@@ -126,7 +126,7 @@ module _ (slots steps room : ℕ) (newest : List ℕ) (watches : List Watch) (fu
           → is_met whole (length whole) (unwrap_or (option_map (λ p. slice_index_or (set newest place (length whole)) p 0) at) 0) earlier ≡ true
       by None met =
           met_more watches _ (length watches) (length whole) 0 earlier
-          (omega (arith, length-append watches (record { rule = rule; cell = here; before = before_it } ∷ []))) met
+          (omega (arith, length-append watches (record { rule = rule; place = place; before = before_it } ∷ []))) met
       by (Some p) met = at (nat_eq p place) refl
         where
           at : (same : Bool) → nat_eq p place ≡ same
@@ -139,24 +139,24 @@ module _ (slots steps room : ℕ) (newest : List ℕ) (watches : List Watch) (fu
           at false apart =
               ap (λ n. is_met whole (length whole) n earlier) (get_or-set_other newest place p (length whole) 0 (grind (arith, nat_tests, apart)))
               ∙ met_more watches _ (length watches) (length whole) (get_or newest p 0) earlier
-              (omega (arith, length-append watches (record { rule = rule; cell = here; before = before_it } ∷ []))) met
+              (omega (arith, length-append watches (record { rule = rule; place = place; before = before_it } ∷ []))) met
 
   pub new_watch : place < length newest → (cell : Cell) → position_of slots steps cell ≡ Some place → is_watching new cell rule ≡ true
   new_watch near cell is =
       or_right full _
       (ap (λ at. is_met whole (length whole) (unwrap_or (option_map (λ p. slice_index_or (set newest place (length whole)) p 0) at) 0) rule) is
       ∙ ap (λ n. is_met whole (length whole) n rule) (get_or-set_same newest place (length whole) 0 near)
-      ∙ met_newest watches (record { rule = rule; cell = here; before = before_it }) rule
+      ∙ met_newest watches (record { rule = rule; place = place; before = before_it }) rule
       ∙ ap (λ t. t || is_met whole (length watches) before_it rule) (nat_eq_equiv.refl rule))
 
   -- the same of what the code has
   module _ (seen count : ℕ) (pushed : List Watch) (saw : seen ≡ slice_index_or newest place 0)
-      (is : pushed ≡ watches ++ record { rule = rule; cell = here; before = before_in watches seen } ∷ []) (many : count ≡ length pushed) where
+      (is : pushed ≡ watches ++ record { rule = rule; place = place; before = before_in watches seen } ∷ []) (many : count ≡ length pushed) where
     abbrev made : List Watch → ℕ → CellIndex
     made all number = record { slots = slots; steps = steps; newest = set newest place number; watches = all; room = room; is_full = full }
 
     whole_is : pushed ≡ whole
-    whole_is = is ∙ ap (λ n. watches ++ record { rule = rule; cell = here; before = before_in watches n } ∷ []) saw
+    whole_is = is ∙ ap (λ n. watches ++ record { rule = rule; place = place; before = before_in watches n } ∷ []) saw
 
     pub watching_now : place < length newest → (cell : Cell) → position_of slots steps cell ≡ Some place
         → is_watching (made pushed count) cell rule ≡ true
@@ -196,3 +196,15 @@ watching_in_place index rule looks place cell all there = by (slice_get looks pl
         ap (λ c. is_watching index c rule) (sym there)
         ∙ ap (λ (l : Look). is_watching index l.cell rule) (sym at)
         ∙ all place look (slice_get_within looks place look is)
+
+-- an index without watches
+pub idle : (slots steps room : ℕ) (newest : List ℕ) (watches : List Watch) (full : Bool) → full ≡ false → length watches ≡ 0 → (cell : Cell) (rule : ℕ)
+    → is_watching (record { slots = slots; steps = steps; newest = newest; watches = watches; room = room; is_full = full }) cell rule ≡ false
+idle slots steps room newest watches full spare none cell rule =
+    ap₂ (λ f n. f || is_met watches n (newest_at (record { slots = slots; steps = steps; newest = newest; watches = watches; room = room; is_full = full }) cell) rule) spare none
+
+-- the cell of the last look
+pub watching_last : (index : CellIndex) (rule : ℕ) (last : Option Cell) (cell : Cell) → IfSome last (λ seen. is_watching index seen rule ≡ true)
+    → IsSomeAnd last (λ seen. seen ≡ cell) → is_watching index cell rule ≡ true
+watching_last index rule None cell all is = absurd is
+watching_last index rule (Some seen) cell all is = subst (λ c. is_watching index c rule ≡ true) is all

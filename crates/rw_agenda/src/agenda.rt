@@ -94,8 +94,9 @@ impl Agenda {
         ensures marked { KeepsOtherMarks r.0 self.old self.new }
     {
         let place = r.0 - 1;
+        let last = &self.rules[usize::from(place)];
         self.index
-            .watch_all(place, self.rules[usize::from(place)].looks(), looked);
+            .watch_all(place, last.looks(), last.most(), looked);
         self.rules[usize::from(place)].keep(looked);
         self.marks.clear(place);
     }

@@ -71,12 +71,7 @@ impl CellIndex {
     pub(crate) fn clear(&mut self)
         ensures { (cell : Cell) (rule : ℕ) → is_watching self.new cell rule ≡ false }
     {
-        forget_newest(
-            &mut self.newest,
-            self.watches.as_slice(),
-            self.slots,
-            self.steps,
-        );
+        forget_newest(&mut self.newest, self.watches.as_slice());
         self.watches.clear();
         self.full = false;
     }
@@ -101,24 +96,49 @@ impl CellIndex {
             self.full = true;
             return;
         }
-        push_watch(&mut self.watches, rule, cell, newest);
+        push_watch(&mut self.watches, rule, place, newest);
         self.newest[place] = self.watches.len() as u32;
     }
 
-    /// The rule in this place looked at these cells, and watches them. It watches those already at which it looked before.
-    pub(crate) fn watch_all(&mut self, rule: u16, before: &[Look], looked: &[Look])
+    /// The rule in this place looked at these cells, and watches them. It watches those already at which it looked before. In a
+    /// place from `most` on it didn't look before in the timestep, so that those who watch the cell aren't gone through.
+    pub(crate) fn watch_all(&mut self, rule: u16, before: &[Look], most: usize, looked: &[Look])
         requires { All (λ (look : Look). is_watching self.old look.cell rule ≡ true) before.now }
         ensures watching { All (λ (look : Look). is_watching self.new look.cell rule ≡ true) looked.now }
         ensures kept { (other : Cell) (earlier : ℕ) → is_watching self.old other earlier ≡ true
             → is_watching self.new other earlier ≡ true }
     {
+        let mut last = None;
         for place in 0..looked.len() {
-            self.watch_at(rule, before, place, looked[place].cell);
+            let cell = looked[place].cell;
+            self.watch_behind(last, rule, before, most, place, cell);
+            last = Some(cell);
+        }
+    }
+
+    // The rule looked at a cell at this place of its looks, behind a look at another cell or the same.
+    fn watch_behind(
+        &mut self,
+        last: Option<Cell>,
+        rule: u16,
+        before: &[Look],
+        most: usize,
+        place: usize,
+        cell: Cell,
+    )
+        requires last { IfSome last (λ seen. is_watching self.old seen rule ≡ true) }
+        requires before { All (λ (look : Look). is_watching self.old look.cell rule ≡ true) before.now }
+        ensures watching { is_watching self.new cell rule ≡ true }
+        ensures kept { (other : Cell) (earlier : ℕ) → is_watching self.old other earlier ≡ true
+            → is_watching self.new other earlier ≡ true }
+    {
+        if !is_cell(last, cell) {
+            self.watch_at(rule, before, most, place, cell);
         }
     }
 
     // The rule looked at a cell at this place of its looks.
-    fn watch_at(&mut self, rule: u16, before: &[Look], place: usize, cell: Cell)
+    fn watch_at(&mut self, rule: u16, before: &[Look], most: usize, place: usize, cell: Cell)
         requires { All (λ (look : Look). is_watching self.old look.cell rule ≡ true) before.now }
         ensures watching { is_watching self.new cell rule ≡ true }
         ensures kept { (other : Cell) (earlier : ℕ) → is_watching self.old other earlier ≡ true
@@ -127,7 +147,7 @@ impl CellIndex {
         if is_in_place(before, place, cell) {
             return;
         }
-        self.watch(rule, cell, !before.is_empty());
+        self.watch(rule, cell, place < most);
     }
 
     /// Marks each rule that watches a cell of one of these slots at the timestep, and no other.
@@ -135,8 +155,22 @@ impl CellIndex {
         ensures { MarksMore (λ rule. list_any (λ slot. is_watching self.now (cell_at slot step.0) rule)
             (numbers_of group.now)) marks.old marks.new }
     {
+        if self.is_idle() {
+            return;
+        }
         for slot in group {
             self.mark_at(marks, Cell { slot: *slot, step });
+        }
+    }
+
+    // Whether it is known that no rule watches a cell.
+    fn is_idle(&self) -> bool
+        ensures { result ≡ true → (cell : Cell) (rule : ℕ) → is_watching self.now cell rule ≡ false }
+    {
+        if self.full {
+            false
+        } else {
+            self.watches.is_empty()
         }
     }
 
@@ -230,6 +264,16 @@ fn is_known(watches: &[Watch], newest: u32, rule: u16, again: bool) -> bool
     }
 }
 
+// Whether the last look was at this cell, if there was one.
+fn is_cell(last: Option<Cell>, cell: Cell) -> bool
+    ensures { result ≡ true → IsSomeAnd last (λ seen. seen ≡ cell) }
+{
+    match last {
+        Some(seen) => seen == cell,
+        None => false,
+    }
+}
+
 // Whether the look in a place was at this cell.
 fn is_in_place(looks: &[Look], place: usize, cell: Cell) -> bool
     ensures { result ≡ true → IsSomeAnd (slice_get looks.now place) (λ look. look.cell ≡ cell) }
@@ -241,10 +285,10 @@ fn is_in_place(looks: &[Look], place: usize, cell: Cell) -> bool
 }
 
 // Adds a watch that leads to the cell's newest one, if there is one.
-fn push_watch(watches: &mut Vec<Watch>, rule: u16, cell: Cell, newest: u32)
+fn push_watch(watches: &mut Vec<Watch>, rule: u16, place: usize, newest: u32)
     requires room { length watches.old.items < watches.old.cap }
     ensures added { watches.new.items ≡ watches.old.items
-        ++ record { rule = rule; cell = cell; before = before_in watches.old.items newest } ∷ [] }
+        ++ record { rule = rule; place = place; before = before_in watches.old.items newest } ∷ [] }
     ensures room { watches.new.cap ≡ watches.old.cap }
 {
     let before = if newest as usize <= watches.len() {
@@ -252,17 +296,20 @@ fn push_watch(watches: &mut Vec<Watch>, rule: u16, cell: Cell, newest: u32)
     } else {
         0
     };
-    watches.push_reserved(Watch { rule, cell, before });
+    watches.push_reserved(Watch {
+        rule,
+        place,
+        before,
+    });
 }
 
 // No cell that is watched has a newest watch.
-fn forget_newest(newest: &mut Vec<u32>, watches: &[Watch], slots: u16, steps: u16)
-    requires cells { vec_len newest.old ≡ slots * steps }
-    ensures cells { vec_len newest.new ≡ vec_len newest.old }
+fn forget_newest(newest: &mut Vec<u32>, watches: &[Watch])
+    ensures { vec_len newest.new ≡ vec_len newest.old }
 {
     for watch in watches {
-        if let Some(place) = position_of(slots, steps, watch.cell) {
-            newest[place] = 0;
+        if watch.place < newest.len() {
+            newest[watch.place] = 0;
         }
     }
 }

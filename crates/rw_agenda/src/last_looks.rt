@@ -9,11 +9,13 @@ use rw_series::{Look, Series};
 use std::alloc::Global;
 use std::marker::Model;
 
-/// At what a rule looked when it last fired, with room for so many looks.
+/// At what a rule looked when it last fired, with room for so many looks. Beside that it has how often it looked at most in a
+/// firing of the timestep.
 #[derive(Drop)]
 pub(crate) struct LastLooks {
     room: usize,
     fired: bool,
+    most: usize,
     looks: Vec<Look>,
 }
 
@@ -38,6 +40,7 @@ impl LastLooks {
         Ok(LastLooks {
             room,
             fired: false,
+            most: 0,
             looks,
         })
     }
@@ -47,6 +50,7 @@ impl LastLooks {
         ensures { self.new ≡ unfired self.old.room }
     {
         self.fired = false;
+        self.most = 0;
     }
 
     /// The rule fired, and looked at this.
@@ -56,6 +60,7 @@ impl LastLooks {
     {
         fill(&mut self.looks, looked);
         self.fired = true;
+        self.most = self.most.max(looked.len());
     }
 
     /// At what the rule looked when it last fired, nothing if it hasn't.
@@ -67,6 +72,11 @@ impl LastLooks {
         } else {
             &[]
         }
+    }
+
+    /// How often the rule looked at most, of its firings in the timestep. It tells what is worth a search and is a hint alone.
+    pub(crate) fn most(&self) -> usize {
+        self.most
     }
 
     /// Whether the rule hasn't fired, or one of the cells holds another value than it saw.
@@ -85,11 +95,12 @@ impl LastLooks {
 fn fill(looks: &mut Vec<Look>, looked: &[Look])
     requires { length looked.now ≤ looks.old.cap }
     ensures items { looks.new.items ≡ looked.now }
-    ensures room { looks.new.cap ≡ looks.old.cap }
+    ensures room { looks.old.cap ≤ looks.new.cap }
 {
     looks.clear();
-    for look in looked {
-        looks.push_reserved(*look);
+    match looks.extend_from_slice(looked) {
+        Ok(()) => {}
+        Err(_) => unreachable!(),
     }
 }
 

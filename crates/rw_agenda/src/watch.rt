@@ -1,10 +1,8 @@
-use rw_base::Cell;
-
-/// A rule looked at a cell, so that a put there marks it: the rule, by its place among the rules, the cell, and the number of the
-/// watch before this one of the same cell. Watches are numbered from 1; 0 is none.
+/// A rule looked at a cell, so that a put there marks it: the rule, by its place among the rules, the place of the cell in the index,
+/// and the number of the watch before this one of the same cell. Watches are numbered from 1; 0 is none.
 #[derive(Clone, Copy)]
 pub(crate) struct Watch {
     pub(crate) rule: u16,
-    pub(crate) cell: Cell,
+    pub(crate) place: usize,
     pub(crate) before: u32,
 }

@@ -1,4 +1,5 @@
 pub mod Quotients
+pub mod Products
 pub mod Dimensions
 pub mod OneAnswer
 pub mod Units

@@ -35,3 +35,7 @@ times_of a b = dimension (a.volume +ℤ b.volume) (a.length +ℤ b.length) (a.st
 -- the dimension of a quotient: the exponents of b taken from those of a
 abbrev pub per_of : Dimension → Dimension → Dimension
 per_of a b = dimension (a.volume -ℤ b.volume) (a.length -ℤ b.length) (a.step -ℤ b.step) (a.energy -ℤ b.energy)
+
+-- the dimension of a product over a number: the exponents of a and b added, and those of c taken away
+abbrev pub times_per_of : Dimension → Dimension → Dimension → Dimension
+times_per_of a b c = per_of (times_of a b) c

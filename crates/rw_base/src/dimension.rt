@@ -1,5 +1,5 @@
 ghost use Rattle.std.specs.Prelude.{◌↔◌, IsTrue};
-ghost use Rattle.rw_base.specs.Dimension.{Dimension, dimension, IsExponent, IsDimension, AnswersDimension, times_of, per_of};
+ghost use Rattle.rw_base.specs.Dimension.{Dimension, dimension, IsExponent, IsDimension, AnswersDimension, times_of, per_of, times_per_of};
 
 use std::marker::Model;
 
@@ -73,6 +73,19 @@ impl Dim {
             self.length - b.length,
             self.step - b.step,
             self.energy - b.energy,
+        )
+    }
+
+    /// The dimension of self * b / c: the exponents of self and b added, and those of c taken away. `None` exactly where one
+    /// is outside -6 to 6.
+    pub fn times_per(self, b: Dim, c: Dim) -> Option<Dim>
+        ensures { AnswersDimension (times_per_of self b c) result }
+    {
+        Dim::of(
+            self.volume + b.volume - c.volume,
+            self.length + b.length - c.length,
+            self.step + b.step - c.step,
+            self.energy + b.energy - c.energy,
         )
     }
 }

@@ -1,7 +1,7 @@
 // What the definitions of this crate come to in plain words.
 ghost use Rattle.std.specs.Prelude.{◌≡◌, ◌≢◌, ◌≤◌, ◌↔◌, ℕ, ℤ, pos, neg_ℤ, List, map, Option, Some, None, Result, Contains};
 ghost use Rattle.rw_base.specs.declared.quantity.ArithFault.{ArithFault};
-ghost use Rattle.rw_base.specs.Quantity.{IsQuantity, AnswersExactly};
+ghost use Rattle.rw_base.specs.Quantity.{IsQuantity, AnswersExactly, quantity_max};
 ghost use Rattle.rw_base.specs.Quotient.{floor_div, IsFloor};
 ghost use Rattle.rw_base.specs.Dimension.{Dimension, AnswersDimension};
 ghost use Rattle.rw_base.specs.Unit.{units, words_of, unit_in};
@@ -62,5 +62,13 @@ pub fn predefined_values()
     ensures over_zero { predefined_of 5 (pos 7) (pos 0) (pos 0) ≡ pos 7 }
     ensures sign { predefined_of 6 (neg_ℤ (pos 9)) (pos 0) (pos 0) ≡ neg_ℤ (pos 1) }
     ensures no_sign { predefined_of 6 (pos 0) (pos 0) (pos 0) ≡ pos 0 }
+
+    // MulDiv rounds down, over a negative number too, is 0 over 0, and is brought within -Q and Q after the division.
+    ensures down { predefined_of 7 (neg_ℤ (pos 7)) (pos 1) (pos 2) ≡ neg_ℤ (pos 4) }
+    ensures over_negative { predefined_of 7 (pos 7) (pos 1) (neg_ℤ (pos 2)) ≡ neg_ℤ (pos 4) }
+    ensures none { predefined_of 7 (pos 5) (pos 5) (pos 0) ≡ pos 0 }
+    ensures whole { predefined_of 7 quantity_max quantity_max quantity_max ≡ quantity_max }
+    ensures most { predefined_of 7 quantity_max quantity_max (pos 1) ≡ quantity_max }
+    ensures fewest { predefined_of 7 quantity_max (neg_ℤ quantity_max) (pos 1) ≡ neg_ℤ quantity_max }
     ensures no_function { predefined_of 0 (pos 7) (pos 7) (pos 7) ≡ pos 0 }
 {}

@@ -1,5 +1,6 @@
-ghost use Rattle.std.specs.Prelude.{◌≡◌, ◌≢◌, ◌↔◌, ℤ, pos, ◌+ℤ◌, ◌-ℤ◌, ◌*ℤ◌, SomeIff, IsOk, Err};
-ghost use Rattle.rw_base.specs.Quantity.{IsQuantity, AnswersExactly};
+ghost use Rattle.std.specs.Prelude.{◌≡◌, ◌≢◌, ◌↔◌, ℤ, pos, ◌+ℤ◌, ◌-ℤ◌, ◌*ℤ◌, ◌≤ℤ◌, SomeIff, IsOk, Err};
+ghost use Rattle.rw_base.specs.Predefined.{mul_div, nearest_quantity};
+ghost use Rattle.rw_base.specs.Quantity.{IsQuantity, AnswersExactly, quantity_max};
 ghost use Rattle.rw_base.specs.Quotient.{floor_div};
 
 use std::marker::Model;
@@ -60,6 +61,63 @@ fn floor_of(a: i64, b: i64) -> i64
     }
 }
 
+// The product of what two quantities hold.
+fn product_of(a: i64, b: i64) -> i128
+    requires first { IsQuantity a }
+    requires second { IsQuantity b }
+    ensures exact { result ≡ a *ℤ b }
+    ensures low { (pos 0 -ℤ (quantity_max *ℤ quantity_max)) ≤ℤ result }
+    ensures high { result ≤ℤ (quantity_max *ℤ quantity_max) }
+{
+    i128::from(a) * i128::from(b)
+}
+
+// The floor of the quotient of a product of two quantities, over a third.
+fn floor_of_product(product: i128, c: i128) -> i128
+    requires low { (pos 0 -ℤ (quantity_max *ℤ quantity_max)) ≤ℤ product }
+    requires high { product ≤ℤ (quantity_max *ℤ quantity_max) }
+    requires divisor { IsQuantity c }
+    requires nonzero { c ≢ pos 0 }
+    ensures exact { result ≡ floor_div product c }
+{
+    if c > 0 {
+        product.div_euclid(c)
+    } else {
+        (-product).div_euclid(-c)
+    }
+}
+
+// What is brought within -Q and Q.
+fn nearest(exact: i128) -> Qty
+    ensures { result ≡ nearest_quantity exact }
+{
+    let (low, high) = (-i128::from(QUANTITY_MAX), i128::from(QUANTITY_MAX));
+    if exact < low {
+        Qty {
+            value: -QUANTITY_MAX,
+        }
+    } else if high < exact {
+        Qty {
+            value: QUANTITY_MAX,
+        }
+    } else {
+        Qty {
+            value: exact as i64,
+        }
+    }
+}
+
+// The floor of a * b / c, brought within -Q and Q.
+fn floor_over(a: i64, b: i64, c: i64) -> Qty
+    requires first { IsQuantity a }
+    requires second { IsQuantity b }
+    requires divisor { IsQuantity c }
+    requires nonzero { c ≢ pos 0 }
+    ensures { result ≡ mul_div a b c }
+{
+    nearest(floor_of_product(product_of(a, b), i128::from(c)))
+}
+
 impl Qty {
     /// The quantity of that value. `None` exactly outside -Q to Q.
     pub fn of(v: i64) -> Option<Qty>
@@ -114,5 +172,15 @@ impl Qty {
         Ok(Qty {
             value: floor_of(self.value, b.value),
         })
+    }
+
+    /// The floor of self * b / c, brought within -Q and Q, and 0 where c is 0. The product doesn't overflow.
+    pub fn mul_div(self, b: Qty, c: Qty) -> Qty
+        ensures { result ≡ mul_div self b c }
+    {
+        if c.value == 0 {
+            return Qty { value: 0 };
+        }
+        floor_over(self.value, b.value, c.value)
     }
 }

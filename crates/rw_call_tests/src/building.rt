@@ -20,6 +20,7 @@ fn begun(rt: &impl Abort, alloc: Global) -> BasinBuilder {
         agenda: AgendaOrder::HighFirst,
         object_limit: 16,
         rule_limit: 1,
+        ahead: 0,
     };
     BasinBuilder::begin(alloc, control).expect(rt, "limits in range")
 }

@@ -6,7 +6,9 @@ ghost use Rattle.rw_method.specs.Catalogue.{AreInOrder};
 
 use crate::shared::{basin, content, none_is_wrong};
 use rpl_code::read_code;
-use rpl_predef::{Predef, Predefs, absolute, clamped, greatest, least, rounded_down, sign};
+use rpl_predef::{
+    Predef, Predefs, absolute, clamped, greatest, least, mul_div, rounded_down, sign,
+};
 use rpl_verify::{Verified, verify};
 use rw_base::{Blank, Cell, Ledger, ObjectNo, RuleNo, SlotNo, StepNo, Steps};
 use rw_engine::{Run, RunEnd, RunFault, TraceEvent, run_all};
@@ -278,6 +280,7 @@ fn runs_come_to_what_they_should(rt: HostRuntime) -> Result<(), Fail> {
     functions.push(Predef::of(4, clamped))?;
     functions.push(Predef::of(5, rounded_down))?;
     functions.push(Predef::of(6, sign))?;
+    functions.push(Predef::of(7, mul_div))?;
     let Ok(predefs) = Predefs::of(functions) else {
         return Err(Fail::from("no predefined functions"));
     };

@@ -1,4 +1,5 @@
 mod Common
+mod Bits
 pub mod Queues
 pub mod Filling
 pub mod Viewed

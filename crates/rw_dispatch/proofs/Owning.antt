@@ -1,57 +1,81 @@
 -- Who owns a slot that puts reach.
-use Rattle.rw_dispatch.proofs.Common.{Bool, List, SlotNo, [], ap, ap₂, arith, cond, false, length, list_any, list_any_more, nat_eq, refl, set, slice_index_or, subst, sym, take, take_all, true, ℕ, ◌+◌, ◌-◌, ◌<◌, ◌==◌, ◌||◌, ◌∙◌, ◌∷◌, ◌≡◌, ◌≤◌}
+use Rattle.rw_dispatch.proofs.Common.{Bool, List, SlotNo, [], ap, ap₂, arith, eqb-true, false, length, list_any, list_any_more, not, Option, refl, slice_index_or, subst, sym, take, take_all, true, ℕ, ◌&&◌, ◌+◌, ◌-◌, ◌<◌, ◌==◌, ◌||◌, ◌∙◌, ◌∷◌, ◌≡◌, ◌≤◌}
 use Rattle.rw_model.proofs.Common.{numbers_of, Draft, group_of, owner_of}
 use Rattle.rw_run.specs.Log.{Asked}
-use Rattle.rw_run.specs.Waiting.{is_at, is_owner, slots_at}
+use Rattle.rw_run.specs.Waiting.{is_at, is_but, is_owner, slots_at}
 use Rattle.rw_base.proofs.Common.{nat_tests, list_any-append, ◌++◌, if◌then◌else◌}
-use Rattle.std.proofs.Math.ListN.{length-replicate, length-set, replicate}
+use Rattle.std.proofs.Math.ListN.{length-replicate, replicate}
 use Rattle.std.proofs.Math.Bool.{or_assoc, or_comm}
 use Rattle.std.proofs.lemmas.List.{take_more}
-use Rattle.rw_dispatch.specs.Owners.{HasReached, has_mark}
+use Rattle.rw_dispatch.specs.Owners.{HasReached, has_bit, is_reached}
 use Rattle.rw_dispatch.specs.declared.owners.Reached.{Reached}
-use Rattle.rw_dispatch.proofs.Queues.{none_set, set_at}
+use Rattle.rw_dispatch.proofs.Bits.{no_bit}
 
--- ---- one slot more
-
--- tests that answer alike reach the same
-alike : (p q : ℕ → Bool) (reached : Reached) → ((object : ℕ) → p object ≡ q object) → HasReached p reached → HasReached q reached
-alike p q reached same has = record {
+-- tests that answer alike for all but the one that is left out reach the same
+alike_but : (but : Option ℕ) (p q : ℕ → Bool) (reached : Reached) → ((object : ℕ) → is_reached but p object ≡ is_reached but q object)
+    → HasReached but p reached → HasReached but q reached
+alike_but but p q reached same has = record {
   many = has.many;
   marked = λ object first. has.marked object first ∙ same object;
   before_all = λ object first near. sym (same object) ∙ has.before_all object first near;
   behind = λ object far. sym (same object) ∙ has.behind object far;
 }
 
-either_is : (a b : Bool) → cond a true b ≡ (a || b)
-either_is true b = refl
-either_is false b = refl
+alike : (but : Option ℕ) (p q : ℕ → Bool) (reached : Reached) → ((object : ℕ) → p object ≡ q object) → HasReached but p reached → HasReached but q reached
+alike but p q reached same = alike_but but p q reached (λ object. ap (λ test. not (is_but but object) && test) (same object))
 
-pub reached-more : (seen : ℕ → Bool) (old new : Reached) (object : ℕ) → 1 ≤ object → object ≤ 500 → new.marks ≡ set old.marks (object - 1) true
-    → new.before ≤ old.before → new.before ≤ object - 1 → old.last ≤ new.last → object ≤ new.last → HasReached seen old
-    → HasReached (λ other. object == other || seen other) new
-reached-more seen old new object first known marks before before_own last last_own has = record {
-  many = ap length marks ∙ length-set old.marks (object - 1) true ∙ has.many;
-  marked = λ other from.
-      let own : object - 1 < length old.marks = omega (arith, first, known, has.many) in
-      let same : nat_eq (object - 1) (other - 1) ≡ (object == other) = grind (arith, nat_tests) in
-      ap (λ bits. has_mark bits other) marks ∙ set_at old.marks (object - 1) (other - 1) true own
-      ∙ ap₂ (λ t m. cond t true m) same (has.marked other from) ∙ either_is (object == other) (seen other);
-  before_all = λ other from near.
-      let apart : (object == other) ≡ false = grind (arith, nat_tests) in
-      ap₂ (λ a b. a || b) apart (has.before_all other from (omega (arith, near, before)));
-  behind = λ other far.
-      let apart : (object == other) ≡ false = grind (arith, nat_tests) in
-      ap₂ (λ a b. a || b) apart (has.behind other (omega (arith, far, last)));
-}
+-- ---- one object more
+
+module _ (but : Option ℕ) (object : ℕ) (seen : ℕ → Bool) where
+  -- the one that is left out isn't reached
+  pub left-out : (reached : Reached) → is_but but object ≡ true → HasReached but seen reached → HasReached but (λ other. object == other || seen other) reached
+  left-out reached out = alike_but but seen (λ other. object == other || seen other) reached (λ other. by other (object == other) refl)
+    where
+      by : (other : ℕ) (same : Bool) → (object == other) ≡ same → (not (is_but but other) && seen other) ≡ (not (is_but but other) && (same || seen other))
+      by other true same =
+          let own : is_but but other ≡ true = ap (is_but but) (sym (eqb-true object other same)) ∙ out in
+          ap (λ t. not t && seen other) own ∙ sym (ap (λ t. not t && (true || seen other)) own)
+      by other false same = refl
+
+  -- any other one is
+  with_own : is_but but object ≡ false → (other : ℕ) (same : Bool) → (object == other) ≡ same
+      → (same || (not (is_but but other) && seen other)) ≡ (not (is_but but other) && (same || seen other))
+  with_own kept other true same =
+      let own : is_but but other ≡ false = ap (is_but but) (sym (eqb-true object other same)) ∙ kept in
+      sym (ap (λ t. not t && (true || seen other)) own)
+  with_own kept other false same = refl
+
+  pub reached-more : (old new : Reached) → 1 ≤ object → is_but but object ≡ false → length new.marks ≡ length old.marks
+      → ((number : ℕ) → has_bit new.marks number ≡ (number == object - 1 || has_bit old.marks number))
+      → new.before ≤ old.before → new.before ≤ object - 1 → old.last ≤ new.last → object ≤ new.last → HasReached but seen old
+      → HasReached but (λ other. object == other || seen other) new
+  reached-more old new first kept many marks before before_own last last_own has = record {
+    many = many ∙ has.many;
+    marked = λ other from.
+        let same : (other - 1 == object - 1) ≡ (object == other) = grind (arith, nat_tests) in
+        marks (other - 1) ∙ ap₂ (λ a b. a || b) same (has.marked other from) ∙ with_own kept other (object == other) refl;
+    before_all = λ other from near.
+        let apart : (object == other) ≡ false = grind (arith, nat_tests) in
+        ap (λ t. not (is_but but other) && (t || seen other)) apart ∙ has.before_all other from (omega (arith, near, before));
+    behind = λ other far.
+        let apart : (object == other) ≡ false = grind (arith, nat_tests) in
+        ap (λ t. not (is_but but other) && (t || seen other)) apart ∙ has.behind other (omega (arith, far, last));
+  }
+
+none_passes : (test : Bool) → (not test && false) ≡ false
+none_passes true = refl
+none_passes false = refl
 
 -- at first none is reached
-pub none-reached : (reached : Reached) → reached.marks ≡ replicate 500 false → HasReached (λ object. false) reached
-none-reached reached is = record {
-  many = ap length is ∙ length-replicate 500 false;
-  marked = λ object first. ap (λ bits. has_mark bits object) is ∙ none_set 500 (object - 1);
-  before_all = λ object first near. refl;
-  behind = λ object far. refl;
+pub none-reached : (but : Option ℕ) (reached : Reached) → reached.marks ≡ replicate 8 0 → HasReached but (λ object. false) reached
+none-reached but reached is = record {
+  many = ap length is ∙ length-replicate {A = ℕ} 8 0;
+  marked = λ object first. ap (λ words. has_bit words (object - 1)) is ∙ no_bit 8 (object - 1) ∙ sym (none_passes (is_but but object));
+  before_all = λ object first near. none_passes (is_but but object);
+  behind = λ object far. none_passes (is_but but object);
 }
+
+-- ---- one slot more
 
 or_moved : (a b c : Bool) → (a || (b || c)) ≡ ((b || a) || c)
 or_moved a b c = sym (or_assoc a b c) ∙ ap (λ both. both || c) (or_comm a b)
@@ -67,29 +91,29 @@ any_more test slots k d near =
     ∙ sym (list_any_more (λ (slot : SlotNo). test slot.0) slots k d near)
     ∙ sym (any_numbers test (take (k + 1) slots))
 
-pub other-more : (basin : Draft) (seen : ℕ → Bool) (group : List SlotNo) (k : ℕ) (d : SlotNo) (owner : ℕ) (reached : Reached)
+pub other-more : (but : Option ℕ) (basin : Draft) (seen : ℕ → Bool) (group : List SlotNo) (k : ℕ) (d : SlotNo) (owner : ℕ) (reached : Reached)
     → k < length group → owner ≡ owner_of basin.objects (slice_index_or group k d).0
-    → HasReached (λ object. owner == object || (list_any (λ other. owner_of basin.objects other == object) (numbers_of (take k group)) || seen object)) reached
-    → HasReached (λ object. list_any (λ other. owner_of basin.objects other == object) (numbers_of (take (k + 1) group)) || seen object) reached
-other-more basin seen group k d owner reached near own = alike _ _ reached
+    → HasReached but (λ object. owner == object || (list_any (λ other. owner_of basin.objects other == object) (numbers_of (take k group)) || seen object)) reached
+    → HasReached but (λ object. list_any (λ other. owner_of basin.objects other == object) (numbers_of (take (k + 1) group)) || seen object) reached
+other-more but basin seen group k d owner reached near own = alike but _ _ reached
     (λ object.
     let owns : (ℕ → Bool) = λ other. owner_of basin.objects other == object in
     or_moved (owner == object) (list_any owns (numbers_of (take k group))) (seen object)
     ∙ ap (λ o. (list_any owns (numbers_of (take k group)) || o == object) || seen object) own
     ∙ ap (λ any. any || seen object) (any_more owns group k d near))
 
-pub others-all : (basin : Draft) (slot : ℕ) (seen : ℕ → Bool) (group : List SlotNo) (k : ℕ) (reached : Reached)
+pub others-all : (but : Option ℕ) (basin : Draft) (slot : ℕ) (seen : ℕ → Bool) (group : List SlotNo) (k : ℕ) (reached : Reached)
     → length group ≤ k → numbers_of group ≡ group_of basin.objects basin.links slot
-    → HasReached (λ object. list_any (λ other. owner_of basin.objects other == object) (numbers_of (take k group)) || seen object) reached
-    → HasReached (λ object. is_at basin object slot || seen object) reached
-others-all basin slot seen group k reached all is =
-    subst (λ others. HasReached (λ object. list_any (λ other. owner_of basin.objects other == object) others || seen object) reached)
+    → HasReached but (λ object. list_any (λ other. owner_of basin.objects other == object) (numbers_of (take k group)) || seen object) reached
+    → HasReached but (λ object. is_at basin object slot || seen object) reached
+others-all but basin slot seen group k reached all is =
+    subst (λ others. HasReached but (λ object. list_any (λ other. owner_of basin.objects other == object) others || seen object) reached)
     (ap numbers_of (take_all k group all) ∙ is)
 
-pub slot-more : (basin : Draft) (slots : List SlotNo) (k : ℕ) (d : SlotNo) (reached : Reached) → k < length slots
-    → HasReached (λ object. is_at basin object (slice_index_or slots k d).0 || is_owner basin (numbers_of (take k slots)) object) reached
-    → HasReached (is_owner basin (numbers_of (take (k + 1) slots))) reached
-slot-more basin slots k d reached near = alike _ _ reached
+pub slot-more : (but : Option ℕ) (basin : Draft) (slots : List SlotNo) (k : ℕ) (d : SlotNo) (reached : Reached) → k < length slots
+    → HasReached but (λ object. is_at basin object (slice_index_or slots k d).0 || is_owner basin (numbers_of (take k slots)) object) reached
+    → HasReached but (is_owner basin (numbers_of (take (k + 1) slots))) reached
+slot-more but basin slots k d reached near = alike but _ _ reached
     (λ object.
     or_comm (is_at basin object (slice_index_or slots k d).0) (is_owner basin (numbers_of (take k slots)) object)
     ∙ any_more (is_at basin object) slots k d near)
@@ -105,19 +129,19 @@ slots_at-append step (put ∷ first) last = by (put.cell.step.0 == step) (slots_
     by false rest = rest
 
 -- a write at the timestep reaches the owners of its slot's group
-pub written-at : (basin : Draft) (step : ℕ) (slots : List ℕ) (write : Asked) (reached : Reached) → write.cell.step.0 ≡ step
-    → HasReached (λ object. is_at basin object write.cell.slot.0 || is_owner basin slots object) reached
-    → HasReached (is_owner basin (slots_at step (write ∷ []) ++ slots)) reached
-written-at basin step slots write reached at has =
+pub written-at : (but : Option ℕ) (basin : Draft) (step : ℕ) (slots : List ℕ) (write : Asked) (reached : Reached) → write.cell.step.0 ≡ step
+    → HasReached but (λ object. is_at basin object write.cell.slot.0 || is_owner basin slots object) reached
+    → HasReached but (is_owner basin (slots_at step (write ∷ []) ++ slots)) reached
+written-at but basin step slots write reached at has =
     let here : (write.cell.step.0 == step) ≡ true = grind (arith, nat_tests) in
-    subst (λ (t : Bool). HasReached (is_owner basin ((if t then write.cell.slot.0 ∷ [] else []) ++ slots)) reached) (sym here) has
+    subst (λ (t : Bool). HasReached but (is_owner basin ((if t then write.cell.slot.0 ∷ [] else []) ++ slots)) reached) (sym here) has
 
 -- one write more
-pub written-more : (basin : Draft) (step : ℕ) (writes : List Asked) (k : ℕ) (write : Asked) (reached : Reached) → k < length writes
+pub written-more : (but : Option ℕ) (basin : Draft) (step : ℕ) (writes : List Asked) (k : ℕ) (write : Asked) (reached : Reached) → k < length writes
     → write ≡ slice_index_or writes k write
-    → HasReached (is_owner basin (slots_at step (write ∷ []) ++ slots_at step (take k writes))) reached
-    → HasReached (is_owner basin (slots_at step (take (k + 1) writes))) reached
-written-more basin step writes k write reached near is = alike _ _ reached
+    → HasReached but (is_owner basin (slots_at step (write ∷ []) ++ slots_at step (take k writes))) reached
+    → HasReached but (is_owner basin (slots_at step (take (k + 1) writes))) reached
+written-more but basin step writes k write reached near is = alike but _ _ reached
     (λ object.
     let test : (ℕ → Bool) = is_at basin object in
     let new = slots_at step (write ∷ []) in

@@ -111,6 +111,14 @@ unowned_test d e r o h = grind (arith, h)
 pub woken-unowned : (b : Draft) (but : Option ℕ) (queue slots : List ℕ) (a : ℕ) → is_owner b slots a ≡ false → is_woken b but queue slots a ≡ false
 woken-unowned b but queue slots a h = unowned_test (is_data b a) (is_but but a) (list_any (λ x. a == x) queue) (is_owner b slots a) h
 
+unreached_test : (d e r o : Bool) → (not e && o) ≡ false → (not d && (not e && (not r && o))) ≡ false
+unreached_test d e r o h = grind (arith, h)
+
+-- nor who is left out or owns none of them
+pub woken-unreached : (b : Draft) (but : Option ℕ) (queue slots : List ℕ) (a : ℕ) → (not (is_but but a) && is_owner b slots a) ≡ false
+    → is_woken b but queue slots a ≡ false
+woken-unreached b but queue slots a h = unreached_test (is_data b a) (is_but but a) (list_any (λ x. a == x) queue) (is_owner b slots a) h
+
 -- none of these passes
 skipped : (p : ℕ → Bool) (from count : ℕ) → ((a : ℕ) → from < a → a ≤ from + count → p a ≡ false) → filter p (numbers (from + count)) ≡ filter p (numbers from)
 skipped p from zero none = let same : from + 0 ≡ from = omega arith in ap (λ n. filter p (numbers n)) same

@@ -80,7 +80,7 @@ no_slot objects owner place kind (Some number) is none found = let stands = stan
 
 -- ---- the view
 
-known-view : (basin : Draft) (cells : Cells) (object step place : ℕ) → place < 12 → known (view_of basin cells object step) place ≡ content_in basin cells object step place
+pub known-view : (basin : Draft) (cells : Cells) (object step place : ℕ) → place < 12 → known (view_of basin cells object step) place ≡ content_in basin cells object step place
 known-view basin cells object step place near =
     let at : 0 + place ≡ place = omega arith in
     get_or-map-range_with_len (content_in basin cells object step) 0 12 place place None near at
@@ -107,7 +107,7 @@ pub bounds-slot : (basin : Draft) (object place number : ℕ) → slot_in_place 
 bounds-slot basin object place number found =
     ap (λ slot. unwrap_or (option_map (bounds_in basin.objects basin.links basin.bounds) slot) (pos 0, pos 0)) found
 
-content-slot : (basin : Draft) (cells : Cells) (object step place : ℕ) (found : Option ℕ) → slot_in_place basin.objects object place ≡ found
+pub content-slot : (basin : Draft) (cells : Cells) (object step place : ℕ) (found : Option ℕ) → slot_in_place basin.objects object place ≡ found
     → content_in basin cells object step place ≡ option_and_then cells (option_map (λ slot. cell_at slot step) found)
 content-slot basin cells object step place found is = ap (λ slot. option_and_then cells (option_map (λ s. cell_at s step) slot)) is
 

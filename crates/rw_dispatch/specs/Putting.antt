@@ -1,13 +1,15 @@
 -- The puts of a dispatch.
-use Rattle.std.specs.Prelude.{◌≡◌, ◌≤◌, ◌<◌, ℕ, ℤ, Bool, List, [], ◌∷◌, IsSome, None, cond, length, All}
+use Rattle.std.specs.Prelude.{◌≡◌, ◌≤◌, ◌<◌, ℕ, ℤ, Bool, List, Option, IsSome, None, length, All}
 use Rattle.rw_base.specs.declared.number.SlotNo.{SlotNo}
+use Rattle.rw_model.specs.declared.content.Content.{Content}
 use Rattle.rw_model.specs.Draft.{Draft}
 use Rattle.rw_model.specs.Objects.{slot_in_place}
 use Rattle.rw_model.specs.Links.{IsBetween}
+use Rattle.rw_model.specs.Put.{end_of_put}
 use Rattle.rw_method.specs.declared.put.Put.{Put}
 use Rattle.rw_run.specs.declared.fault.RunFault.TheVariants.{Conflict}
 use Rattle.rw_run.specs.Log.{Asked, Cells, Event, fault}
-use Rattle.rw_run.specs.Dispatch.{asked_for, bounds_in_place, denied_by, end_in, judged, puts_written}
+use Rattle.rw_run.specs.Dispatch.{asked_for, bounds_in_place, denied_by, is_written, judged, puts_written}
 
 -- a put to a slot of the object, of a value that the slot can have
 pub record CanPut (basin : Draft) (object : ℕ) (put : Put) : Type 0 where
@@ -25,10 +27,10 @@ abbrev pub conflict : ℕ → ℕ → SlotNo → ℤ → ℤ → Event
 conflict object step slot held solved =
     fault (Conflict (record { 0 = object }) slot (record { 0 = step }) held solved)
 
--- the put isn't denied, and this says whether it is written
-pub record IsPassed (cells : Cells) (put : Asked) (is_written : Bool) : Type 0 where
-  pub passes : denied_by (end_in cells put) put ≡ None
-  pub writes : puts_written cells (put ∷ []) ≡ cond is_written (put ∷ []) []
+-- the put isn't denied where its cell holds this, and this says whether it is written
+pub record IsPassed (held : Option Content) (put : Asked) (written : Bool) : Type 0 where
+  pub passes : denied_by (end_of_put held put.content) put ≡ None
+  pub writes : is_written (end_of_put held put.content) ≡ written
 
 -- none of the puts is denied, and these of them are written
 pub record ArePassed (basin : Draft) (cells : Cells) (object step : ℕ) (asked written : List Put) : Type 0 where

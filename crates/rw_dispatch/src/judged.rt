@@ -1,16 +1,16 @@
-ghost use Rattle.std.specs.Prelude.{◌≡◌, [], IfOk, IfErr};
-ghost use Rattle.rw_series.specs.Series.{held};
-ghost use Rattle.rw_run.specs.Log.{Event};
-ghost use Rattle.rw_run.specs.Dispatch.{asked_by, asked_for, denied_by, end_in, judged, or_fault};
-ghost use Rattle.rw_dispatch.specs.Putting.{ArePassed, ArePuts, CanPut, IsPassed, conflict};
+ghost use Rattle.std.specs.Prelude.{◌≡◌, ℕ, [], IfOk, IfErr};
+ghost use Rattle.rw_model.specs.Put.{end_of_put};
+ghost use Rattle.rw_run.specs.Log.{Cells, Event};
+ghost use Rattle.rw_run.specs.Dispatch.{asked_for, denied_by, judged, or_fault, view_of};
+ghost use Rattle.rw_dispatch.specs.Putting.{ArePassed, ArePuts, IsPassed, conflict};
 ghost use Rattle.rw_model.specs.Turn.{IsTurn};
 
-use crate::view::slot_or_none;
+use crate::write_list::WriteList;
 use crate::written::asked_by;
 use rw_base::{ObjectNo, SlotNo, StepNo};
-use rw_method::{Put, PutList};
-use rw_model::{Basin, PutEnd, put_end};
-use rw_series::Series;
+use rw_method::{PutList, View};
+use rw_model::{Basin, Content, PutEnd, put_end};
+use rw_run::Write;
 
 /// A put that is denied.
 #[derive(Drop)]
@@ -23,65 +23,52 @@ pub(crate) struct Clash {
     pub(crate) solved: i128,
 }
 
-// What becomes of a put, by what the cells hold.
-fn end_in(basin: &Basin, series: &Series, object: ObjectNo, step: StepNo, put: &Put) -> PutEnd
-    requires turn { IsTurn basin.now object.0 step.0 }
-    requires can { CanPut basin.now object.0 put.now }
-    ensures { result ≡ end_in (held series.now) (asked_by basin.now object.0 step.0 put.now) }
+// Whether what is asked for is written, by what its cell holds, unless it is denied.
+fn judge_one(held: Option<Content>, asked: &Write) -> Result<bool, Clash>
+    ensures passed { IfOk result (IsPassed held asked.now) }
+    ensures clash { IfErr result (λ clash. (object : ℕ) (rest : Event)
+        → or_fault (denied_by (end_of_put held asked.now.content) asked.now) object asked.now rest
+        ≡ conflict object asked.now.cell.step.0 clash.slot clash.held clash.solved) }
 {
-    let asked = asked_by(basin, object, step, put);
-    put_end(series.get(asked.cell), asked.content)
-}
-
-// Whether a put is written, unless it is denied.
-fn judge_one(
-    basin: &Basin,
-    series: &Series,
-    object: ObjectNo,
-    step: StepNo,
-    put: &Put,
-) -> Result<bool, Clash>
-    requires turn { IsTurn basin.now object.0 step.0 }
-    requires can { CanPut basin.now object.0 put.now }
-    ensures passed { IfOk result
-        (IsPassed (held series.now) (asked_by basin.now object.0 step.0 put.now)) }
-    ensures clash { IfErr result (λ clash. (rest : Event)
-        → (let asked = asked_by basin.now object.0 step.0 put.now in
-        or_fault (denied_by (end_in (held series.now) asked) asked) object.0 asked rest)
-        ≡ conflict object.0 step.0 clash.slot clash.held clash.solved) }
-{
-    match end_in(basin, series, object, step, put) {
+    match put_end(held, asked.content) {
         PutEnd::Written => Ok(true),
         PutEnd::Kept => Ok(false),
         PutEnd::Denied(held) => Err(Clash {
-            slot: slot_or_none(basin, object, put.place),
+            slot: asked.cell.slot,
             held: i128::from(held.value.get()),
-            solved: i128::from(put.value.get()),
+            solved: i128::from(asked.content.value.get()),
         }),
     }
 }
 
-/// Adds those of the puts that are written, by what the cells hold before the first of them. The first that is denied is the answer.
+/// Adds those of the puts that are written, and what they write, by what the object sees: that is what the cells hold before
+/// the first of them. The first that is denied is the answer.
 pub(crate) fn judge(
+    view: &View,
     basin: &Basin,
-    series: &Series,
     object: ObjectNo,
     step: StepNo,
     asked: &PutList,
     written: &mut PutList,
+    writes: &mut WriteList,
 ) -> Result<(), Clash>
     requires turn { IsTurn basin.now object.0 step.0 }
     requires puts { ArePuts basin.now object.0 asked.now }
-    requires none { written.old ≡ [] }
-    ensures passed { IfOk result (λ _.
-        ArePassed basin.now (held series.now) object.0 step.0 asked.now written.new) }
-    ensures clash { IfErr result (λ clash. (rest : Event)
-        → judged (held series.now) object.0 (asked_for basin.now object.0 step.0 asked.now) rest
+    requires none { (written.old ≡ []) × (writes.old ≡ []) }
+    ensures passed { IfOk result (λ _. (cells : Cells)
+        → view.entry.now ≡ view_of basin.now cells object.0 step.0
+        → ArePassed basin.now cells object.0 step.0 asked.now written.new) }
+    ensures clash { IfErr result (λ clash. (cells : Cells) (rest : Event)
+        → view.entry.now ≡ view_of basin.now cells object.0 step.0
+        → judged cells object.0 (asked_for basin.now object.0 step.0 asked.now) rest
         ≡ conflict object.0 step.0 clash.slot clash.held clash.solved) }
+    ensures writes { writes.new ≡ asked_for basin.now object.0 step.0 written.new }
 {
     for put in asked.as_slice() {
-        if judge_one(basin, series, object, step, put)? {
+        let write = asked_by(basin, object, step, put);
+        if judge_one(view.known(put.place), &write)? {
             written.push(*put);
+            writes.push(write);
         }
     }
     Ok(())

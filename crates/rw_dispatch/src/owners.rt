@@ -1,11 +1,11 @@
-ghost use Rattle.std.specs.Prelude.{◌≡◌, ◌≤◌, ◌==◌, ◌||◌, ◌++◌, ◌∷◌, [], ℕ, Bool, All, false, List};
+ghost use Rattle.std.specs.Prelude.{◌≡◌, ◌≤◌, ◌<◌, ◌==◌, ◌||◌, ◌++◌, ◌∷◌, [], ℕ, Bool, All, false, List, Option, length, option_map};
 ghost use Rattle.rw_model.specs.Draft.{IsObject, IsSlot};
 ghost use Rattle.rw_model.specs.Links.{owner_of};
 ghost use Rattle.rw_model.specs.Kept.{numbers_of};
 ghost use Rattle.rw_model.specs.Turn.{is_data};
-ghost use Rattle.rw_run.specs.Waiting.{is_at, is_owner, slots_at};
+ghost use Rattle.rw_run.specs.Waiting.{is_at, is_but, is_owner, slots_at};
 ghost use Rattle.rw_dispatch.specs.Writes.{AreWrites, CanWrite};
-ghost use Rattle.rw_dispatch.specs.Owners.{HasReached, has_mark};
+ghost use Rattle.rw_dispatch.specs.Owners.{HasReached, has_bit, has_mark};
 
 use rw_base::{ObjectNo, SlotNo, StepNo};
 use rw_model::Basin;
@@ -19,10 +19,10 @@ pub(crate) fn is_data(basin: &Basin, object: ObjectNo) -> bool
     basin.kind_code(object) == 0
 }
 
-/// Objects that are reached: a mark for each, that of object 1 first, how many objects stand before all of them, and the last one.
+/// Objects that are reached: a bit for each, that of object 1 first, how many objects stand before all of them, and the last one.
 #[derive(Drop)]
 pub(crate) struct Reached {
-    pub(crate) marks: [bool; 500],
+    pub(crate) marks: [u64; 8],
     pub(crate) before: u16,
     pub(crate) last: u16,
 }
@@ -30,10 +30,10 @@ pub(crate) struct Reached {
 impl Reached {
     /// None is reached.
     pub(crate) fn none() -> Reached
-        ensures { HasReached (λ object. false) result }
+        ensures { (but : Option ℕ) → HasReached but (λ object. false) result }
     {
         Reached {
-            marks: [false; 500],
+            marks: [0; 8],
             before: u16::MAX,
             last: 0,
         }
@@ -46,7 +46,19 @@ pub(crate) fn has_mark(reached: &Reached, object: u16) -> bool
     requires last { object ≤ 500 }
     ensures { result ≡ has_mark reached.now.marks object }
 {
-    reached.marks[usize::from(object) - 1]
+    let place = object - 1;
+    (reached.marks[usize::from(place / 64)] >> (place % 64)) % 2 == 1
+}
+
+// One bit more is set.
+fn set_bit(marks: &mut [u64; 8], number: u16)
+    requires { number < 500 }
+    ensures many { length marks.new ≡ length marks.old }
+    ensures added { (other : ℕ) → has_bit marks.new other
+        ≡ (other == number || has_bit marks.old other) }
+{
+    let place = usize::from(number / 64);
+    marks[place] = marks[place] | 1 << (number % 64);
 }
 
 /// The lesser of two numbers.
@@ -65,14 +77,29 @@ fn greater(one: u16, other: u16) -> u16
     if one < other { other } else { one }
 }
 
-// One object more is reached.
-fn reach(reached: &mut Reached, object: u16)
+/// Whether this object is left out.
+pub(crate) fn is_but(but: Option<ObjectNo>, object: u16) -> bool
+    ensures { result ≡ is_but (option_map (λ other. other.0) but) object }
+{
+    match but {
+        None => false,
+        Some(other) => other.0 == object,
+    }
+}
+
+// One object more is reached, unless it is left out.
+fn reach(reached: &mut Reached, but: Option<ObjectNo>, object: u16)
     requires first { 1 ≤ object }
     requires last { object ≤ 500 }
-    ensures { (seen : ℕ → Bool) → HasReached seen reached.old
-        → HasReached (λ other. object == other || seen other) reached.new }
+    ensures { (seen : ℕ → Bool)
+        → HasReached (option_map (λ other. other.0) but) seen reached.old
+        → HasReached (option_map (λ other. other.0) but) (λ other. object == other || seen other)
+        reached.new }
 {
-    reached.marks[usize::from(object) - 1] = true;
+    if is_but(but, object) {
+        return;
+    }
+    set_bit(&mut reached.marks, object - 1);
     reached.before = lesser(reached.before, object - 1);
     reached.last = greater(reached.last, object);
 }
@@ -89,46 +116,69 @@ fn owner_of(basin: &Basin, slot: SlotNo) -> u16
 }
 
 // The owners of the slots in a slot's group are reached.
-fn reach_group(reached: &mut Reached, basin: &Basin, slot: SlotNo)
+fn reach_group(reached: &mut Reached, basin: &Basin, but: Option<ObjectNo>, slot: SlotNo)
     requires { IsSlot basin.now.objects slot.0 }
-    ensures { (seen : ℕ → Bool) → HasReached seen reached.old
-        → HasReached (λ object. is_at basin.now object slot.0 || seen object) reached.new }
+    ensures { (seen : ℕ → Bool)
+        → HasReached (option_map (λ other. other.0) but) seen reached.old
+        → HasReached (option_map (λ other. other.0) but)
+        (λ object. is_at basin.now object slot.0 || seen object) reached.new }
 {
     let group = basin.group(slot);
     for other in group {
-        reach(reached, owner_of(basin, *other));
+        reach(reached, but, owner_of(basin, *other));
     }
 }
 
 /// The owners are reached that these slots reach.
-pub(crate) fn reach_slots(reached: &mut Reached, basin: &Basin, slots: &[SlotNo])
+pub(crate) fn reach_slots(
+    reached: &mut Reached,
+    basin: &Basin,
+    but: Option<ObjectNo>,
+    slots: &[SlotNo],
+)
     requires slots { All (λ (slot : SlotNo). IsSlot basin.now.objects slot.0) slots.now }
-    requires none { HasReached (λ object. false) reached.old }
-    ensures { HasReached (is_owner basin.now (numbers_of slots.now)) reached.new }
+    requires none { HasReached (option_map (λ other. other.0) but) (λ object. false) reached.old }
+    ensures { HasReached (option_map (λ other. other.0) but)
+        (is_owner basin.now (numbers_of slots.now)) reached.new }
 {
     for slot in slots {
-        reach_group(reached, basin, *slot);
+        reach_group(reached, basin, but, *slot);
     }
 }
 
 // The owners are reached that a write at the timestep reaches.
-fn reach_write(reached: &mut Reached, basin: &Basin, step: StepNo, write: &Write)
+fn reach_write(
+    reached: &mut Reached,
+    basin: &Basin,
+    but: Option<ObjectNo>,
+    step: StepNo,
+    write: &Write,
+)
     requires { CanWrite basin.now write.now }
-    ensures { (slots : List ℕ) → HasReached (is_owner basin.now slots) reached.old
-        → HasReached (is_owner basin.now (slots_at step.0 (write.now ∷ []) ++ slots)) reached.new }
+    ensures { (slots : List ℕ)
+        → HasReached (option_map (λ other. other.0) but) (is_owner basin.now slots) reached.old
+        → HasReached (option_map (λ other. other.0) but)
+        (is_owner basin.now (slots_at step.0 (write.now ∷ []) ++ slots)) reached.new }
 {
     if write.cell.step.0 == step.0 {
-        reach_group(reached, basin, write.cell.slot);
+        reach_group(reached, basin, but, write.cell.slot);
     }
 }
 
 /// The owners are reached that what is written at a timestep reaches.
-pub(crate) fn reach_writes(reached: &mut Reached, basin: &Basin, step: StepNo, writes: &[Write])
+pub(crate) fn reach_writes(
+    reached: &mut Reached,
+    basin: &Basin,
+    but: Option<ObjectNo>,
+    step: StepNo,
+    writes: &[Write],
+)
     requires can { AreWrites basin.now writes.now }
-    requires none { HasReached (λ object. false) reached.old }
-    ensures { HasReached (is_owner basin.now (slots_at step.0 writes.now)) reached.new }
+    requires none { HasReached (option_map (λ other. other.0) but) (λ object. false) reached.old }
+    ensures { HasReached (option_map (λ other. other.0) but)
+        (is_owner basin.now (slots_at step.0 writes.now)) reached.new }
 {
     for write in writes {
-        reach_write(reached, basin, step, write);
+        reach_write(reached, basin, but, step, write);
     }
 }

@@ -2,31 +2,14 @@ ghost use Rattle.std.specs.Prelude.{◌≡◌, ◌≤◌, ℕ, option_map, IfSom
 ghost use Rattle.rw_base.specs.declared.number.SlotNo.{SlotNo};
 ghost use Rattle.rw_model.specs.Draft.{IsObject, IsSlot};
 ghost use Rattle.rw_series.specs.Series.{held, IsCell};
-ghost use Rattle.rw_run.specs.Dispatch.{past_in, past_of, past_cell_of, cell_of_past, value_of_past, past_value};
+ghost use Rattle.rw_run.specs.Dispatch.{past_of, past_cell_of, cell_of_past, value_of_past, past_value};
 ghost use Rattle.rw_run.specs.Log.{value_in};
 ghost use Rattle.rw_dispatch.specs.Past.{past_seen};
 
 use rw_base::{Cell, ObjectNo, Qty, SlotNo, StepNo};
-use rw_method::places::{INFLOW, STORAGE};
-use rw_model::{Basin, Kind};
+use rw_method::past_in;
+use rw_model::Basin;
 use rw_series::Series;
-
-// The place of the slot whose earlier value a kind looks at, and how many timesteps ago.
-fn past_in(kind: &Kind) -> Option<(u8, u16)>
-    ensures { result ≡ past_in kind.now }
-{
-    match kind {
-        Kind::Reach { lag, .. } => {
-            if *lag == 0 {
-                None
-            } else {
-                Some((INFLOW, u16::from(*lag)))
-            }
-        }
-        Kind::Reservoir { .. } => Some((STORAGE, 1)),
-        _ => None,
-    }
-}
 
 // The slot whose earlier value an object looks at, and how many timesteps ago.
 fn past_of(basin: &Basin, object: ObjectNo) -> Option<(SlotNo, u16)>

@@ -3,12 +3,12 @@ ghost use Rattle.std.specs.List.{list_any};
 ghost use Rattle.rw_model.specs.Draft.{IsObject, IsSlot};
 ghost use Rattle.rw_model.specs.Kept.{numbers_of};
 ghost use Rattle.rw_run.specs.Times.{times};
-ghost use Rattle.rw_run.specs.Waiting.{all_waiting, is_but, is_owner, is_woken, slots_at, woken};
+ghost use Rattle.rw_run.specs.Waiting.{all_waiting, is_owner, is_woken, slots_at, woken};
 ghost use Rattle.rw_dispatch.specs.Queue.{IsQueueOf};
 ghost use Rattle.rw_dispatch.specs.Owners.{HasReached};
 ghost use Rattle.rw_dispatch.specs.Writes.{AreWrites};
 
-use crate::owners::{Reached, has_mark, is_data, lesser, reach_slots, reach_writes};
+use crate::owners::{Reached, has_mark, is_but, is_data, lesser, reach_slots, reach_writes};
 use rw_base::{NoMemory, ObjectNo, SlotNo, StepNo};
 use rw_model::Basin;
 use rw_run::Write;
@@ -85,7 +85,7 @@ impl Queue {
             (option_map (λ object. object.0) but) self.old.waiting (numbers_of slots.now) }
     {
         let mut reached = Reached::none();
-        reach_slots(&mut reached, basin, slots);
+        reach_slots(&mut reached, basin, but, slots);
         self.wake_reached(basin, &reached, but);
     }
 
@@ -104,7 +104,7 @@ impl Queue {
             (option_map (λ object. object.0) but) self.old.waiting (slots_at step.0 writes.now) }
     {
         let mut reached = Reached::none();
-        reach_writes(&mut reached, basin, step, writes);
+        reach_writes(&mut reached, basin, but, step, writes);
         self.wake_reached(basin, &reached, but);
     }
 
@@ -112,7 +112,8 @@ impl Queue {
     fn wake_reached(&mut self, basin: &Basin, reached: &Reached, but: Option<ObjectNo>)
         requires made { IsQueueOf basin.now self.old }
         ensures made { IsQueueOf basin.now self.new }
-        ensures woken { (slots : List ℕ) → HasReached (is_owner basin.now slots) reached.now
+        ensures woken { (slots : List ℕ) → HasReached (option_map (λ object. object.0) but)
+            (is_owner basin.now slots) reached.now
             → self.new.waiting ≡ self.old.waiting ++ woken basin.now
             (option_map (λ object. object.0) but) self.old.waiting slots }
     {
@@ -171,7 +172,8 @@ impl Queue {
         requires made { IsQueueOf basin.now self.now }
         requires known { IsObject basin.now.objects object }
         requires few { object ≤ 500 }
-        ensures woken { (slots : List ℕ) → HasReached (is_owner basin.now slots) reached.now
+        ensures woken { (slots : List ℕ) → HasReached (option_map (λ other. other.0) but)
+            (is_owner basin.now slots) reached.now
             → result ≡ is_woken basin.now (option_map (λ other. other.0) but) self.now.waiting slots object }
         ensures free { result ≡ true → times object self.now.waiting ≡ 0 }
     {
@@ -200,14 +202,4 @@ fn push(items: &mut VecDeque<u16>, object: u16)
     ensures capacity { items.new.cap ≡ items.old.cap }
 {
     items.push_back_reserved(object);
-}
-
-// Whether this object is left out.
-fn is_but(but: Option<ObjectNo>, object: u16) -> bool
-    ensures { result ≡ is_but (option_map (λ other. other.0) but) object }
-{
-    match but {
-        None => false,
-        Some(other) => other.0 == object,
-    }
 }

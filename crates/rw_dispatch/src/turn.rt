@@ -1,10 +1,13 @@
-ghost use Rattle.std.specs.Prelude.{◌≡◌, [], List, map};
+ghost use Rattle.std.specs.Prelude.{◌≡◌, [], List, Some, map, option_map};
+ghost use Rattle.rw_model.specs.Kind.{IsKind};
+ghost use Rattle.rw_model.specs.Objects.{object_at};
+ghost use Rattle.rw_method.specs.View.{IsViewOf};
 ghost use Rattle.rw_method.specs.Catalogue.{AreInOrder};
-ghost use Rattle.rw_run.specs.Log.{written_by};
+ghost use Rattle.rw_run.specs.Log.{Cells, written_by};
 ghost use Rattle.rw_dispatch.specs.Writes.{AreWrites};
 ghost use Rattle.rw_series.specs.declared.look.Look.{Look};
 ghost use Rattle.rw_series.specs.Series.{held};
-ghost use Rattle.rw_run.specs.Dispatch.{answered, dispatched, looks_of, put_by, solved_by};
+ghost use Rattle.rw_run.specs.Dispatch.{answered, asked_for, dispatched, looks_of, put_by, view_of};
 ghost use Rattle.rw_dispatch.specs.Answer.{Ends, Tells, answer_of, asked_in, written_in};
 ghost use Rattle.rw_dispatch.specs.Putting.{ArePuts};
 ghost use Rattle.rw_dispatch.specs.Stage.{AreBounded, IsStageOf, Leaves, stage};
@@ -18,56 +21,62 @@ use crate::queue::Queue;
 use crate::view::{blank_view, see_slots, slot_or_none};
 use crate::workspace::Workspace;
 use crate::write_list::WriteList;
-use crate::written::{ask_all, make};
+use crate::written::make;
 use rw_base::{ObjectNo, StepNo};
 use rw_method::{Catalogue, PutList, Solved, View};
-use rw_model::Basin;
+use rw_model::{Basin, Kind};
 use rw_series::Series;
 
-// What the method of an object answers, by a view that is filled in anew.
-fn solve(
+// Fills the view in anew with what an object sees, and answers its kind. Its method is asked where the answer is used: each
+// function that hands on a `Solved` copies it.
+fn see<'a>(
     view: &mut View,
-    basin: &Basin,
-    methods: &Catalogue,
+    basin: &'a Basin,
     series: &Series,
     object: ObjectNo,
     step: StepNo,
-) -> Solved
-    requires order { AreInOrder (map (λ b. code (b.vtable, b.value)) methods.now.methods.items) }
+) -> &'a Kind
     requires turn { IsTurn basin.now object.0 step.0 }
     requires bounded { AreBounded basin.now (held series.now) }
-    ensures solved { result ≡ solved_by basin.now (held series.now) object.0 step.0 }
-    ensures puts { ArePuts basin.now object.0 (asked_in result) }
+    ensures seen { view.new ≡ view_of basin.now (held series.now) object.0 step.0 }
+    ensures kind { option_map (λ found. found.kind) (object_at basin.now.objects object.0)
+        ≡ Some result.now }
+    ensures sound { IsKind result.now }
+    ensures view { IsViewOf result.now view.new }
 {
     let _objects = basin.object_count();
-    let kind = basin.kind(object);
     view.own = object;
     view.past = past_value(basin, series, object, step);
     see_slots(&mut view.now, &mut view.bounds, basin, series, object, step);
-    methods.solve(kind, view)
+    basin.kind(object)
 }
 
 // What becomes of the puts that an object asks for.
 fn put_all(
+    view: &View,
     basin: &Basin,
-    series: &Series,
     object: ObjectNo,
     step: StepNo,
     asked: &PutList,
     written: &mut PutList,
+    writes: &mut WriteList,
 ) -> DispatchEnd
     requires turn { IsTurn basin.now object.0 step.0 }
     requires puts { ArePuts basin.now object.0 asked.now }
-    requires none { written.old ≡ [] }
-    ensures answer { (looked : List Look) → Tells basin.now looked object.0 step.0
-        (put_by basin.now (held series.now) looked object.0 step.0 asked.now)
+    requires none { (written.old ≡ []) × (writes.old ≡ []) }
+    ensures answer { (cells : Cells) (looked : List Look)
+        → view.entry.now ≡ view_of basin.now cells object.0 step.0
+        → Tells basin.now looked object.0 step.0
+        (put_by basin.now cells looked object.0 step.0 asked.now)
         (answer_of result asked.now written.new) }
     ensures left { written_in (answer_of result asked.now written.new) ≡ written.new }
+    ensures writes { writes.new ≡ asked_for basin.now object.0 step.0 written.new }
 {
-    match judge(basin, series, object, step, asked, written) {
+    match judge(view, basin, object, step, asked, written, writes) {
         Ok(()) => DispatchEnd::Solved,
         Err(clash) => {
             written.clear();
+            writes.clear();
             DispatchEnd::Conflict {
                 slot: clash.slot,
                 held: clash.held,
@@ -77,26 +86,31 @@ fn put_all(
     }
 }
 
-// What becomes of what a method answers.
+// What becomes of what a method answers, with what is to be written.
 fn answer(
+    view: &View,
     basin: &Basin,
-    series: &Series,
     object: ObjectNo,
     step: StepNo,
     solved: &Solved,
     written: &mut PutList,
+    writes: &mut WriteList,
 ) -> DispatchEnd
     requires turn { IsTurn basin.now object.0 step.0 }
     requires puts { ArePuts basin.now object.0 (asked_in solved.now) }
-    ensures answer { (looked : List Look) → Tells basin.now looked object.0 step.0
-        (answered basin.now (held series.now) looked object.0 step.0 solved.now)
+    ensures answer { (cells : Cells) (looked : List Look)
+        → view.entry.now ≡ view_of basin.now cells object.0 step.0
+        → Tells basin.now looked object.0 step.0
+        (answered basin.now cells looked object.0 step.0 solved.now)
         (answer_of result (asked_in solved.now) written.new) }
     ensures left { written_in (answer_of result (asked_in solved.now) written.new) ≡ written.new }
+    ensures writes { writes.new ≡ asked_for basin.now object.0 step.0 written.new }
 {
     written.clear();
+    writes.clear();
     match solved {
         Solved::Idle => DispatchEnd::Idle,
-        Solved::Puts(asked) => put_all(basin, series, object, step, asked, written),
+        Solved::Puts(asked) => put_all(view, basin, object, step, asked, written, writes),
         Solved::Conflict {
             place,
             held,
@@ -111,30 +125,6 @@ fn answer(
             value: *value,
         },
     }
-}
-
-// What becomes of what a method answers, with what is to be written.
-fn settle(
-    written: &mut PutList,
-    writes: &mut WriteList,
-    basin: &Basin,
-    series: &Series,
-    object: ObjectNo,
-    step: StepNo,
-    solved: &Solved,
-) -> DispatchEnd
-    requires turn { IsTurn basin.now object.0 step.0 }
-    requires puts { ArePuts basin.now object.0 (asked_in solved.now) }
-    ensures answer { (looked : List Look) → Tells basin.now looked object.0 step.0
-        (answered basin.now (held series.now) looked object.0 step.0 solved.now)
-        (answer_of result (asked_in solved.now) written.new) }
-    ensures writes { (looked : List Look) → writes.new
-        ≡ written_by (answered basin.now (held series.now) looked object.0 step.0 solved.now) }
-    ensures can { AreWrites basin.now writes.new }
-{
-    let end = answer(basin, series, object, step, solved, written);
-    ask_all(writes, basin, object, step, written.as_slice());
-    end
 }
 
 // The puts that a method asks for.
@@ -182,15 +172,15 @@ pub fn judge_dispatch(
         ≡ written_by (dispatched basin.now (held series.now) object.0 step.0) }
     ensures can { AreWrites basin.now work.new.writes }
 {
-    let solved = solve(&mut work.view, basin, methods, series, object, step);
-    settle(
-        &mut work.written,
-        &mut work.writes,
+    let kind = see(&mut work.view, basin, series, object, step);
+    answer(
+        &work.view,
         basin,
-        series,
         object,
         step,
-        &solved,
+        &methods.solve(kind, &work.view),
+        &mut work.written,
+        &mut work.writes,
     )
 }
 
@@ -219,15 +209,16 @@ pub fn dispatch(
     let mut view = blank_view();
     let mut written = PutList::none();
     let mut writes = WriteList::none();
-    let solved = solve(&mut view, basin, methods, series, object, step);
-    let end = settle(
-        &mut written,
-        &mut writes,
+    let kind = see(&mut view, basin, series, object, step);
+    let solved = methods.solve(kind, &view);
+    let end = answer(
+        &view,
         basin,
-        series,
         object,
         step,
         &solved,
+        &mut written,
+        &mut writes,
     );
     let writes = writes.as_slice();
     make(basin, series, writes);

@@ -1,4 +1,4 @@
-ghost use Rattle.std.specs.Prelude.{◌≡◌, IfSome, map};
+ghost use Rattle.std.specs.Prelude.{◌≡◌, ◌<◌, IfSome, map, set};
 ghost use Rattle.rw_model.specs.Draft.{IsObject, IsSlot};
 ghost use Rattle.rw_series.specs.Series.{held};
 ghost use Rattle.rw_run.specs.Dispatch.{slot_or_none, content_in, bounds_in_place, places};
@@ -31,23 +31,31 @@ pub(crate) fn blank_view() -> View {
     }
 }
 
-// What the slot with this number holds, and its bounds.
+// Fills in what the slot with this number holds, and its bounds.
 fn see_slot(
+    now: &mut [Option<Content>; 12],
+    bounds: &mut [(i64, i64); 12],
     basin: &Basin,
     series: &Series,
     step: StepNo,
+    place: usize,
     number: Option<u16>,
-) -> (Option<Content>, (i64, i64))
-    requires { IfSome number (IsSlot basin.now.objects) }
-    ensures content { result.0 ≡ content_of (held series.now) step.0 number }
-    ensures bounds { result.1 ≡ bounds_of_slot basin.now number }
+)
+    requires place { place < 12 }
+    requires known { IfSome number (IsSlot basin.now.objects) }
+    ensures content { now.new ≡ set now.old place (content_of (held series.now) step.0 number) }
+    ensures bounds { bounds.new ≡ set bounds.old place (bounds_of_slot basin.now number) }
 {
     match number {
         Some(number) => {
             let slot = SlotNo(number);
-            (series.get(Cell { slot, step }), basin.bounds(slot))
+            now[place] = series.get(Cell { slot, step });
+            bounds[place] = basin.bounds(slot);
         }
-        None => (None, (0, 0)),
+        None => {
+            now[place] = None;
+            bounds[place] = (0, 0);
+        }
     }
 }
 
@@ -67,8 +75,6 @@ pub(crate) fn see_slots(
 {
     let numbers = basin.row(object);
     for place in 0..12 {
-        let seen = see_slot(basin, series, step, numbers[place]);
-        now[place] = seen.0;
-        bounds[place] = seen.1;
+        see_slot(now, bounds, basin, series, step, place, numbers[place]);
     }
 }

@@ -1,22 +1,25 @@
 ghost use Rattle.std.specs.Prelude.{◌≡◌, ◌<◌, [], ◌∷◌, ◌++◌, length};
 
-use arrayvec::ArrayVec;
 use rw_run::Write;
 use std::marker::Model;
 
-/// What a dispatch writes: at most 8 contents, in the order in which they are put.
+/// What a dispatch writes: at most 8 contents, in the order in which they are put. What is taken out of it stays behind the
+/// count, so that taking all out is quick.
 #[derive(Debug, Drop)]
 pub struct WriteList {
-    writes: ArrayVec<Write, 8>,
+    writes: [Write; 8],
+    count: usize,
 }
 
 impl Model for WriteList {
-    ghost use Rattle.std.specs.Prelude.{List};
+    ghost use Rattle.std.specs.Prelude.{◌≡◌, ◌≤◌, List, length, take};
     ghost use Rattle.rw_run.specs.Log.{Asked};
 
     ghost Value = { List Asked };
 
-    ghost view = { λ w. w.writes.items };
+    ghost view = { λ w. take w.count w.writes };
+
+    ghost invariant = { λ w. (w.count ≤ 8) × (length w.writes ≡ 8) };
 }
 
 impl WriteList {
@@ -25,7 +28,8 @@ impl WriteList {
         ensures { result ≡ [] }
     {
         WriteList {
-            writes: ArrayVec::new(),
+            writes: [Write::default(); 8],
+            count: 0,
         }
     }
 
@@ -33,7 +37,7 @@ impl WriteList {
     pub(crate) fn clear(&mut self)
         ensures { self.new ≡ [] }
     {
-        self.writes.clear();
+        self.count = 0;
     }
 
     /// Adds one at the end.
@@ -41,13 +45,15 @@ impl WriteList {
         requires { length self.old < 8 }
         ensures { self.new ≡ self.old ++ write ∷ [] }
     {
-        self.writes.push(write);
+        let count = self.count;
+        self.writes[count] = write;
+        self.count = count + 1;
     }
 
     /// Those that are in it.
     pub fn as_slice(&self) -> &[Write]
         ensures { result.now ≡ self.now }
     {
-        self.writes.as_slice()
+        &self.writes[..self.count]
     }
 }

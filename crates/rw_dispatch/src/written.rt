@@ -3,14 +3,13 @@ ghost use Rattle.std.specs.Option.{option_or};
 ghost use Rattle.rw_base.specs.declared.number.Cell.{Cell};
 ghost use Rattle.rw_series.specs.Series.{held};
 ghost use Rattle.rw_run.specs.Log.{last_put};
-ghost use Rattle.rw_run.specs.Dispatch.{asked_by, asked_for};
-ghost use Rattle.rw_dispatch.specs.Putting.{ArePuts, CanPut};
+ghost use Rattle.rw_run.specs.Dispatch.{asked_by};
+ghost use Rattle.rw_dispatch.specs.Putting.{CanPut};
 ghost use Rattle.rw_dispatch.specs.Stage.{IsHeldIn};
 ghost use Rattle.rw_model.specs.Turn.{IsTurn};
 ghost use Rattle.rw_dispatch.specs.Writes.{AreWrites, CanWrite};
 
 use crate::view::slot_or_none;
-use crate::write_list::WriteList;
 use rw_base::{Cell, ObjectNo, StepNo};
 use rw_method::Put;
 use rw_model::{Basin, Content, Writer};
@@ -34,25 +33,6 @@ pub(crate) fn asked_by(basin: &Basin, object: ObjectNo, step: StepNo, put: &Put)
             number: put.number,
             writer: Writer::Object(object),
         },
-    }
-}
-
-/// What the puts ask for.
-pub(crate) fn ask_all(
-    writes: &mut WriteList,
-    basin: &Basin,
-    object: ObjectNo,
-    step: StepNo,
-    puts: &[Put],
-)
-    requires turn { IsTurn basin.now object.0 step.0 }
-    requires puts { ArePuts basin.now object.0 puts.now }
-    ensures asked { writes.new ≡ asked_for basin.now object.0 step.0 puts.now }
-    ensures can { AreWrites basin.now writes.new }
-{
-    writes.clear();
-    for put in puts {
-        writes.push(asked_by(basin, object, step, put));
     }
 }
 

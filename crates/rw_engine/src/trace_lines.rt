@@ -46,6 +46,7 @@ fn tell_fault(trace: &mut Trace, fault: RunFault) -> Result<Option<RunFault>, No
 }
 
 // Writes a line, and one for each of these below it.
+#[inline(always)]
 fn tell_done(
     trace: &mut Trace,
     line: TraceEvent,

@@ -28,6 +28,7 @@ fn remember_cell(undo: &mut Vec<Undone>, series: &Series, cell: Cell) -> Result<
 }
 
 /// Adds what the cells hold to which these are written, where a trace is kept: without one nothing that follows can want memory.
+#[inline(always)]
 pub(crate) fn note(
     undo: &mut Vec<Undone>,
     trace: &Trace,
@@ -48,6 +49,7 @@ pub(crate) fn note(
 }
 
 // Adds what the cells hold to which these are written, of the first of them where memory wants for more.
+#[inline(never)]
 fn remember(undo: &mut Vec<Undone>, series: &Series, writes: &[Write]) -> Result<(), NoMemory>
     ensures all { IfOk result
         (λ _. undo.new.items ≡ undo.old.items ++ undone_of (held series.now) writes.now) }

@@ -1,13 +1,11 @@
 -- What a timestep that was closed holds stays so to the end of the run.
-use Rattle.rw_laws.proofs.Common.{All, Asked, Bool, CanAsk, Cell, DividesByZero, Done, Draft, EndsOutside, Event, Fire, FireEnd, IsBasin, IsFault, IsPolicyOf, IsRun, List, Log, Policy, Some, Standing, Unknown, [], ap, arith, before_closing, cells_of, closed, closed-placed, ended, false, fault, if◌then◌else◌, inl, inr, inside, is_closing, last_closed, nat_tests, none-some, opened, option_or, over, placed, refl, rests, same_Some, standing, standing-placed, subst, sym, true, value_in, written_by, ℕ, ℤ, ◌+◌, ◌<◌, ◌==◌, ◌∙◌, ◌∷◌, ◌≡◌, ◌≢◌, ◌≤◌, ◌⊎◌}
-use Rattle.rw_laws.proofs.Agenda.{due_is_rule}
+use Rattle.rw_laws.proofs.Common.{All, Bool, CanAsk, Cell, DividesByZero, Done, Draft, EndsOutside, Event, Fire, FireEnd, IsBasin, IsFault, IsPolicyOf, IsRun, List, Log, Policy, Some, Standing, Unknown, [], ap, arith, before_closing, cells_of, closed, closed-placed, due_is_rule, ended, false, fault, if◌then◌else◌, inl, inr, inside, is_closing, last_closed, nat_tests, none-some, opened, option_or, over, placed, refl, rests, same_Some, standing, standing-placed, subst, sym, true, value_in, written_by, ℕ, ℤ, ◌+◌, ◌<◌, ◌==◌, ◌∙◌, ◌∷◌, ◌≡◌, ◌≢◌, ◌≤◌, ◌⊎◌}
 use Rattle.rw_laws.proofs.Came.{Came, asks, closes, ends, fires, opens}
-use Rattle.rw_laws.proofs.Dispatches.{Asked_of, asked_of, idles, solves, stops, weaker_all}
-use Rattle.rw_laws.proofs.Settles.{later_all}
+use Rattle.rw_laws.proofs.Dispatches.{Asked_of, asked_of, idles, solves, stops}
 use Rattle.rw_laws.proofs.Staying.{AreLater, earlier_stays}
-use Rattle.rw_laws.proofs.Told.{IsWriting}
-use Rattle.rw_laws.proofs.Writings.{IsRulePut, fired_writings}
+use Rattle.rw_laws.proofs.Writings.{fired_writings, rule_later}
 use Rattle.rw_laws.proofs.Along.{along, none_closed}
+use Rattle.rw_laws.proofs.OwnPuts.{later_all}
 
 -- a log whose closed timesteps hold what they held when they were closed, all of them before where it stands
 abbrev IsAfter : ℕ → Standing → Type 0
@@ -72,13 +70,12 @@ module _ (basin : Draft) (valid : IsBasin basin) (policy : Policy) (promise : Is
       goes_on log (ended basin (cells_of basin log) rule step fire Unknown) step stands (inl refl) (λ at. refl) refl tt past
   fired_past log step rule fire Done stands first asked past =
       goes_on log (ended basin (cells_of basin log) rule step fire Done) step stands (inl refl) (λ at. refl) refl
-      (weaker_all (λ put. IsWriting basin step (cells_of basin log) put × IsRulePut basin rule step put) (λ (put : Asked). step ≤ put.cell.step.0) (written_by (ended basin (cells_of basin log) rule step fire Done))
-      (λ put both. both.1.later) (fired_writings basin policy step rule step (cells_of basin log) fire Done first asked)) past
+      (rule_later basin (cells_of basin log) step rule step (written_by (ended basin (cells_of basin log) rule step fire Done)) (fired_writings basin policy step rule step (cells_of basin log) fire Done first asked)) past
 
   asked_past : (log : Log) (event : Event) (step object : ℕ) → standing log ≡ inside step → Asked_of basin (cells_of basin log) object step event → ArePast basin log → ArePast basin (event ∷ log)
   asked_past log event step object stands (idles at) past = subst (λ e. ArePast basin (e ∷ log)) (sym at.is) (goes_on log _ step stands (inl refl) (λ t. refl) refl tt past)
   asked_past log event step object stands (solves at) past =
-      subst (λ e. ArePast basin (e ∷ log)) (sym at.is) (goes_on log _ step stands (inl refl) (λ t. refl) refl (later_all basin valid policy promise (cells_of basin log) object step at.puts) past)
+      subst (λ e. ArePast basin (e ∷ log)) (sym at.is) (goes_on log _ step stands (inl refl) (λ t. refl) refl (later_all basin (cells_of basin log) object step at.puts) past)
   asked_past log event step object stands (stops why) past = ends_past log event why past
 
   closed_past : (log : Log) (at : ℕ) → standing log ≡ inside at → ArePast basin log → ArePast basin (closed at ∷ log)

@@ -1,14 +1,13 @@
 -- What holds where a timestep of a run is closed.
-use Rattle.rw_laws.proofs.Common.{AllByRecursion, Bool, ByObject, Cell, Cells, DividesByZero, Done, Draft, EndsOutside, Event, Fire, FireEnd, Firing, IsBasin, IsFault, IsKind, IsPolicyOf, IsRun, Kind, List, Log, Policy, Some, Standing, Unknown, View, [], ap, arith, asked_for, asked_of_rule, before_closing, cells_looked, cells_of, dispatch_of, ended, false, fault, fired, idle, if◌then◌else◌, inside, last_firing, last_ones, looks_at, looks_of, nat_tests, none-some, over, placed, puts_written, refl, rests, same_Some, standing, standing-placed, subst, sym, true, value_in, view_of, ℕ, ℤ, ◌==◌, ◌∙◌, ◌∷◌, ◌≡◌, ◌≤◌}
+use Rattle.rw_laws.proofs.Common.{AllByRecursion, Bool, Cell, Cells, DividesByZero, Done, Draft, EndsOutside, Event, Fire, FireEnd, Firing, IsBasin, IsFault, IsPolicyOf, IsRun, List, Log, Policy, Some, Standing, Unknown, [], ap, arith, asked_for, asked_of_rule, before_closing, cells_looked, cells_of, due_is_rule, ended, false, fault, fired, idle, if◌then◌else◌, inside, last_firing, last_ones, looks_at, looks_of, nat_tests, none-some, over, placed, puts_written, refl, rests, same_Some, standing, standing-placed, subst, sym, true, value_in, weaker_all, ℕ, ℤ, ◌==◌, ◌∙◌, ◌∷◌, ◌≡◌, ◌≤◌}
 use Rattle.rw_laws.specs.Rules.{AllStandBy, EndsAs}
-use Rattle.rw_laws.proofs.Agenda.{due_is_rule}
 use Rattle.rw_laws.proofs.Came.{Came, Fires, asks, closes, ends, fires, opens}
-use Rattle.rw_laws.proofs.Dispatches.{Asked_of, asked_of, idles, solves, stops, weaker_all}
+use Rattle.rw_laws.proofs.Dispatches.{Asked_of, asked_of, idles, solves, stops}
 use Rattle.rw_laws.proofs.Firings.{FiredIn, IsLast, IsNotOf, all_stand_by, all_standing, fired_on, object_no_rule, other_rule}
 use Rattle.rw_laws.proofs.LastOnes.{IsAt}
-use Rattle.rw_laws.proofs.Steps.{Holds, IsKept, LeftIn, ToldIn, begin_holds, next_holds}
-use Rattle.rw_laws.proofs.Told.{AreTold, IsWriting}
-use Rattle.rw_laws.proofs.Writings.{IsRulePut, asked_rule_all, fired_writings, is_object_of, object_puts, solved_writings}
+use Rattle.rw_laws.proofs.Steps.{Holds, LeftIn, ToldIn, begin_holds, dispatch_does, next_holds, solving}
+use Rattle.rw_laws.proofs.Told.{AreTold}
+use Rattle.rw_laws.proofs.Writings.{IsObjectWriting, IsRulePut, IsRuleWriting, asked_rule_all, fired_writings}
 use Rattle.rw_laws.proofs.Along.{all_closed}
 
 abbrev FiredAt : Draft → Policy → Log → Standing → Type 0
@@ -16,8 +15,8 @@ FiredAt basin policy log (rests step) = Unit {0}
 FiredAt basin policy log (inside step) = FiredIn basin policy step log
 FiredAt basin policy log over = Unit {0}
 
-pub record IsWithin (L : Kind → View → Type 0) (basin : Draft) (policy : Policy) (log : Log) : Type 0 where
-  pub holds : Holds L basin log
+pub record IsWithin (basin : Draft) (policy : Policy) (log : Log) : Type 0 where
+  pub holds : Holds basin log
   pub fired : FiredAt basin policy log (standing log)
 
 abbrev end_number : FireEnd → ℕ
@@ -30,23 +29,23 @@ cells_of_looks : (f : Cells) (cells : List Cell) → cells_looked (looks_at f ce
 cells_of_looks f [] = refl
 cells_of_looks f (cell ∷ cells) = ap (λ z. cell ∷ z) (cells_of_looks f cells)
 
-module _ (L : Kind → View → Type 0) (kept : IsKept L) (basin : Draft) (valid : IsBasin basin) (policy : Policy) (promise : IsPolicyOf basin policy) where
+module _ (basin : Draft) (valid : IsBasin basin) (policy : Policy) (promise : IsPolicyOf basin policy) where
   over_fired : (log : Log) (event : Event) → IsFault event → FiredAt basin policy (event ∷ log) (standing (event ∷ log))
   over_fired log (fault why) over_by = tt
   over_fired log event over_by = absurd over_by
 
-  told_here : (log : Log) (step : ℕ) → Holds L basin log → standing log ≡ inside step → AreTold step (cells_of basin log)
+  told_here : (log : Log) (step : ℕ) → Holds basin log → standing log ≡ inside step → AreTold step (cells_of basin log)
   told_here log step holds stands = subst (ToldIn (cells_of basin log)) stands holds.told
 
   -- ---- a firing
 
   -- the firings after this one, by the rule that it is of
-  after_firing : (log : Log) (step rule : ℕ) (fire : Fire) (firing : Firing) → firing.rule ≡ rule → Holds L basin log → standing log ≡ inside step → FiredIn basin policy step log
+  after_firing : (log : Log) (step rule : ℕ) (fire : Fire) (firing : Firing) → firing.rule ≡ rule → Holds basin log → standing log ≡ inside step → FiredIn basin policy step log
       → policy.fire rule step (value_in (cells_of basin log)) ≡ Some fire → firing.looked ≡ looks_at (cells_of basin log) fire.looked
       → EndsAs firing.is_done fire.end → firing.asked ≡ asked_of_rule basin rule step fire.puts → firing.count ≡ fire.count
       → firing.written ≡ puts_written (cells_of basin log) (last_ones basin firing.asked)
       → AllByRecursion (IsRulePut basin rule step) firing.asked
-      → AllByRecursion (λ put. IsWriting basin step (cells_of basin log) put × IsRulePut basin rule step put) firing.written
+      → AllByRecursion (IsRuleWriting basin step (cells_of basin log) rule step) firing.written
       → FiredIn basin policy step (fired firing ∷ log)
   after_firing log step rule fire firing of_rule holds stands before does looked end asked count written all wrote other found =
       λ is. by (firing.rule == other) refl is
@@ -54,7 +53,7 @@ module _ (L : Kind → View → Type 0) (kept : IsKept L) (basin : Draft) (valid
       by : (test : Bool) → (firing.rule == other) ≡ test → (if test then Some firing else last_firing log other) ≡ Some found → IsLast basin policy step (fired firing ∷ log) other found
       by false apart is =
           fired_on basin policy step step log (fired firing) other found
-          (weaker_all (λ put. IsWriting basin step (cells_of basin log) put × IsRulePut basin rule step put) (IsNotOf basin step (cells_of basin log) other) firing.written
+          (weaker_all (IsRuleWriting basin step (cells_of basin log) rule step) (IsNotOf basin step (cells_of basin log) other) firing.written
           (λ put both. (both.0, other_rule put.content.writer rule other both.1.writer (ap (λ r. r == other) (sym of_rule) ∙ apart))) wrote) (before other found is)
       by true same is =
           let one : firing.rule ≡ other = grind (arith, nat_tests, same) in
@@ -71,7 +70,7 @@ module _ (L : Kind → View → Type 0) (kept : IsKept L) (basin : Draft) (valid
           } in
           subst (λ r. IsLast basin policy step (fired firing ∷ log) r found) at (subst (λ f. IsLast basin policy step (fired firing ∷ log) rule f) this last)
 
-  ended_fired : (log : Log) (step rule : ℕ) (fire : Fire) (end : FireEnd) → fire.end ≡ end → Holds L basin log → standing log ≡ inside step → FiredIn basin policy step log → 1 ≤ rule
+  ended_fired : (log : Log) (step rule : ℕ) (fire : Fire) (end : FireEnd) → fire.end ≡ end → Holds basin log → standing log ≡ inside step → FiredIn basin policy step log → 1 ≤ rule
       → policy.fire rule step (value_in (cells_of basin log)) ≡ Some fire
       → FiredAt basin policy (ended basin (cells_of basin log) rule step fire end ∷ log) (standing (ended basin (cells_of basin log) rule step fire end ∷ log))
   ended_fired log step rule fire Unknown at holds stands before first does =
@@ -83,7 +82,7 @@ module _ (L : Kind → View → Type 0) (kept : IsKept L) (basin : Draft) (valid
       (asked_rule_all basin rule step fire.puts asks_all) (fired_writings basin policy step rule step (cells_of basin log) fire Done first asks_all)
   ended_fired log step rule fire end at holds stands before first does = tt
 
-  fires_fired : (log : Log) (event : Event) → IsWithin L basin policy log → Fires basin policy log event → FiredAt basin policy (event ∷ log) (standing (event ∷ log))
+  fires_fired : (log : Log) (event : Event) → IsWithin basin policy log → Fires basin policy log event → FiredAt basin policy (event ∷ log) (standing (event ∷ log))
   fires_fired log event within at =
       let rule = due_is_rule basin policy (cells_of basin log) log at.rule at.due in
       subst (λ e. FiredAt basin policy (e ∷ log) (standing (e ∷ log))) (sym at.is)
@@ -91,24 +90,21 @@ module _ (L : Kind → View → Type 0) (kept : IsKept L) (basin : Draft) (valid
 
   -- ---- a dispatch
 
-  asks_fired : (log : Log) (event : Event) (step object : ℕ) → Holds L basin log → standing log ≡ inside step → FiredIn basin policy step log
+  asks_fired : (log : Log) (event : Event) (step object : ℕ) → Holds basin log → standing log ≡ inside step → FiredIn basin policy step log
       → Asked_of basin (cells_of basin log) object step event → FiredAt basin policy (event ∷ log) (standing (event ∷ log))
   asks_fired log event step object holds stands before (idles at) =
       subst (λ e. FiredAt basin policy (e ∷ log) (standing (e ∷ log))) (sym at.is) (λ rule firing is.
       fired_on basin policy step step log (idle object step (looks_of basin (cells_of basin log) object step)) rule firing tt (before rule firing is))
   asks_fired log event step object holds stands before (solves at) =
-      let left : LeftIn L basin (cells_of basin log) (inside step) = subst (LeftIn L basin (cells_of basin log)) stands holds.left in
-      let sound : IsKind at.kind = (is_object_of basin object at.kind valid at.own).sound in
-      let puts = object_puts basin (cells_of basin log) object step at.kind at.puts valid at.own at.answers in
-      let own = kept.falls at.kind (view_of basin (cells_of basin log) object step) at.puts sound (left object at.kind at.own) at.answers in
+      let left : LeftIn basin (cells_of basin log) (inside step) = subst (LeftIn basin (cells_of basin log)) stands holds.left in
       subst (λ e. FiredAt basin policy (e ∷ log) (standing (e ∷ log))) (sym at.is) (λ rule firing is.
-      fired_on basin policy step step log (dispatch_of (cells_of basin log) (looks_of basin (cells_of basin log) object step) object step (asked_for basin object step at.puts)) rule firing
-      (weaker_all (λ put. IsWriting basin step (cells_of basin log) put × (put.content.writer ≡ ByObject (record { 0 = object }))) (IsNotOf basin step (cells_of basin log) rule)
+      fired_on basin policy step step log (solving basin log object step at.puts) rule firing
+      (weaker_all (IsObjectWriting basin step (cells_of basin log) object) (IsNotOf basin step (cells_of basin log) rule)
       (puts_written (cells_of basin log) (asked_for basin object step at.puts)) (λ put both. (both.0, object_no_rule put.content.writer object rule both.1))
-      (solved_writings basin (cells_of basin log) object step at.puts puts own)) (before rule firing is))
+      (dispatch_does basin valid log object step event left at).writes) (before rule firing is))
   asks_fired log event step object holds stands before (stops why) = over_fired log event why
 
-  next_fired : (log : Log) (event : Event) → IsWithin L basin policy log → Came basin policy log event → FiredAt basin policy (event ∷ log) (standing (event ∷ log))
+  next_fired : (log : Log) (event : Event) → IsWithin basin policy log → Came basin policy log event → FiredAt basin policy (event ∷ log) (standing (event ∷ log))
   next_fired log event within (opens at) =
       subst (λ e. FiredAt basin policy (e ∷ log) (standing (e ∷ log))) (sym at.is) (λ rule firing is. absurd (none-some firing is))
   next_fired log event within (closes at) = subst (λ e. FiredAt basin policy (e ∷ log) (standing (e ∷ log))) (sym at.is) tt
@@ -118,17 +114,17 @@ module _ (L : Kind → View → Type 0) (kept : IsKept L) (basin : Draft) (valid
       (asked_of basin (cells_of basin log) at.object at.step event at.is)
   next_fired log event within (ends why) = over_fired log event why
 
-  pub next_within : (log : Log) (event : Event) → Came basin policy log event → IsWithin L basin policy log → IsWithin L basin policy (event ∷ log)
+  pub next_within : (log : Log) (event : Event) → Came basin policy log event → IsWithin basin policy log → IsWithin basin policy (event ∷ log)
   next_within log event comes within =
-      record { holds = next_holds L kept basin valid policy promise log event within.holds comes; fired = next_fired log event within comes }
+      record { holds = next_holds basin valid policy promise log event within.holds comes; fired = next_fired log event within comes }
 
-  pub begin_within : (inputs : List (Cell × ℤ)) → IsWithin L basin policy (placed [] inputs)
+  pub begin_within : (inputs : List (Cell × ℤ)) → IsWithin basin policy (placed [] inputs)
   begin_within inputs = record {
-    holds = begin_holds L kept basin valid policy promise inputs;
+    holds = begin_holds basin valid policy promise inputs;
     fired = subst (FiredAt basin policy (placed [] inputs)) (sym (standing-placed [] inputs refl)) tt;
   }
 
   pub rules_stand : (inputs : List (Cell × ℤ)) (log : Log) → IsRun basin policy inputs log → (step : ℕ) (before : Log) → before_closing step log ≡ Some before
       → AllStandBy basin policy step before
-  rules_stand inputs log run = all_closed basin policy (IsWithin L basin policy) next_within (AllStandBy basin policy) (λ log event within at.
+  rules_stand inputs log run = all_closed basin policy (IsWithin basin policy) next_within (AllStandBy basin policy) (λ log event within at.
       all_stand_by basin policy at.step log promise (subst (FiredAt basin policy log) at.stands within.fired) at.none_due) inputs log run (begin_within inputs)

@@ -1,17 +1,10 @@
 -- The names that proofs cite, passed on from one place. Declares nothing.
 pub use Rattle.std.proofs.lemmas.List.{get_or_past}
-pub use Rattle.std.proofs.lemmas.List.Elements.{Contains-append_cases, Contains-append_left, Contains-append_right, Contains-get_or}
 pub use Rattle.std.proofs.lemmas.Map.Keys.{IsDistinct-head, IsDistinct-tail}
-pub use Rattle.std.specs.Int.{int_min}
 pub use Rattle.std.specs.List.{IsDistinct}
-pub use Rattle.rw_base.proofs.Common.{All, All-cons, All-contains, All-nil, AllByRecursion, Bool, Contains, Decides-int_eq, IsSome, List, None, Option, Some, [], and_parts, ap, ap₂, arith, cases_Bool, cond, cond_both, false, filter, find, get_or, get_or-map-range_with_len, get_or_from_slice_get, if◌then◌else◌, inl, inr, int_eq, int_le, int_lt, int_max, ints, is_some, length, length-map, length-range_with_len, list_any, map, nat_le, nat_lt, nat_tests, none-some, not, option_and_then, option_map, option_or, pos, recursion_from_All, refl, reverse, reverse-append, rules, same_Some, slice_get, slice_get_within, subst, suc, sym, true, unsigned_abs, unwrap_or, zero, ℕ, ℤ, ◌&&◌, ◌++◌, ◌+ℤ◌, ◌+◌, ◌-ℤ◌, ◌-◌, ◌<◌, ◌==◌, ◌||◌, ◌∙◌, ◌∷◌, ◌≡◌, ◌≢◌, ◌≤ℤ◌, ◌≤◌, ◌⊎◌}
+pub use Rattle.rw_base.proofs.Common.{All, All-cons, All-nil, AllByRecursion, Bool, Contains, Decides-int_eq, List, None, Option, Some, [], and_parts, ap, ap₂, arith, cond, false, filter, find, get_or_from_slice_get, if◌then◌else◌, inl, inr, is_some, length, length-map, length-range_with_len, list_any, map, nat_le, nat_lt, nat_tests, none-some, not, option_and_then, option_map, option_or, pos, recursion_from_All, refl, same_Some, slice_get, slice_get_within, subst, suc, sym, true, unwrap_or, ℕ, ℤ, ◌&&◌, ◌+◌, ◌-ℤ◌, ◌-◌, ◌<◌, ◌==◌, ◌||◌, ◌∙◌, ◌∷◌, ◌≡◌, ◌≢◌, ◌≤◌, ◌⊎◌}
 pub use Rattle.rw_base.specs.declared.number.Cell.{Cell}
-pub use Rattle.rw_base.specs.declared.number.ObjectNo.{ObjectNo}
-pub use Rattle.rw_table.proofs.Elevation.{elev_held}
-pub use Rattle.rw_table.proofs.Volume.{has_volume_inside}
-pub use Rattle.rw_table.specs.Curve.{IsElevationInside, IsVolumeInside, elev_of, first_row, greatest_up_to, last_row, vol_of}
-pub use Rattle.rw_table.specs.Table.{IsTable, Row}
-pub use Rattle.rw_model.proofs.Common.{IsBasin, IsKind, IsStored, IsStored as HasParameters, Object, Placed, all_slots, before_of, first_from, is_in_place, known_in_place, numbered-known, object_at, slot_at, slot_in, slot_in_place}
+pub use Rattle.rw_model.proofs.Common.{IsBasin, IsKind, Object, Placed, all_slots, before_of, first_from, is_in_place, known_in_place, numbered-known, object_at, slot_at, slot_in, slot_in_place}
 pub use Rattle.rw_model.specs.Basin.{IsLink}
 pub use Rattle.rw_model.specs.Code.{code_of}
 pub use Rattle.rw_model.specs.Draft.{Draft, IsSlot, IsSound}
@@ -19,38 +12,27 @@ pub use Rattle.rw_model.specs.Links.{group_of, is_among, is_same_link, is_togeth
 pub use Rattle.rw_model.specs.Put.{end_of_put, is_same_object, is_same_value}
 pub use Rattle.rw_model.specs.Turn.{is_data}
 pub use Rattle.rw_model.specs.declared.content.Content.{Content}
-pub use Rattle.rw_model.specs.declared.control.AgendaOrder.{AgendaOrder}
-pub use Rattle.rw_model.specs.declared.control.AgendaOrder.TheVariants.{HighFirst, LowFirst}
-pub use Rattle.rw_model.specs.declared.data_slots.DataSlot.{DataSlot}
 pub use Rattle.rw_model.specs.declared.kind.Kind.{Kind}
-pub use Rattle.rw_model.specs.declared.kind.Kind.TheVariants.{Bifurcation, Canal, Confluence, DataObject, Gage, Reach, Reservoir, WaterUser}
-pub use Rattle.rw_model.specs.declared.kind.Supply.{Supply}
-pub use Rattle.rw_model.specs.declared.kind.Supply.TheVariants.{Request, Rule as ByRule}
 pub use Rattle.rw_model.specs.declared.put.PutEnd.{PutEnd}
 pub use Rattle.rw_model.specs.declared.put.PutEnd.TheVariants.{Denied, Kept, Written}
 pub use Rattle.rw_model.specs.declared.writer.Writer.{Writer}
 pub use Rattle.rw_model.specs.declared.writer.Writer.TheVariants.{Input, Object as ByObject, Rule}
-pub use Rattle.rw_method.proofs.GivingWay.{gives_way}
+pub use Rattle.rw_method.proofs.Among.{Among, all_among, all_at, all_mapped, among, both_all, contains, mapped_all, some_there, weaker_all}
+pub use Rattle.rw_method.proofs.Earlier.{some_ago}
+pub use Rattle.rw_method.proofs.Idling.{idle_balanced}
+pub use Rattle.rw_method.proofs.Leaving.{left_begins, left_by_others}
+pub use Rattle.rw_method.proofs.LeftKept.{left_by_own, own_puts_fall, puts_are_apart}
+pub use Rattle.rw_method.proofs.SolvedBalance.{data_balanced, solved_balanced}
+pub use Rattle.rw_method.specs.Balanced.{IsBalanced}
+pub use Rattle.rw_method.specs.Left.{Left}
+pub use Rattle.rw_method.specs.Passing.{IsAfterOthers, IsAfterOwn, IsKept, IsOwnFall, IsReplaced, IsWritten}
+pub use Rattle.rw_method.specs.Past.{past_in}
 pub use Rattle.rw_method.proofs.SolvedPuts.{IsPutOf, solve-puts}
-pub use Rattle.rw_method.proofs.SolvedTerm.{number_of_solved, solved_term}
-pub use Rattle.rw_method.specs.Balance.{balance_of, chosen, evaporation_from, evaporation_of, side_flows, sum_of}
-pub use Rattle.rw_method.specs.Contents.{agree, are_both_zero, basis_of, can_hold, contents_by, difference, disagreement, elevation_of, evaporated, fault_of_basis, is_this, volume_of}
-pub use Rattle.rw_method.specs.Puts.{beside_basis, beside_given, evaporation_put, held_by, known_after, level_puts, put_found, puts_of, release_puts, seepage_put, solved_put, user_puts}
-pub use Rattle.rw_method.specs.Settling.{IsNoWeaker, IsStronger, missing, net_of, number_of, settled, settled_at, solves, value_from_others, weakest}
-pub use Rattle.rw_method.specs.Solve.{AllFit, all_or_misfit, answer, balanced_of, fault_of_contents, fault_of_past, first_misfit, fits, is_held, or_else, solve_of}
-pub use Rattle.rw_method.specs.Term.{IsShare, brought, brought_by, per_mille}
-pub use Rattle.rw_method.specs.View.{given, given_by, known, known_value}
-pub use Rattle.rw_method.specs.declared.balanced.Balanced.{Balanced}
-pub use Rattle.rw_method.specs.declared.balanced.Balanced.TheVariants.{Conflicts, Holds, Idle, Solves}
-pub use Rattle.rw_method.specs.declared.basis.Basis.{Basis}
-pub use Rattle.rw_method.specs.declared.basis.Basis.TheVariants.{Elevation, Nothing, Storage}
-pub use Rattle.rw_method.specs.declared.given.Given.{Given}
+pub use Rattle.rw_method.specs.Solve.{solve_of}
+pub use Rattle.rw_method.specs.View.{known}
 pub use Rattle.rw_method.specs.declared.put.Put.{Put}
-pub use Rattle.rw_method.specs.declared.share.Share.{Share}
-pub use Rattle.rw_method.specs.declared.share.Share.TheVariants.{Brings, Conveys, Takes}
 pub use Rattle.rw_method.specs.declared.solved.Solved.{Solved}
-pub use Rattle.rw_method.specs.declared.solved.Solved.TheVariants.{Conflict, Idle as IdleAnswer, OutOfRange, Puts}
-pub use Rattle.rw_method.specs.declared.term.Term.{Term}
+pub use Rattle.rw_method.specs.declared.solved.Solved.TheVariants.{Puts}
 pub use Rattle.rw_method.specs.declared.view.View.{View}
 pub use Rattle.rw_series.proofs.Sharing.{Shared-of, among_group, known_number, linked_alike, same_turned, together_alike, together_turned}
 pub use Rattle.rw_series.specs.Fire.{Fire}
@@ -59,10 +41,12 @@ pub use Rattle.rw_series.specs.declared.fire.FireEnd.{FireEnd}
 pub use Rattle.rw_series.specs.declared.fire.FireEnd.TheVariants.{Done, OutOfRange as EndsOutside, Unknown, ZeroDivisor as DividesByZero}
 pub use Rattle.rw_series.specs.declared.fire.RulePut.{RulePut}
 pub use Rattle.rw_series.specs.declared.look.Look.{Look}
-pub use Rattle.rw_run.proofs.Lists.{times-append, times-numbers}
+pub use Rattle.rw_run.proofs.Lists.{times-numbers}
+pub use Rattle.rw_run.proofs.SameRuns.{due_is_rule, on_agenda}
+pub use Rattle.rw_run.proofs.Sinces.{none_bits}
 pub use Rattle.rw_run.proofs.Placed.{closed-placed, standing-placed}
 pub use Rattle.rw_run.proofs.Waits.{times-waiting}
-pub use Rattle.rw_run.specs.Dispatch.{Past, answered, asked_by, asked_for, cell_at, content_in, denied_by, dispatch_of, dispatched, end_in, is_written, judged, looks_at, looks_of, or_fault, past_at, past_in, past_of, past_value, places, puts_written, solved_by, value_of_past, view_of}
+pub use Rattle.rw_run.specs.Dispatch.{Past, answered, asked_by, asked_for, cell_at, content_in, denied_by, dispatch_of, dispatched, end_in, is_written, judged, looks_at, looks_of, or_fault, past_at, past_of, past_value, places, puts_written, solved_by, value_of_past, view_of}
 pub use Rattle.rw_run.specs.Frame.{AreAlike, IsFault, cells_looked}
 pub use Rattle.rw_run.specs.Log.{Asked, Cells, Event, Firing, Log, cells_of, closed, fault, fired, idle, input_content, last_put, opened, value_in, written_by}
 pub use Rattle.rw_run.specs.Next.{Policy, after_objects, agenda_of, asked_by_rule, asked_of_rule, dispatches, ended, firing_of, firings, first_due, is_changed, is_due, is_put_again, last_firing, last_ones, next_of}
@@ -74,4 +58,4 @@ pub use Rattle.rw_run.specs.Times.{times}
 pub use Rattle.rw_run.specs.Waiting.{ends_wait, first_of, first_waiting, is_at, is_put_at, numbers, since, waiting, wakes}
 pub use Rattle.rw_run.specs.declared.fault.RunFault.TheVariants.{ObjectLimit, RuleLimit}
 pub use Rattle.rw_run.specs.declared.run.Run.{Run}
-pub use Rattle.rw_dispatch.proofs.Viewed.{has_slot}
+pub use Rattle.rw_dispatch.proofs.Viewed.{has_slot, known-view}

@@ -1,5 +1,5 @@
 -- What a dispatch comes to: an object is idle, or it asks for puts of which none is denied, or the run ends by a fault.
-use Rattle.rw_laws.proofs.Common.{AllByRecursion, Asked, Bool, Cells, Denied, Draft, Event, IsFault, Kind, List, None, Object, Option, Put, PutEnd, Puts, Solved, Some, Written, [], answered, ap, asked_for, cond, denied_by, dispatch_of, dispatched, end_in, false, filter, idle, inl, inr, is_written, judged, looks_of, map, none-some, object_at, option_map, or_fault, puts_written, refl, solve_of, solved_by, subst, sym, true, unwrap_or, view_of, ℕ, ◌∙◌, ◌∷◌, ◌≡◌, ◌⊎◌}
+use Rattle.rw_laws.proofs.Common.{AllByRecursion, Asked, Bool, Cells, Denied, Draft, Event, IsFault, Kind, List, None, Object, Option, Put, PutEnd, Puts, Solved, Some, Written, [], answered, ap, asked_for, cond, denied_by, dispatch_of, dispatched, end_in, false, filter, idle, inl, inr, is_written, judged, looks_of, none-some, object_at, option_map, or_fault, puts_written, refl, solve_of, solved_by, subst, sym, true, unwrap_or, view_of, weaker_all, ℕ, ◌∙◌, ◌∷◌, ◌≡◌, ◌⊎◌}
 use Rattle.rw_method.specs.declared.solved.Solved.TheVariants.{Idle}
 use Rattle.rw_laws.proofs.PutRules.{is_written_fact}
 
@@ -74,10 +74,6 @@ module _ (basin : Draft) (cells : Cells) (object step : ℕ) (event : Event) whe
 
 -- ---- lists of puts
 
-pub mapped_all : {A B : Type 0} (P : B → Type 0) (f : A → B) (xs : List A) → AllByRecursion (λ x. P (f x)) xs → AllByRecursion P (map f xs)
-mapped_all P f [] all = tt
-mapped_all P f (x ∷ xs) all = (all.0, mapped_all P f xs all.1)
-
 filtered : {A : Type 0} (P : A → Type 0) (p : A → Bool) (x : A) (xs : List A) (test : Bool) → p x ≡ test → P x → AllByRecursion (λ y. (p y ≡ true) × P y) (filter p xs)
     → AllByRecursion (λ y. (p y ≡ true) × P y) (cond test (x ∷ filter p xs) (filter p xs))
 filtered P p x xs true is here rest = ((is, here), rest)
@@ -86,14 +82,6 @@ filtered P p x xs false is here rest = rest
 pub filtered_all : {A : Type 0} (P : A → Type 0) (p : A → Bool) (xs : List A) → AllByRecursion P xs → AllByRecursion (λ y. (p y ≡ true) × P y) (filter p xs)
 filtered_all P p [] all = tt
 filtered_all P p (x ∷ xs) all = filtered P p x xs (p x) refl all.0 (filtered_all P p xs all.1)
-
-pub weaker_all : {A : Type 0} (P Q : A → Type 0) (xs : List A) → ((x : A) → P x → Q x) → AllByRecursion P xs → AllByRecursion Q xs
-weaker_all P Q [] f all = tt
-weaker_all P Q (x ∷ xs) f all = (f x all.0, weaker_all P Q xs f all.1)
-
-pub both_all : {A : Type 0} (P Q : A → Type 0) (xs : List A) → AllByRecursion P xs → AllByRecursion Q xs → AllByRecursion (λ x. P x × Q x) xs
-both_all P Q [] p q = tt
-both_all P Q (x ∷ xs) p q = ((p.0, q.0), both_all P Q xs p.1 q.1)
 
 -- those that are written
 pub written_all : (P : Asked → Type 0) (cells : Cells) (asked : List Asked) → AllByRecursion P asked

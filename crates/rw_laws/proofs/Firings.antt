@@ -1,15 +1,13 @@
 -- What is left of the last firing of each rule, and that each would do the same again where the timestep is closed.
-use Rattle.rw_laws.proofs.Common.{AllByRecursion, AreAlike, Asked, Bool, ByObject, Cell, Cells, Decides-int_eq, Denied, Draft, Event, Fire, Firing, IsPolicyOf, Kept, List, Log, None, Option, Policy, PutEnd, Rule, Some, Writer, Written, [], ap, arith, cells_of, end_in, false, first_due, inl, inr, is_changed, last_firing, last_ones, last_put, looks_at, nat_tests, not, option_map, option_or, puts_written, refl, subst, sym, true, value_in, written_by, ℕ, ℤ, ◌<◌, ◌==◌, ◌||◌, ◌∙◌, ◌∷◌, ◌≡◌, ◌≢◌, ◌≤◌, ◌⊎◌}
+use Rattle.rw_laws.proofs.Common.{AllByRecursion, Among, AreAlike, Asked, Bool, ByObject, Cell, Cells, Decides-int_eq, Denied, Draft, Event, Fire, Firing, IsPolicyOf, Kept, List, Log, None, Option, Policy, PutEnd, Rule, Some, Writer, Written, [], all_among, all_at, ap, arith, cells_of, end_in, false, first_due, inl, inr, is_changed, last_firing, last_ones, last_put, looks_at, nat_tests, not, option_map, option_or, puts_written, refl, subst, sym, true, value_in, weaker_all, written_by, ℕ, ℤ, ◌<◌, ◌==◌, ◌||◌, ◌∙◌, ◌∷◌, ◌≡◌, ◌≢◌, ◌≤◌, ◌⊎◌}
 use Rattle.rw_run.specs.Next.{is_same_value}
 use Rattle.rw_laws.specs.Rules.{AllStandBy, IsFiringOf, IsHeldOr, StandsBy}
 use Rattle.rw_laws.proofs.Agenda.{none_due}
-use Rattle.rw_laws.proofs.Dispatches.{weaker_all}
-use Rattle.rw_laws.proofs.LastOnes.{IsAt, last_written, none_written, still_all}
+use Rattle.rw_laws.proofs.LastOnes.{IsAt, last_written, none_written}
 use Rattle.rw_laws.proofs.Linked.{last_found, linked}
-use Rattle.rw_laws.proofs.OwnPuts.{Among}
 use Rattle.rw_laws.proofs.PutRules.{denied_known, end_code, kept_known}
 use Rattle.rw_laws.proofs.Told.{AreTold, IsTold, IsWriting, to_all}
-use Rattle.rw_laws.proofs.Writings.{IsRulePut}
+use Rattle.rw_laws.proofs.Writings.{IsRulePut, last_all}
 
 -- the last firing of a rule
 pub record IsLast (basin : Draft) (policy : Policy) (step : ℕ) (log : Log) (rule : ℕ) (firing : Firing) : Type 0 where
@@ -119,24 +117,9 @@ module _ (basin : Draft) (latest : ℕ) (log : Log) (rule step : ℕ) (told : Ar
         so = inr (not_by latest rule held.0.number put.cell.step.0 held.0.writer (told put.cell held.0 held.1.0) less);
       }
 
-  each : (puts : List Asked) → AllByRecursion (λ put. Among (last_ones basin asked) put × IsRulePut basin rule step put) puts → AllByRecursion (IsHeldOr (cells_of basin (event ∷ log)) rule) puts
-  each [] all = tt
-  each (put ∷ puts) all = (stands_by put all.0.0 all.0.1 (end_in (cells_of basin log) put) refl, each puts all.1)
-
-  members : (puts : List Asked) (P : Asked → Type 0) → ((put : Asked) → Among puts put → P put) → AllByRecursion P puts
-  members [] P f = tt
-  members (put ∷ puts) P f = (f put (inl refl), members puts P (λ other has. f other (inr has)))
-
-  at_member : (puts : List Asked) (put : Asked) → AllByRecursion (IsRulePut basin rule step) puts → Among puts put → IsRulePut basin rule step put
-  at_member [] put all has = absurd has
-  at_member (first ∷ puts) put all (inl same) = subst (IsRulePut basin rule step) same all.0
-  at_member (first ∷ puts) put all (inr later) = at_member puts put all.1 later
-
   pub all_standing : AllByRecursion (IsHeldOr (cells_of basin (event ∷ log)) rule) (last_ones basin asked)
-  all_standing =
-      each (last_ones basin asked)
-      (members (last_ones basin asked) (λ put. Among (last_ones basin asked) put × IsRulePut basin rule step put)
-      (λ put has. (has, at_member (last_ones basin asked) put (still_all (IsRulePut basin rule step) basin asked all) has)))
+  all_standing = all_among (IsHeldOr (cells_of basin (event ∷ log)) rule) (last_ones basin asked) (λ put has.
+      stands_by put has (all_at (IsRulePut basin rule step) (last_ones basin asked) put (last_all (IsRulePut basin rule step) basin asked all) has) (end_in (cells_of basin log) put) refl)
 
 -- ---- where nothing is due
 

@@ -1,6 +1,8 @@
 -- The puts of a firing that aren't put again: what is written of them is found, and nothing else is.
-use Rattle.rw_laws.proofs.Common.{AllByRecursion, Asked, Bool, Cell, Cells, Content, Draft, IsSlot, List, None, PutEnd, Some, Written, [], among_group, ap, ap₂, arith, cond, end_in, false, if◌then◌else◌, inl, inr, is_put_again, is_shared, is_written, known_number, last_ones, last_put, nat_tests, option_or, puts_written, refl, same_turned, subst, sym, together_turned, true, ◌&&◌, ◌==◌, ◌||◌, ◌∙◌, ◌∷◌, ◌≡◌, ◌≢◌}
-use Rattle.rw_laws.proofs.OwnPuts.{Among}
+use Rattle.rw_laws.proofs.Common.{AllByRecursion, Among, Asked, Bool, Cell, Cells, Content, Draft, IsSlot, List, None, PutEnd, Some, Written, [], all_at, among_group, ap, ap₂, cond, end_in, false, if◌then◌else◌, inl, inr, is_put_again, is_shared, is_written, known_number, last_ones, last_put, option_or, puts_written, refl, same_turned, subst, sym, together_turned, true, weaker_all, ◌&&◌, ◌||◌, ◌∙◌, ◌∷◌, ◌≡◌, ◌≢◌}
+use Rattle.rw_laws.proofs.Writings.{last_all}
+use Rattle.rw_laws.proofs.Linked.{self_shared}
+use Rattle.rw_laws.proofs.Dispatches.{written_all}
 
 abbrev pub IsAt : Draft → Asked → Type 0
 IsAt basin put = IsSlot basin.objects put.cell.slot.0
@@ -13,15 +15,12 @@ shared_turned basin one other at there =
     ∙ sym (among_group basin.objects basin.links other.slot.0 one.slot.0))
     (same_turned other.step.0 one.step.0)
 
-pub self_shared : (basin : Draft) (cell : Cell) → IsSlot basin.objects cell.slot.0 → is_shared basin cell cell ≡ true
-self_shared basin cell known =
-    let same : (cell.slot.0 == cell.slot.0) ≡ true = grind (arith, nat_tests) in
-    let at : (cell.step.0 == cell.step.0) ≡ true = grind (arith, nat_tests) in
-    rw (among_group basin.objects basin.links cell.slot.0 cell.slot.0, known_number basin.objects cell.slot.0 known, same, at) refl
-
 -- none of the later ones shares the cell
+abbrev IsApart : Draft → Cell → Asked → Type 0
+IsApart basin cell put = IsAt basin put × (is_shared basin cell put.cell ≡ false)
+
 abbrev NoneShares : Draft → Cell → List Asked → Type 0
-NoneShares basin cell puts = AllByRecursion (λ (put : Asked). IsAt basin put × (is_shared basin cell put.cell ≡ false)) puts
+NoneShares basin cell puts = AllByRecursion (IsApart basin cell) puts
 
 either_false : (a b : Bool) → (a || b) ≡ false → (a ≡ false) × (b ≡ false)
 either_false true b e = absurd (cc)
@@ -33,22 +32,6 @@ none_again basin put (first ∷ puts) all e =
     let parts = either_false (is_shared basin put.cell first.cell) (is_put_again basin put puts) e in
     ((all.0, parts.0), none_again basin put puts all.1 parts.1)
 
-fewer : (P : Asked → Type 0) (put : Asked) (rest : List Asked) (test : Bool) → P put → AllByRecursion P rest → AllByRecursion P (if test then rest else put ∷ rest)
-fewer P put rest true here all = all
-fewer P put rest false here all = (here, all)
-
-pub still_all : (P : Asked → Type 0) (basin : Draft) (puts : List Asked) → AllByRecursion P puts → AllByRecursion P (last_ones basin puts)
-still_all P basin [] all = tt
-still_all P basin (put ∷ puts) all = fewer P put (last_ones basin puts) (is_put_again basin put puts) all.0 (still_all P basin puts all.1)
-
-fewer_written : (P : Asked → Type 0) (put : Asked) (rest : List Asked) (test : Bool) → P put → AllByRecursion P rest → AllByRecursion P (cond test (put ∷ rest) rest)
-fewer_written P put rest true here all = (here, all)
-fewer_written P put rest false here all = all
-
-written_still : (P : Asked → Type 0) (cells : Cells) (puts : List Asked) → AllByRecursion P puts → AllByRecursion P (puts_written cells puts)
-written_still P cells [] all = tt
-written_still P cells (put ∷ puts) all = fewer_written P put (puts_written cells puts) (is_written (end_in cells put)) all.0 (written_still P cells puts all.1)
-
 no_last : (basin : Draft) (cell : Cell) (puts : List Asked) → IsSlot basin.objects cell.slot.0 → NoneShares basin cell puts → last_put basin puts cell ≡ None
 no_last basin cell [] known none = refl
 no_last basin cell (put ∷ puts) known none =
@@ -58,6 +41,14 @@ no_last basin cell (put ∷ puts) known none =
 module _ (basin : Draft) (cells : Cells) where
   abbrev left : List Asked → List Asked
   left puts = puts_written cells (last_ones basin puts)
+
+  none_last : (first : Asked) (puts : List Asked) → AllByRecursion (IsAt basin) puts → is_put_again basin first puts ≡ false → NoneShares basin first.cell (last_ones basin puts)
+  none_last first puts all is = last_all (IsApart basin first.cell) basin puts (none_again basin first puts all is)
+
+  none_left : (first : Asked) (puts : List Asked) → AllByRecursion (IsAt basin) puts → is_put_again basin first puts ≡ false → NoneShares basin first.cell (left puts)
+  none_left first puts all is =
+      weaker_all (λ put. (end_in cells put ≡ Written) × IsApart basin first.cell put) (IsApart basin first.cell) (left puts) (λ put both. both.1)
+      (written_all (IsApart basin first.cell) cells (last_ones basin puts) (none_last first puts all is))
 
   later_found : (put : Asked) (rest : List Asked) (cell : Cell) (content : Content) (test : Bool) → last_put basin rest cell ≡ Some content
       → last_put basin (cond test (put ∷ rest) rest) cell ≡ Some content
@@ -78,9 +69,7 @@ module _ (basin : Draft) (cells : Cells) where
   found_by first puts put all end later true is has = later has
   found_by first puts put all end later false is (inr has) = later_found first (left puts) put.cell put.content (is_written (end_in cells first)) (later has)
   found_by first puts put all end later false is (inl same) =
-      let none : NoneShares basin first.cell (left puts) =
-      written_still (λ (p : Asked). IsAt basin p × (is_shared basin first.cell p.cell ≡ false)) cells (last_ones basin puts)
-      (still_all (λ (p : Asked). IsAt basin p × (is_shared basin first.cell p.cell ≡ false)) basin puts (none_again basin first puts all.1 is)) in
+      let none : NoneShares basin first.cell (left puts) = none_left first puts all.1 is in
       let wrote : is_written (end_in cells first) ≡ true = ap (λ p. is_written (end_in cells p)) same ∙ ap is_written end in
       subst (λ (p : Asked). last_put basin (cond (is_written (end_in cells first)) (first ∷ left puts) (left puts)) p.cell ≡ Some p.content) same
       (here_found first (left puts) (is_written (end_in cells first)) refl wrote all.0 (no_last basin first.cell (left puts) all.0 none))
@@ -102,24 +91,16 @@ module _ (basin : Draft) (cells : Cells) where
   not_written Written other = absurd (other refl)
   not_written end other = refl
 
-  member_of : (P : Asked → Type 0) (puts : List Asked) (put : Asked) → AllByRecursion P puts → Among puts put → P put
-  member_of P [] put all has = absurd has
-  member_of P (first ∷ puts) put all (inl same) = subst P same all.0
-  member_of P (first ∷ puts) put all (inr later) = member_of P puts put all.1 later
-
   none_by : (first : Asked) (puts : List Asked) (put : Asked) → AllByRecursion (IsAt basin) (first ∷ puts) → end_in cells put ≢ Written
       → (Among (last_ones basin puts) put → last_put basin (left puts) put.cell ≡ None) → (again : Bool) → is_put_again basin first puts ≡ again
       → Among (if again then last_ones basin puts else first ∷ last_ones basin puts) put
       → last_put basin (puts_written cells (if again then last_ones basin puts else first ∷ last_ones basin puts)) put.cell ≡ None
   none_by first puts put all end later true is has = later has
   none_by first puts put all end later false is (inr has) =
-      let apart = member_of (λ (p : Asked). IsAt basin p × (is_shared basin first.cell p.cell ≡ false)) (last_ones basin puts) put
-      (still_all (λ (p : Asked). IsAt basin p × (is_shared basin first.cell p.cell ≡ false)) basin puts (none_again basin first puts all.1 is)) has in
+      let apart = all_at (IsApart basin first.cell) (last_ones basin puts) put (none_last first puts all.1 is) has in
       none_here first (left puts) put.cell (is_written (end_in cells first)) apart.1 (later has)
   none_by first puts put all end later false is (inl same) =
-      let none : NoneShares basin first.cell (left puts) =
-      written_still (λ (p : Asked). IsAt basin p × (is_shared basin first.cell p.cell ≡ false)) cells (last_ones basin puts)
-      (still_all (λ (p : Asked). IsAt basin p × (is_shared basin first.cell p.cell ≡ false)) basin puts (none_again basin first puts all.1 is)) in
+      let none : NoneShares basin first.cell (left puts) = none_left first puts all.1 is in
       let no : is_written (end_in cells first) ≡ false = not_written (end_in cells first) (λ e. end (ap (end_in cells) (sym same) ∙ e)) in
       subst (λ (p : Asked). last_put basin (cond (is_written (end_in cells first)) (first ∷ left puts) (left puts)) p.cell ≡ None) same
       (ap (λ test. last_put basin (cond test (first ∷ left puts) (left puts)) first.cell) no ∙ no_last basin first.cell (left puts) all.0 none)

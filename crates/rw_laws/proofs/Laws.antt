@@ -1,13 +1,11 @@
 -- The laws of priority, of rules and of balance, and what every run keeps.
-use Rattle.rw_laws.proofs.Common.{Cell, Draft, IsBasin, IsPolicyOf, IsRun, IsRunOf, List, Log, Policy, Run, Some, before_closing, cells_of, held, subst, sym, ℕ, ℤ, ◌∙◌, ◌≡◌, ◌≤◌}
-use Rattle.rw_laws.specs.Balances.{AllBalanced, IsBalanced}
+use Rattle.rw_laws.proofs.Common.{Cell, Draft, IsBalanced, IsBasin, IsPolicyOf, IsRun, IsRunOf, List, Log, Policy, Run, Some, before_closing, cells_of, held, subst, sym, ℕ, ℤ, ◌∙◌, ◌≡◌, ◌≤◌}
+use Rattle.rw_laws.specs.Balances.{AllBalanced}
 use Rattle.rw_laws.specs.Laws.{KeepsLaws}
-use Rattle.rw_laws.specs.Left.{Left}
 use Rattle.rw_laws.specs.Priority.{KeepPriority}
 use Rattle.rw_laws.specs.Rules.{AllStandBy}
 use Rattle.rw_laws.proofs.Closed.{closings, stays}
 use Rattle.rw_laws.proofs.Closing.{IsWithin, begin_within, next_within, rules_stand}
-use Rattle.rw_laws.proofs.LeftKept.{left_kept}
 use Rattle.rw_laws.proofs.Linked.{links}
 use Rattle.rw_laws.proofs.Settles.{balances}
 use Rattle.rw_laws.proofs.Staying.{same_view}
@@ -15,11 +13,11 @@ use Rattle.rw_laws.proofs.Along.{along}
 
 pub priority : (basin : Draft) (policy : Policy) (inputs : List (Cell × ℤ)) (log : Log) → IsBasin basin → IsPolicyOf basin policy → IsRun basin policy inputs log → KeepPriority basin log
 priority basin policy inputs log valid promise run =
-    (along basin policy (IsWithin Left basin policy) (next_within Left left_kept basin valid policy promise) inputs log run (begin_within Left left_kept basin valid policy promise inputs)).holds.priority
+    (along basin policy (IsWithin basin policy) (next_within basin valid policy promise) inputs log run (begin_within basin valid policy promise inputs)).holds.priority
 
 pub rules : (basin : Draft) (policy : Policy) (inputs : List (Cell × ℤ)) (log before : Log) (step : ℕ) → IsBasin basin → IsPolicyOf basin policy → IsRun basin policy inputs log
     → before_closing step log ≡ Some before → AllStandBy basin policy step before
-rules basin policy inputs log before step valid promise run closes = rules_stand Left left_kept basin valid policy promise inputs log run step before closes
+rules basin policy inputs log before step valid promise run closes = rules_stand basin valid policy promise inputs log run step before closes
 
 pub balance : (basin : Draft) (policy : Policy) (inputs : List (Cell × ℤ)) (log before : Log) (step : ℕ) → IsBasin basin → IsPolicyOf basin policy → IsRun basin policy inputs log
     → before_closing step log ≡ Some before → AllBalanced basin step (cells_of basin before)

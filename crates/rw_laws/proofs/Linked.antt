@@ -1,5 +1,5 @@
 -- Cells that share their value hold alike after any log.
-use Rattle.rw_laws.proofs.Common.{AllByRecursion, Asked, Bool, Cell, Draft, IsSlot, List, Log, None, Shared-of, Some, [], among_group, ap, ap₂, cells_of, false, if◌then◌else◌, inl, inr, is_shared, known_number, last_put, option_or, refl, sym, together_alike, true, written_by, ◌&&◌, ◌==◌, ◌∙◌, ◌∷◌, ◌≡◌, ◌⊎◌}
+use Rattle.rw_laws.proofs.Common.{AllByRecursion, Asked, Bool, Cell, Draft, IsSlot, List, Log, None, Shared-of, Some, [], among_group, ap, ap₂, arith, cells_of, false, if◌then◌else◌, inl, inr, is_shared, known_number, last_put, nat_tests, option_or, refl, sym, together_alike, true, written_by, ◌&&◌, ◌==◌, ◌∙◌, ◌∷◌, ◌≡◌, ◌⊎◌}
 use Rattle.rw_laws.specs.Links.{AreLinked}
 
 -- one of the puts is what they leave in the cell
@@ -24,6 +24,13 @@ last_alike basin [] one other known shared = refl
 last_alike basin (put ∷ puts) one other known shared =
     ap₂ (λ rest test. option_or rest (if test then Some put.content else None)) (last_alike basin puts one other known shared)
     (shared_alike basin put.cell one other known shared)
+
+-- a cell shares its value with itself
+pub self_shared : (basin : Draft) (cell : Cell) → IsSlot basin.objects cell.slot.0 → is_shared basin cell cell ≡ true
+self_shared basin cell known =
+    let same : (cell.slot.0 == cell.slot.0) ≡ true = grind (arith, nat_tests) in
+    let at : (cell.step.0 == cell.step.0) ≡ true = grind (arith, nat_tests) in
+    rw (among_group basin.objects basin.links cell.slot.0 cell.slot.0, known_number basin.objects cell.slot.0 known, same, at) refl
 
 pub linked : (basin : Draft) (log : Log) (one other : Cell) → IsSlot basin.objects one.slot.0 → is_shared basin one other ≡ true → cells_of basin log one ≡ cells_of basin log other
 linked basin [] one other known shared = refl

@@ -1,50 +1,20 @@
 -- What an object's own dispatch leaves in its slots.
-use Rattle.rw_laws.proofs.Common.{AllByRecursion, Asked, Bool, Cell, Cells, Contains, Contains-get_or, Content, Denied, Draft, Event, IsBasin, IsSlot, Kept, List, Log, Look, None, Option, Put, PutEnd, Shared-of, Some, View, Written, [], among_group, ap, arith, asked_by, asked_for, cell_at, cells_of, cond, dispatch_of, end_in, end_of_put, false, get_or, if◌then◌else◌, inl, inr, is_shared, is_written, known, known_in_place, known_number, last_put, length, nat_tests, none-some, option_or, puts_written, recursion_from_All, refl, subst, suc, sym, true, view_of, zero, ℕ, ◌++◌, ◌<◌, ◌==◌, ◌∙◌, ◌∷◌, ◌≡◌, ◌≢◌, ◌≤◌, ◌⊎◌}
-use Rattle.rw_laws.specs.Passing.{IsAfter, IsKept, IsWritten}
+use Rattle.rw_laws.proofs.Common.{AllByRecursion, Among, Asked, Bool, Cell, Cells, Contains, Content, Denied, Draft, Event, IsAfterOwn, IsBasin, IsKept, IsOwnFall, IsWritten, Kept, List, Log, Look, None, Option, Put, PutEnd, Shared-of, Some, View, Written, [], all_among, all_at, all_mapped, among, ap, arith, asked_by, asked_for, both_all, cell_at, cells_of, cond, contains, dispatch_of, end_in, end_of_put, false, if◌then◌else◌, inl, inr, is_shared, is_written, known, known_in_place, last_put, mapped_all, none-some, option_or, puts_written, refl, subst, sym, true, view_of, weaker_all, ℕ, ◌∙◌, ◌∷◌, ◌≡◌, ◌≢◌, ◌≤◌, ◌⊎◌}
 use Rattle.rw_laws.proofs.Apart.{one_slot}
-use Rattle.rw_laws.proofs.Dispatches.{AreFine, IsFine, both_all, mapped_all, weaker_all, written_all}
-use Rattle.rw_laws.proofs.Linked.{Found, last_found}
+use Rattle.rw_laws.proofs.Dispatches.{AreFine, IsFine, written_all}
+use Rattle.rw_laws.proofs.Linked.{Found, last_found, self_shared}
 use Rattle.rw_laws.proofs.Owned.{owner_in, same_place}
 use Rattle.rw_laws.proofs.PutRules.{end_code, kept_known, was_written}
 use Rattle.rw_laws.proofs.Viewing.{HasSlot, has_or_bare}
-use Rattle.rw_laws.proofs.Writings.{IsObjectPut, IsOwnFall, sees_at}
+use Rattle.rw_laws.proofs.Writings.{IsObjectPut, sees_at}
+use Rattle.rw_laws.proofs.Staying.{AreLater, past_stays}
 
--- one of these, by recursion
-abbrev pub Among : {A : Type 0} → List A → A → Type 0
-Among [] x = ⊥
-Among (y ∷ ys) x = (y ≡ x) ⊎ Among ys x
-
-pub among_of : {A : Type 0} (xs : List A) (x : A) (k : ℕ) → k < length xs → get_or xs k x ≡ x → Among xs x
-among_of [] x k few is = absurd (omega (arith, few))
-among_of (y ∷ ys) x zero few is = inl is
-among_of (y ∷ ys) x (suc k) few is = inr (among_of ys x k (omega (arith, few)) is)
-
-pub among : {A : Type 0} (xs : List A) (x : A) → Contains xs x → Among xs x
-among xs x has = among_of xs x has.0 has.1 has.2
-
-pub all_at : {A : Type 0} (P : A → Type 0) (xs : List A) (x : A) → AllByRecursion P xs → Among xs x → P x
-all_at P [] x all has = absurd has
-all_at P (y ∷ ys) x all (inl is) = subst P is all.0
-all_at P (y ∷ ys) x all (inr later) = all_at P ys x all.1 later
-
-pub among_left : {A : Type 0} (xs ys : List A) (x : A) → Among xs x → Among (xs ++ ys) x
-among_left [] ys x has = absurd has
-among_left (y ∷ xs) ys x (inl same) = inl same
-among_left (y ∷ xs) ys x (inr later) = inr (among_left xs ys x later)
-
-pub among_right : {A : Type 0} (xs ys : List A) (x : A) → Among ys x → Among (xs ++ ys) x
-among_right [] ys x has = has
-among_right (y ∷ xs) ys x has = inr (among_right xs ys x has)
-
-pub contain_all : {A : Type 0} (xs : List A) → AllByRecursion (λ x. Contains xs x) xs
-contain_all xs = recursion_from_All (λ x. Contains xs x) xs (λ k d lt. Contains-get_or xs k d lt)
-
--- a cell shares its value with itself
-pub shared_self : (basin : Draft) (slot step : ℕ) → IsSlot basin.objects slot → is_shared basin (cell_at slot step) (cell_at slot step) ≡ true
-shared_self basin slot step known =
-    let same : (slot == slot) ≡ true = grind (arith, nat_tests) in
-    let at : (step == step) ≡ true = grind (arith, nat_tests) in
-    rw (among_group basin.objects basin.links slot slot, known_number basin.objects slot known, same, at) refl
+-- no put of a dispatch is of an earlier timestep
+pub later_all : (basin : Draft) (cells : Cells) (object step : ℕ) (puts : List Put) → AreLater step (puts_written cells (asked_for basin object step puts))
+later_all basin cells object step puts =
+    weaker_all (λ (put : Asked). (end_in cells put ≡ Written) × (step ≤ put.cell.step.0)) (λ (put : Asked). step ≤ put.cell.step.0) (puts_written cells (asked_for basin object step puts)) (λ put both. both.1)
+    (written_all (λ (put : Asked). step ≤ put.cell.step.0) cells (asked_for basin object step puts)
+    (mapped_all (λ (put : Asked). step ≤ put.cell.step.0) (asked_by basin object step) puts (all_among (λ (put : Put). step ≤ step) puts (λ put has. omega arith))))
 
 -- the puts of a dispatch that are written, and the puts that they are
 record IsOwnWrite (basin : Draft) (cells : Cells) (object step : ℕ) (puts : List Put) (asked : Asked) : Type 0 where
@@ -67,7 +37,7 @@ own_writes basin cells object step puts all =
     (mapped_all (IsOwnAsked basin cells object step puts) (asked_by basin object step) puts
     (weaker_all (λ put. Contains puts put × IsObjectPut basin cells object step put) (λ put. IsOwnAsked basin cells object step puts (asked_by basin object step put)) puts
     (λ put both. (put, (both.0, (refl, both.1))))
-    (both_all (λ put. Contains puts put) (IsObjectPut basin cells object step) puts (contain_all puts) all))))
+    (both_all (λ put. Contains puts put) (IsObjectPut basin cells object step) puts (all_among (λ put. Contains puts put) puts (contains puts)) all))))
 
 -- a put that is written is found
 some_or : (later : Option Content) (content : Content) → (now : Content) × (option_or later (Some content) ≡ Some now)
@@ -99,12 +69,6 @@ some_written basin cells object step cell (first ∷ puts) put (inl is) end shar
     let here = some_here basin cell (asked_by basin object step first) (puts_written cells (asked_for basin object step puts)) (is_shared basin (asked_by basin object step first).cell cell) refl
     (ap (λ p. is_shared basin (asked_by basin object step p).cell cell) is ∙ shared) in
     (here.0, ap (λ test. last_put basin (cond test (asked_by basin object step first ∷ puts_written cells (asked_for basin object step puts)) (puts_written cells (asked_for basin object step puts))) cell) wrote ∙ here.1)
-
-fine_at : (basin : Draft) (cells : Cells) (object step : ℕ) (puts : List Put) (put : Put) → AreFine cells (asked_for basin object step puts) → Among puts put
-    → IsFine (end_in cells (asked_by basin object step put))
-fine_at basin cells object step [] put fine has = absurd has
-fine_at basin cells object step (first ∷ puts) put fine (inl is) = subst (λ p. IsFine (end_in cells (asked_by basin object step p))) is fine.0
-fine_at basin cells object step (first ∷ puts) put fine (inr later) = fine_at basin cells object step puts put fine.1 later
 
 module _ (basin : Draft) (valid : IsBasin basin) (log : Log) (looked : List Look) (object step : ℕ) (puts : List Put)
     (all : AllByRecursion (IsObjectPut basin (cells_of basin log) object step) puts)
@@ -147,7 +111,7 @@ module _ (basin : Draft) (valid : IsBasin basin) (log : Log) (looked : List Look
 
   shared_at : (put : Put) (at : IsObjectPut basin cells object step put) → is_shared basin (asked_by basin object step put).cell (cell_at at.number step) ≡ true
   shared_at put at =
-      subst (λ c. is_shared basin c (cell_at at.number step) ≡ true) (sym at.cell) (shared_self basin at.number step (known_in_place basin.objects object put.place at.number at.slot))
+      subst (λ c. is_shared basin c (cell_at at.number step) ≡ true) (sym at.cell) (self_shared basin (cell_at at.number step) (known_in_place basin.objects object put.place at.number at.slot))
 
   sees_cell : (put : Put) (at : IsObjectPut basin cells object step put) → known old put.place ≡ cells (asked_by basin object step put).cell
   sees_cell put at = sees_old put.place (has_of put at) ∙ ap cells (sym at.cell)
@@ -203,12 +167,14 @@ module _ (basin : Draft) (valid : IsBasin basin) (log : Log) (looked : List Look
     ]
   ]
 
-  pub own_after : IsAfter old new puts
+  pub own_after : IsAfterOwn old new puts
   own_after = record {
     own = refl;
+    past = past_stays basin log event object step (later_all basin cells object step puts);
     put = λ put has.
         put_after put has (all_at (IsObjectPut basin cells object step) puts put all (among puts put has))
-        (all_at (IsOwnFall old) puts put falls (among puts put has)) (fine_at basin cells object step puts put fine (among puts put has))
+        (all_at (IsOwnFall old) puts put falls (among puts put has)) (all_at (λ put. IsFine (end_in cells (asked_by basin object step put))) puts put
+        (all_mapped (λ (asked : Asked). IsFine (end_in cells asked)) (asked_by basin object step) puts fine) (among puts put has))
         (end_in cells (asked_by basin object step put)) refl;
     rest = rest_after;
   }

@@ -1,5 +1,5 @@
--- An object that doesn't wait is balanced: its last dispatch saw what it holds.
-use Rattle.rw_laws.proofs.Common.{AllByRecursion, Asked, Bool, Cell, Cells, Content, Draft, Event, Kind, List, Log, None, Object, Option, Past, Reach, Reservoir, Shared-of, Some, [], and_parts, ap, ap₂, arith, before_of, cell_at, cells_of, content_in, false, group_of, if◌then◌else◌, is_among, is_at, is_put_at, is_shared, last_put, list_any, map, nat_lt, nat_tests, none-some, object_at, option_and_then, option_map, option_or, owner_of, past_at, past_in, past_of, past_value, places, pos, refl, same_Some, slot_in_place, sym, true, value_in, value_of_past, view_of, written_by, ℕ, ◌&&◌, ◌-ℤ◌, ◌-◌, ◌<◌, ◌==◌, ◌||◌, ◌∙◌, ◌∷◌, ◌≡◌, ◌≤◌}
+-- What an object sees stays where no put reaches it, and its earlier value always.
+use Rattle.rw_laws.proofs.Common.{AllByRecursion, Asked, Bool, Cell, Cells, Content, Draft, Event, Kind, List, Log, None, Object, Option, Past, Shared-of, Some, [], and_parts, ap, ap₂, arith, before_of, cell_at, cells_of, content_in, false, group_of, if◌then◌else◌, is_among, is_at, is_put_at, is_shared, last_put, list_any, map, nat_lt, nat_tests, none-some, object_at, option_and_then, option_map, option_or, owner_of, past_at, past_in, past_of, past_value, places, pos, refl, same_Some, slot_in_place, some_ago, sym, true, value_in, value_of_past, view_of, written_by, ℕ, ◌&&◌, ◌-ℤ◌, ◌-◌, ◌<◌, ◌==◌, ◌||◌, ◌∙◌, ◌∷◌, ◌≡◌, ◌≤◌}
 use Rattle.rw_laws.proofs.Owned.{owner_in}
 
 -- ---- which puts reach an object
@@ -65,16 +65,6 @@ earlier_stays basin step (put ∷ puts) cell later before =
     by : (test : Bool) → is_shared basin put.cell cell ≡ test → is_shared basin put.cell cell ≡ false
     by false is = is
     by true is = let same : cell.step.0 ≡ put.cell.step.0 = (Shared-of basin put.cell cell is).step in let le = later.0 in absurd (omega (arith, same, le, before))
-
-some_ago : (kind : Kind) (past : ℕ × ℕ) → past_in kind ≡ Some past → 1 ≤ past.1
-some_ago (Reach lag history local_inflow diversion return_flow) past is = by (lag == 0) refl is
-  where
-    by : (test : Bool) → (lag == 0) ≡ test → (if test then None else Some (0, lag)) ≡ Some past → 1 ≤ past.1
-    by true zero_lag is = absurd (none-some past is)
-    by false some is = let same : lag ≡ past.1 = ap (λ (p : ℕ × ℕ). p.1) (same_Some _ _ is) in grind (arith, nat_tests, some, same)
-some_ago (Reservoir initial_storage table local_inflow diversion return_flow evaporation max_release) past is =
-    let same : 1 ≡ past.1 = ap (λ (p : ℕ × ℕ). p.1) (same_Some _ _ is) in omega (arith, same)
-some_ago kind past is = absurd (none-some past is)
 
 past_ago : (basin : Draft) (object : ℕ) (past : Past) → past_of basin object ≡ Some past → 1 ≤ past.ago
 past_ago basin object past is = by_object (object_at basin.objects object) is

@@ -1,5 +1,5 @@
 -- What the puts of an event leave in the cells, where each is over a content with no lesser number.
-use Rattle.rw_laws.proofs.Common.{All, All-cons, All-nil, AllByRecursion, Asked, Cell, Cells, Content, Draft, Event, Input, IsSlot, List, Log, Rule, Shared-of, Some, Writer, Written, [], ap, arith, cells_of, end_in, end_of_put, inl, inr, is_same_object, option_or, same_Some, subst, sym, true, written_by, ℕ, ◌∙◌, ◌∷◌, ◌≡◌, ◌≤◌, ◌⊎◌}
+use Rattle.rw_laws.proofs.Common.{All, All-cons, All-nil, AllByRecursion, Asked, Cell, Cells, Content, Draft, Event, Input, IsSlot, List, Log, Rule, Shared-of, Some, Writer, Written, [], ap, arith, cells_of, end_in, end_of_put, inl, inr, is_same_object, option_or, same_Some, subst, sym, true, weaker_all, written_by, ℕ, ◌∙◌, ◌∷◌, ◌≡◌, ◌≤◌, ◌⊎◌}
 use Rattle.rw_model.specs.declared.writer.Writer.TheVariants.{Object}
 use Rattle.rw_laws.specs.Priority.{IsNoWeaker, KeepsPriority}
 use Rattle.rw_laws.proofs.Linked.{Found, last_found, linked}
@@ -63,13 +63,9 @@ module _ (basin : Draft) (latest : ℕ) (log : Log) (event : Event) (told : AreT
 
   pub keeps_priority : KeepsPriority basin (cells_of basin log) event
   keeps_priority = record {
-    puts = to_all (IsNoWeaker (cells_of basin log)) (written_by event) (no_weaker (written_by event) all);
+    puts = to_all (IsNoWeaker (cells_of basin log)) (written_by event) (weaker_all (IsWriting basin latest (cells_of basin log)) (IsNoWeaker (cells_of basin log)) (written_by event) (λ put is. is.falls) all);
     inputs = input;
   }
-    where
-      no_weaker : (puts : List Asked) → AllByRecursion (IsWriting basin latest (cells_of basin log)) puts → AllByRecursion (IsNoWeaker (cells_of basin log)) puts
-      no_weaker [] all = tt
-      no_weaker (put ∷ puts) all = (all.0.falls, no_weaker puts all.1)
 
   pub told_after : AreTold latest (cells_of basin (event ∷ log))
   told_after cell content held = elim (after cell) [

@@ -1,9 +1,9 @@
 -- How what an object sees goes on, by the puts that an event writes.
-use Rattle.rw_laws.proofs.Common.{AllByRecursion, Asked, Bool, ByObject, Cell, Cells, Draft, Event, Log, None, Option, Some, View, ap, arith, cell_at, cells_of, content_in, false, get_or_past, inl, inr, is_same_object, known, length, length-map, length-range_with_len, map, nat_lt, nat_tests, option_and_then, option_map, option_or, places, refl, slot_in_place, sym, true, view_of, written_by, ℕ, ◌<◌, ◌∙◌, ◌∷◌, ◌≡◌, ◌≤◌, ◌⊎◌}
-use Rattle.rw_laws.specs.Passing.{IsReplaced, Passes}
+use Rattle.rw_laws.proofs.Common.{AllByRecursion, Asked, Bool, ByObject, Cell, Cells, Draft, Event, IsAfterOthers, IsReplaced, Log, None, Option, Some, View, ap, arith, cell_at, cells_of, content_in, false, get_or_past, inl, inr, is_same_object, known, known-view, length, length-map, length-range_with_len, map, nat_lt, nat_tests, option_and_then, option_map, option_or, places, refl, slot_in_place, sym, true, view_of, written_by, ℕ, ◌<◌, ◌∙◌, ◌∷◌, ◌≡◌, ◌≤◌, ◌⊎◌}
 use Rattle.rw_laws.proofs.Linked.{last_found, linked}
 use Rattle.rw_laws.proofs.Told.{IsWriting}
-use Rattle.rw_laws.proofs.Writings.{known_view, sees_at}
+use Rattle.rw_laws.proofs.Staying.{AreLater, past_stays}
+use Rattle.rw_laws.proofs.Writings.{sees_at}
 
 -- ---- what stands in a place
 
@@ -24,7 +24,7 @@ IsBare basin object place = (cells : Cells) (step : ℕ) → known (view_of basi
 slot_or_bare : (basin : Draft) (object place : ℕ) → place < 12 → (found : Option ℕ) → slot_in_place basin.objects object place ≡ found → HasSlot basin object place ⊎ IsBare basin object place
 slot_or_bare basin object place few (Some number) slot = inl (record { number = number; few = few; slot = slot })
 slot_or_bare basin object place few None none =
-    inr (λ cells step. known_view basin cells object step place few ∙ ap (λ found. option_and_then cells (option_map (λ s. cell_at s step) found)) none)
+    inr (λ cells step. known-view basin cells object step place few ∙ ap (λ found. option_and_then cells (option_map (λ s. cell_at s step) found)) none)
 
 pub has_or_bare : (basin : Draft) (object place : ℕ) → HasSlot basin object place ⊎ IsBare basin object place
 has_or_bare basin object place = by (nat_lt place 12) refl
@@ -70,5 +70,5 @@ module _ (basin : Draft) (latest : ℕ) (log : Log) (event : Event) (object step
     | inr bare ↦ inl (bare (cells_of basin (event ∷ log)) step ∙ sym (bare (cells_of basin log) step))
   ]
 
-  pub passes : Passes old new
-  passes = record { own = refl; slots = at_place }
+  pub passes : AreLater step (written_by event) → IsAfterOthers old new
+  passes later = record { own = refl; past = past_stays basin log event object step later; slots = at_place }

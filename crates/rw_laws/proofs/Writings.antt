@@ -1,9 +1,9 @@
 -- The puts that firings and dispatches write.
-use Rattle.rw_laws.proofs.Common.{All, AllByRecursion, Asked, Bool, ByObject, CanAsk, Cell, Cells, Content, Done, Draft, Fire, FireEnd, Input, IsBasin, IsKind, IsPutOf, IsSlot, IsSome, IsSound, Kind, List, None, Object, Option, Policy, Put, Puts, Rule, RulePut, Some, View, Writer, Written, [], ap, arith, asked_by, asked_by_rule, asked_for, asked_of_rule, cell_at, content_in, end_in, end_of_put, ended, false, get_or-map-range_with_len, get_or_from_slice_get, has_slot, if◌then◌else◌, inl, inr, is_put_again, is_same_object, known, known_in_place, last_ones, map, nat_le, nat_tests, none-some, object_at, option_and_then, option_map, puts_written, recursion_from_All, refl, same_Some, slice_get, slice_get_within, slot_in, slot_in_place, solve-puts, solve_of, subst, sym, true, unwrap_or, view_of, written_by, ℕ, ◌+◌, ◌-◌, ◌<◌, ◌∙◌, ◌∷◌, ◌≡◌, ◌≤◌}
-use Rattle.rw_laws.specs.Left.{is_own}
-use Rattle.rw_laws.proofs.Dispatches.{filtered_all, mapped_all, weaker_all, written_all}
+use Rattle.rw_laws.proofs.Common.{All, AllByRecursion, Asked, Bool, ByObject, CanAsk, Cell, Cells, Done, Draft, Fire, FireEnd, Input, IsBasin, IsKind, IsOwnFall, IsPutOf, IsSlot, IsSound, Kind, List, None, Object, Option, Policy, Put, Puts, Rule, RulePut, Some, Writer, Written, [], ap, arith, asked_by, asked_by_rule, asked_for, asked_of_rule, cell_at, end_in, end_of_put, ended, false, get_or_from_slice_get, has_slot, if◌then◌else◌, inl, inr, is_put_again, is_same_object, known, known-view, known_in_place, last_ones, length, map, mapped_all, nat_le, nat_tests, none-some, object_at, option_and_then, option_map, puts_written, recursion_from_All, refl, same_Some, slice_get, slice_get_within, slot_in, slot_in_place, solve-puts, solve_of, some_there, subst, sym, true, unwrap_or, view_of, weaker_all, written_by, ℕ, ◌-◌, ◌<◌, ◌∙◌, ◌∷◌, ◌≡◌, ◌≤◌}
+use Rattle.rw_laws.proofs.Dispatches.{filtered_all, written_all}
 use Rattle.rw_laws.proofs.PutRules.{was_written}
 use Rattle.rw_laws.proofs.Told.{IsTold, IsWriting}
+use Rattle.rw_laws.proofs.Staying.{AreLater}
 
 -- ---- a firing
 
@@ -36,6 +36,10 @@ no_rule_is_object Input rule same = absurd (grind (arith, same))
 no_rule_is_object (Rule other) rule same = absurd (grind (arith, same))
 no_rule_is_object (ByObject object) rule same = absurd (grind (arith, same))
 
+-- a put that the rule writes
+abbrev pub IsRuleWriting : Draft → ℕ → Cells → ℕ → ℕ → Asked → Type 0
+IsRuleWriting basin latest cells rule step put = IsWriting basin latest cells put × IsRulePut basin rule step put
+
 rule_writing : (basin : Draft) (latest rule step : ℕ) (cells : Cells) → 1 ≤ rule → (put : Asked) → (end_in cells put ≡ Written) × IsRulePut basin rule step put
     → IsWriting basin latest cells put
 rule_writing basin latest rule step cells first put (end, is) = record {
@@ -49,13 +53,17 @@ rule_writing basin latest rule step cells first put (end, is) = record {
 }
 
 pub fired_writings : (basin : Draft) (policy : Policy) (latest rule step : ℕ) (cells : Cells) (fire : Fire) (end : FireEnd) → 1 ≤ rule
-    → All (CanAsk basin) fire.puts → AllByRecursion (λ put. IsWriting basin latest cells put × IsRulePut basin rule step put) (written_by (ended basin cells rule step fire end))
+    → All (CanAsk basin) fire.puts → AllByRecursion (IsRuleWriting basin latest cells rule step) (written_by (ended basin cells rule step fire end))
 fired_writings basin policy latest rule step cells fire Done first asks =
-    weaker_all (λ put. (end_in cells put ≡ Written) × IsRulePut basin rule step put) (λ put. IsWriting basin latest cells put × IsRulePut basin rule step put)
+    weaker_all (λ put. (end_in cells put ≡ Written) × IsRulePut basin rule step put) (IsRuleWriting basin latest cells rule step)
     (puts_written cells (last_ones basin (asked_of_rule basin rule step fire.puts))) (λ put both. (rule_writing basin latest rule step cells first put both, both.1))
     (written_all (IsRulePut basin rule step) cells (last_ones basin (asked_of_rule basin rule step fire.puts))
     (last_all (IsRulePut basin rule step) basin (asked_of_rule basin rule step fire.puts) (asked_rule_all basin rule step fire.puts asks)))
 fired_writings basin policy latest rule step cells fire end first asks = tt
+
+-- none of an earlier timestep
+pub rule_later : (basin : Draft) (cells : Cells) (latest rule step : ℕ) (puts : List Asked) → AllByRecursion (IsRuleWriting basin latest cells rule step) puts → AreLater step puts
+rule_later basin cells latest rule step puts all = weaker_all (IsRuleWriting basin latest cells rule step) (λ (put : Asked). step ≤ put.cell.step.0) puts (λ put both. both.1.later) all
 
 -- ---- an object has a number, and its parameters are in range
 
@@ -66,6 +74,7 @@ numbered_at objects object found false first is = absurd (none-some found is)
 
 pub record IsObjectOf (basin : Draft) (object : ℕ) (kind : Kind) : Type 0 where
   pub first : 1 ≤ object
+  pub last : object ≤ length basin.objects
   pub sound : IsKind kind
 
 of_found : (basin : Draft) (object : ℕ) (kind : Kind) (found : Option Object) → IsBasin basin → object_at basin.objects object ≡ found
@@ -74,7 +83,8 @@ of_found basin object kind None valid is own = absurd (none-some kind own)
 of_found basin object kind (Some found) valid is own =
     let at = numbered_at basin.objects object found (nat_le 1 object) refl is in
     let sound : IsSound found = subst IsSound (get_or_from_slice_get basin.objects (object - 1) found found at.1) (valid.whole.sound (object - 1) found (slice_get_within basin.objects (object - 1) found at.1)) in
-    record { first = at.0; sound = subst IsKind (same_Some _ _ own) sound.kind }
+    let first = at.0 in let lt = slice_get_within basin.objects (object - 1) found at.1 in
+    record { first = first; last = omega (arith, first, lt); sound = subst IsKind (same_Some _ _ own) sound.kind }
 
 pub is_object_of : (basin : Draft) (object : ℕ) (kind : Kind) → IsBasin basin → option_map (λ (found : Object). found.kind) (object_at basin.objects object) ≡ Some kind → IsObjectOf basin object kind
 is_object_of basin object kind valid own = of_found basin object kind (object_at basin.objects object) valid refl own
@@ -89,19 +99,10 @@ pub record IsObjectPut (basin : Draft) (cells : Cells) (object step : ℕ) (put 
   pub cell : (asked_by basin object step put).cell ≡ cell_at number step
   pub sees : known (view_of basin cells object step) put.place ≡ cells (cell_at number step)
 
-some_there : {A : Type 0} (found : Option A) → IsSome found → (thing : A) × (found ≡ Some thing)
-some_there None some = absurd (cc)
-some_there (Some thing) some = (thing, refl)
-
-pub known_view : (basin : Draft) (cells : Cells) (object step place : ℕ) → place < 12 → known (view_of basin cells object step) place ≡ content_in basin cells object step place
-known_view basin cells object step place near =
-    let at : 0 + place ≡ place = omega arith in
-    get_or-map-range_with_len (content_in basin cells object step) 0 12 place place None near at
-
 pub sees_at : (basin : Draft) (cells : Cells) (object step place number : ℕ) → place < 12 → slot_in_place basin.objects object place ≡ Some number
     → known (view_of basin cells object step) place ≡ cells (cell_at number step)
 sees_at basin cells object step place number few slot =
-    known_view basin cells object step place few ∙ ap (λ found. option_and_then cells (option_map (λ s. cell_at s step) found)) slot
+    known-view basin cells object step place few ∙ ap (λ found. option_and_then cells (option_map (λ s. cell_at s step) found)) slot
 
 pub object_put : (basin : Draft) (cells : Cells) (object step : ℕ) (kind : Kind) (put : Put) → IsObjectOf basin object kind
     → option_map (λ (found : Object). found.kind) (object_at basin.objects object) ≡ Some kind
@@ -126,10 +127,6 @@ object_puts basin cells object step kind puts valid own answers =
     weaker_all (IsPutOf kind (view_of basin cells object step)) (IsObjectPut basin cells object step) puts
     (λ put can. object_put basin cells object step kind put is own can) (recursion_from_All (IsPutOf kind (view_of basin cells object step)) puts fit.0)
 
--- over a content that the object wrote itself a put has no greater number
-abbrev pub IsOwnFall : View → Put → Type 0
-IsOwnFall view put = (content : Content) → known view put.place ≡ Some content → is_own view content ≡ true → put.number ≤ content.number
-
 object_writing : (basin : Draft) (cells : Cells) (object step : ℕ) (put : Put) → IsObjectPut basin cells object step put → IsOwnFall (view_of basin cells object step) put
     → end_in cells (asked_by basin object step put) ≡ Written → IsWriting basin step cells (asked_by basin object step put)
 object_writing basin cells object step put is own end = record {
@@ -142,17 +139,18 @@ object_writing basin cells object step put is own end = record {
   ];
 }
 
-abbrev IsOf : ℕ → Asked → Type 0
-IsOf object put = put.content.writer ≡ ByObject (record { 0 = object })
+-- a put that the object writes
+abbrev pub IsObjectWriting : Draft → ℕ → Cells → ℕ → Asked → Type 0
+IsObjectWriting basin latest cells object put = IsWriting basin latest cells put × (put.content.writer ≡ ByObject (record { 0 = object }))
 
 abbrev CanWrite : Draft → Cells → ℕ → ℕ → Asked → Type 0
-CanWrite basin cells object step put = end_in cells put ≡ Written → IsWriting basin step cells put × IsOf object put
+CanWrite basin cells object step put = end_in cells put ≡ Written → IsObjectWriting basin step cells object put
 
 pub solved_writings : (basin : Draft) (cells : Cells) (object step : ℕ) (puts : List Put) → AllByRecursion (IsObjectPut basin cells object step) puts
     → AllByRecursion (IsOwnFall (view_of basin cells object step)) puts
-    → AllByRecursion (λ put. IsWriting basin step cells put × (put.content.writer ≡ ByObject (record { 0 = object }))) (puts_written cells (asked_for basin object step puts))
+    → AllByRecursion (IsObjectWriting basin step cells object) (puts_written cells (asked_for basin object step puts))
 solved_writings basin cells object step puts all own =
-    weaker_all (λ put. (end_in cells put ≡ Written) × CanWrite basin cells object step put) (λ put. IsWriting basin step cells put × IsOf object put) (puts_written cells (asked_for basin object step puts))
+    weaker_all (λ put. (end_in cells put ≡ Written) × CanWrite basin cells object step put) (IsObjectWriting basin step cells object) (puts_written cells (asked_for basin object step puts))
     (λ put both. both.1 both.0)
     (written_all (CanWrite basin cells object step) cells (asked_for basin object step puts)
     (mapped_all (CanWrite basin cells object step) (asked_by basin object step) puts (can puts all own)))

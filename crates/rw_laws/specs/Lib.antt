@@ -1,5 +1,3 @@
-pub mod Left
-pub mod Passing
 pub mod Links
 pub mod Priority
 pub mod Rules

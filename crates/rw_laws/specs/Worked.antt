@@ -27,6 +27,7 @@ alone name kind = record {
     agenda = LowFirst;
     object_limit = 50;
     rule_limit = 20;
+    ahead = 0;
   };
   objects = record { name = name; kind = kind } ∷ [];
   links = [];

@@ -1,19 +1,10 @@
 //! The laws. Each is the `ensures` of a function that does nothing.
-ghost use Rattle.std.specs.Prelude.{◌≡◌, ◌≤◌, ℕ, ℤ, pos, neg_ℤ, ◌≤ℤ◌, List, [], ◌∷◌, ◌++◌, Ok, Some, None, true, false};
+ghost use Rattle.std.specs.Prelude.{◌≡◌, ◌≤◌, ℕ, ℤ, pos, List, [], ◌∷◌, ◌++◌, Ok, Some};
 ghost use Rattle.rw_base.specs.declared.number.Cell.{Cell};
-ghost use Rattle.rw_base.specs.declared.number.ObjectNo.{ObjectNo};
-ghost use Rattle.rw_table.specs.Curve.{elev_of};
-ghost use Rattle.rw_table.specs.Table.{IsTable, Row};
 ghost use Rattle.rw_model.specs.Basin.{IsBasin};
 ghost use Rattle.rw_model.specs.Draft.{Draft};
-ghost use Rattle.rw_model.specs.declared.kind.Kind.TheVariants as Kind;
 ghost use Rattle.rw_model.specs.declared.writer.Writer.TheVariants.{Object as ByObject};
-ghost use Rattle.rw_method.specs.Contents.{evaporated};
-ghost use Rattle.rw_method.specs.Puts.{put};
-ghost use Rattle.rw_method.specs.Solve.{solve_of};
 ghost use Rattle.rw_method.specs.View.{known, known_value};
-ghost use Rattle.rw_method.specs.Worked.{input, view_with, worked_rows};
-ghost use Rattle.rw_method.specs.declared.solved.Solved.TheVariants as Solved;
 ghost use Rattle.rw_run.specs.Dispatch.{cell_at, view_of};
 ghost use Rattle.rw_run.specs.Frame.{log_after};
 ghost use Rattle.rw_run.specs.Log.{Log, cells_of, closed};
@@ -95,24 +86,6 @@ pub fn closed_timesteps_stay()
         (step : ℕ) → IsBasin basin → IsPolicyOf basin policy → IsRun basin policy inputs log
         → before_closing step log ≡ Some before
         → (cell : Cell) → cell.step.0 ≤ step → cells_of basin log cell ≡ cells_of basin before cell }
-{}
-
-/// A table gives what evaporates of each storage that it has, at a rate that isn't below 0.
-pub fn tables_give_evaporation()
-    ensures { (rows : List Row) (storage rate elevation : ℤ)
-        → IsTable rows → elev_of rows storage ≡ Some elevation → pos 0 ≤ℤ rate
-        → (amount : ℤ) × (evaporated rows storage rate ≡ Some amount) }
-{}
-
-/// At a rate below 0 it may give nothing: of 250 m3 at -5000 mm there is no volume, and 0 is put. No reader takes such a rate.
-pub fn a_rate_below_zero()
-    ensures nothing { evaporated worked_rows (pos 250) (neg_ℤ (pos 5000)) ≡ None }
-    ensures put { (own : ObjectNo)
-        → solve_of (Kind.Reservoir (pos 250) (Some worked_rows) false false false true None)
-        (view_with (Kind.Reservoir (pos 250) (Some worked_rows) false false false true None) own
-        (Some (pos 250)) (input (pos 0) ∷ input (pos 0) ∷ None ∷ None ∷ None ∷ None ∷ None
-        ∷ input (neg_ℤ (pos 5000)) ∷ []))
-        ≡ Solved.Puts (put 2 (pos 250) 0 ∷ put 3 (pos 501) 0 ∷ put 8 (pos 0) 0 ∷ []) }
 {}
 
 /// A dam on one day, into which 100 flow. It comes to hold 1020, of 1000 and 100 less 80; the 50 that rule 2 put gave way to what

@@ -5,3 +5,18 @@ pub mod GivingWay
 pub mod GreatestBeside
 pub mod SolvedTerm
 pub mod SolvedPuts
+pub mod Among
+pub mod Earlier
+mod Settled
+mod Terms
+pub mod Leaving
+mod Answering
+mod PlainKinds
+mod ReservoirFacts
+pub mod LeftKept
+mod Netting
+mod Balancing
+pub mod Idling
+mod Evaporating
+mod ReservoirBalance
+pub mod SolvedBalance

@@ -1,5 +1,5 @@
 -- What a method puts stands in slots of its kind.
-use Rattle.rw_method.proofs.Common.{All, All-append, All-push, AllFit, Balanced, Bool, Conflicts, Given, Holds, Idle, IsSome, List, None, Option, Put, Solves, Some, Term, View, [], all_or_misfit, answer, ap, ap₂, arith, balanced_of, beside_basis, beside_given, evaporation_put, false, fault_of_contents, fault_of_past, first_misfit, fits, gives_way_before, if◌then◌else◌, int_eq, is_bounded, is_some, known_after, length, length-append, level_puts, missing, nat_le, net_of, none-some, not, or_else, pos, put_found, puts_of, refl, release_puts, same_Some, seepage_put, settled, settled_at, solve_of, solved_put, solves, subst, suc, sym, true, user_puts, value_from_others, weakest, zero, ℕ, ℤ, ◌&&◌, ◌++◌, ◌+ℤ◌, ◌+◌, ◌<◌, ◌==◌, ◌∙◌, ◌∷◌, ◌≡◌, ◌≤◌}
+use Rattle.rw_method.proofs.Common.{All, All-append, All-push, AllFit, Balanced, Bool, Conflicts, Given, Holds, Idle, IsSome, List, None, Option, Put, Solves, Some, Term, View, [], all_or_misfit, answer, ap, ap₂, arith, balanced_of, beside_basis, beside_given, evaporation_put, false, fault_of_contents, fault_of_past, first_misfit, fits, gives_way_before, if◌then◌else◌, inl, inr, int_eq, is_bounded, is_some, known_after, length, length-append, level_puts, missing, nat_le, net_of, none-some, not, or_else, pos, put_found, puts_of, refl, release_puts, same_Some, seepage_put, settled, settled_at, solve_of, solved_put, solves, subst, suc, true, user_puts, value_from_others, weakest, zero, ℕ, ℤ, ◌&&◌, ◌++◌, ◌+ℤ◌, ◌+◌, ◌<◌, ◌==◌, ◌∙◌, ◌∷◌, ◌≡◌, ◌≤◌, ◌⊎◌}
 use Rattle.rw_table.specs.Table.{Row}
 use Rattle.rw_model.specs.declared.kind.Kind.{Kind}
 use Rattle.rw_model.specs.declared.kind.Kind.TheVariants.{DataObject, Gage, Confluence, Bifurcation, Reach, Reservoir, WaterUser, Canal}
@@ -13,6 +13,7 @@ use Rattle.rw_method.specs.Balance.{balance_of, evaporation_of}
 use Rattle.rw_method.specs.Contents.{basis_of, fault_of_basis, disagreement, can_hold, elevation_of, volume_of, are_both_zero, agree}
 use Rattle.rw_method.specs.View.{given}
 use Rattle.rw_method.proofs.PutFacts.{first_fits}
+use Rattle.rw_method.proofs.Settled.{balanced_code}
 
 -- ---- a kind has a slot in each place at which it puts
 
@@ -215,73 +216,75 @@ puts_own (Canal seepage) view is =
 
 -- ---- what is answered
 
--- none of what is wrong with contents is puts
 abbrev puts_in : Solved → Option (List Put)
-puts_in IdleAnswer = None
 puts_in (Puts puts) = Some puts
-puts_in (Conflict place held solves) = None
-puts_in (OutOfRange place value) = None
+puts_in any = None
 
-abbrev NoPuts : Option Solved → Type 0
-NoPuts None = Unit {0}
-NoPuts (Some answer) = puts_in answer ≡ None
+abbrev pub answer_code : Solved → ℕ
+answer_code IdleAnswer = 0
+answer_code (Puts puts) = 1
+answer_code (Conflict place held found) = 2
+answer_code (OutOfRange place value) = 3
 
-if_no_puts : (test : Bool) (a b : Option Solved) → NoPuts a → NoPuts b → NoPuts (if test then a else b)
-if_no_puts true a b x y = x
-if_no_puts false a b x y = y
+-- an answer that is neither idle nor puts, if there is one
+abbrev pub IsFaulty : Option Solved → Type 0
+IsFaulty None = Unit {0}
+IsFaulty (Some answer) = 2 ≤ answer_code answer
 
-or_no_puts : (a b : Option Solved) → NoPuts a → NoPuts b → NoPuts (or_else a b)
-or_no_puts None b x y = y
-or_no_puts (Some answer) b x y = x
+if_faulty : (test : Bool) (a b : Option Solved) → IsFaulty a → IsFaulty b → IsFaulty (if test then a else b)
+if_faulty true a b x y = x
+if_faulty false a b x y = y
 
-past_no_puts : (evaporation : Bool) (table : Option (List Row)) (past : Option ℤ) → NoPuts (fault_of_past evaporation table past)
-past_no_puts evaporation table None = tt
-past_no_puts evaporation table (Some storage) = if_no_puts (evaporation && not (can_hold table storage)) (Some (OutOfRange 2 storage)) None refl tt
+or_faulty : (a b : Option Solved) → IsFaulty a → IsFaulty b → IsFaulty (or_else a b)
+or_faulty None b x y = y
+or_faulty (Some answer) b x y = x
 
-basis_no_puts : (table : Option (List Row)) (basis : Basis) → NoPuts (fault_of_basis table basis)
-basis_no_puts table Nothing = tt
-basis_no_puts table (Storage storage) = if_no_puts (can_hold table storage.value) None (Some (OutOfRange 2 storage.value)) tt refl
-basis_no_puts table (Elevation elevation) =
-    if_no_puts (is_some (volume_of table elevation.value)) None (Some (OutOfRange 3 elevation.value)) tt refl
+past_faulty : (evaporation : Bool) (table : Option (List Row)) (past : Option ℤ) → IsFaulty (fault_of_past evaporation table past)
+past_faulty evaporation table None = tt
+past_faulty evaporation table (Some storage) = if_faulty (evaporation && not (can_hold table storage)) (Some (OutOfRange 2 storage)) None (omega arith) tt
 
-disagreement_no_puts : (table : Option (List Row)) (storage elevation : Option Given) → NoPuts (disagreement table storage elevation)
-disagreement_no_puts table None elevation = tt
-disagreement_no_puts table (Some storage) None = tt
-disagreement_no_puts table (Some storage) (Some elevation) =
-    if_no_puts (storage.number == 0 && elevation.number == 0 && not (agree table storage.value elevation.value)) (Some (Conflict 3 elevation.value _)) None refl tt
+basis_faulty : (table : Option (List Row)) (basis : Basis) → IsFaulty (fault_of_basis table basis)
+basis_faulty table Nothing = tt
+basis_faulty table (Storage storage) = if_faulty (can_hold table storage.value) None (Some (OutOfRange 2 storage.value)) tt (omega arith)
+basis_faulty table (Elevation elevation) =
+    if_faulty (is_some (volume_of table elevation.value)) None (Some (OutOfRange 3 elevation.value)) tt (omega arith)
 
-contents_no_puts : (kind : Kind) (view : View) → NoPuts (fault_of_contents kind view)
-contents_no_puts (DataObject slots) view = tt
-contents_no_puts Gage view = tt
-contents_no_puts Confluence view = tt
-contents_no_puts Bifurcation view = tt
-contents_no_puts (Reach lag history local_inflow diversion return_flow) view = tt
-contents_no_puts (Reservoir initial_storage table local_inflow diversion return_flow evaporation max_release) view =
-    or_no_puts (fault_of_past evaporation table view.past) _ (past_no_puts evaporation table view.past)
-    (or_no_puts (fault_of_basis table (basis_of (given view 2) (given view 3))) _ (basis_no_puts table (basis_of (given view 2) (given view 3)))
-    (disagreement_no_puts table (given view 2) (given view 3)))
-contents_no_puts (WaterUser depletion supply) view = tt
-contents_no_puts (Canal seepage) view = tt
+disagreement_faulty : (table : Option (List Row)) (storage elevation : Option Given) → IsFaulty (disagreement table storage elevation)
+disagreement_faulty table None elevation = tt
+disagreement_faulty table (Some storage) None = tt
+disagreement_faulty table (Some storage) (Some elevation) =
+    if_faulty (storage.number == 0 && elevation.number == 0 && not (agree table storage.value elevation.value)) (Some (Conflict 3 elevation.value _)) None (omega arith) tt
 
--- where puts are answered, they are those that were judged, and all of them fit
-record AreJudged (fit : Put → Bool) (judging puts : List Put) : Type 0 where
-  same : judging ≡ puts
-  fit_all : AllFit fit judging
+pub contents_faulty : (kind : Kind) (view : View) → IsFaulty (fault_of_contents kind view)
+contents_faulty (Reservoir initial_storage table local_inflow diversion return_flow evaporation max_release) view =
+    or_faulty (fault_of_past evaporation table view.past) _ (past_faulty evaporation table view.past)
+    (or_faulty (fault_of_basis table (basis_of (given view 2) (given view 3))) _ (basis_faulty table (basis_of (given view 2) (given view 3)))
+    (disagreement_faulty table (given view 2) (given view 3)))
+contents_faulty kind view = tt
 
-all_or_misfit_puts : (fit : Put → Bool) (judging puts : List Put) (misfit : Option Put) → first_misfit fit judging ≡ misfit
-    → all_or_misfit judging misfit ≡ Puts puts → AreJudged fit judging puts
-all_or_misfit_puts fit judging puts None is e = record { same = same_Some _ _ (ap puts_in e); fit_all = is }
-all_or_misfit_puts fit judging puts (Some put) is e = absurd (none-some _ (ap puts_in e))
+by_misfit : (fit : Put → Bool) (judging puts : List Put) (misfit : Option Put) → first_misfit fit judging ≡ misfit → all_or_misfit judging misfit ≡ Puts puts
+    → (judging ≡ puts) × AllFit fit puts
+by_misfit fit judging puts None is e =
+    let same : judging ≡ puts = same_Some _ _ (ap puts_in e) in (same, subst (AllFit fit) same is)
+by_misfit fit judging puts (Some put) is e = absurd (none-some _ (ap puts_in e))
 
-answer_puts : (fit : Put → Bool) (judging puts : List Put) (balanced : Balanced) (fault : Option Solved) → NoPuts fault
-    → answer fit judging balanced fault ≡ Puts puts → AreJudged fit judging puts
-answer_puts fit judging puts Idle fault fine e = absurd (none-some _ (ap puts_in e))
-answer_puts fit judging puts Holds (Some found) fine e = absurd (none-some _ (sym fine ∙ ap puts_in e))
-answer_puts fit judging puts (Solves place value number) (Some found) fine e = absurd (none-some _ (sym fine ∙ ap puts_in e))
-answer_puts fit judging puts (Conflicts place held solved) (Some found) fine e = absurd (none-some _ (sym fine ∙ ap puts_in e))
-answer_puts fit judging puts Holds None fine e = all_or_misfit_puts fit judging puts (first_misfit fit judging) refl e
-answer_puts fit judging puts (Solves place value number) None fine e = all_or_misfit_puts fit judging puts (first_misfit fit judging) refl e
-answer_puts fit judging puts (Conflicts place held solved) None fine e = absurd (none-some _ (ap puts_in e))
+-- where puts are answered, they are those that were judged, all of them fit, nothing is wrong with the contents, and a term was solved or the
+-- balance is true
+pub record Judged (fit : Put → Bool) (judging puts : List Put) (balanced : Balanced) (fault : Option Solved) : Type 0 where
+  pub same : judging ≡ puts
+  pub fit_all : AllFit fit puts
+  pub fine : fault ≡ None
+  pub code : (balanced_code balanced ≡ 1) ⊎ (balanced_code balanced ≡ 2)
+
+pub judged : (fit : Put → Bool) (judging puts : List Put) (balanced : Balanced) (fault : Option Solved) → IsFaulty fault → answer fit judging balanced fault ≡ Puts puts
+    → Judged fit judging puts balanced fault
+judged fit judging puts Idle fault fine e = absurd (none-some _ (ap puts_in e))
+judged fit judging puts (Conflicts place held found_value) None fine e = absurd (none-some _ (ap puts_in e))
+judged fit judging puts Holds None fine e =
+    let by = by_misfit fit judging puts (first_misfit fit judging) refl e in record { same = by.0; fit_all = by.1; fine = refl; code = inl refl }
+judged fit judging puts (Solves place value number) None fine e =
+    let by = by_misfit fit judging puts (first_misfit fit judging) refl e in record { same = by.0; fit_all = by.1; fine = refl; code = inr refl }
+judged fit judging puts balanced (Some found) fine e = absurd (let code = ap answer_code e in omega (arith, fine, code))
 
 all_fit : (fit : Put → Bool) (puts : List Put) → AllFit fit puts → All (λ (put : Put). fit put ≡ true) puts
 all_fit fit [] h = λ k d lt. absurd (omega (arith, lt))
@@ -304,7 +307,7 @@ pub record IsPutOf (kind : Kind) (view : View) (put : Put) : Type 0 where
 pub solve-puts : (kind : Kind) (view : View) (puts : List Put) → IsKind kind → solve_of kind view ≡ Puts puts
     → All (IsPutOf kind view) puts × (length puts ≤ 8)
 solve-puts kind view puts is e =
-    let judging = answer_puts (fits kind view) (puts_of kind view (balanced_of kind view)) puts (balanced_of kind view) (fault_of_contents kind view) (contents_no_puts kind view) e in
+    let judging = judged (fits kind view) (puts_of kind view (balanced_of kind view)) puts (balanced_of kind view) (fault_of_contents kind view) (contents_faulty kind view) e in
     let own : AreOwn kind 8 puts = subst (AreOwn kind 8) judging.same (puts_own kind view is) in
-    let fit : All (λ (put : Put). fits kind view put ≡ true) puts = all_fit (fits kind view) puts (subst (AllFit (fits kind view)) judging.same judging.fit_all) in
+    let fit : All (λ (put : Put). fits kind view put ≡ true) puts = all_fit (fits kind view) puts judging.fit_all in
     (λ k d lt. record { own = own.own k d lt; bounded = and_second _ _ (fit k d lt) }, own.few)

@@ -1,4 +1,5 @@
 pub mod View
+pub mod Past
 pub mod Term
 pub mod Contents
 pub mod Balance
@@ -6,4 +7,7 @@ pub mod Settling
 pub mod Puts
 pub mod Solve
 pub mod Catalogue
+pub mod Left
+pub mod Passing
+pub mod Balanced
 pub mod Worked

@@ -1,13 +1,16 @@
 //! What the definitions of this crate come to. Each law is the `ensures` of a function that does nothing.
-ghost use Rattle.std.specs.Prelude.{◌≡◌, ◌≢◌, ◌≤◌, ◌<ℤ◌, ℕ, ℤ, pos, neg_ℤ, List, [], ◌∷◌, All, Option, true, false, Some, None};
+ghost use Rattle.std.specs.Prelude.{◌≡◌, ◌≢◌, ◌≤◌, ◌<ℤ◌, ◌≤ℤ◌, ℕ, ℤ, pos, neg_ℤ, List, [], ◌∷◌, All, Option, true, false, Some, None};
 ghost use Rattle.rw_base.specs.declared.number.ObjectNo.{ObjectNo};
 ghost use Rattle.rw_base.specs.declared.number.RuleNo.{RuleNo};
+ghost use Rattle.rw_table.specs.Curve.{elev_of};
+ghost use Rattle.rw_table.specs.Table.{IsTable, Row};
 ghost use Rattle.rw_model.specs.declared.kind.Kind.TheVariants as Kind;
 ghost use Rattle.rw_model.specs.declared.kind.Supply.TheVariants as Supply;
 ghost use Rattle.rw_method.specs.declared.solved.Solved.TheVariants as Solved;
 ghost use Rattle.rw_method.specs.declared.balanced.Balanced.TheVariants as Balanced;
 ghost use Rattle.rw_method.specs.declared.term.Term.{Term};
 ghost use Rattle.rw_method.specs.declared.share.Share.TheVariants as Share;
+ghost use Rattle.rw_method.specs.Contents.{evaporated};
 ghost use Rattle.rw_method.specs.Term.{IsShare, brought, least_inflow};
 ghost use Rattle.rw_method.specs.Settling.{weakest, settled, GivesWay, IsSolved, IsGreatestBeside};
 ghost use Rattle.rw_method.specs.Puts.{put};
@@ -133,4 +136,22 @@ pub fn elevation_values()
         (view_with (Kind.Reservoir (pos 250) (Some worked_rows) false false false true None) own (Some (pos 9999))
         (input (pos 0) ∷ input (pos 0) ∷ None ∷ None ∷ None ∷ None ∷ None ∷ input (pos 100) ∷ []))
         ≡ Solved.OutOfRange 2 (pos 9999) }
+{}
+
+/// A table gives what evaporates of each storage that it has, at a rate that isn't below 0.
+pub fn tables_give_evaporation()
+    ensures { (rows : List Row) (storage rate elevation : ℤ)
+        → IsTable rows → elev_of rows storage ≡ Some elevation → pos 0 ≤ℤ rate
+        → (amount : ℤ) × (evaporated rows storage rate ≡ Some amount) }
+{}
+
+/// At a rate below 0 it may give nothing: of 250 m3 at -5000 mm there is no volume, and 0 is put. No reader takes such a rate.
+pub fn a_rate_below_zero()
+    ensures nothing { evaporated worked_rows (pos 250) (neg_ℤ (pos 5000)) ≡ None }
+    ensures put { (own : ObjectNo)
+        → solve_of (Kind.Reservoir (pos 250) (Some worked_rows) false false false true None)
+        (view_with (Kind.Reservoir (pos 250) (Some worked_rows) false false false true None) own
+        (Some (pos 250)) (input (pos 0) ∷ input (pos 0) ∷ None ∷ None ∷ None ∷ None ∷ None
+        ∷ input (neg_ℤ (pos 5000)) ∷ []))
+        ≡ Solved.Puts (put 2 (pos 250) 0 ∷ put 3 (pos 501) 0 ∷ put 8 (pos 0) 0 ∷ []) }
 {}

@@ -1,7 +1,7 @@
 //! How an object solves what it doesn't know. One definition, `specs/Solve.antt`, says for every kind of object what a
 //! dispatch of it answers, from what stands in its slots. `Method` is the interface of whoever computes that, and a
 //! `Catalogue` has one method for each kind: each answers what the definition says. `settle` is the one solver of
-//! balances that the methods share. No call takes memory.
+//! balances that the methods share. No call takes memory. Laws say what dispatches leave in an object's slots.
 #![tactic(auto)]
 
 mod balanced;
@@ -11,6 +11,7 @@ mod catalogue;
 mod given;
 pub mod law;
 mod method;
+mod past;
 pub mod places;
 mod put;
 mod put_list;
@@ -18,6 +19,7 @@ mod puts;
 mod settling;
 mod share;
 mod side;
+pub mod slot_law;
 mod solved;
 mod term;
 mod view;
@@ -28,6 +30,7 @@ pub use brought::per_mille;
 pub use catalogue::{Catalogue, CatalogueFault};
 pub use given::Given;
 pub use method::Method;
+pub use past::past_in;
 pub use put::Put;
 pub use put_list::PutList;
 pub use puts::{add_put, begin_puts, known_after, put_solved};

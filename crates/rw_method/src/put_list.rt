@@ -1,22 +1,25 @@
 ghost use Rattle.std.specs.Prelude.{◌≡◌, ◌<◌, [], ◌∷◌, ◌++◌, length};
 
 use crate::Put;
-use arrayvec::ArrayVec;
 use std::marker::Model;
 
-/// What an object asks for in one dispatch: at most 8 puts, in order of place.
+/// What an object asks for in one dispatch: at most 8 puts, in order of place. What is taken out stays behind the count, so that
+/// taking all out is quick.
 #[derive(Debug, Drop)]
 pub struct PutList {
-    puts: ArrayVec<Put, 8>,
+    puts: [Put; 8],
+    count: usize,
 }
 
 impl Model for PutList {
-    ghost use Rattle.std.specs.Prelude.{List};
+    ghost use Rattle.std.specs.Prelude.{◌≡◌, ◌≤◌, List, length, take};
     ghost use Rattle.rw_method.specs.declared.put.Put.{Put};
 
     ghost Value = { List Put };
 
-    ghost view = { λ p. p.puts.items };
+    ghost view = { λ p. take p.count p.puts };
+
+    ghost invariant = { λ p. (p.count ≤ 8) × (length p.puts ≡ 8) };
 }
 
 impl PutList {
@@ -25,7 +28,8 @@ impl PutList {
         ensures { result ≡ [] }
     {
         PutList {
-            puts: ArrayVec::new(),
+            puts: [Put::default(); 8],
+            count: 0,
         }
     }
 
@@ -34,20 +38,22 @@ impl PutList {
         requires { length self.old < 8 }
         ensures { self.new ≡ self.old ++ put ∷ [] }
     {
-        self.puts.push(put);
+        let count = self.count;
+        self.puts[count] = put;
+        self.count = count + 1;
     }
 
     /// Takes all puts out.
     pub fn clear(&mut self)
         ensures { self.new ≡ [] }
     {
-        self.puts.clear();
+        self.count = 0;
     }
 
     /// Its puts.
     pub fn as_slice(&self) -> &[Put]
         ensures { result.now ≡ self.now }
     {
-        self.puts.as_slice()
+        &self.puts[..self.count]
     }
 }

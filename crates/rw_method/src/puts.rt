@@ -46,6 +46,7 @@ fn quantity(value: i128) -> Qty
 }
 
 /// Adds a put where its slot can have the value; otherwise that is the answer.
+#[inline(always)]
 pub fn add_put(
     view: &View,
     puts: &mut PutList,
@@ -73,6 +74,7 @@ pub fn add_put(
 
 /// The puts that an answer begins with: the solved term, if one is solved. Otherwise that is the answer: too little is
 /// known, the terms conflict, or the slot of the solved term can't have its value.
+#[inline(always)]
 pub fn begin_puts(view: &View, balanced: Balanced) -> Result<PutList, Solved>
     ensures ok { IfOk result (λ puts. puts ≡ solved_put balanced) }
     ensures fits { IsOk result → AllFit (is_bounded view.entry.now) (solved_put balanced) }
@@ -110,6 +112,7 @@ pub fn begin_puts(view: &View, balanced: Balanced) -> Result<PutList, Solved>
 }
 
 /// What an object answers that puts the solved term and nothing else.
+#[inline(always)]
 pub fn put_solved(view: &View, balanced: Balanced) -> Solved
     ensures { result ≡ answer (is_bounded view.entry.now) (solved_put balanced) balanced None }
 {

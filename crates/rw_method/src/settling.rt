@@ -8,6 +8,7 @@ use crate::brought::{bringing, brought_by};
 use crate::{Balanced, Given, Term};
 
 // How many of the terms aren't given.
+#[inline(always)]
 fn missing(terms: &[Term]) -> usize
     ensures { result ≡ missing terms.now }
 {
@@ -29,6 +30,7 @@ fn sum_of(net: i128, more: i128) -> i128
 }
 
 // How much the given terms bring, all together.
+#[inline(always)]
 fn net_of(terms: &[Term]) -> i128
     requires { length terms.now ≤ 3 }
     ensures net { result ≡ net_of terms.now }
@@ -51,6 +53,7 @@ fn number_of(given: Option<Given>) -> u16
 }
 
 // The greatest number of the given terms but the one of this place.
+#[inline(always)]
 fn greatest_beside(place: u8, terms: &[Term]) -> u16
     ensures { result ≡ greatest_beside place terms.now }
 {
@@ -74,6 +77,7 @@ fn gives_way_before(given: Option<Given>, later: Option<Given>) -> bool
 }
 
 // The term that gives way.
+#[inline(always)]
 fn weakest(first: Term, rest: &[Term]) -> Term
     ensures { result ≡ weakest first rest.now }
 {
@@ -98,6 +102,7 @@ fn lacking(steady: i128, net: i128, own: i128) -> i128
 }
 
 // The value of a term that makes the balance true.
+#[inline(always)]
 fn value_from_others(steady: i128, terms: &[Term], term: &Term) -> i128
     requires few { length terms.now ≤ 3 }
     requires bound { IsWithin 6 steady }
@@ -108,6 +113,7 @@ fn value_from_others(steady: i128, terms: &[Term], term: &Term) -> i128
 }
 
 // The term, put as that value.
+#[inline(always)]
 fn solves(steady: i128, terms: &[Term], term: &Term) -> Balanced
     requires few { length terms.now ≤ 3 }
     requires bound { IsWithin 6 steady }
@@ -129,6 +135,7 @@ fn holds(steady: i128, terms: &[Term]) -> bool
 }
 
 // What becomes of the term that gives way.
+#[inline(always)]
 fn settle_at(steady: i128, terms: &[Term], term: &Term) -> Balanced
     requires few { length terms.now ≤ 3 }
     requires bound { IsWithin 6 steady }
@@ -155,6 +162,7 @@ fn settle_at(steady: i128, terms: &[Term], term: &Term) -> Balanced
 /// `Idle` where it isn't known, or where more than one term isn't given. A term that isn't given is solved from the
 /// others. Where all are given and the balance is false, the one of the greatest number is solved from the others, the
 /// last one in a tie; with number 0 the last one conflicts. A solved term has the greatest number of the others.
+#[inline(always)]
 pub fn settle(steady: Option<i128>, terms: &[Term]) -> Balanced
     requires few { length terms.now ≤ 3 }
     requires bound { ForSome steady (IsWithin 6) }

@@ -2,7 +2,7 @@
 use Rattle.std.specs.Option.{ForSome}
 use Rattle.rw_model.specs.declared.limits.TheConstants.{OBJECTS_MAX, SLOTS_MAX}
 use Rattle.rw_model.specs.Slot.{Bounds, IsInside}
-use Rattle.std.specs.Prelude.{Option, ◌==◌, if◌then◌else◌, Some, ◌≡◌, ℕ, ◌≤◌, Bool, true, false, ◌&&◌, ◌||◌, not, IsTrue, List, [], ◌∷◌, ◌++◌, length, None, bytes_eq}
+use Rattle.std.specs.Prelude.{Option, ◌==◌, if◌then◌else◌, Some, ◌≡◌, ℕ, ◌≤◌, Bool, true, false, ◌&&◌, ◌||◌, ◌⊎◌, not, IsTrue, List, [], ◌∷◌, ◌++◌, length, None, bytes_eq}
 use Rattle.rw_calendar.specs.Stamps.{AreTimesteps}
 use Rattle.rw_model.specs.declared.control.RunControl.{RunControl}
 use Rattle.rw_model.specs.declared.data_slots.DataSlot.{DataSlot}
@@ -24,13 +24,14 @@ pub record Draft : Type 0 where
   pub links : List (List ℕ)
   pub bounds : List Bound
 
--- timesteps of a run, and limits in range
+-- timesteps of a run, and limits in range. Rules put at the timestep in which they fire, or up to 30 ahead
 pub record IsControl (control : RunControl) : Type 0 where
   pub timesteps : AreTimesteps control.stamps
   pub least_object : 16 ≤ control.object_limit
   pub most_object : control.object_limit ≤ 100
   pub least_rule : 1 ≤ control.rule_limit
   pub most_rule : control.rule_limit ≤ 100
+  pub ahead : (control.ahead ≡ 0) ⊎ (control.ahead ≡ 30)
 
 -- one of the slots has this name
 abbrev pub has_slot_named : List ℕ → List DataSlot → Bool

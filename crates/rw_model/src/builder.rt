@@ -42,7 +42,7 @@ impl Model for BasinBuilder {
 }
 
 impl BasinBuilder {
-    /// A basin with no object yet. `BadParameter` exactly where a limit is out of range.
+    /// A basin with no object yet. `BadParameter` exactly where a limit is out of range, or rules may put neither 0 nor 30 ahead.
     pub fn begin(alloc: Global, control: RunControl) -> Result<BasinBuilder, BuildFault>
         ensures begun { IfOk result (λ builder. builder ≡ record { control = control; objects = []; links = []; bounds = [] }) }
         ensures in_range { OnOk result (IsControl control) }
@@ -52,6 +52,9 @@ impl BasinBuilder {
         let objects = 16..=100;
         let rules = 1..=100;
         if !objects.contains(&control.object_limit) || !rules.contains(&control.rule_limit) {
+            return Err(BuildFault::BadParameter);
+        }
+        if control.ahead != 0 && control.ahead != 30 {
             return Err(BuildFault::BadParameter);
         }
         Ok(BasinBuilder {

@@ -20,4 +20,6 @@ pub struct RunControl {
     pub object_limit: u8,
     /// How often one rule may be run at one timestep, 1 to 100.
     pub rule_limit: u8,
+    /// How many timesteps ahead a rule may put, 0 or 30.
+    pub ahead: u8,
 }

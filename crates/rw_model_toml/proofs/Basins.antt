@@ -1,5 +1,5 @@
 -- What a file is read as is a valid basin.
-use Rattle.rw_base.proofs.Common.{◌≡◌, ℕ, ◌+◌, ◌≤◌, ℤ, pos, ◌<ℤ◌, int_lt, unsigned_abs, Bool, true, false, ◌||◌, if◌then◌else◌, List, [], ◌∷◌, ◌++◌, Option, None, Some, Result, Ok, Err, codes, refl, arith, IfOk, ints, both_ways}
+use Rattle.rw_base.proofs.Common.{◌≡◌, ℕ, ◌+◌, ◌≤◌, ℤ, pos, ◌<ℤ◌, int_lt, unsigned_abs, Bool, true, false, ◌||◌, if◌then◌else◌, List, [], ◌∷◌, ◌++◌, Option, None, Some, Result, Ok, Err, codes, refl, arith, IfOk, ints, both_ways, ◌⊎◌, inl, inr, ◌==◌}
 use Rattle.toml.specs.Data.{Data, string, integer, float, boolean, datetime, array, table, Items, no_items, item, Members, get_member}
 use Rattle.rw_model.proofs.Common.{link_refusal, Draft, IsControl, IsDraft, IsBasin, finish_refusal, object_refusal, bound_refusal, object-iff, bound-iff, IsDraft-begin, IsDraft-object, IsDraft-link, IsDraft-bound, basin_iff}
 use Rattle.rw_model_toml.specs.declared.run.Run.{Run}
@@ -9,7 +9,7 @@ use Rattle.rw_model_toml.specs.Value.{integer_of, text_of, items_of, members_of,
 use Rattle.rw_model_toml.specs.Key.{judged_or, required, optional, only_listed}
 use Rattle.rw_model_toml.specs.ListOf.{list_of}
 use Rattle.rw_model_toml.specs.Run.{start_of, step_length_of, agenda_of, run_keys, run_of}
-use Rattle.rw_model_toml.specs.Control.{control_of}
+use Rattle.rw_model_toml.specs.Control.{ahead_in, control_of}
 use Rattle.rw_model_toml.specs.Names.{name_of}
 use Rattle.rw_model_toml.specs.Kinds.{kind_of}
 use Rattle.rw_model_toml.specs.Told as told
@@ -94,17 +94,28 @@ run-inside ms = next InLimits (start_of ms) _ (λ start. next InLimits (step_len
     (λ objects p. next-by (IsFromTo 1 100) InLimits (optional 20 (count_of 1 100) (codes "run") (codes "rule_limit") ms) _ (limit-inside 20 1 100 (codes "rule_limit") ms (omega arith, omega arith))
     (λ rules q. next InLimits (only_listed run_keys (codes "run") ms) _ (λ listed. (p, q, r))))))))
 
-control-inside : (run : Run) → InLimits run → IfOk (control_of run) IsControl
-control-inside run p = next-by AreTimesteps IsControl (refused_as bad_calendar (stamps_of run.start run.step_length run.steps)) _
+abbrev IsAhead : ℕ → Type 0
+IsAhead ahead = (ahead ≡ 0) ⊎ (ahead ≡ 30)
+
+ahead-inside : (format : ℕ) → IsAhead (ahead_in format)
+ahead-inside format = by (format == 1)
+  where
+    by : (first : Bool) → IsAhead (if first then 0 else 30)
+    by true = inl refl
+    by false = inr refl
+
+control-inside : (ahead : ℕ) (run : Run) → IsAhead ahead → InLimits run → IfOk (control_of ahead run) IsControl
+control-inside ahead run steps p = next-by AreTimesteps IsControl (refused_as bad_calendar (stamps_of run.start run.step_length run.steps)) _
     (kept-by AreTimesteps bad_calendar (stamps_refusal run.start run.step_length run.steps) (timesteps_of run.start run.step_length run.steps)
     (λ none. are_stamped run.start run.step_length run.steps p.2.0 p.2.1 ((stamped-iff run.start run.step_length run.steps).0 none)))
-    (λ stamps are. record { timesteps = are; least_object = p.0.0; most_object = p.0.1; least_rule = p.1.0; most_rule = p.1.1 })
+    (λ stamps are. record { timesteps = are; least_object = p.0.0; most_object = p.0.1; least_rule = p.1.0; most_rule = p.1.1; ahead = steps })
 
 in-control : (ms : Members) → IfOk (control_in ms) IsControl
 unfolding control_in
-in-control ms = next IsControl (required (count_of 1 1) [] (codes "format") ms) _
+in-control ms = next IsControl (required (count_of 1 2) [] (codes "format") ms) _
     (λ format. next IsControl (required members_of [] (codes "run") ms) _
-    (λ run_table. next-by InLimits IsControl (run_of run_table) _ (run-inside run_table) control-inside))
+    (λ run_table. next-by InLimits IsControl (run_of run_table) _ (run-inside run_table)
+    (λ run p. control-inside (ahead_in format) run (ahead-inside format) p)))
 
 -- ---- what a builder is told
 

@@ -11,7 +11,7 @@ use Rattle.rw_model_toml.specs.Path.{element_path}
 use Rattle.rw_model_toml.specs.Value.{items_of, members_of, count_of}
 use Rattle.rw_model_toml.specs.Key.{required, optional, only_listed}
 use Rattle.rw_model_toml.specs.Run.{run_of}
-use Rattle.rw_model_toml.specs.Control.{control_of}
+use Rattle.rw_model_toml.specs.Control.{ahead_in, control_of}
 use Rattle.rw_model_toml.specs.Told.{object_of, link_of, bound_of}
 
 -- the items of the array at a path one after another, each told to what was built by those before it, where they are
@@ -20,13 +20,13 @@ abbrev pub in_turn : (List ℕ → Data → Draft → Result Draft ModelRefusal)
 in_turn told path number no_items draft = Ok draft
 in_turn told path number (item value rest) draft = told (element_path path number) value draft >>= in_turn told path (number + 1) rest
 
--- what the file says first: its format, which is 1, and the run
+-- what the file says first: its format, which is 1 or 2, and the run
 unfoldable pub control_in : Members → Result RunControl ModelRefusal
 control_in table = do
-  format ← required (count_of 1 1) [] (codes "format") table
+  format ← required (count_of 1 2) [] (codes "format") table
   run_table ← required members_of [] (codes "run") table
   run ← run_of run_table
-  control_of run
+  control_of (ahead_in format) run
 
 abbrev pub empty_draft : RunControl → Draft
 empty_draft control = record { control = control; objects = []; links = []; bounds = [] }

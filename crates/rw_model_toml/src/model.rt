@@ -16,7 +16,7 @@ use crate::link_table::read_links;
 use crate::listed::only_listed;
 use crate::object_table::read_objects;
 use crate::run::read_run;
-use crate::run_control::stamp_run;
+use crate::run_control::{ahead_in, stamp_run};
 use crate::told::told;
 use rw_model::{Basin, BasinBuilder, RunControl};
 use std::alloc::Global;
@@ -30,10 +30,10 @@ fn read_control(alloc: Global, table: &Table) -> Result<RunControl, ModelFault>
     ensures read { Gives (λ control. control) result (control_in (table_view table.now)) }
     ensures in_range { IfOk result IsControl }
 {
-    required_count(alloc, "", "format", table, 1, 1)?;
+    let format = required_count(alloc, "", "format", table, 1, 2)?;
     let run_table = required_table(alloc, "", "run", table)?;
     let run = read_run(alloc, run_table)?;
-    stamp_run(alloc, run)
+    stamp_run(alloc, ahead_in(format), run)
 }
 
 fn begin(alloc: Global, control: RunControl) -> BasinBuilder

@@ -1,10 +1,10 @@
 ghost use Rattle.rw_calendar.specs.declared.limits.TheConstants.{STEPS_MAX};
-ghost use Rattle.std.specs.Prelude.{◌≤◌, IfOk};
+ghost use Rattle.std.specs.Prelude.{◌≡◌, ◌⊎◌, ◌≤◌, IfOk};
 ghost use Rattle.std.specs.Int.{IsInRange};
 ghost use Rattle.rw_calendar.specs.StepLength.{IsStepLength};
 ghost use Rattle.rw_model.specs.Draft.{IsControl};
 ghost use Rattle.rw_model_toml.specs.Fault.{Gives};
-ghost use Rattle.rw_model_toml.specs.Control.{control_of};
+ghost use Rattle.rw_model_toml.specs.Control.{ahead_in, control_of};
 
 use crate::ModelFault;
 use crate::run::Run;
@@ -12,13 +12,22 @@ use rw_calendar::{CalFault, Stamps};
 use rw_model::RunControl;
 use std::alloc::Global;
 
-/// How the run goes, with its stamps.
-pub fn stamp_run(alloc: Global, run: Run) -> Result<RunControl, ModelFault>
+/// How many timesteps ahead rules may put in a model of this format.
+pub fn ahead_in(format: u16) -> u8
+    ensures value { result ≡ ahead_in format }
+    ensures in_range { (result ≡ 0) ⊎ (result ≡ 30) }
+{
+    if format == 1 { 0 } else { 30 }
+}
+
+/// How the run goes, with its stamps, where rules may put so many timesteps ahead.
+pub fn stamp_run(alloc: Global, ahead: u8, run: Run) -> Result<RunControl, ModelFault>
     requires length { IsStepLength run.step_length }
     requires steps { IsInRange 1 STEPS_MAX run.steps }
     requires object_limit { IsInRange 16 100 run.object_limit }
     requires rule_limit { IsInRange 1 100 run.rule_limit }
-    ensures read { Gives (λ control. control) result (control_of run) }
+    requires ahead { (ahead ≡ 0) ⊎ (ahead ≡ 30) }
+    ensures read { Gives (λ control. control) result (control_of ahead run) }
     ensures in_range { IfOk result IsControl }
 {
     let fault = match Stamps::of(alloc, run.start, run.step_length, run.steps) {
@@ -28,6 +37,7 @@ pub fn stamp_run(alloc: Global, run: Run) -> Result<RunControl, ModelFault>
                 agenda: run.agenda,
                 object_limit: run.object_limit,
                 rule_limit: run.rule_limit,
+                ahead,
             });
         }
         Err(fault) => fault,

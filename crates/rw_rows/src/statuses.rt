@@ -5,7 +5,9 @@ ghost use Rattle.rw_method.specs.Catalogue.{AreInOrder};
 use crate::kinds::{ALL, methods};
 use crate::runs::none_is_wrong;
 use crate::statuses::Text::{Any, Front, Whole};
-use rpl_predef::{Predef, Predefs, absolute, clamped, greatest, least, rounded_down, sign};
+use rpl_predef::{
+    Predef, Predefs, absolute, clamped, greatest, least, mul_div, rounded_down, sign,
+};
 use rw_base::NoMemory;
 use rw_io::{MemShelf, MemSink};
 use rw_method::Catalogue;
@@ -167,6 +169,7 @@ fn call(alloc: Global, words: &[String], ends: &mut Ends) -> Result<u8, NoMemory
     functions.push(Predef::of(4, clamped))?;
     functions.push(Predef::of(5, rounded_down))?;
     functions.push(Predef::of(6, sign))?;
+    functions.push(Predef::of(7, mul_div))?;
     let Ok(predefs) = Predefs::of(functions) else {
         return Err(NoMemory);
     };

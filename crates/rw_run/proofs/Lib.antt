@@ -2,7 +2,7 @@ pub mod Lists
 pub mod Waits
 pub mod Ready
 mod OneRun
-mod Sinces
+pub mod Sinces
 mod Frames
 mod Reuses
 mod Agains

@@ -33,13 +33,14 @@ turned_round r [] = refl
 turned_round r (x ∷ xs) =
     ap (times r) (reverse-append (x ∷ []) xs) ∙ times-append r (reverse xs) (x ∷ []) ∙ moved (cond (r == x) 1 0) _ _ (turned_round r xs)
 
-on_agenda : (order : AgendaOrder) (r rules : ℕ) → 0 < times r (agenda_of order rules) → 0 < times r (numbers rules)
-on_agenda HighFirst r rules there = there
-on_agenda LowFirst r rules there = subst (λ n. 0 < n) (turned_round r (numbers rules)) there
+pub on_agenda : (order : AgendaOrder) (r rules : ℕ) → times r (agenda_of order rules) ≡ times r (numbers rules)
+on_agenda HighFirst r rules = refl
+on_agenda LowFirst r rules = turned_round r (numbers rules)
 
 pub due_is_rule : (basin : Draft) (policy : Policy) (cells : Cells) (log : Log) (rule : ℕ) → first_due basin policy cells log ≡ Some rule → IsRule policy rule
 due_is_rule basin policy cells log rule found =
-    let there = on_agenda basin.control.agenda rule policy.rules (found_in (is_due cells log) rule (agenda_of basin.control.agenda policy.rules) found) in
+    let there : 0 < times rule (numbers policy.rules) = subst (λ n. 0 < n) (on_agenda basin.control.agenda rule policy.rules)
+    (found_in (is_due cells log) rule (agenda_of basin.control.agenda policy.rules) found) in
     let counted = times-numbers rule policy.rules in
     record { first = grind (arith, nat_tests, there, counted); last = grind (arith, nat_tests, there, counted) }
 

@@ -6,7 +6,7 @@ use Rattle.rw_run.specs.Waiting.{ends_wait, wakes, since}
 use Rattle.rw_run.specs.Since.{NoneEnds, NoneWakes, WaitsSince}
 
 -- none wakes, in bits
-none_bits : (ends wakes : Bool) (s : Option ℕ) (n : ℕ) (P : Type 0) → (s ≡ None → P)
+pub none_bits : (ends wakes : Bool) (s : Option ℕ) (n : ℕ) (P : Type 0) → (s ≡ None → P)
     → option_or (if ends then None else s) (if wakes then Some n else None) ≡ None → (wakes ≡ false) × ((ends ≡ true) ⊎ P)
 none_bits true true s n P h e = absurd (none-some _ (sym e))
 none_bits true false s n P h e = (refl, inl refl)

@@ -1,10 +1,8 @@
 -- What an object sees when it is dispatched, and the event that its dispatch is.
-use Rattle.std.specs.Prelude.{ℕ, nat_lt, ◌-◌, ◌==◌, ℤ, pos, ◌-ℤ◌, Bool, true, false, List, [], ◌∷◌, ◌++◌, map, Option, Some, None, option_map, option_and_then, unwrap_or, if◌then◌else◌}
+use Rattle.std.specs.Prelude.{ℕ, nat_lt, ◌-◌, ℤ, pos, ◌-ℤ◌, Bool, true, false, List, [], ◌∷◌, ◌++◌, map, Option, Some, None, option_map, option_and_then, unwrap_or, if◌then◌else◌}
 use Rattle.std.specs.List.{filter, filter_map, range_with_len}
 use Rattle.rw_base.specs.declared.number.Cell.{Cell}
 use Rattle.rw_model.specs.declared.content.Content.{Content}
-use Rattle.rw_model.specs.declared.kind.Kind.{Kind}
-use Rattle.rw_model.specs.declared.kind.Kind.TheVariants.{DataObject, Gage, Confluence, Bifurcation, Reach, Reservoir, WaterUser, Canal}
 use Rattle.rw_model.specs.declared.put.PutEnd.{PutEnd}
 use Rattle.rw_model.specs.declared.put.PutEnd.TheVariants.{Written, Kept, Denied}
 use Rattle.rw_model.specs.declared.writer.Writer.TheVariants.{Object}
@@ -14,11 +12,11 @@ use Rattle.rw_model.specs.Links.{bounds_in}
 use Rattle.rw_model.specs.Objects.{object_at, slot_in_place}
 use Rattle.rw_model.specs.Put.{end_of_put}
 use Rattle.rw_model.specs.Slot.{Bounds}
-use Rattle.rw_method.specs.declared.places.TheConstants.{INFLOW, STORAGE}
 use Rattle.rw_method.specs.declared.put.Put.{Put}
 use Rattle.rw_method.specs.declared.solved.Solved.{Solved}
 use Rattle.rw_method.specs.declared.solved.Solved.TheVariants.{Idle, Puts, Conflict, OutOfRange}
 use Rattle.rw_method.specs.declared.view.View.{View}
+use Rattle.rw_method.specs.Past.{past_in}
 use Rattle.rw_method.specs.Solve.{solve_of}
 use Rattle.rw_series.specs.declared.look.Look.{Look}
 use Rattle.rw_run.specs.declared.fault.RunFault.TheVariants.{Conflict as FaultConflict, ObjectOutOfRange}
@@ -50,17 +48,6 @@ bounds_in_place basin object place =
 pub record Past : Type 0 where
   pub slot : ℕ
   pub ago : ℕ
-
--- the place of the slot whose earlier value a kind looks at, and how many timesteps ago
-abbrev pub past_in : Kind → Option (ℕ × ℕ)
-past_in (DataObject slots) = None
-past_in Gage = None
-past_in Confluence = None
-past_in Bifurcation = None
-past_in (Reach lag history local_inflow diversion return_flow) = if lag == 0 then None else Some (INFLOW, lag)
-past_in (Reservoir initial_storage table local_inflow diversion return_flow evaporation max_release) = Some (STORAGE, 1)
-past_in (WaterUser depletion supply) = None
-past_in (Canal seepage) = None
 
 abbrev pub past_at : Draft → ℕ → ℕ × ℕ → Option Past
 past_at basin object past =

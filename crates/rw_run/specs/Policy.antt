@@ -17,11 +17,12 @@ pub record IsRule (policy : Policy) (rule : ℕ) : Type 0 where
   pub first : 1 ≤ rule
   pub last : rule ≤ policy.rules
 
--- a put to a slot that can be set, of a value that the slot can have
+-- a put to a slot that can be set, of a value that the slot can have, not too many timesteps ahead
 pub record CanAsk (basin : Draft) (put : RulePut) : Type 0 where
   pub slot : IsSlot basin.objects put.slot.0
   pub settable : ForSome (slot_at basin.objects put.slot.0) (λ placed. IsTrue (is_settable placed.slot.role))
   pub within : IsBetween (bounds_in basin.objects basin.links basin.bounds put.slot.0) put.value
+  pub ahead : put.ahead ≤ basin.control.ahead
 
 -- the rule does this at a timestep, for these values of the cells
 abbrev pub Fires : Policy → ℕ → ℕ → (Cell → Option ℤ) → Fire → Type 0

@@ -19,7 +19,7 @@ use Rattle.rw_run.specs.Dispatch.{cell_at}
 use Rattle.rw_run.specs.Log.{Event, Log, opened, closed, idle, solved, fired, fault}
 use Rattle.rw_run.specs.Next.{Policy, asked_by_rule}
 
--- the data object over so many days, a rule firing at most 20 times in each
+-- the data object over so many days, a rule firing at most 20 times in each, and putting up to 30 ahead
 abbrev pub basin_of : AgendaOrder → ℕ → Draft
 basin_of order days = record {
   control = record {
@@ -27,6 +27,7 @@ basin_of order days = record {
     agenda = order;
     object_limit = 50;
     rule_limit = 20;
+    ahead = 30;
   };
   objects = record {
     name = codes "D";

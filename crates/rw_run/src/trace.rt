@@ -85,6 +85,7 @@ impl Trace {
     }
 
     /// Adds a line at the end, if lines are kept; if not, it takes no memory. After want of memory the trace is as it was.
+    #[inline(always)]
     pub fn push(&mut self, event: TraceEvent) -> Result<(), NoMemory>
         ensures pushed { IfOk result (λ _. self.new ≡ told self.old (event ∷ [])) }
         ensures unchanged { IfErr result (λ _. self.new ≡ self.old) }
@@ -131,6 +132,7 @@ impl Trace {
 }
 
 // Adds the line of an event. After want of memory the lines are as they were.
+#[inline(never)]
 fn push(alloc: Global, lines: &mut Vec<Line>, event: TraceEvent) -> Result<(), NoMemory>
     ensures pushed { IfOk result (λ _. map event_of lines.new.items
         ≡ map event_of lines.old.items ++ event ∷ []) }

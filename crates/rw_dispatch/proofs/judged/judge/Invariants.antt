@@ -1,7 +1,11 @@
-use Rattle.rw_dispatch.proofs.Common.{drop, held}
-use Rattle.rw_dispatch.proofs.Judgement.{IsJudging}
+use Rattle.rw_dispatch.proofs.Common.{drop, ◌≡◌}
+use Rattle.rw_run.proofs.Common.{Cells, view_of}
+use Rattle.rw_dispatch.proofs.Judgement.{IsJudging, IsNoted}
 use Rattle.rw_dispatch.proofs.judged.judge.Given as goal
 
 abbrev pub invariant-loop-put : goal.invariant-loop-put
-invariant-loop-put l =
-    IsJudging l.basin (held l.series) l.object.0 l.step.0 l.put-index l.asked (drop l.put-index l.asked) l.written
+invariant-loop-put l = record {
+  judging : (cells : Cells) → l.view ≡ view_of l.basin cells l.object.0 l.step.0
+      → IsJudging l.basin cells l.object.0 l.step.0 l.asked (drop l.put-index l.asked) l.written;
+  noted : IsNoted l.basin l.object.0 l.step.0 l.put-index l.written l.writes;
+}

@@ -1,7 +1,11 @@
-use Rattle.rw_base.proofs.Common.{rules}
-use Rattle.rw_dispatch.proofs.Owning.{reached-more}
+use Rattle.rw_base.proofs.Common.{rules, sym, ◌∙◌}
+use Rattle.rw_dispatch.proofs.Owning.{left-out, reached-more}
 use Rattle.rw_dispatch.proofs.owners.reach.Goals as goal
+
+pub returns-then-is_but : goal.returns-then-is_but
+returns-then-is_but c = λ seen has. left-out _ c.args.object seen c.args.reached.now (sym c.is_but.ensures ∙ c.if-is_but.true) has
 
 pub returns : goal.returns
 returns c = λ seen has.
-    reached-more seen c.args.reached.now _ c.args.object c.requires.first c.requires.last (search rules) c.lesser-reached.ensures.one (search rules) c.greater-reached.ensures.one c.greater-reached.ensures.other has
+    reached-more _ c.args.object seen c.args.reached.now _ c.requires.first (sym c.is_but.ensures ∙ c.if-is_but.false) c.set_bit.ensures.many
+    c.set_bit.ensures.added c.lesser-reached.ensures.one (search rules) c.greater-reached.ensures.one c.greater-reached.ensures.other has

@@ -1,12 +1,12 @@
-use Rattle.rw_dispatch.proofs.Common.{None, ap, held, rules, slice_index_or, ◌∙◌}
+use Rattle.rw_dispatch.proofs.Common.{None, ap, held, length, rules, slice_index_or, ◌∙◌}
 use Rattle.std.proofs.Math.ListN.{length-set}
 use Rattle.rw_run.specs.Dispatch.{bounds_in_place, content_in}
 use Rattle.rw_dispatch.specs.Seeing.{bounds_of_slot, content_of}
 use Rattle.rw_dispatch.proofs.Filling.{filled-more, number_known, number_there}
 use Rattle.rw_dispatch.proofs.view.see_slots.Goals as goal
 
-pub see_slot-seen-requires : goal.see_slot-seen-requires
-see_slot-seen-requires c =
+pub see_slot-requires-clause-known : goal.see_slot-requires-clause-known
+see_slot-requires-clause-known c =
     let objects = c.args.basin.now.objects in
     number_known objects c.args.object.0 c.loop-place.place (slice_index_or c.row-numbers.result.now c.loop-place.place None)
     (number_there objects c.args.object.0 c.loop-place.place c.row-numbers.result.now c.row-numbers.ensures c.loop-place-test.true)
@@ -16,12 +16,13 @@ loop-place-preserved c =
     let basin = c.args.basin.now in
     let place = c.loop-place.place in
     let was = c.loop-place.invariant in
+    let seen = c.see_slot.ensures in
     let number = number_there basin.objects c.args.object.0 place c.row-numbers.result.now c.row-numbers.ensures c.loop-place-test.true in
     record {
-      contents = filled-more (content_in basin (held c.args.series.now) c.args.object.0 c.args.step.0) c.args.now.now place c.loop-place.now _
-          (search rules) was.contents (c.see_slot-seen.ensures.content ∙ ap (content_of (held c.args.series.now) c.args.step.0) number);
-      bounds = filled-more (bounds_in_place basin c.args.object.0) c.args.bounds.now place c.loop-place.bounds _
-          (search rules) was.bounds (c.see_slot-seen.ensures.bounds ∙ ap (bounds_of_slot basin) number);
-      contents_all = length-set c.loop-place.now place _ ∙ was.contents_all;
-      bounds_all = length-set c.loop-place.bounds place _ ∙ was.bounds_all;
+      contents = seen.content ∙ filled-more (content_in basin (held c.args.series.now) c.args.object.0 c.args.step.0) c.args.now.now place c.loop-place.now _
+          (search rules) was.contents (ap (content_of (held c.args.series.now) c.args.step.0) number);
+      bounds = seen.bounds ∙ filled-more (bounds_in_place basin c.args.object.0) c.args.bounds.now place c.loop-place.bounds _
+          (search rules) was.bounds (ap (bounds_of_slot basin) number);
+      contents_all = ap length seen.content ∙ length-set c.loop-place.now place _ ∙ was.contents_all;
+      bounds_all = ap length seen.bounds ∙ length-set c.loop-place.bounds place _ ∙ was.bounds_all;
     }

@@ -11,7 +11,7 @@ returns-clause-watching c =
     get_or_read c.self.inside.newest.items c.in-Some.place c.index-newest.result.now near c.index-newest.ensures 0 in
     let many : c.len-2.result ≡ length c.push_watch.new.watches.items = search rules in
     watching_now c.self.inside.slots c.self.inside.steps c.self.inside.room c.self.inside.newest.items c.self.inside.watches.items c.self.inside.full
-    c.in-Some.place c.args.rule c.args.cell c.index-newest.result.now c.len-2.result c.push_watch.new.watches.items saw c.push_watch.ensures.added many near c.args.cell at
+    c.in-Some.place c.args.rule c.index-newest.result.now c.len-2.result c.push_watch.new.watches.items saw c.push_watch.ensures.added many near c.args.cell at
 
 pub returns-clause-kept : goal.returns-clause-kept
 returns-clause-kept c other earlier watching =
@@ -20,5 +20,5 @@ returns-clause-kept c other earlier watching =
     get_or_read c.self.inside.newest.items c.in-Some.place c.index-newest.result.now near c.index-newest.ensures 0 in
     let many : c.len-2.result ≡ length c.push_watch.new.watches.items = search rules in
     watching_still c.self.inside.slots c.self.inside.steps c.self.inside.room c.self.inside.newest.items c.self.inside.watches.items c.self.inside.full
-    c.in-Some.place c.args.rule c.args.cell c.index-newest.result.now c.len-2.result c.push_watch.new.watches.items saw c.push_watch.ensures.added many near other earlier
+    c.in-Some.place c.args.rule c.index-newest.result.now c.len-2.result c.push_watch.new.watches.items saw c.push_watch.ensures.added many near other earlier
     (subst (λ index. is_watching index other earlier ≡ true) (sym c.self.view_is) watching)

@@ -3,4 +3,4 @@ use Rattle.rw_dispatch.proofs.Owning.{none-reached}
 use Rattle.rw_dispatch.proofs.owners.Reached.none.Goals as goal
 
 pub returns : goal.returns
-returns c = none-reached _ refl
+returns c but = none-reached but _ refl

@@ -1,5 +1,0 @@
-use Rattle.rw_laws.proofs.Evaporating.{table_gives}
-use Rattle.rw_laws.proofs.law.tables_give_evaporation.Goals as goal
-
-pub returns : goal.returns
-returns c = table_gives

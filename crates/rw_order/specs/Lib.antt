@@ -1,0 +1,4 @@
+pub mod Free
+pub mod AnyRun
+pub mod Inside
+pub mod Worked

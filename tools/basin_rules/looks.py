@@ -1,0 +1,306 @@
+"""What each rule of a ruleset looks at and sets, as far as its text tells.
+
+An expression is gone through with what is known of its names: which slots a name may stand for, by how many
+timesteps a date is away from `t`, and which number it is.
+"""
+
+from collections import ChainMap
+from dataclasses import dataclass, field
+
+from basin_files.dispatch import elevation, volume
+from basin_files.firing import FUNCTIONS
+
+from . import trees
+from .measures import UNITS
+
+
+@dataclass(frozen=True)
+class Slots:
+    """The slots that a value may be; `every` where a list has them all, so that a loop comes to each."""
+
+    names: tuple
+    every: bool = True
+
+
+@dataclass(frozen=True)
+class Known:
+    """What is known of a value: a number, or a date by the timesteps from `t` to it."""
+
+    value: int
+
+
+@dataclass(frozen=True)
+class Look:
+    """A look at a slot, so many timesteps from `t` on, or `None` where only a run tells.
+
+    It is `asked` by KNOWN, `guarded` where that was asked before, and `sure` where each firing comes to it.
+    """
+
+    slot: str
+    ahead: int | None
+    asked: bool
+    guarded: bool
+    sure: bool
+    span: object
+
+    @property
+    def time(self):
+        """When it looks, as a ruleset spells it."""
+        if self.ahead is None:
+            return "[..]"
+        return "[t]" if self.ahead == 0 else f'[t {"+" if self.ahead > 0 else "-"} {abs(self.ahead)} "step"]'
+
+
+@dataclass
+class Setting:
+    """A slot that a rule sets: whether each whole firing does, where, the expression of its value, and how far ahead."""
+
+    slot: str
+    sure: bool
+    span: object
+    value: object
+    ahead: int = 0
+
+    @property
+    def cell(self):
+        """The slot, with how far ahead it is set."""
+        return f"{self.slot}[t + {self.ahead}]" if self.ahead else self.slot
+
+
+@dataclass
+class RuleFacts:
+    """What a rule looks at and sets, in the order of the text. `called` names it for people."""
+
+    number: int
+    called: str
+    head: object
+    looks: list = field(default_factory=list)
+    settings: list = field(default_factory=list)
+
+    def slots(self, sure=False):
+        """The slots that it sets, each once, or those that each whole firing sets at this timestep."""
+        return list(dict.fromkeys(one.slot for one in self.settings if not sure or (one.sure and not one.ahead)))
+
+    def needs(self):
+        """The looks at which a firing ends unknown where the slot isn't known."""
+        return [look for look in self.looks if look.sure and not look.asked and not look.guarded]
+
+
+@dataclass(frozen=True)
+class Way:
+    """How a part is come to: whether each firing comes to it, and which slots KNOWN was asked of before."""
+
+    sure: bool = True
+    guards: frozenset = frozenset()
+
+    def branch(self, guards=frozenset()):
+        """The way into a branch, behind a condition that asks of these slots."""
+        return Way(False, self.guards | guards)
+
+
+def facts_of(ruleset, model):
+    """What each rule of a ruleset looks at and sets."""
+    return [Looking(ruleset, model).of_rule(rule) for rule in ruleset.rules]
+
+
+def calls_of(ruleset):
+    """The names of the functions that a rule calls, by itself or through others."""
+    functions, called = ruleset.functions, set()
+    waiting = list(ruleset.rules)
+    while waiting:
+        for node in waiting.pop().nodes():
+            if isinstance(node, trees.Call) and node.name in functions and node.name not in called:
+                called.add(node.name)
+                waiting.append(functions[node.name])
+    return called
+
+
+class Looking:
+    """Goes through a rule, or through a single expression."""
+
+    def __init__(self, ruleset, model):
+        self.functions, self.model = ruleset.functions, model
+        self.facts = None
+        self.seen = {}  # what came of calls of functions, each by its arguments and the way to it
+        self.silent = False  # whether looks aren't noted
+
+    def of_rule(self, rule):
+        """What a rule looks at and sets."""
+        self.facts = RuleFacts(rule.rule, rule.called, rule.head)
+        self.statements({}, rule.body, Way())
+        return self.facts
+
+    def constant(self, node):
+        """The number that an expression always is, or `None`."""
+        found = self.quiet({}, node)
+        return found.value if isinstance(found, Known) and node.type.sort == "number" else None
+
+    def statements(self, scope, statements, way):
+        """Goes through statements."""
+        for statement in statements:
+            value = self.value(scope, statement.parts[0], way)
+            if isinstance(statement, trees.With):
+                self.statements({**scope, statement.name: value}, statement.parts[1:], way)
+            elif isinstance(statement, trees.Branch):
+                inner = way.branch(self.asked(scope, statement.parts[0]))
+                self.statements(scope, statement.yes, inner)
+                self.statements(scope, statement.no, inner)
+            else:
+                value = statement.parts[0]
+                setting = Setting(statement.full_name, way.sure, statement.target, value, statement.ahead)
+                self.facts.settings.append(setting)
+
+    def asked(self, scope, condition):
+        """The slots of which a condition asks whether they are known."""
+        found = set()
+        for node in condition.nodes():
+            if isinstance(node, trees.One) and node.word == "KNOWN":
+                slots = self.quiet(scope, node.parts[0].parts[0])
+                found |= set(slots.names) if isinstance(slots, Slots) else set()
+        return frozenset(found)
+
+    def quiet(self, scope, node):
+        """The value of an expression, without its looks being noted."""
+        before, self.silent = self.silent, True
+        value = self.value(scope, node, Way(False))
+        self.silent = before
+        return value
+
+    # ---- expressions: what is known of each, and its looks
+
+    def value(self, scope, node, way):
+        """Goes through an expression: what is known of its value, or `None`."""
+        form = VALUES.get(type(node))
+        if form:
+            return form(self, scope, node, way)
+        for part in node.parts:
+            self.value(scope, part, way)
+        return None
+
+    def literal(self, scope, node, way):
+        """A number, in base units."""
+        return Known(node.value * UNITS[node.unit.text if node.unit else ""][1])
+
+    def list(self, scope, node, way):
+        """A list: of slots those of its items."""
+        return union([self.value(scope, part, way) for part in node.parts], True)
+
+    def choice(self, scope, node, way):
+        """An IF."""
+        condition, yes, no = node.parts
+        self.value(scope, condition, way)
+        inner = way.branch(self.asked(scope, condition))
+        values = [self.value(scope, part, inner) for part in (yes, no)]
+        return values[0] if values[0] == values[1] else union(values, False)
+
+    def let(self, scope, node, way):
+        """A LET."""
+        value = self.value(scope, node.parts[0], way)
+        return self.value(ChainMap({node.name: value}, scope), node.parts[1], way)
+
+    def loop(self, scope, node, way):
+        """A FOR or a MAP, whose body is gone through once for all items."""
+        items, *start, body = node.parts
+        names = {node.item: self.value(scope, items, way)}
+        if start:
+            self.value(scope, start[0], way)
+            names[node.total] = None
+        self.value(ChainMap(names, scope), body, way)
+        return None
+
+    def one(self, scope, node, way):
+        """A word of one expression."""
+        part = node.parts[0]
+        if node.word == "KNOWN":
+            self.look(scope, part, way, asked=True)
+            return None
+        value = self.value(scope, part, way)
+        return Known(-value.value) if node.word == "-" and isinstance(value, Known) else None
+
+    def two(self, scope, node, way):
+        """A word or an operator of two expressions."""
+        left = self.value(scope, node.parts[0], way)
+        if node.word in ("AND", "OR"):
+            self.value(scope, node.parts[1], way.branch(self.asked(scope, node.parts[0])))
+            return None
+        right = self.value(scope, node.parts[1], way)
+        if node.word == "ITEM":
+            return Slots(left.names, len(left.names) == 1) if isinstance(left, Slots) else None
+        if node.word == "APPEND":
+            return union([left, right], True)
+        return reckoned(node.word, left, right)
+
+    def convert(self, scope, node, way):
+        """A look into a reservoir's table."""
+        value = self.value(scope, node.parts[0], way)
+        table = self.model.object_named(node.owner).options["table"]
+        if not isinstance(value, Known):
+            return None
+        found = (elevation if node.word == "StorageToElevation" else volume)(table, value.value)
+        return None if found is None else Known(found)
+
+    def look(self, scope, node, way, asked=False):
+        """A look at a slot."""
+        slots, date = (self.value(scope, part, way) for part in node.parts)
+        if isinstance(slots, Slots) and not self.silent:
+            for name in slots.names:
+                sure = way.sure and slots.every
+                ahead = date.value if isinstance(date, Known) else None
+                self.facts.looks.append(Look(name, ahead, asked, name in way.guards, sure, node.span))
+        return None
+
+    def call(self, scope, node, way):
+        """A call: of a function of the ruleset its body is gone through with what is known of the arguments."""
+        values = [self.value(scope, part, way) for part in node.parts]
+        function = self.functions.get(node.name)
+        if not function:
+            return predefined(node.name, values)
+        key = (node.name, tuple(values), way, self.silent)
+        if key not in self.seen:
+            names = {one.name: value for one, value in zip(function.parameters, values)}
+            self.seen[key] = self.value(names, function.body[0], way)
+        return self.seen[key]
+
+
+def union(values, every):
+    """All slots of some values, or nothing where one of them isn't known to be slots."""
+    if not values or not all(isinstance(one, Slots) for one in values):
+        return None
+    names = tuple(dict.fromkeys(name for one in values for name in one.names))
+    return Slots(names, every and all(one.every for one in values))
+
+
+def reckoned(word, left, right):
+    """What is known of a sum, a difference or a product."""
+    if not isinstance(left, Known) or not isinstance(right, Known):
+        return None
+    if word == "/":
+        return Known(left.value // right.value) if right.value else None
+    found = {"+": int.__add__, "-": int.__sub__, "*": int.__mul__}.get(word)
+    return Known(found(left.value, right.value)) if found else None
+
+
+def predefined(name, values):
+    """What is known of a predefined function's result."""
+    if not all(isinstance(one, Known) for one in values):
+        return None
+    return Known(FUNCTIONS[name][1](*(one.value for one in values)))
+
+
+VALUES = {
+    trees.Literal: Looking.literal,
+    trees.Now: lambda looking, scope, node, way: Known(0),
+    trees.SlotName: lambda looking, scope, node, way: Slots((node.full_name,)),
+    trees.Name: lambda looking, scope, node, way: scope.get(node.name),
+    trees.Brackets: lambda looking, scope, node, way: looking.value(scope, node.parts[0], way),
+    trees.ListOf: Looking.list,
+    trees.Choice: Looking.choice,
+    trees.Let: Looking.let,
+    trees.For: Looking.loop,
+    trees.Map: Looking.loop,
+    trees.One: Looking.one,
+    trees.Two: Looking.two,
+    trees.Convert: Looking.convert,
+    trees.At: Looking.look,
+    trees.Call: Looking.call,
+}

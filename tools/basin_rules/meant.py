@@ -1,0 +1,189 @@
+"""What may be meant where a type doesn't fit: hints in people's words."""
+
+from basin_files.firing import PREDEFINED
+from basin_files.formats import RESERVED_WORDS
+from basin_files.reasons import nearest, shown
+
+from . import trees
+from .measures import FLOW, PLAIN, TIMESTEP, UNITS, VOLUME, unit_words
+
+SECONDS = "3 * 86400 \"m3/step\" where a timestep is a day; docs/LANGUAGE.md, \"Two common tasks\", has months"
+# What other systems write, and what it is here.
+OTHER_UNITS = {
+    "m3/s": f"there is none, since a timestep's length depends on the model: 3 m3/s are {SECONDS}",
+    "cms": f"m3/s, which there is none of: 3 m3/s are {SECONDS}",
+    "hm3": '"Mm3"',
+    "MCM": '"Mm3"',
+    "cfs": 'the units are metric: 1,000 cfs are 2446576 "m3/step" where a timestep is a day',
+    "acre-ft": 'the units are metric: 1,000 acre-ft are 1233482 "m3"',
+    "ft": '"mm": the units are metric, and 10 ft are 3048 "mm"',
+    "m3/day": 'a flow is what comes in a timestep: "m3/step"',
+    "m3/month": 'a flow is what comes in a timestep: "m3/step"',
+    "day": '"step", where a timestep is a day',
+    "days": '"step", where a timestep is a day',
+    "hour": '"step", where a timestep is an hour',
+    "timestep": '"step"',
+    "timesteps": '"step"',
+    "steps": '"step"',
+}
+OTHER_FUNCTIONS = {
+    "IsNaN": "NOT KNOWN(Object.Slot[t])",
+    "IsKnown": "KNOWN(Object.Slot[t])",
+    "Sum": "a FOR over a list of slots",
+    "SUM": "a FOR over a list of slots",
+    "Average": "a FOR over a list, and a division by LENGTH",
+    "Round": "RoundDown(a, 1), or (a + b / 2) / b for the nearest quotient",
+    "Floor": "a / b, which is rounded down",
+    "Ceiling": "(a + b - 1) / b",
+    "GetMonth": "MONTH(t)",
+    "GetDayOfMonth": "DAY(t)",
+    "GetYear": "YEAR(t)",
+    "ElevToStorage": "ElevationToStorage(Object, x)",
+    "Sqrt": "there are whole numbers alone, and no roots",
+    "Pow": "x * x: there are no powers",
+}
+NOT_EARLIER = (
+    "the function stands here or later, and a function calls those that stand before it",
+    "move it up; what calls itself is a FOR with what it carries along",
+)
+COUNTS = {
+    "Min": "Min(a, Min(b, c)) for three",
+    "Max": "Max(a, Max(b, c)) for three",
+    "Abs": "",
+}
+TIGHT = (trees.At, trees.Name, trees.Literal, trees.Call, trees.Brackets)
+DATES = {True: "a date is moved by a number of timesteps behind it", False: "dates are compared with dates"}
+
+
+def unit(word):
+    """What is told of a unit that isn't there, and what may be meant."""
+    says = f"{shown(word)} is none of the units: {', '.join(one for one in UNITS if one)}"
+    bare = word.strip().replace("^", "")
+    if bare in OTHER_UNITS:
+        return says, OTHER_UNITS[bare]
+    near = bare if bare in UNITS else nearest(bare, [one for one in UNITS if one])
+    return says, f'"{near}"' if near else ""
+
+
+def target_step(most):
+    """What is told of a slot that is set too far ahead, where rules set so many timesteps ahead at most."""
+    later = 'a slot of a data object that is set now, and read at `[t - 1 "step"]` later'
+    if most:
+        return f"a rule sets slots at most {most} timesteps ahead, `[t + {most}]`", later
+    hint = f"`format = 2` in the model, which lets rules set ahead; or {later}"
+    return "a rule sets slots at this timestep alone, `[t]`", hint
+
+
+def settable(model, slot):
+    """What a rule can set of the object of a slot."""
+    names = [one.full_name for one in model.object_named(slot.owner).slots if one.settable]
+    return f"one of {', '.join(names)}"
+
+
+def variable(name, scope, judge):
+    """What is told of a name that isn't there, and what may be meant."""
+    says = f"there is no variable {name} here"
+    if name.upper() in RESERVED_WORDS:
+        return says, f"{name.upper()}, in capitals"
+    if name == "T":
+        return says, "t, this timestep"
+    if judge.model.object_named(name):
+        return says, f"a slot of {name}: {', '.join(one.full_name for one in judge.model.object_named(name).slots)}"
+    if name in judge.earlier or name in judge.later:
+        return says, f"{name}(), a call of the function"
+    near = nearest(name, scope)
+    slots = [one.full_name for one in judge.model.slots.values() if one.name == name]
+    return says, near or (f"{' or '.join(slots[:3])}, with its object" if slots else "")
+
+
+def function(name, judge):
+    """What is told of a function that isn't there, and what may be meant."""
+    says = f"there is no function {name}"
+    if name in OTHER_FUNCTIONS:
+        return says, OTHER_FUNCTIONS[name]
+    known = [*PREDEFINED, *judge.earlier, *judge.later]
+    known += ["KNOWN", "ITEM", "LENGTH", "APPEND", "MONTH", "DAY", "YEAR"]
+    return says, nearest(name, known) or ""
+
+
+def owner(name, model):
+    """What is told of an object that isn't there, and what may be meant."""
+    return f"there is no object {name}", nearest(name, [thing.name for thing in model.objects]) or ""
+
+
+def with_table(model):
+    """The objects that have a table."""
+    names = [thing.name for thing in model.objects if thing.options.get("table")]
+    return ", ".join(names) if names else "a table for it in the model"
+
+
+def known(part, given, source):
+    """What is told of KNOWN of what is no look at a slot."""
+    says = f"`{source.words(part.span)}` is no value of a slot at a date, and KNOWN asks of nothing else"
+    if given.sort == "slot":
+        return says, f"KNOWN({source.words(part.span)}[t])"
+    inner = part
+    while isinstance(inner, trees.Brackets):
+        inner = inner.parts[0]
+    return says, f"KNOWN({source.words(inner.span)}), without brackets" if isinstance(inner, trees.At) else ""
+
+
+def date(node, given, source):
+    """What is told of a date that is none, and what may be meant."""
+    slot, behind = (source.words(part.span) for part in node.parts)
+    says = f"`{behind}` is {given.words()}, and a date stands in [ ]"
+    if isinstance(node.parts[1], trees.One) and node.parts[1].word == "-":
+        return says, f'{slot}[t - {source.words(node.parts[1].parts[0].span)} "step"]'
+    return says, f'{slot}[t], or {slot}[t - 1 "step"] of the timestep before' if given.sort == "number" else ""
+
+
+def item(node, given, source):
+    """An item of a list that is asked for in square brackets."""
+    words = [source.words(part.span) for part in node.parts]
+    return f"ITEM({words[0]}, {words[1]})" if given.is_list else ""
+
+
+def steps(node, source):
+    """A date that is moved by a number without its unit."""
+    words = [source.words(part.span) for part in node.parts]
+    bare = isinstance(node.parts[1], trees.Literal) and not node.parts[1].unit
+    moved = f'{words[1]} "step"' if bare else f'({words[1]}) * 1 "step"'
+    return f"{words[0]} {node.word} {moved}"
+
+
+def of_sides(node, left, right, source):
+    """What may be meant where two sides measure other things."""
+    return best(of_value(node.parts[0], left, right, source), of_value(node.parts[1], right, left, source))
+
+
+def best(*hints):
+    """Of some hints the one that is meant most often: a number with its unit, a volume, and a quotient at last."""
+    return min(hints, key=lambda hint: (not hint, "/ 1 " in hint))
+
+
+def of_value(node, given, asked, source):
+    """What may be meant by a value of one type where another is asked for, or ""."""
+    text = source.words(node.span)
+    tight = text if isinstance(node, TIGHT) else f"({text})"
+    if given.sort == "slot" and asked.sort == "number":
+        return f"{text}[t], its value"
+    if given.sort != "number" or asked.sort != "number":
+        return ""
+    if isinstance(node, trees.Literal) and not (node.unit and node.unit.text) and asked.measure != PLAIN:
+        words = [word for word in UNITS if UNITS[word] == (asked.measure, 1)]
+        return f'{text} "{words[0]}"' if words else ""
+    if given.measure == FLOW and asked.measure == VOLUME:
+        return f'{tight} * 1 "step", what flows in a timestep'
+    if given.measure == VOLUME and asked.measure == FLOW:
+        return f'{tight} / 1 "step", a flow of a timestep'
+    if given.measure == PLAIN and asked.measure == TIMESTEP:
+        return f'{tight} * 1 "step"'
+    return plain_number(node, tight, given) if asked.measure == PLAIN else ""
+
+
+def plain_number(node, text, given):
+    """What may be meant where a plain number is asked for."""
+    if isinstance(node, trees.Literal):
+        return f"{node.value}, without its unit"
+    unit = unit_words(given.measure)
+    return f'{text} / 1 "{unit}", a plain number' if unit in UNITS else ""

@@ -1,0 +1,143 @@
+"""A policy as the tools read it: a ruleset or a file of code, with its rules in the order of their numbers."""
+
+from dataclasses import dataclass, field
+
+from basin_files.program import bytes_of
+from basin_files.reasons import plain
+
+from . import codefile, verifier
+from .looks import Look, RuleFacts, Setting, calls_of, facts_of
+from .places import Source
+from .rulesets import check_text, read_ruleset
+
+
+@dataclass
+class RuleRow:
+    """A rule: its number, its name, what it sets, at what it looks, and its budget."""
+
+    number: int
+    name: str
+    sets: list
+    looks: list
+    budget: tuple
+
+
+@dataclass
+class Policy:
+    """A policy: its text, the ruleset or the code that it is, and what is wrong with it."""
+
+    source: object
+    ruleset: object = None
+    code: object = None
+    findings: list = field(default_factory=list)
+
+    @property
+    def refusal(self):
+        """What `basin` answers where something is wrong, by this tool's reading."""
+        return f"basin: {'code' if self.code else 'rules'}: {self.findings[0].refusal}" if self.findings else ""
+
+    @property
+    def answer(self):
+        """What `check` writes where nothing is wrong, by this tool's reading."""
+        return verifier.check_text(self.code.blocks, self.code.budgets) if self.code else check_text(self.ruleset)
+
+    def names(self):
+        """Each rule for people to read."""
+        if self.ruleset:
+            return [rule.called for rule in self.ruleset.rules]
+        return [f"rule {number}" for number in range(1, 1 + sum(block.is_rule for block in self.code.blocks))]
+
+    def rows(self, model):
+        """What is told of each rule; nothing is wrong with the policy."""
+        return rows_of_code(self.code) if self.code else rows_of_ruleset(self.ruleset, model)
+
+    def facts(self, model):
+        """What each rule looks at and sets, as far as the text tells."""
+        return facts_of_code(self.code) if self.code else facts_of(self.ruleset, model)
+
+    def uncalled(self):
+        """The functions that no rule calls, by itself or through others: the name and the place of each."""
+        if self.code:
+            return uncalled_of_code(self.code)
+        called = calls_of(self.ruleset)
+        return [(name, one.name_span) for name, one in self.ruleset.functions.items() if name not in called]
+
+
+def read_policy(path, model):
+    """The policy of a file, judged with a model with which nothing is wrong."""
+    content = bytes_of(path)
+    source = Source(plain(str(path)), content)
+    if codefile.is_code(content):
+        code = codefile.read_code(source, model)
+        return Policy(source, code=code, findings=code.findings)
+    ruleset = read_ruleset(source, model)
+    return Policy(source, ruleset=ruleset, findings=ruleset.findings)
+
+
+def rows_of_ruleset(ruleset, model):
+    """What is told of each rule of a ruleset."""
+    rows = []
+    for rule, facts in zip(ruleset.rules, facts_of(ruleset, model)):
+        looks = list(dict.fromkeys(f"{look.slot}{look.time}" for look in facts.looks))
+        budget = rule.budget
+        amounts = (budget.instructions, budget.reads, budget.puts, budget.words)
+        sets = list(dict.fromkeys(setting.cell for setting in facts.settings))
+        rows.append(RuleRow(rule.rule, rule.name, sets, looks, amounts))
+    return rows
+
+
+def rows_of_code(code):
+    """What is told of each rule of a file of code, which has no names."""
+    rows, slots = [], []
+    for block, budget in zip(code.blocks, code.budgets):
+        named = [".".join(line[1]) for line in block.lines if line[0] == "slot"]
+        named += [slot for line in block.lines if line[0] == "invoke" for slot in slots[line[1] - 1]]
+        slots.append(list(dict.fromkeys(named)))
+        if block.is_rule:
+            puts = [Setting(".".join(line[1]), False, None, None, line[2]) for line in block.lines if line[0] == "put"]
+            sets = list(dict.fromkeys(put.cell for put in puts))
+            rows.append(RuleRow(len(rows) + 1, "", sets, slots[-1], tuple(budget)))
+    return rows
+
+
+# ---- what code tells of its rules
+
+
+def facts_of_code(code):
+    """What each rule of code sets, and its looks at `t` up to where it first branches or loops."""
+    facts = []
+    for block in code.blocks:
+        if not block.is_rule:
+            continue
+        number = len(facts) + 1
+        facts.append(RuleFacts(number, f"rule {number}", codefile.line_span(code.source, block.line)))
+        sure = True
+        for place, line in enumerate(block.lines):
+            sure &= line[0] not in ("branch", "jump", "foreach", "map")
+            span = codefile.line_span(code.source, block.line + 2 + place)
+            if line[0] == "put":
+                facts[-1].settings.append(Setting(".".join(line[1]), sure, span, None, line[2]))
+            elif line == ("read",) and block.lines[place - 1] == ("now",) and block.lines[place - 2][0] == "slot":
+                slot = ".".join(block.lines[place - 2][1])
+                facts[-1].looks.append(Look(slot, 0, False, False, sure, span))
+            elif line[0] in ("read", "known", "invoke"):
+                facts[-1].looks.append(Look("", None, True, False, False, span))
+    return facts
+
+
+def uncalled_of_code(code):
+    """The functions of code that no rule calls, by number."""
+    calls = {number: called_by(block) for number, block in enumerate(code.blocks, 1)}
+    called, waiting = set(), [number for number, block in enumerate(code.blocks, 1) if block.is_rule]
+    while waiting:
+        found = calls[waiting.pop()] - called
+        called |= found
+        waiting += found
+    functions = [number for number, block in enumerate(code.blocks, 1) if not block.is_rule]
+    lines = {number: codefile.line_span(code.source, code.blocks[number - 1].line) for number in functions}
+    return [(f"of block {number}", lines[number]) for number in functions if number not in called]
+
+
+def called_by(block):
+    """The numbers of the functions that a block calls."""
+    return {line[1] for line in block.lines if line[0] == "invoke"}
