@@ -1,5 +1,5 @@
 -- The state after an event.
-use Rattle.rw_engine.proofs.Common.{AreCells, AreReady, Draft, Grows, IsCounted, IsObject, IsOnTheWay, IsSome, IsStageOf, IsWithinStep, Keeps, Leaves, List, None, Ok, Option, RunFault, Some, State, ap, arith, count_of, end_by, ended_by, held, left, length, length-set, queued_after-ready, raised, room, stage, subst, sym, ℕ, ◌++◌, ◌+◌, ◌-◌, ◌<◌, ◌∙◌, ◌≡◌, ◌≤◌}
+use Rattle.rw_engine.proofs.Common.{AreCells, AreReady, Draft, Grows, IsCounted, IsObject, IsOnTheWay, IsSome, IsStageOf, IsWithinStep, Keeps, Leaves, List, None, Ok, Option, RunFault, Some, State, ap, arith, count_of, ended_by, held, left, length, length-set, queued_after-ready, raised, room, stage, subst, sym, ℕ, ◌++◌, ◌-◌, ◌<◌, ◌∙◌, ◌≡◌, ◌≤◌}
 use Rattle.rw_engine.proofs.Raises.{room_falls}
 use Rattle.rpl_verify.specs.Verified.{Accepted}
 use Rattle.rw_agenda.specs.Agenda.{IsIndexed, unfired}
@@ -9,9 +9,8 @@ use Rattle.rw_run.specs.Log.{Cells, Log}
 use Rattle.rw_rules.specs.Rules.{IsRulesOf, Rules, WrittenOn}
 use Rattle.rw_rules.specs.Firing.{most_looks}
 use Rattle.rw_engine.proofs.Common.{Asked, Event, last_put, option_or, refl, slice_index_or, undone_of, written_by}
-use Rattle.std.specs.Prelude.{Result, Err, IsErrAnd}
-use Rattle.rw_engine.specs.State.{Does, IsStill}
-use Rattle.rw_engine.specs.declared.step_end.StepEnd.{StepEnd}
+use Rattle.std.specs.Prelude.{Bool, Result, Err, IsErrAnd, is_some}
+use Rattle.rw_engine.specs.State.{Does, IsStill, seen_end}
 use Rattle.rw_engine.proofs.TakenBack.{noted, undo-kept, undo-made}
 
 -- each object has a count, and so has each rule
@@ -159,24 +158,24 @@ less_rules basin old new rule known below firings counts =
 
 -- where no fault came, less is left to do
 on_the_way : (basin : Draft) (step : ℕ) (old new : State) (why : Option RunFault) → left basin new < left basin old → new.closed ≡ old.closed → new.end ≡ old.end
-    → IsOnTheWay basin step (Ok (end_by why)) old (ended_by why new)
+    → IsOnTheWay basin step (seen_end (ended_by why new) (Ok (is_some why))) old (ended_by why new)
 on_the_way basin step old new None less closed end = (record { closed_steps = closed; end = end }, less)
 on_the_way basin step old new (Some why) less closed end = closed
 
 pub on_the_way_object : (basin : Draft) (step : ℕ) (old new : State) (why : Option RunFault) (object : ℕ) → IsCounted old.counts object
     → count_of old.counts object < basin.control.object_limit → new.counts ≡ raised old.counts object → new.firings ≡ old.firings → new.closed ≡ old.closed → new.end ≡ old.end
-    → IsOnTheWay basin step (Ok (end_by why)) old (ended_by why new)
+    → IsOnTheWay basin step (seen_end (ended_by why new) (Ok (is_some why))) old (ended_by why new)
 on_the_way_object basin step old new why object known below counts firings closed end =
     on_the_way basin step old new why (less_objects basin old new object known below counts firings) closed end
 
 pub on_the_way_rule : (basin : Draft) (step : ℕ) (old new : State) (why : Option RunFault) (rule : ℕ) → IsCounted old.firings rule
     → count_of old.firings rule < basin.control.rule_limit → new.firings ≡ raised old.firings rule → new.counts ≡ old.counts → new.closed ≡ old.closed → new.end ≡ old.end
-    → IsOnTheWay basin step (Ok (end_by why)) old (ended_by why new)
+    → IsOnTheWay basin step (seen_end (ended_by why new) (Ok (is_some why))) old (ended_by why new)
 on_the_way_rule basin step old new why rule known below firings counts closed end =
     on_the_way basin step old new why (less_rules basin old new rule known below firings counts) closed end
 
 -- memory wants for an event
-pub wanted : (basin : Draft) (policy : Accepted) (step : ℕ) (old new : State) (given : Log → Type 0) (result : Result (Option StepEnd) NoMemory) (why : NoMemory)
+pub wanted : (basin : Draft) (policy : Accepted) (step : ℕ) (old new : State) (given : Log → Type 0) (result : Result Bool NoMemory) (why : NoMemory)
     → IsErrAnd result (λ fault. fault ≡ why) → Keeps basin policy old new → IsStill old new → IsSome old.trace → Does basin policy step old new given result
 wanted basin policy step old new given (Ok end) why is keeps still kept = absurd is
 wanted basin policy step old new given (Err fault) why is keeps still kept = record { keeps = keeps; on_the_way = still; goes = λ log holds. tt; wants = kept }

@@ -1,5 +1,6 @@
 -- What follows where no object waits, and the firing of a rule, over the log that the state holds.
-use Rattle.rw_engine.proofs.Common.{Asked, Bool, Cell, Cells, Draft, Event, Fault, GoesTo, HoldsWithin, IsCounted, List, Log, None, Option, Policy, RunFault, Settled, Shows, Some, State, [], ap, arith, cells_of, closed, count_if, count_of, dispatches, end_by, end_of, ended_by, false, fault, fault_of_rule, first_of, held, if◌then◌else◌, last_put, line_of, lines_of_rule, map, nat_le, nat_tests, next, next_of, option_or, raised, refl, seen, slice_index_or, subst, sym, trace_of, true, waiting, written_by, ℕ, ◌++◌, ◌-◌, ◌<◌, ◌==◌, ◌∙◌, ◌∷◌, ◌≡◌, ◌≤◌}
+use Rattle.std.specs.Prelude.{is_some}
+use Rattle.rw_engine.proofs.Common.{Asked, Bool, Cell, Cells, Draft, Fault, GoesTo, HoldsWithin, IsCounted, List, Log, None, Option, Policy, RunFault, Shows, Some, State, [], ap, arith, cells_of, count_if, count_of, dispatches, ended_by, ending, false, fault, fault_of_rule, first_of, held, if◌then◌else◌, last_put, line_of, lines_of_rule, map, nat_le, nat_tests, next, next_of, option_or, raised, refl, seen, slice_index_or, subst, sym, trace_of, true, waiting, written_by, ℕ, ◌++◌, ◌-◌, ◌<◌, ◌==◌, ◌∙◌, ◌∷◌, ◌≡◌, ◌≤◌}
 use Rattle.rpl_verify.specs.Verified.{Accepted}
 use Rattle.rw_run.proofs.Waits.{fires}
 use Rattle.rw_run.specs.Dispatch.{dispatched, looks_at}
@@ -130,7 +131,7 @@ module _ (basin : Draft) (policy : Accepted) (old new : State) (rule step : ℕ)
   pub fired_to : (so : FireEnd)
       → MadeSo basin policy old new rule step log fire (written_by (ended basin (held old.series) rule step fire so))
       (lines_of_rule rule step so fire.count (written_by (ended basin (held old.series) rule step fire so)))
-      → GoesTo basin policy (end_by (fault_of_rule rule step so)) (ended_by (fault_of_rule rule step so) new) step log (ended basin (held old.series) rule step fire so)
+      → GoesTo basin policy (ending (ended_by (fault_of_rule rule step so) new) (is_some (fault_of_rule rule step so))) (ended_by (fault_of_rule rule step so) new) step log (ended basin (held old.series) rule step fire so)
   fired_to Done made = goes_on true _ _ made
   fired_to Unknown made = goes_on false _ _ made
   fired_to DividesByZero made = (refl, ends_by _ made)
@@ -141,9 +142,9 @@ pub fired_on : (basin : Draft) (policy : Accepted) (old new : State) (rule step 
     → new.end ≡ old.end → (so : FireEnd) → so ≡ fire.end → (why : Option RunFault) → why ≡ fault_of_rule rule step so
     → MadeSo basin policy old new rule step log fire (written_by (ended basin (held old.series) rule step fire fire.end))
     (lines_of_rule rule step fire.end fire.count (written_by (ended basin (held old.series) rule step fire fire.end)))
-    → GoesTo basin policy (end_by why) (ended_by why new) step log (ended basin (held old.series) rule step fire fire.end)
+    → GoesTo basin policy (ending (ended_by why new) (is_some why)) (ended_by why new) step log (ended basin (held old.series) rule step fire fire.end)
 fired_on basin policy old new rule step log fire holds end so same why is made =
-    subst (λ w. GoesTo basin policy (end_by w) (ended_by w new) step log (ended basin (held old.series) rule step fire fire.end))
+    subst (λ w. GoesTo basin policy (ending (ended_by w new) (is_some w)) (ended_by w new) step log (ended basin (held old.series) rule step fire fire.end))
     (sym (is ∙ ap (fault_of_rule rule step) same)) (fired_to basin policy old new rule step log fire holds end fire.end made)
 
 -- looks of rules whose marks alone changed

@@ -1,5 +1,5 @@
 -- The state of an engine, and what it has within a timestep.
-use Rattle.std.specs.Prelude.{◌≡◌, ℕ, ◌<◌, false, List, [], ◌∷◌, ◌+◌, ◌≤◌, length, All, Option, Some, None, IsSome, Result, Ok, Err, IfOk, IfErr}
+use Rattle.std.specs.Prelude.{◌≡◌, ℕ, ◌<◌, Bool, false, if◌then◌else◌, List, [], ◌∷◌, ◌+◌, ◌≤◌, length, All, Option, Some, None, IsSome, Result, Ok, Err, IfOk, IfErr}
 use Rattle.rw_base.specs.declared.memory.NoMemory.{NoMemory}
 use Rattle.rw_model.specs.Draft.{Draft, IsObject}
 use Rattle.rw_series.specs.Series.{held}
@@ -21,9 +21,10 @@ use Rattle.rw_engine.specs.Shows.{IsBefore, IsEngineOf, Shows, EndsBy, closed_by
 use Rattle.rw_engine.specs.Undone.{AreCells, CanUndo}
 use Rattle.rw_engine.specs.declared.state.State.{State}
 use Rattle.rw_engine.specs.declared.step_end.StepEnd.{StepEnd}
-use Rattle.rw_engine.specs.declared.step_end.StepEnd.TheVariants.{Fault as StepFault}
+use Rattle.rw_engine.specs.declared.step_end.StepEnd.TheVariants.{Closed, Fault as StepFault}
 use Rattle.rw_run.specs.declared.fault.RunFault.{RunFault}
-use Rattle.rw_run.specs.declared.run.RunEnd.TheVariants.{Fault}
+use Rattle.rw_run.specs.declared.run.RunEnd.{RunEnd}
+use Rattle.rw_run.specs.declared.run.RunEnd.TheVariants.{Fault, Settled}
 
 -- the engine that a state is seen as
 abbrev pub seen : State → Engine
@@ -97,10 +98,6 @@ abbrev pub ended_by : Option RunFault → State → State
 ended_by None state = state
 ended_by (Some why) state = record state { end = Fault why }
 
-abbrev pub end_by : Option RunFault → Option StepEnd
-end_by None = None
-end_by (Some why) = Some (StepFault why)
-
 -- all can still be taken back, where a trace is kept
 pub record Keeps (basin : Draft) (policy : Accepted) (old new : State) : Type 0 where
   pub within : IsWithinStep basin policy new
@@ -117,6 +114,19 @@ pub record IsRevocable (basin : Draft) (old new : State) : Type 0 where
 abbrev pub left : Draft → State → ℕ
 left basin state = room basin.control.object_limit state.counts + room basin.control.rule_limit state.firings
 
+-- how a timestep ended, after which the run stands so
+abbrev pub step_end : RunEnd → StepEnd
+step_end Settled = Closed
+step_end (Fault why) = StepFault why
+
+-- whether a timestep ended, as how it did: the state has that
+abbrev pub ending : State → Bool → Option StepEnd
+ending state ended = if ended then Some (step_end state.end) else None
+
+abbrev pub seen_end : State → Result Bool NoMemory → Result (Option StepEnd) NoMemory
+seen_end state (Ok ended) = Ok (ending state ended)
+seen_end state (Err fault) = Err fault
+
 -- unless the timestep ended, the run is still, and where it goes on, less is left to do in the timestep
 abbrev pub IsOnTheWay : Draft → ℕ → Result (Option StepEnd) NoMemory → State → State → Type 0
 IsOnTheWay basin step (Ok None) old new = IsStill old new × (left basin new < left basin old)
@@ -124,10 +134,10 @@ IsOnTheWay basin step (Ok (Some end)) old new = new.closed ≡ closed_by end ste
 IsOnTheWay basin step (Err fault) old new = IsStill old new
 
 -- what is done for the event that follows a log of which this is given
-pub record Does (basin : Draft) (policy : Accepted) (step : ℕ) (old new : State) (given : Log → Type 0) (result : Result (Option StepEnd) NoMemory) : Type 0 where
+pub record Does (basin : Draft) (policy : Accepted) (step : ℕ) (old new : State) (given : Log → Type 0) (result : Result Bool NoMemory) : Type 0 where
   pub keeps : Keeps basin policy old new
-  pub on_the_way : IsOnTheWay basin step result old new
-  pub goes : (log : Log) → given log → IfOk result (λ end. Goes basin policy end new step log)
+  pub on_the_way : IsOnTheWay basin step (seen_end new result) old new
+  pub goes : (log : Log) → given log → IfOk (seen_end new result) (λ end. Goes basin policy end new step log)
   -- memory wants only where a trace is kept
   pub wants : IfErr result (λ fault. IsSome old.trace)
 

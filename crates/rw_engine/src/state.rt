@@ -1,4 +1,4 @@
-ghost use Rattle.std.specs.Prelude.{◌≡◌, ◌<◌, ◌∷◌, [], ℕ, List, map, Some, None, Ok, IfOk, IfErr, IfSome, IsSome};
+ghost use Rattle.std.specs.Prelude.{◌≡◌, ◌<◌, ◌∷◌, [], ℕ, List, map, Some, None, Ok, IfOk, IfErr, IfSome, IsSome, is_some};
 ghost use Rattle.rw_model.specs.Draft.{Draft};
 ghost use Rattle.rw_method.specs.Catalogue.{AreInOrder};
 ghost use Rattle.rw_inputs.specs.Inputs.{IsInputsOf};
@@ -10,7 +10,7 @@ ghost use Rattle.rw_model.specs.Turn.{IsStep, IsTurn};
 ghost use Rattle.rw_engine.specs.Counts.{count_of};
 ghost use Rattle.rw_engine.specs.Passing.{RunsStep};
 ghost use Rattle.rw_engine.specs.Shows.{IsEngineOf, Shows};
-ghost use Rattle.rw_engine.specs.State.{seen, Begins, Does, HasPassed, HoldsBefore, HoldsDue, HoldsWithin, IsFresh, IsOpened, IsStateOf, IsWithinStep, OnlyTells, end_by, ended_by};
+ghost use Rattle.rw_engine.specs.State.{seen, Begins, Does, HasPassed, HoldsBefore, HoldsDue, HoldsWithin, IsFresh, IsOpened, IsStateOf, IsWithinStep, OnlyTells, ended_by, step_end};
 
 use crate::counts::Counts;
 use crate::placing::place;
@@ -96,8 +96,8 @@ impl State {
         Ok(())
     }
 
-    // Closes the open timestep.
-    fn close(&mut self, setup: &RunSetup, step: StepNo) -> Result<Option<StepEnd>, NoMemory>
+    // Closes the open timestep. As each of the calls below it answers whether the timestep ended: how, the state has.
+    fn close(&mut self, setup: &RunSetup, step: StepNo) -> Result<bool, NoMemory>
         requires within { IsWithinStep setup.now.basin.now setup.now.policy.now self.old }
         requires idle { self.old.queue.waiting ≡ [] }
         requires step { IsStep setup.now.basin.now step.0 }
@@ -106,16 +106,12 @@ impl State {
     {
         self.trace.push(TraceEvent::Closed(step))?;
         self.closed = step.0;
-        Ok(Some(StepEnd::Closed))
+        self.end = RunEnd::Settled;
+        Ok(true)
     }
 
     // Ends the run by a limit that is reached.
-    fn exceed(
-        &mut self,
-        setup: &RunSetup,
-        step: StepNo,
-        why: RunFault,
-    ) -> Result<Option<StepEnd>, NoMemory>
+    fn exceed(&mut self, setup: &RunSetup, step: StepNo, why: RunFault) -> Result<bool, NoMemory>
         requires within { IsWithinStep setup.now.basin.now setup.now.policy.now self.old }
         ensures { (waits : List ℕ)
             → Does setup.now.basin.now setup.now.policy.now step.0 self.old self.new
@@ -124,30 +120,35 @@ impl State {
     {
         self.trace.push(TraceEvent::Fault(why))?;
         self.end = RunEnd::Fault(why);
-        Ok(Some(StepEnd::Fault(why)))
+        Ok(true)
     }
 
     // Ends the run by the fault, if there is one.
-    fn end_by(&mut self, fault: Option<RunFault>) -> Option<StepEnd>
+    fn end_by(&mut self, fault: Option<RunFault>) -> bool
         ensures state { self.new ≡ ended_by fault self.old }
-        ensures end { result ≡ end_by fault }
+        ensures end { result ≡ is_some fault }
     {
         match fault {
-            None => None,
+            None => false,
             Some(fault) => {
                 self.end = RunEnd::Fault(fault);
-                Some(StepEnd::Fault(fault))
+                true
             }
         }
     }
 
+    // How the timestep ended.
+    fn step_end(&self) -> StepEnd
+        ensures { result ≡ step_end self.now.end }
+    {
+        match self.end {
+            RunEnd::Settled => StepEnd::Closed,
+            RunEnd::Fault(fault) => StepEnd::Fault(fault),
+        }
+    }
+
     // Dispatches the object that was taken out of the queue, below its limit.
-    fn act(
-        &mut self,
-        setup: &RunSetup,
-        object: ObjectNo,
-        step: StepNo,
-    ) -> Result<Option<StepEnd>, NoMemory>
+    fn act(&mut self, setup: &RunSetup, object: ObjectNo, step: StepNo) -> Result<bool, NoMemory>
         requires within { IsWithinStep setup.now.basin.now setup.now.policy.now self.old }
         requires order { AreInOrder
             (map (λ b. code (b.vtable, b.value)) setup.now.methods.now.methods.items) }
@@ -178,12 +179,7 @@ impl State {
     }
 
     // Dispatches the object that was taken out of the queue, unless its limit is reached.
-    fn ask(
-        &mut self,
-        setup: &RunSetup,
-        object: ObjectNo,
-        step: StepNo,
-    ) -> Result<Option<StepEnd>, NoMemory>
+    fn ask(&mut self, setup: &RunSetup, object: ObjectNo, step: StepNo) -> Result<bool, NoMemory>
         requires within { IsWithinStep setup.now.basin.now setup.now.policy.now self.old }
         requires order { AreInOrder
             (map (λ b. code (b.vtable, b.value)) setup.now.methods.now.methods.items) }
@@ -208,12 +204,7 @@ impl State {
     }
 
     // Lets the rule fire that is due, below its limit.
-    fn fire(
-        &mut self,
-        setup: &RunSetup,
-        rule: RuleNo,
-        step: StepNo,
-    ) -> Result<Option<StepEnd>, NoMemory>
+    fn fire(&mut self, setup: &RunSetup, rule: RuleNo, step: StepNo) -> Result<bool, NoMemory>
         requires within { IsWithinStep setup.now.basin.now setup.now.policy.now self.old }
         requires idle { self.old.queue.waiting ≡ [] }
         requires turn { IsRuleTurn setup.now.basin.now setup.now.policy.now rule.0 step.0 }
@@ -240,12 +231,7 @@ impl State {
     }
 
     // Lets the rule fire that is due, unless its limit is reached.
-    fn let_fire(
-        &mut self,
-        setup: &RunSetup,
-        rule: RuleNo,
-        step: StepNo,
-    ) -> Result<Option<StepEnd>, NoMemory>
+    fn let_fire(&mut self, setup: &RunSetup, rule: RuleNo, step: StepNo) -> Result<bool, NoMemory>
         requires within { IsWithinStep setup.now.basin.now setup.now.policy.now self.old }
         requires idle { self.old.queue.waiting ≡ [] }
         requires turn { IsRuleTurn setup.now.basin.now setup.now.policy.now rule.0 step.0 }
@@ -261,7 +247,7 @@ impl State {
     }
 
     // Where no object waits, the first rule that is due fires; where none is due, the timestep is closed.
-    fn turn_to_rules(&mut self, setup: &RunSetup, step: StepNo) -> Result<Option<StepEnd>, NoMemory>
+    fn turn_to_rules(&mut self, setup: &RunSetup, step: StepNo) -> Result<bool, NoMemory>
         requires within { IsWithinStep setup.now.basin.now setup.now.policy.now self.old }
         requires idle { self.old.queue.waiting ≡ [] }
         requires step { IsStep setup.now.basin.now step.0 }
@@ -276,7 +262,7 @@ impl State {
     }
 
     // The event that follows in the open timestep.
-    fn event(&mut self, setup: &RunSetup, step: StepNo) -> Result<Option<StepEnd>, NoMemory>
+    fn event(&mut self, setup: &RunSetup, step: StepNo) -> Result<bool, NoMemory>
         requires within { IsWithinStep setup.now.basin.now setup.now.policy.now self.old }
         requires order { AreInOrder
             (map (λ b. code (b.vtable, b.value)) setup.now.methods.now.methods.items) }
@@ -302,8 +288,9 @@ impl State {
     {
         self.open(setup, step)?;
         loop {
-            if let Some(end) = self.event(setup, step)? {
-                return Ok(end);
+            let ended = self.event(setup, step)?;
+            if ended {
+                return Ok(self.step_end());
             }
         }
     }

@@ -1,4 +1,4 @@
-use Rattle.rw_engine.proofs.Common.{refl, rules}
+use Rattle.rw_engine.proofs.Common.{refl}
 use Rattle.rw_engine.proofs.Traces.{told_on}
 use Rattle.rw_engine.proofs.Steps.{grows_more}
 use Rattle.rw_engine.proofs.trace_lines.tell_done.Goals as goal

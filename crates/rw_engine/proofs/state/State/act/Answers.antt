@@ -1,4 +1,4 @@
-use Rattle.rw_engine.proofs.Common.{Leaves, [], ap, held, length-set, lines_by, refl, stage, subst, sym, take, ◌∙◌}
+use Rattle.rw_engine.proofs.Common.{Leaves, [], ap, held, lines_by, refl, stage, subst, sym, take, ◌∙◌}
 use Rattle.rw_run.specs.Trace.{told}
 use Rattle.rw_run.specs.Dispatch.{dispatched, looks_of}
 use Rattle.rw_dispatch.proofs.Waking.{leaves_written}

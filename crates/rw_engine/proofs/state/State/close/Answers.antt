@@ -1,6 +1,5 @@
 use Rattle.rw_engine.proofs.Common.{None, closed, held, lines, refl, rules, sym, trace_of, ◌∙◌}
 use Rattle.rw_rules.specs.Rules.{policy_in}
-use Rattle.rw_engine.proofs.Events.{settled_inside}
 use Rattle.rw_engine.proofs.Firings.{after_all}
 use Rattle.rw_engine.proofs.Traces.{shown_more}
 use Rattle.rw_engine.proofs.state.State.close.Goals as goal
@@ -23,7 +22,7 @@ returns g c =
             cells = given.0.shows.cells;
             trace = shown_more old.trace c.push.new.self (trace_of log) (lines (closed step)) c.in_ok-push.ensures.pushed given.0.shows.trace;
             closed_steps = refl;
-            end = given.0.shows.end ∙ settled_inside log step given.0.open_step;
+            end = refl;
           },
         );
       };

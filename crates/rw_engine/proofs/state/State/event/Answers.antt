@@ -1,4 +1,4 @@
-use Rattle.rw_base.proofs.Common.{◌≡◌, ◌∙◌, ◌∷◌, ◌≤◌, false, All, All-head, All-rest, subst}
+use Rattle.rw_base.proofs.Common.{◌≡◌, ◌∙◌, ◌≤◌, false, All, All-head, All-rest, subst}
 use Rattle.rw_model.specs.Turn.{is_data}
 use Rattle.rw_engine.proofs.state.State.event.Goals as goal
 

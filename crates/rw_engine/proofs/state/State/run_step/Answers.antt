@@ -1,4 +1,4 @@
-use Rattle.std.proofs.Common.{IfSome, IsSome, List, Option, ap, option_map, subst, sym, take, ◌∙◌, ◌≡◌}
+use Rattle.std.proofs.Common.{IfSome, IsSome, ap, option_map, subst, sym, take, ◌∙◌, ◌≡◌}
 use Rattle.rw_run.specs.RunOf.{trace_of}
 use Rattle.rw_engine.proofs.Traces.{kept_on, shortened}
 use Rattle.rw_engine.proofs.state.State.run_step.Goals as goal
