@@ -1,6 +1,7 @@
-ghost use Rattle.std.specs.Prelude.{◌≡◌, ◌&&◌, false, if◌then◌else◌, IfOk};
+ghost use Rattle.std.specs.Prelude.{◌≡◌, ◌&&◌, false, true, if◌then◌else◌, IfOk};
 ghost use Rattle.rw_base.specs.declared.number.Cell.{Cell};
 ghost use Rattle.rw_run.specs.Step.{is_same_cell};
+ghost use Rattle.rw_series.specs.Cells.{position_of};
 ghost use Rattle.rw_record.specs.Marks.{has_mark, is_marked};
 
 use rw_base::{Cell, NoMemory};
@@ -35,7 +36,11 @@ impl Marks {
         let slots = basin.slot_count();
         let steps = basin.control().stamps.count();
         let flags = Vec::from_elem(alloc, false, usize::from(slots) * usize::from(steps))?;
-        Ok(Marks { slots, steps, flags })
+        Ok(Marks {
+            slots,
+            steps,
+            flags,
+        })
     }
 
     /// No marks.
@@ -53,7 +58,8 @@ impl Marks {
     pub(crate) fn has_mark(&self, cell: Cell) -> bool
         ensures { result ≡ has_mark self.now cell }
     {
-        (1 <= cell.slot.0 && cell.slot.0 <= self.slots) && (1 <= cell.step.0 && cell.step.0 <= self.steps)
+        (1 <= cell.slot.0 && cell.slot.0 <= self.slots)
+            && (1 <= cell.step.0 && cell.step.0 <= self.steps)
     }
 
     /// Whether a cell is marked.

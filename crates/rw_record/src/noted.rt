@@ -2,7 +2,7 @@ ghost use Rattle.std.specs.Prelude.{◌≡◌, ◌∷◌, [], All, IfOk, IfErr, 
 ghost use Rattle.rw_model.specs.Draft.{IsSlot};
 ghost use Rattle.rw_series.specs.Series.{held};
 ghost use Rattle.rw_run.specs.Frame.{cells_looked};
-ghost use Rattle.rw_run.specs.Step.{cells_reached, cells_with};
+ghost use Rattle.rw_run.specs.Step.{cells_reached, cells_with, is_same_cell};
 ghost use Rattle.rw_run.specs.declared.write.Write.{Write};
 ghost use Rattle.rw_record.specs.Marks.{AreMarked};
 ghost use Rattle.rw_record.specs.Noted.{AddsNotes, is_noted, noted_after, noted_in};
@@ -103,7 +103,12 @@ impl Noted {
     }
 
     /// Notes the cells of puts, each with all that share its value.
-    pub fn note_reached(&mut self, basin: &Basin, series: &Series, writes: &[Write]) -> Result<(), NoMemory>
+    pub fn note_reached(
+        &mut self,
+        basin: &Basin,
+        series: &Series,
+        writes: &[Write],
+    ) -> Result<(), NoMemory>
         requires { All (λ (write : Write). IsSlot basin.now.objects write.cell.slot.0) writes.now }
         ensures { AddsNotes (held series.now) (cells_reached basin.now writes.now) self.old self.new result }
     {
@@ -120,7 +125,13 @@ impl Noted {
     {
         self.note(series, cell)?;
         for slot in basin.group(cell.slot) {
-            self.note(series, Cell { slot: *slot, step: cell.step })?;
+            self.note(
+                series,
+                Cell {
+                    slot: *slot,
+                    step: cell.step,
+                },
+            )?;
         }
         Ok(())
     }
@@ -158,7 +169,12 @@ fn is_noted(marks: &Marks, items: &[Held], cell: Cell) -> bool
 }
 
 // Adds a cell with what it holds, unless it is noted. After want of memory all is as it was.
-fn add(marks: &mut Marks, items: &mut Vec<Held>, series: &Series, cell: Cell) -> Result<(), NoMemory>
+fn add(
+    marks: &mut Marks,
+    items: &mut Vec<Held>,
+    series: &Series,
+    cell: Cell,
+) -> Result<(), NoMemory>
     requires { AreMarked marks.old items.old.items }
     ensures marked { AreMarked marks.new items.new.items }
     ensures added { IfOk result (λ _. items.new.items
