@@ -1,5 +1,5 @@
 -- What is noted after some cells.
-use Rattle.rw_record.proofs.Common.{AreOnce, Bool, Cell, Cells, Contains, Contains-append_left, Contains-append_right, Contains-from_any, Contains-push, Contains-push_cases, Held, IsDistinct-push, IsFalse, IsTrue, List, [], ap, cells_noted, false, false≢true, if◌then◌else◌, inl, inr, is_noted, is_same_cell, list_any, list_any-append, list_any-from_Contains, map-append, noted_after, or_cases, refl, subst, sym, true, ◌++◌, ◌||◌, ◌↔◌, ◌∙◌, ◌∷◌, ◌≡◌, ◌⊎◌}
+use Rattle.rw_record.proofs.Common.{AreOnce, Bool, Cell, Cells, Contains, Contains-append_left, Contains-append_right, Contains-from_any, Contains-push, Contains-push_cases, Held, IsDistinct, IsDistinct-push, IsFalse, IsTrue, List, [], ap, cells_noted, false, false≢true, if◌then◌else◌, inl, inr, is_noted, is_same_cell, list_any, list_any-append, list_any-from_Contains, map-append, noted_after, or_cases, refl, subst, sym, arith, true, ◌++◌, ◌||◌, ◌↔◌, ◌∙◌, ◌∷◌, ◌≡◌, ◌⊎◌}
 use Rattle.rw_record.proofs.Cells.{From, cells_equiv, first_of, first_or, map_from, map_of, same_cell}
 
 or_known : (a b : Bool) → (b ≡ true → a ≡ true) → a ≡ (a || b)
@@ -155,20 +155,21 @@ old_in cells noted [] one has = has
 old_in cells noted (cell ∷ more) one has = old_in cells (with_one cells noted cell) more one (kept_one cells noted cell one has)
 
 pub new_in : (cells : Cells) (noted : List Held) (more : List Cell) (one : Held) → IsNew cells noted more one → Contains (noted_after cells noted more) one
-new_in cells noted [] one new = absurd (omega (arith, new.has.1.0))
-new_in cells noted (cell ∷ more) one new = by (is_same_cell one.cell cell) refl
+new_in cells noted [] one new = absurd (omega (arith, new.has.1))
+new_in cells noted (cell ∷ more) one new = by (new_in cells (with_one cells noted cell) more one) (is_same_cell one.cell cell) refl
   where
     later : is_same_cell one.cell cell ≡ false → (cell ≡ one.cell) ⊎ Contains more one.cell → Contains more one.cell
     later apart (inl at) = absurd (false≢true (sym apart ∙ ap (is_same_cell one.cell) at ∙ cells_equiv.refl one.cell))
     later apart (inr has) = has
 
-    by : (same : Bool) → is_same_cell one.cell cell ≡ same → Contains (noted_after cells (with_one cells noted cell) more) one
-    by true same =
+    by : (IsNew cells (with_one cells noted cell) more one → Contains (noted_after cells (with_one cells noted cell) more) one)
+        → (same : Bool) → is_same_cell one.cell cell ≡ same → Contains (noted_after cells (with_one cells noted cell) more) one
+    by others true same =
         let at : one.cell ≡ cell = same_cell one.cell cell same in
         let is : held_now cells cell ≡ one = ap (held_now cells) (sym at) ∙ ap (λ content. record { cell = one.cell; content = content }) (sym new.is) in
         old_in cells (with_one cells noted cell) more one
         (subst (Contains (with_one cells noted cell)) is (new_one cells noted cell (ap (is_noted noted) (sym at) ∙ new.fresh)))
-    by false apart = new_in cells (with_one cells noted cell) more one (record {
+    by others false apart = others (record {
       fresh = one_noted cells noted cell one.cell ∙ ap (λ known. known || is_same_cell one.cell cell) new.fresh ∙ apart;
       has = later apart (first_or cell more one.cell new.has);
       is = new.is;
@@ -182,12 +183,12 @@ members cells noted more one = (λ has. to (old_or cells noted more one has), fr
     to : Contains noted one ⊎ IsNew cells noted more one
         → Contains noted one ⊎ (IsFalse (is_noted noted one.cell) × Contains more one.cell × (one.content ≡ cells one.cell))
     to (inl old) = inl old
-    to (inr new) = inr (new.fresh, (new.has, new.is))
+    to (inr new) = inr (new.fresh, new.has, new.is)
 
     from : Contains noted one ⊎ (IsFalse (is_noted noted one.cell) × Contains more one.cell × (one.content ≡ cells one.cell))
         → Contains (noted_after cells noted more) one
     from (inl old) = old_in cells noted more one old
-    from (inr new) = new_in cells noted more one (record { fresh = new.0; has = new.1.0; is = new.1.1 })
+    from (inr new) = new_in cells noted more one (record { fresh = new.0; has = new.1; is = new.2 })
 
 -- ---- a noted cell, and what is noted of it
 

@@ -1,11 +1,11 @@
 -- Cells in order.
-use Rattle.rw_record.proofs.Common.{All, AreOnce, Cell, Contains, Held, List, [], ap, arith, cells_noted, false, false≢true, inl, inr, is_same_cell, length, length-map, map, nat_tests, refl, slice_index_or, subst, suc, sym, true, zero, ℕ, ◌&&◌, ◌+◌, ◌<◌, ◌==◌, ◌↔◌, ◌∙◌, ◌∷◌, ◌≡◌, ◌≤◌, ◌⊎◌}
+use Rattle.rw_record.proofs.Common.{All, AreOnce, Bool, Cell, Contains, Held, List, [], ap, arith, cells_noted, false, false≢true, inl, inr, is_same_cell, length, length-map, map, nat_tests, refl, slice_index_or, subst, suc, sym, true, zero, ℕ, ◌&&◌, ◌+◌, ◌<◌, ◌==◌, ◌↔◌, ◌∙◌, ◌∷◌, ◌≡◌, ◌≤◌, ◌⊎◌}
 use Rattle.rw_base.proofs.Common.{All-get_or, get_or-map, nat_cmp, nat_lt}
 use Rattle.std.proofs.lemmas.Bool.{cases_order}
 use Rattle.std.proofs.lemmas.Cmp.{nat_cmp_total, on_total, then_total}
 use Rattle.std.proofs.lemmas.List.Elements.{All-from_recursion}
 use Rattle.std.proofs.lemmas.List.Sorted.{Contains-permutation, IsPermutation-map, IsPermutation-sym, ranks_by, sorted_far}
-use Rattle.std.proofs.lemmas.Map.Keys.{IsDistinct-IsPermutation}
+use Rattle.std.proofs.lemmas.Map.Keys.{IsDistinct-IsPermutation, IsDistinct-head, IsDistinct-tail}
 use Rattle.std.specs.List.Sorted.{IsPermutation, IsSortedByKey}
 use Rattle.std.specs.Ordering.{is_lt, ordering_then}
 use Rattle.rw_record.specs.Record.{AreRisingCells, IsBelow}
@@ -48,9 +48,9 @@ in_order (first ∷ items) once far = (
   λ k d near.
       let there : is_same_cell first.cell (slice_index_or items k d).cell ≡ false =
       subst (λ cell. is_same_cell first.cell cell ≡ false) (get_or-map (λ (one : Held). one.cell) items k d first.cell near)
-      (All-from_recursion (λ cell. is_same_cell first.cell cell ≡ false) (cells_noted items) once.0 k first.cell (omega (arith, near, length-map items (λ (one : Held). one.cell)))) in
+      (All-from_recursion (λ cell. is_same_cell first.cell cell ≡ false) (cells_noted items) (IsDistinct-head is_same_cell first.cell (cells_noted items) once) k first.cell (omega (arith, near, length-map items (λ (one : Held). one.cell)))) in
       below first.cell (slice_index_or items k d).cell (far 0 (suc k) d (omega arith) (omega (arith, near))) there,
-  in_order items once.1 (λ i j d low high. far (suc i) (suc j) d (omega (arith, low)) (omega (arith, high))),
+  in_order items (IsDistinct-tail is_same_cell first.cell (cells_noted items) once) (λ i j d low high. far (suc i) (suc j) d (omega (arith, low)) (omega (arith, high))),
 )
 
 pub sorted_once : (items sorted : List Held) → IsPermutation items sorted → AreOnce items → AreOnce sorted

@@ -1,12 +1,13 @@
 -- What can be taken back, and what is noted of a timestep.
 use Rattle.rw_record.proofs.Common.{AreHeld, AreLooked, AreOnce, Asked, Bool, Cell, Cells, Contains, Contains-append_cases, Contains-append_left, Contains-append_right, Draft, Event, Held, IsTrue, List, None, [], ap, append-nil, arith, asked_in, cells_looked, cells_reached, false, false≢true, flat_map, flat_map-append, held_after, if◌then◌else◌, inl, inr, is_noted, is_shared, last_put, looks_in, noted_after, option_or, reached_by, refl, subst, sym, true, written_by, ◌++◌, ◌∙◌, ◌∷◌, ◌≡◌, ◌⊎◌}
+use Rattle.std.specs.List.{IsDistinct}
 use Rattle.rw_record.specs.Notes.{CanTakeBack, Notes}
 use Rattle.rw_record.proofs.Cells.{first_of, reached_at, shared_in}
-use Rattle.rw_record.proofs.Noting.{IsNew, among, before_none, new_in, noted_of, old_in, old_or, once}
+use Rattle.rw_record.proofs.Noting.{IsNew, among, before_none, new_in, noted_from, old_in, old_or, once}
 
 pub fresh : (before : Cells) → CanTakeBack before before []
 fresh before = record {
-  held = λ one has. absurd (omega (arith, has.1.0));
+  held = λ one has. absurd (omega (arith, has.1));
   same = λ cell none. refl;
 }
 
@@ -59,15 +60,16 @@ whole basin before now events noted notes = record {
 }
 
 pub opened : (basin : Draft) (before : Cells) → Notes basin before before [] []
+unfolding IsDistinct
 opened basin before = record {
-  looked = λ one. (λ has. absurd (omega (arith, has.1.0)), λ is. absurd (omega (arith, is.0.1.0)));
+  looked = λ one. (λ has. absurd (omega (arith, has.1)), λ is. absurd (omega (arith, is.0.1)));
   once = tt;
   same = λ cell none. refl;
 }
 
 module _ (basin : Draft) (before now : Cells) (events : List Event) (noted : List Held) (event : Event) (notes : Notes basin before now events noted)
     (asks : (put : Asked) → Contains (written_by event) put → Contains (asked_in event) put) where
-  reached : List Cell
+  abbrev reached : List Cell
   reached = reached_by basin event
 
   both : flat_map (reached_by basin) (events ++ event ∷ []) ≡ flat_map (reached_by basin) events ++ reached

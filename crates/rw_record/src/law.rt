@@ -15,7 +15,6 @@ ghost use Rattle.rw_record.specs.Record.{IsRecordOf, StepRecord};
 
 /// What is noted after some cells: what was noted before, and each of them that was new, with what it holds. Each cell stands
 /// there once, and it is one whether cells are noted together or one after the other.
-#[tactic(auto, using(crate::proofs::Noting::members, crate::proofs::Noting::among, crate::proofs::Noting::once, crate::proofs::Noting::joined))]
 pub fn noting()
     ensures members { (cells : Cells) (noted : List Held) (more : List Cell) (one : Held)
         → Contains (noted_after cells noted more) one ↔ (Contains noted one
@@ -31,7 +30,6 @@ pub fn noting()
 {}
 
 /// What can be taken back still can where any cells are noted, and where puts are made all of whose cells are noted.
-#[tactic(auto, using(crate::proofs::Taking::fresh, crate::proofs::Taking::more_noted, crate::proofs::Taking::all_put, crate::proofs::Taking::whole))]
 pub fn revocable()
     ensures fresh { (before : Cells) → CanTakeBack before before [] }
     ensures noted { (before now : Cells) (noted : List Held) (more : List Cell)
@@ -46,7 +44,6 @@ pub fn revocable()
 
 /// Where what an event looked at and reached is noted before its puts are made, and it writes what it asked for alone, the notes
 /// of a timestep are those of its events with this one.
-#[tactic(auto, using(crate::proofs::Taking::opened, crate::proofs::Taking::one_more))]
 pub fn notes()
     ensures opened { (basin : Draft) (before : Cells) → Notes basin before before [] [] }
     ensures event { (basin : Draft) (before now : Cells) (events : List Event) (noted : List Held)
@@ -57,7 +54,6 @@ pub fn notes()
 {}
 
 /// A list in which each cell stands once is as long as there are cells.
-#[tactic(auto, using(crate::proofs::Counting::counted, crate::proofs::Counting::looked))]
 pub fn how_many()
     ensures cells { (noted : List Held) (cells : List Cell) → AreOnce noted
         → ((cell : Cell) → Contains cells cell ↔ IsTrue (is_noted noted cell))
@@ -68,7 +64,6 @@ pub fn how_many()
 {}
 
 /// The record of a timestep has what was noted of it.
-#[tactic(auto, using(crate::proofs::Counting::recorded))]
 pub fn recorded()
     ensures { (basin : Draft) (before : Cells) (events : List Event) (step : ℕ) (noted : List Held)
         (lines : List TraceEvent) (kept : StepRecord)

@@ -23,6 +23,7 @@ pub struct StepRecord {
 }
 
 impl Model for StepRecord {
+    ghost use Rattle.std.specs.Prelude.{◌≡◌, Some};
     ghost use Rattle.rw_run.specs.Trace.{lines_in};
     ghost use Rattle.rw_record.specs.Record as specs;
 
@@ -43,7 +44,6 @@ impl StepRecord {
         trace: &Trace,
         from: usize,
     ) -> Result<Option<StepRecord>, NoMemory>
-        requires { AreOnce (noted_in noted.now) }
         ensures { IfOk result (λ kept. MatchOption kept
             (IsLarge (noted_in noted.now) (drop from (lines_in trace.now)))
             (IsRecordOf step.0 (noted_in noted.now) (drop from (lines_in trace.now)))) }
