@@ -9,9 +9,8 @@ ghost use Rattle.rw_run.specs.RunOf.{IsRunOf};
 ghost use Rattle.rw_model.specs.Turn.{IsStep};
 ghost use Rattle.rw_inputs.specs.Givens.{givens};
 ghost use Rattle.rw_series.specs.Series.{held};
-ghost use Rattle.rw_dispatch.specs.Stage.{IsHeldIn};
 ghost use Rattle.rw_record.specs.Noted.{AreHeld};
-ghost use Rattle.rw_engine.specs.Shows.{IsEngineOf, Shows};
+ghost use Rattle.rw_engine.specs.Shows.{CanReplay, IsEngineOf, Shows};
 ghost use Rattle.rw_engine.specs.Passing.{Replays, RunsStep, steps_of};
 ghost use Rattle.rw_engine.specs.Records.{CanWriteLines, HasNoted, RecordsOrNot};
 
@@ -149,7 +148,7 @@ impl Engine {
     pub fn replay(&mut self, basin: &Basin, kept: &StepRecord) -> Result<(), NoMemory>
         requires step { IsStep basin.now kept.now.step }
         requires can { CanWriteLines basin.now kept.now.lines }
-        requires made { IsHeldIn basin.now self.old.series }
+        requires made { CanReplay basin.now self.old }
         ensures { Replays basin.now kept.now self.old self.new result }
     {
         self.state.replay(basin, kept)
