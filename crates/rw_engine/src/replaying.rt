@@ -21,11 +21,7 @@ use rw_run::{Trace, TraceEvent, Write};
 use rw_series::Series;
 
 // Notes these cells, with what they hold now.
-fn note_again(
-    noted: &mut Noted,
-    series: &Series,
-    looked: &[Held],
-) -> Result<(), NoMemory>
+fn note_again(noted: &mut Noted, series: &Series, looked: &[Held]) -> Result<(), NoMemory>
     ensures { NotesAll (held series.now) (cells_noted looked.now) noted.old noted.new result }
 {
     for one in looked {
@@ -78,11 +74,13 @@ fn put_of(line: Option<TraceEvent>) -> Option<Write>
     ensures { cons_option result [] ≡ puts_in (cons_option line []) }
 {
     match line {
-        Some(TraceEvent::Written {
-            slot,
-            step,
-            content,
-        }) => {
+        Some(
+            TraceEvent::Written {
+                slot,
+                step,
+                content,
+            },
+        ) => {
             let cell = Cell { slot, step };
             Some(Write { cell, content })
         }

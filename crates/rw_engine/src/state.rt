@@ -375,12 +375,7 @@ impl State {
     {
         self.noted.begin_step();
         self.lines_before = self.run.trace.len();
-        match retell(
-            &mut self.noted,
-            &mut self.run.trace,
-            &self.run.series,
-            kept,
-        ) {
+        match retell(&mut self.noted, &mut self.run.trace, &self.run.series, kept) {
             Ok(()) => {
                 write_again(basin, &mut self.run.series, kept.lines());
                 self.run.closed = kept.step().0;
