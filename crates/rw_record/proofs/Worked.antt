@@ -10,9 +10,8 @@ by_slot =
     let first = held_at 1 2 (pos 5) in
     let second = held_at 2 1 (pos 5) in
     let below : IsBelow first.cell second.cell = inl (omega arith) in (
-      All-cons (λ (later : Held). IsBelow first.cell later.cell) second [] below (All-nil (λ (later : Held). IsBelow first.cell later.cell)), (
-      All-nil (λ (later : Held). IsBelow second.cell later.cell),
-      tt,
+      All-cons (λ (later : Held). IsBelow first.cell later.cell) second [] below (All-nil (λ (later : Held). IsBelow first.cell later.cell)),
+      (All-nil (λ (later : Held). IsBelow second.cell later.cell), tt),
     )
 
 above : IsBelow (cell_at 2 1) (cell_at 1 2) → ⊥
