@@ -1,5 +1,5 @@
 -- Which of two cells comes first.
-use Rattle.rw_record.proofs.Common.{Held, [], arith, cell_at, inl, inr, refl, ◌∷◌}
+use Rattle.rw_record.proofs.Common.{Held, [], arith, cell_at, inl, inr, ◌∷◌}
 use Rattle.std.specs.Prelude.{pos}
 use Rattle.rw_base.proofs.Common.{All-cons, All-nil}
 use Rattle.rw_record.specs.Record.{AreRisingCells, IsBelow}

@@ -1,6 +1,5 @@
 -- Small lists of cells, with what they hold.
-use Rattle.std.specs.Prelude.{ℕ, ℤ, Option, Some, None}
-use Rattle.rw_model.specs.declared.content.Content.{Content}
+use Rattle.std.specs.Prelude.{ℕ, ℤ, Some, None}
 use Rattle.rw_run.specs.Dispatch.{cell_at}
 use Rattle.rw_run.specs.Log.{Cells, input_content}
 use Rattle.rw_run.specs.declared.held.Held.{Held}
