@@ -9,6 +9,7 @@ use Rattle.rw_rules.specs.Rules.{IsRulesOf, Rules, WrittenOn}
 use Rattle.rw_rules.specs.Firing.{most_looks}
 use Rattle.rw_engine.proofs.Common.{Cell, Event, refl, slice_index_or, written_by}
 use Rattle.rw_run.specs.Step.{cells_reached}
+use Rattle.rw_run.specs.declared.trace.TraceEvent.{TraceEvent}
 use Rattle.rw_record.specs.Noted.{with_noted}
 use Rattle.rw_engine.specs.Noting.{NotesSome}
 use Rattle.rw_engine.proofs.Traces.{grows_some}
@@ -20,6 +21,33 @@ use Rattle.rw_engine.proofs.Notings.{revocable_made, revocable_noted, some_noted
 pub counted : (basin : Draft) (policy : Accepted) (state : State) (object : ℕ) → IsWithinStep basin policy state → IsObject basin.objects object → IsCounted state.counts object
 counted basin policy state object within known =
     let many = within.made.counts in let last = known.last in record { first = known.first; last = omega (arith, many, last) }
+
+-- nothing but the trace is another, and what waits is still
+pub only_told : (basin : Draft) (policy : Accepted) (old : State) (trace : Option (List TraceEvent)) → IsWithinStep basin policy old → Grows old.run.trace trace
+    → Keeps basin policy old (record old { run = record old.run { trace = trace } })
+only_told basin policy old trace within grows = record {
+  within = record {
+    made = record {
+      engine = record {
+        valid = within.made.engine.valid;
+        fits = within.made.engine.fits;
+        objects = within.made.engine.objects;
+        rules = within.made.engine.rules;
+        series = within.made.engine.series;
+        closed_steps = within.made.engine.closed_steps;
+        notes = within.made.engine.notes ∙ sym (grows_some old.run.trace trace grows);
+      };
+      keeps = within.made.keeps;
+      counts = within.made.counts;
+      firings = within.made.firings;
+    };
+    ready = within.ready;
+    indexed = within.indexed;
+  };
+  revocable = λ before can. can;
+  lines_before = refl;
+  grows = grows;
+}
 
 -- what each event leaves of counts and rules
 pub record Stays (basin : Draft) (policy : Accepted) (old new : State) : Type 0 where

@@ -17,7 +17,7 @@ use Rattle.rw_record.proofs.Cells.{map_from, map_of}
 use Rattle.rw_record.proofs.Noting.{IsNew, new_in, old_or, once}
 use Rattle.rw_record.proofs.Taking.{opened as nothing_noted}
 use Rattle.rpl_verify.specs.Verified.{Accepted}
-use Rattle.rw_engine.specs.Passing.{PassesAgain, Replays}
+use Rattle.rw_engine.specs.Passing.{Replays}
 use Rattle.rw_engine.specs.Records.{CanWriteLines, Records, lines_of_step, puts_in}
 use Rattle.rw_engine.specs.Shows.{CanReplay}
 use Rattle.rw_engine.specs.State.{HasReplayed, cleared}
@@ -121,36 +121,33 @@ replays basin kept old new (Ok done) again step can has = record {
       (ap (λ told. trace_of log ++ told) told_lines ∙ sym (trace_after (first ∷ events) (opened kept.step ∷ log) ∙ append_assoc (trace_of log) (lines (opened kept.step)) (flat_map lines (first ∷ events))))
       (shown_more old.run.trace new.run.trace (trace_of log) kept.lines has.trace shows.trace) in
       record {
-        passes = record {
-          events = opened kept.step ∷ first ∷ events;
-          last = closed kept.step;
-          before = ends.before;
-          leads = (begins_step basin policy log kept.step before, subst (Leads basin policy (opened kept.step ∷ log) (first ∷ events)) ends.is timestep.leads);
-          within = ends.within;
-          ends = refl;
-          shows = record {
-            cells = λ cell. has.cells cell
-                ∙ ap (λ told. option_or (last_put basin (puts_in told) cell) (held old.run.series cell)) told_lines
-                ∙ ap (option_or (last_put basin (puts_in (flat_map lines (first ∷ events))) cell)) (shows.cells cell)
-                ∙ held_again basin kept.step first events (opened kept.step ∷ log) cell timestep.goes
-                ∙ ap (λ l. cells_of basin l cell) ends.is;
-            trace = subst (λ l. IfSome new.run.trace (λ told. told ≡ trace_of l)) ends.is shown;
-            closed_steps = has.ends.1;
-            end = has.ends.0;
-          };
-          closes = record {
-            first = first;
-            events = events;
-            timestep = timestep;
-            is = sym ends.is;
-            noted = λ keeps. has_noted basin kept.step log (first ∷ events) (seen new) new.noted old.run.trace new.run.trace refl refl
-                (has.notes ∙ can.notes ∙ sym has.keeps_trace)
-                (noted_again basin (cells_of basin log) (cells_of basin records.old) (held old.run.series) (first ∷ events) kept.looked old.noted new.noted has.noted
-                records.these.looked own shows.cells)
-                shown shows.trace has.lines_before (sym has.keeps_trace ∙ keeps) (subst (CanWriteLines basin) told_lines records.these.can) keeps;
-          };
+        events = opened kept.step ∷ first ∷ events;
+        last = closed kept.step;
+        before = ends.before;
+        leads = (begins_step basin policy log kept.step before, subst (Leads basin policy (opened kept.step ∷ log) (first ∷ events)) ends.is timestep.leads);
+        within = ends.within;
+        ends = refl;
+        shows = record {
+          cells = λ cell. has.cells cell
+              ∙ ap (λ told. option_or (last_put basin (puts_in told) cell) (held old.run.series cell)) told_lines
+              ∙ ap (option_or (last_put basin (puts_in (flat_map lines (first ∷ events))) cell)) (shows.cells cell)
+              ∙ held_again basin kept.step first events (opened kept.step ∷ log) cell timestep.goes
+              ∙ ap (λ l. cells_of basin l cell) ends.is;
+          trace = subst (λ l. IfSome new.run.trace (λ told. told ≡ trace_of l)) ends.is shown;
+          closed_steps = has.ends.1;
+          end = has.ends.0;
         };
-        is = sym ends.is;
+        closes = record {
+          first = first;
+          events = events;
+          timestep = timestep;
+          is = sym ends.is;
+          noted = λ keeps. has_noted basin kept.step log (first ∷ events) (seen new) new.noted old.run.trace new.run.trace refl refl
+              (has.notes ∙ can.notes ∙ sym has.keeps_trace)
+              (noted_again basin (cells_of basin log) (cells_of basin records.old) (held old.run.series) (first ∷ events) kept.looked old.noted new.noted has.noted
+              records.these.looked own shows.cells)
+              shown shows.trace has.lines_before (sym has.keeps_trace ∙ keeps) (subst (CanWriteLines basin) told_lines records.these.can) keeps;
+        };
       };
   before = λ log shows. tt;
   keeps_trace = λ kept. has.keeps_trace ∙ kept;

@@ -88,7 +88,7 @@ made_by basin old new event log was is cell =
     is.cells cell ∙ ap (λ z. option_or (last_put basin (written_by event) cell) z) (sym (was.cells cell))
 
 pub reached_more : (basin : Draft) (policy : Accepted) (start : Log) (old new : State) (step : ℕ) → Reached basin policy start old step
-    → ((log : Log) → HoldsWithin basin policy old step old.queue.waiting log → Goes basin policy None old new step log) → Reached basin policy start new step
+    → ((log : Log) → HoldsWithin basin policy old step old.queue.waiting log → Goes basin policy None (held old.run.series) old.noted new step log) → Reached basin policy start new step
 reached_more basin policy start old new step reached goes =
     let went = goes reached.now reached.holds in
     let calm = calm_inside went.event reached.now step went.goes.open_step in record {
@@ -99,7 +99,7 @@ reached_more basin policy start old new step reached goes =
       holds = went.goes;
       inside_step = inside_more step reached.events went.event reached.inside_step (alone went.event reached.now ∙ went.goes.open_step);
       notes = notes_more basin (cells_of basin start) (held old.run.series) (held new.run.series) reached.events went.event old.noted new.noted
-          (went.noted calm) went.asks (made_by basin old new went.event reached.now reached.holds.shows went.goes.shows) reached.notes;
+          (went.notes calm) went.asks (made_by basin old new went.event reached.now reached.holds.shows went.goes.shows) reached.notes;
       can = All-push (λ (event : Event). AreWrites basin (written_by event)) reached.events went.event reached.can went.can;
     }
 
@@ -169,7 +169,7 @@ begins_step basin policy log step before =
     ap (follows_in basin policy log) before.rest ∙ opened_next basin step before.last (nat_lt before.last basin.control.stamps.count) refl before.next_one before.exists
 
 pub ends_step : (basin : Draft) (policy : Accepted) (log : Log) (first old new : State) (step : ℕ) (end : StepEnd) → Reached basin policy log old step
-    → ((l : Log) → HoldsWithin basin policy old step old.queue.waiting l → Goes basin policy (Some end) old new step l) → Shows basin (seen first) log → IsBefore basin step log
+    → ((l : Log) → HoldsWithin basin policy old step old.queue.waiting l → Goes basin policy (Some end) (held old.run.series) old.noted new step l) → Shows basin (seen first) log → IsBefore basin step log
     → Grows first.run.trace new.run.trace → is_some new.noted ≡ is_some new.run.trace → new.lines_before ≡ length (lines_in first.run.trace)
     → Passes basin (policy_in basin policy) log end (seen new) step
 ends_step basin policy log first old new step end reached goes shows before grows notes many =
@@ -188,7 +188,7 @@ ends_step basin policy log first old new step end reached goes shows before grow
       closes = closes end went leads;
     }
   where
-    closes : (e : StepEnd) (went : Goes basin policy (Some e) old new step reached.now)
+    closes : (e : StepEnd) (went : Goes basin policy (Some e) (held old.run.series) old.noted new step reached.now)
         → Leads basin (policy_in basin policy) (opened step ∷ log) (reached.events ++ went.event ∷ []) (went.event ∷ reached.now)
         → Closes basin (policy_in basin policy) e step log (went.event ∷ reached.now) (seen new)
     closes (IsFaulted why) went leads = tt
@@ -199,7 +199,7 @@ ends_step basin policy log first old new step end reached goes shows before grow
         let whole : went.event ∷ reached.now ≡ log_after events (opened step ∷ log) = leads_after basin (policy_in basin policy) (opened step ∷ log) events (went.event ∷ reached.now) leads in
         let calm : ¬ IsFault went.event = subst (λ (event : Event). ¬ IsFault event) (sym is) (λ faulty. faulty) in
         let noted = notes_more basin (cells_of basin log) (held old.run.series) (held new.run.series) reached.events went.event old.noted new.noted
-        (went.noted calm) went.asks (made_by basin old new went.event reached.now reached.holds.shows went.goes.1) reached.notes in
+        (went.notes calm) went.asks (made_by basin old new went.event reached.now reached.holds.shows went.goes.1) reached.notes in
         let can = All-push (λ (event : Event). AreWrites basin (written_by event)) reached.events went.event reached.can went.can in record {
           first = first_in reached.events went.event;
           events = behind_in reached.events went.event;

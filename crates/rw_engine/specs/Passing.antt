@@ -53,16 +53,11 @@ pub record RunsStep (basin : Draft) (policy : Accepted) (step : ℕ) (old new : 
   pub kept : IsSome old.trace → IsSome new.trace
   pub closed_steps : IfOk result (λ end. new.closed ≡ closed_by end step old.closed)
 
--- the timestep of the record is passed again, by its events
-pub record PassesAgain (basin : Draft) (policy : Policy) (log : Log) (kept : StepRecord) (records : Records basin policy kept) (engine : Engine) : Type 0 where
-  pub passes : Passes basin policy log IsClosed engine kept.step
-  pub is : passes.last ∷ passes.before ≡ log_after (records.first ∷ records.events) (opened kept.step ∷ log)
-
 -- a call passes again the timestep of which this is the record. After want of memory the engine shows what it showed before
 pub record Replays (basin : Draft) (kept : StepRecord) (old new : Engine) (result : Result (Unit {0}) NoMemory) : Type 0 where
   pub made : (policy : Accepted) → IsEngineOf basin policy old → IsEngineOf basin policy new
-  pub passes : (policy : Policy) (log : Log) → IsFramed policy → (records : Records basin policy kept) → Shows basin old log → IsBefore basin kept.step log
-      → AreHeld (held old.series) kept.looked → IfOk result (λ done. PassesAgain basin policy log kept records new)
+  pub passes : (policy : Policy) (log : Log) → IsFramed policy → Records basin policy kept → Shows basin old log → IsBefore basin kept.step log
+      → AreHeld (held old.series) kept.looked → IfOk result (λ done. Passes basin policy log IsClosed new kept.step)
   pub before : (log : Log) → Shows basin old log → IfErr result (λ fault. Shows basin new log)
   pub keeps_trace : IsSome old.trace → IsSome new.trace
   pub closed_steps : IfOk result (λ done. new.closed ≡ kept.step)

@@ -78,20 +78,20 @@ abbrev pub GoesTo : Draft → Accepted → Option StepEnd → State → ℕ → 
 GoesTo basin policy None state step log event = HoldsWithin basin policy state step state.queue.waiting (event ∷ log)
 GoesTo basin policy (Some end) state step log event = EndsBy end step event × Shows basin (seen state) (event ∷ log)
 
--- what an event looks at and reaches is noted, with what is held before it
-abbrev pub NotesThat : Draft → State → State → Event → Type 0
-NotesThat basin old new event = new.noted ≡ with_noted (held old.run.series) (reached_by basin event) old.noted
+-- what an event looks at and reaches is noted, with what cells hold before it, behind what was noted
+abbrev pub NotesThat : Draft → Cells → Option (List Held) → State → Event → Type 0
+NotesThat basin cells noted state event = state.noted ≡ with_noted cells (reached_by basin event) noted
 
 -- what an event writes it asked for
 abbrev pub WritesAsked : Event → Type 0
 WritesAsked event = (put : Asked) → Contains (written_by event) put → Contains (asked_in event) put
 
 -- after the event that follows, which is noted unless it is a fault
-pub record Goes (basin : Draft) (policy : Accepted) (end : Option StepEnd) (old new : State) (step : ℕ) (log : Log) : Type 0 where
+pub record Goes (basin : Draft) (policy : Accepted) (end : Option StepEnd) (cells : Cells) (noted : Option (List Held)) (state : State) (step : ℕ) (log : Log) : Type 0 where
   pub event : Event
   pub follows : next basin (policy_in basin policy) step log ≡ Some event
-  pub goes : GoesTo basin policy end new step log event
-  pub noted : (¬ IsFault event) → NotesThat basin old new event
+  pub goes : GoesTo basin policy end state step log event
+  pub notes : (¬ IsFault event) → NotesThat basin cells noted state event
   pub asks : WritesAsked event
   pub can : AreWrites basin (written_by event)
 
@@ -175,7 +175,7 @@ IsOnTheWay basin step (Err fault) old new = IsStill old new
 pub record Does (basin : Draft) (policy : Accepted) (step : ℕ) (old new : State) (given : Log → Type 0) (result : Result Bool NoMemory) : Type 0 where
   pub keeps : Keeps basin policy old new
   pub on_the_way : IsOnTheWay basin step (seen_end new result) old new
-  pub goes : (log : Log) → given log → IfOk (seen_end new result) (λ end. Goes basin policy end old new step log)
+  pub goes : (log : Log) → given log → IfOk (seen_end new result) (λ end. Goes basin policy end (held old.run.series) old.noted new step log)
   -- memory wants only where a trace is kept
   pub wants : IfErr result (λ fault. IsSome old.run.trace)
 

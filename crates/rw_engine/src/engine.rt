@@ -64,9 +64,10 @@ impl Engine {
             (λ engine. Shows basin.now engine (placed [] (givens basin.now inputs.now))) }
         ensures kept { IfOk result (λ engine. IsSome engine.trace) }
     {
+        let trace = Trace::new(alloc);
         let noted = Noted::for_basin(alloc, basin)?;
         Ok(Engine {
-            state: State::for_run(alloc, basin, policy, inputs, Trace::new(alloc), noted)?,
+            state: State::for_run(alloc, basin, policy, inputs, trace, noted)?,
         })
     }
 
@@ -83,9 +84,10 @@ impl Engine {
         ensures shows { IfOk result
             (λ engine. Shows basin.now engine (placed [] (givens basin.now inputs.now))) }
     {
+        let trace = Trace::unkept(alloc);
         let noted = Noted::unkept(alloc);
         Ok(Engine {
-            state: State::for_run(alloc, basin, policy, inputs, Trace::unkept(alloc), noted)?,
+            state: State::for_run(alloc, basin, policy, inputs, trace, noted)?,
         })
     }
 

@@ -95,7 +95,7 @@ returns g c =
           rules = on.rules;
           firings = refl;
         }) refl c.in_ok-fault.fault (sym c.in_ok-fault.ensures.fault);
-        noted = λ calm. ended_noted c.in_ok-fault.fault _ ∙ notes_same cells reached (reached_by basin event) old.noted _ c.in_ok-note_dispatch.ensures
+        notes = λ calm. ended_noted c.in_ok-fault.fault _ ∙ notes_same cells reached (reached_by basin event) old.noted _ c.in_ok-note_dispatch.ensures
             (λ kept. dispatch_reached basin cells object step asked (λ calm. c.as_slice-asked.ensures ∙ work.asked (within.made.keeps ∙ kept) calm) calm);
         asks = asks;
         can = subst (AreWrites basin) work.writes work.can;

@@ -103,7 +103,7 @@ returns g c =
               looks = λ firing same looked. looks_on policy c.fire-fired.new.self c.write.new.self (fired firing ∷ log) on.rules
                   (c.fire-fired.ensures.keeps.shows log firing same (tells.looked ∙ ap (λ looks. Some looks) (sym looked)) holds.looks);
             });
-            noted = λ calm. ended_noted c.in_ok-fault.fault _ ∙ notes_same cells reached (reached_by basin event) old.noted _ c.in_ok-note_firing.ensures (λ kept. reaches calm);
+            notes = λ calm. ended_noted c.in_ok-fault.fault _ ∙ notes_same cells reached (reached_by basin event) old.noted _ c.in_ok-note_firing.ensures (λ kept. reaches calm);
             asks = asks;
             can = subst (AreWrites basin) written c.fire-fired.ensures.can;
           };

@@ -1,4 +1,5 @@
-use Rattle.rw_engine.proofs.Common.{refl, rules, subst, sym, ◌∙◌}
+use Rattle.rw_engine.proofs.Common.{ap, refl, rules, subst, sym, ◌∙◌}
+use Rattle.std.specs.Prelude.{is_some}
 use Rattle.rw_run.proofs.Ready.{all_waiting-ready, AreReady}
 use Rattle.rw_run.proofs.Placed.{settled_at_rest}
 use Rattle.rw_engine.proofs.Steps.{opens_step}
@@ -21,6 +22,23 @@ returns-clause-made g c = record {
   firings = c.clear-2.ensures.many ∙ c.requires.fresh.made.firings ∙ c.requires.fresh.made.engine.rules.many
       ∙ sym (c.begin_step-2.ensures.made c.args.setup.now.basin.now c.args.setup.now.policy.now c.requires.fresh.made.engine.rules).many;
 }
+
+pub returns-in_err-push-clause-made : goal.returns-in_err-push-clause-made
+returns-in_err-push-clause-made g c =
+    let made = c.requires.fresh.made in record {
+      engine = record {
+        valid = made.engine.valid;
+        fits = made.engine.fits;
+        objects = made.engine.objects;
+        rules = made.engine.rules;
+        series = made.engine.series;
+        closed_steps = made.engine.closed_steps;
+        notes = made.engine.notes ∙ sym (ap is_some c.in_err-push.ensures.unchanged);
+      };
+      keeps = made.keeps;
+      counts = made.counts;
+      firings = made.firings;
+    }
 
 pub returns-clause-opened : goal.returns-clause-opened
 returns-clause-opened g c = record {
