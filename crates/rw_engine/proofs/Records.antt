@@ -159,3 +159,7 @@ record_or_not basin step old events engine kept has is result = by kept result
 pub if_ok : {A E : Type 0} {P Q : A → Type 0} (result : Result A E) → ((a : A) → P a → Q a) → IfOk result P → IfOk result Q
 if_ok (Ok a) leads holds = leads a holds
 if_ok (Err why) leads holds = tt
+
+pub any_ok : {A E P : Type 0} (result : Result A E) → P → IfOk result (λ a. P)
+any_ok (Ok a) holds = holds
+any_ok (Err why) holds = tt

@@ -51,6 +51,12 @@ seen state = record {
   lines_before = state.lines_before;
 }
 
+-- a state has a count for each object and each rule, and keeps what is asked for where it notes it
+pub record IsSound (state : State) : Type 0 where
+  pub counts : length state.counts ≡ state.queue.objects
+  pub firings : length state.firings ≡ length state.rules.agenda.rules
+  pub keeps : state.work.keeps ≡ is_some state.noted
+
 -- a state made for the basin and the policy, with a count for each object and each rule, that keeps what is asked for where it notes it
 pub record IsStateOf (basin : Draft) (policy : Accepted) (state : State) : Type 0 where
   pub engine : IsEngineOf basin policy (seen state)
@@ -218,6 +224,9 @@ cleared (Some noted) = Some []
 pub record HasReplayed (basin : Draft) (kept : StepRecord) (old new : State) (result : Result (Unit {0}) NoMemory) : Type 0 where
   pub rules : new.rules ≡ old.rules
   pub queue : new.queue ≡ old.queue
+  pub work : new.work ≡ old.work
+  pub counts : new.counts ≡ old.counts
+  pub firings : new.firings ≡ old.firings
   pub made : IsHeldIn basin new.run.series
   pub notes : is_some new.noted ≡ is_some old.noted
   pub keeps_trace : is_some new.run.trace ≡ is_some old.run.trace

@@ -36,7 +36,7 @@ pub struct Engine {
 }
 
 impl Model for Engine {
-    ghost use Rattle.std.specs.Prelude.{◌≡◌, length};
+    ghost use Rattle.std.specs.Prelude.{◌≡◌, is_some, length};
     ghost use Rattle.rw_engine.specs.Engine as specs;
     ghost use Rattle.rw_engine.specs.State.{seen};
 
@@ -45,7 +45,8 @@ impl Model for Engine {
     ghost view = { λ engine. seen engine.state };
 
     ghost invariant = { λ engine. (length engine.state.counts ≡ engine.state.queue.objects)
-        × (length engine.state.firings ≡ length engine.state.rules.agenda.rules) };
+        × (length engine.state.firings ≡ length engine.state.rules.agenda.rules)
+        × (engine.state.work.keeps ≡ is_some engine.state.noted) };
 }
 
 impl Engine {

@@ -10,7 +10,7 @@ ghost use Rattle.rw_model.specs.Turn.{IsStep, IsTurn};
 ghost use Rattle.rw_engine.specs.Counts.{count_of};
 ghost use Rattle.rw_engine.specs.Passing.{Replays, RunsStep};
 ghost use Rattle.rw_engine.specs.Shows.{CanReplay, IsEngineOf, Shows};
-ghost use Rattle.rw_engine.specs.State.{seen, Begins, Does, HasPassed, HasReplayed, HoldsBefore, HoldsDue, HoldsWithin, IsFresh, IsOpened, IsStateOf, IsWithinStep, OnlyTells, ended_by, step_end};
+ghost use Rattle.rw_engine.specs.State.{seen, Begins, Does, HasPassed, HasReplayed, HoldsBefore, HoldsDue, HoldsWithin, IsFresh, IsOpened, IsSound, IsStateOf, IsWithinStep, OnlyTells, ended_by, step_end};
 ghost use Rattle.rw_dispatch.specs.Stage.{IsHeldIn};
 ghost use Rattle.rw_engine.specs.Records.{CanWriteLines, HasNoted, RecordsOrNot};
 
@@ -394,7 +394,8 @@ impl State {
         requires step { IsStep basin.now kept.now.step }
         requires can { CanWriteLines basin.now kept.now.lines }
         requires made { CanReplay basin.now (seen self.old) }
-        ensures { Replays basin.now kept.now (seen self.old) (seen self.new) result }
+        ensures replays { Replays basin.now kept.now (seen self.old) (seen self.new) result }
+        ensures sound { IsSound self.old → IsSound self.new }
     {
         again();
         self.pass_again(basin, kept)

@@ -35,7 +35,8 @@ returns-in_err-fault g c =
     wanted basin policy c.args.step.0 old _ _ c.from_residual-in_err-fault.result _ c.from_residual-in_err-fault.ensures.1
     (keeps_noted basin policy old _ c.requires.within
     (stays_counted basin policy old _ c.args.object.0 c.raise.ensures refl c.requires.within.made.engine.rules refl c.judge_dispatch-end.ensures.work.keeps refl)
-    c.requires.within.indexed refl refl c.tell.ensures.grows (_, c.in_ok-note_dispatch.ensures))
+    c.requires.within.indexed refl refl c.tell.ensures.grows
+    (looked_cells basin c.args.object.0 c.args.step.0 ++ cells_reached basin c.as_slice-asked.result.now, c.in_ok-note_dispatch.ensures))
     (record { closed_steps = refl; end = refl }) c.in_err-fault.ensures.wants
 
 leaves : (g : _) (c : goal.After-end_by g) → Leaves c.args.setup.now.basin.now (dispatched c.args.setup.now.basin.now (held c.args.self.now.run.series) c.args.object.0 c.args.step.0)

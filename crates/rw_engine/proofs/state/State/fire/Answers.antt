@@ -47,7 +47,8 @@ returns-in_err-fault g c =
     wanted basin policy c.args.step.0 old _ _ c.from_residual-in_err-fault.result _ c.from_residual-in_err-fault.ensures.1
     (keeps_noted basin policy old _ c.requires.within
     (stays_fired basin policy old _ c.args.rule.0 c.raise.ensures refl c.fire-fired.ensures.made refl refl refl)
-    (c.fire-fired.ensures.keeps.indexed c.requires.within.indexed) refl refl c.tell_firing.ensures.grows (_, c.in_ok-note_firing.ensures))
+    (c.fire-fired.ensures.keeps.indexed c.requires.within.indexed) refl refl c.tell_firing.ensures.grows
+    (cells_looked c.looked-looked.result.now ++ cells_reached basin c.asked-asked.result.now, c.in_ok-note_firing.ensures))
     (record { closed_steps = refl; end = refl }) c.in_err-fault.ensures.wants
 
 pub returns : goal.returns

@@ -1,16 +1,22 @@
-use Rattle.rw_engine.proofs.Common.{ap, held, last_put, option_map, option_or, refl, take, ◌∙◌}
+use Rattle.rw_engine.proofs.Common.{ap, held, last_put, option_map, option_or, refl, subst, sym, take, ◌∙◌}
 use Rattle.std.specs.Prelude.{is_some}
 use Rattle.rw_record.specs.Noted.{cells_noted, with_noted}
 use Rattle.rw_run.specs.Trace.{lines_in}
-use Rattle.rw_engine.specs.Records.{puts_in}
+use Rattle.rw_engine.specs.Records.{CanWriteLines, puts_in}
 use Rattle.rw_engine.proofs.Notings.{cleared_is, cleared_some}
 use Rattle.rw_engine.proofs.Traces.{grows_some, shortened}
 use Rattle.rw_engine.proofs.state.State.pass_again.Goals as goal
+
+pub write_again-requires-clause-can : goal.write_again-requires-clause-can
+write_again-requires-clause-can c = subst (CanWriteLines c.args.basin.now) (sym (ap lines_in c.lines.ensures)) c.requires.can
 
 pub returns-in-Ok : goal.returns-in-Ok
 returns-in-Ok c = record {
   rules = refl;
   queue = refl;
+  work = refl;
+  counts = refl;
+  firings = refl;
   made = c.write_again.ensures.made;
   notes = c.retell.ensures.kept ∙ ap is_some c.begin_step.ensures ∙ cleared_some c.args.self.now.noted;
   keeps_trace = grows_some c.args.self.now.run.trace c.retell.new.trace c.retell.ensures.grows;
@@ -29,6 +35,9 @@ returns-in-Err c =
     let same = c.truncate.ensures ∙ ap (λ count. option_map (take count) c.retell.new.trace) c.len.ensures ∙ shortened old.run.trace c.retell.new.trace c.retell.ensures.grows in record {
       rules = refl;
       queue = refl;
+      work = refl;
+      counts = refl;
+      firings = refl;
       made = c.requires.made;
       notes = c.retell.ensures.kept ∙ ap is_some c.begin_step.ensures ∙ cleared_some old.noted;
       keeps_trace = ap is_some same;
