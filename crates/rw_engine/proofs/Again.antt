@@ -1,6 +1,6 @@
 -- Passing a timestep again, by its record.
 use Rattle.rw_engine.proofs.Common.{Cell, Cells, Draft, Event, IsBefore, IsSome, Leads, List, Log, None, Option, Passes, Policy, Settled, Shows, Some, State, [], ap, append_assoc, cells_of, closed, follows, follows_in, held, last_put, length, lines, nat_lt, opened, option_or, refl, rests, seen, standing, subst, sym, trace_of, ℕ, ◌++◌, ◌+◌, ◌∙◌, ◌∷◌, ◌≡◌, ◌≤◌}
-use Rattle.std.specs.Prelude.{Contains, Err, IfErr, IfSome, Ok, Result, is_some}
+use Rattle.std.specs.Prelude.{Contains, Err, IfErr, IfSome, Ok, Result, is_some, ◌⊎◌}
 use Rattle.std.specs.List.{flat_map}
 use Rattle.rw_base.proofs.Common.{arith, inl, inr}
 use Rattle.rw_base.specs.declared.memory.NoMemory.{NoMemory}

@@ -220,7 +220,7 @@ in_some (Some noted) P kept holds = holds
 
 -- ---- what a dispatch and a firing write they asked for
 
-none_written : (event : Event) → written_by event ≡ [] → WritesAsked event
+pub none_written : (event : Event) → written_by event ≡ [] → WritesAsked event
 none_written event none = λ put has. absurd (let empty = ap length none in omega (arith, has.1, empty))
 
 or_asks : (values : Option (ℤ × ℤ)) (object : ℕ) (put : Asked) (rest : Event) → WritesAsked rest → WritesAsked (or_fault values object put rest)

@@ -111,11 +111,11 @@ opened_next basin step last false test is exists = absurd (grind (arith, nat_tes
 -- ---- the end of a timestep
 
 -- events and one more, as the first of them and what comes behind it
-first_in : List Event → Event → Event
+abbrev first_in : List Event → Event → Event
 first_in [] last = last
 first_in (event ∷ events) last = event
 
-behind_in : List Event → Event → List Event
+abbrev behind_in : List Event → Event → List Event
 behind_in [] last = []
 behind_in (event ∷ events) last = events ++ last ∷ []
 
@@ -238,7 +238,7 @@ pub unpassed : (basin : Draft) (policy : Accepted) (step : ℕ) (old new : State
     → IsErrAnd result (λ fault. fault ≡ why) → IsStateOf basin policy new → CanGoBack old new → IsStill old new → IsSome old.run.trace
     → HasPassed basin policy step old new result
 unpassed basin policy step old new (Ok end) why is made back still kept = absurd is
-unpassed basin policy step old new (Err fault) why is made back still kept = record {
+unpassed basin policy step old new (Err want) why is made back still kept = record {
   made = made;
   back = back;
   still = still;
@@ -250,4 +250,4 @@ unpassed basin policy step old new (Err fault) why is made back still kept = rec
 -- no timestep is counted where memory wants
 pub none_counted : (result : Result StepEnd NoMemory) (why : NoMemory) → IsErrAnd result (λ fault. fault ≡ why) → steps_of result ≡ 0
 none_counted (Ok end) why is = absurd is
-none_counted (Err fault) why is = refl
+none_counted (Err want) why is = refl

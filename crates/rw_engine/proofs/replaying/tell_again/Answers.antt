@@ -26,4 +26,4 @@ pub returns-clause-told : goal.returns-clause-told
 returns-clause-told c =
     let told_lines = lines_in c.args.lines.now in
     let all : c.loop-place.place ≡ length told_lines = let end = c.len-place-end.ensures in omega (arith, c.loop-place-test.false, c.loop-place.auto.place-end, end) in
-    c.loop-place.invariant.told ∙ ap (told c.args.trace.now) (ap (λ n. take n told_lines) all ∙ take_all told_lines)
+    c.loop-place.invariant.told ∙ ap (told c.args.trace.now) (ap (λ n. take n told_lines) all ∙ take_all (length told_lines) told_lines (omega arith))

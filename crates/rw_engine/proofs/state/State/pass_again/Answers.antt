@@ -20,7 +20,7 @@ returns-in-Ok c = record {
   made = c.write_again.ensures.made;
   notes = c.retell.ensures.kept ∙ ap is_some c.begin_step.ensures ∙ cleared_some c.args.self.now.noted;
   keeps_trace = grows_some c.args.self.now.run.trace c.retell.new.trace c.retell.ensures.grows;
-  lines_before = c.len.ensures;
+  lines_before = c.len-self.ensures;
   unchanged = tt;
   noted = c.in-Ok.ensures.noted ∙ ap (with_noted (held c.args.self.now.run.series) (cells_noted c.args.kept.now.looked)) (c.begin_step.ensures ∙ cleared_is c.args.self.now.noted);
   trace = c.in-Ok.ensures.told;
@@ -32,7 +32,7 @@ returns-in-Ok c = record {
 pub returns-in-Err : goal.returns-in-Err
 returns-in-Err c =
     let old = c.args.self.now in
-    let same = c.truncate.ensures ∙ ap (λ count. option_map (take count) c.retell.new.trace) c.len.ensures ∙ shortened old.run.trace c.retell.new.trace c.retell.ensures.grows in record {
+    let same = c.truncate.ensures ∙ ap (λ count. option_map (take count) c.retell.new.trace) c.len-self.ensures ∙ shortened old.run.trace c.retell.new.trace c.retell.ensures.grows in record {
       rules = refl;
       queue = refl;
       work = refl;
@@ -41,7 +41,7 @@ returns-in-Err c =
       made = c.requires.made;
       notes = c.retell.ensures.kept ∙ ap is_some c.begin_step.ensures ∙ cleared_some old.noted;
       keeps_trace = ap is_some same;
-      lines_before = c.len.ensures;
+      lines_before = c.len-self.ensures;
       unchanged = ap (λ trace. record old.run { trace = trace }) same;
       noted = tt;
       trace = tt;

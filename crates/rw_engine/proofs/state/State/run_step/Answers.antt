@@ -28,7 +28,7 @@ pass-requires-clause-fresh g c =
         firings = made.firings;
       };
       cleared = rw c.begin_step.ensures (cleared_none old.noted);
-      lines_before = c.len.ensures;
+      lines_before = c.len-self.ensures;
     }
 
 module _ (g : _) (c : goal.After-take_back g) where
@@ -41,7 +41,7 @@ module _ (g : _) (c : goal.After-take_back g) where
   back = c.take_back.ensures.back c.args.self.now.run.series c.requires.made.engine.series.made can
 
   same : c.truncate.new.self ≡ c.args.self.now.run.trace
-  same = c.truncate.ensures ∙ ap (λ count. option_map (take count) c.pass.new.self.run.trace) (c.pass.ensures.back.lines_before ∙ c.len.ensures)
+  same = c.truncate.ensures ∙ ap (λ count. option_map (take count) c.pass.new.self.run.trace) (c.pass.ensures.back.lines_before ∙ c.len-self.ensures)
       ∙ shortened c.args.self.now.run.trace c.pass.new.self.run.trace c.pass.ensures.back.grows
 
 pub returns-in-Err-clause-made : goal.returns-in-Err-clause-made
