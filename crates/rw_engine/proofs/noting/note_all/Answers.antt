@@ -11,14 +11,14 @@ returns-in_err-note_slots c =
     let cells = held c.args.series.now in
     notes_stop cells [] (filter_map (cell_in c.args.basin.now c.args.object.0 c.args.step.0) places)
     (looked_cells c.args.basin.now c.args.object.0 c.args.step.0 ++ cells_reached c.args.basin.now c.args.asked.now) c.args.noted.now c.args.noted.now c.note_slots.new.noted
-    c.in_err-note_slots.field-0 _ c.from_residual.result c.from_residual.ensures.1 (sym (with_none cells c.args.noted.now)) c.in_err-note_slots.ensures
+    c.in_err-note_slots.field-0.0 _ c.from_residual.result c.from_residual.ensures.1 (sym (with_none cells c.args.noted.now)) c.in_err-note_slots.ensures
 
 pub returns-in_err-note_cell : goal.returns-in_err-note_cell
 returns-in_err-note_cell c =
     let cells = held c.args.series.now in
     notes_stop cells (filter_map (cell_in c.args.basin.now c.args.object.0 c.args.step.0) places) (if_cell c.past_cell.result)
     (looked_cells c.args.basin.now c.args.object.0 c.args.step.0 ++ cells_reached c.args.basin.now c.args.asked.now) c.args.noted.now c.note_slots.new.noted c.note_cell.new.noted
-    c.in_err-note_cell.field-0 _ c.from_residual-in_err-note_cell.result c.from_residual-in_err-note_cell.ensures.1 c.in_ok-note_slots.ensures c.in_err-note_cell.ensures
+    c.in_err-note_cell.field-0.0 _ c.from_residual-in_err-note_cell.result c.from_residual-in_err-note_cell.ensures.1 c.in_ok-note_slots.ensures c.in_err-note_cell.ensures
 
 pub returns : goal.returns
 returns c =

@@ -22,4 +22,4 @@ pub returns-in_err-note_cell : goal.returns-in_err-note_cell
 returns-in_err-note_cell c =
     let f = cell_in c.args.basin.now c.args.object.0 c.args.step.0 in
     notes_stop (held c.args.series.now) (filter_map f (range_with_len 0 c.loop-place.place)) (if_cell c.cell_of-cell.result) (filter_map f places) c.args.noted.now c.loop-place.noted
-    c.note_cell.new.noted c.in_err-note_cell.field-0 _ c.from_residual.result c.from_residual.ensures.1 c.loop-place.invariant c.in_err-note_cell.ensures
+    c.note_cell.new.noted c.in_err-note_cell.field-0.0 _ c.from_residual.result c.from_residual.ensures.1 c.loop-place.invariant c.in_err-note_cell.ensures

@@ -24,6 +24,6 @@ returns-in_err-note c =
     let cells = held c.args.series.now in
     let looked = c.args.looked.now in
     let one = c.one-item.result.cell ∷ [] in
-    let want = c.in_err-note.field-0 in
+    let want = c.in_err-note.field-0.0 in
     notes_stop cells (cells_noted (take c.loop-one.one-index looked)) one (cells_noted looked) c.args.noted.now c.loop-one.noted c.note.new.self want _
     c.from_residual.result c.from_residual.ensures.1 c.loop-one.invariant (adds_all cells one c.loop-one.noted c.note.new.self (Err want) c.in_err-note.ensures.noted)
