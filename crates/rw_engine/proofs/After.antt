@@ -1,5 +1,5 @@
 -- The state after an event.
-use Rattle.rw_engine.proofs.Common.{AreReady, Draft, Grows, IsCounted, IsObject, IsOnTheWay, IsSome, IsStageOf, IsWithinStep, Keeps, Leaves, List, None, Ok, Option, RunFault, Some, State, ap, arith, count_of, ended_by, held, left, length, length-set, queued_after-ready, raised, room, stage, subst, sym, ℕ, ◌++◌, ◌-◌, ◌<◌, ◌∙◌, ◌≡◌, ◌≤◌}
+use Rattle.rw_engine.proofs.Common.{AreReady, Draft, Grows, IsCounted, IsObject, IsOnTheWay, IsSome, IsStageOf, IsWithinStep, Keeps, Leaves, List, None, Ok, Option, RunFault, Some, State, ap, arith, count_of, ended_by, held, left, length, length-set, queued_after-ready, raised, room, stage, subst, sym, ℕ, ◌-◌, ◌<◌, ◌∙◌, ◌≡◌, ◌≤◌}
 use Rattle.rw_engine.proofs.Raises.{room_falls}
 use Rattle.rpl_verify.specs.Verified.{Accepted}
 use Rattle.rw_agenda.specs.Agenda.{IsIndexed, unfired}

@@ -1,6 +1,6 @@
 -- Passing a timestep again, by its record.
-use Rattle.rw_engine.proofs.Common.{Cell, Cells, Draft, Event, IsBefore, IsSome, Leads, List, Log, None, Option, Passes, Policy, Settled, Shows, Some, State, [], ap, append_assoc, cells_of, closed, follows, follows_in, held, last_put, length, lines, nat_lt, opened, option_or, refl, rests, seen, standing, subst, sym, trace_of, ℕ, ◌++◌, ◌+◌, ◌∙◌, ◌∷◌, ◌≡◌, ◌≤◌}
-use Rattle.std.specs.Prelude.{Contains, Err, IfErr, IfSome, Ok, Result, is_some, ◌⊎◌}
+use Rattle.rw_engine.proofs.Common.{Cell, Cells, Draft, Event, Leads, List, Log, None, Option, Policy, Some, State, [], ap, append_assoc, cells_of, closed, held, last_put, length, lines, opened, option_or, refl, rests, seen, standing, subst, sym, trace_of, ℕ, ◌++◌, ◌+◌, ◌∙◌, ◌∷◌, ◌≡◌, ◌≤◌}
+use Rattle.std.specs.Prelude.{Contains, Err, IfSome, Ok, Result, ◌⊎◌}
 use Rattle.std.specs.List.{flat_map}
 use Rattle.rw_base.proofs.Common.{arith, inl, inr}
 use Rattle.rw_base.specs.declared.memory.NoMemory.{NoMemory}
@@ -9,16 +9,14 @@ use Rattle.rw_run.specs.Frame.{IsFramed, IsStepFrom, log_after}
 use Rattle.rw_run.specs.Runs.{inside}
 use Rattle.rw_run.specs.Step.{reached_by}
 use Rattle.rw_run.specs.Timestep.{AreLooked, IsTimestep}
-use Rattle.rw_run.specs.Trace.{lines_in}
 use Rattle.rw_run.specs.declared.held.Held.{Held}
 use Rattle.rw_record.specs.Noted.{AreHeld, AreOnce, cells_noted, noted_after, with_noted}
 use Rattle.rw_record.specs.Record.{StepRecord}
 use Rattle.rw_record.proofs.Cells.{map_from, map_of}
 use Rattle.rw_record.proofs.Noting.{IsNew, new_in, old_or, once}
 use Rattle.rw_record.proofs.Taking.{opened as nothing_noted}
-use Rattle.rpl_verify.specs.Verified.{Accepted}
 use Rattle.rw_engine.specs.Passing.{Replays}
-use Rattle.rw_engine.specs.Records.{CanWriteLines, Records, lines_of_step, puts_in}
+use Rattle.rw_engine.specs.Records.{CanWriteLines, puts_in}
 use Rattle.rw_engine.specs.Shows.{CanReplay}
 use Rattle.rw_engine.specs.State.{HasReplayed, IsSound, cleared}
 use Rattle.rw_engine.proofs.Records.{held_again}
@@ -36,9 +34,9 @@ closing step event [] log goes at = record { before = log; is = ap (λ e. e ∷ 
 closing step event (next ∷ events) log goes at = closing step next events (event ∷ log) goes.1 (sym (alone event log) ∙ goes.0)
 
 -- what is noted where the cells of a record are noted anew, as they are held before its timestep again
-looked_again : (basin : Draft) (before was now : Cells) (events : List Event) (looked : List Held) → AreLooked basin was events looked → AreHeld before looked
+looked_again : (basin : Draft) (before was now : Cells) (events : List Event) (looked : List Held) → AreLooked basin was events looked
     → ((cell : Cell) → now cell ≡ before cell) → AreLooked basin before events (noted_after now [] (cells_noted looked))
-looked_again basin before was now events looked are alike same one = (to, from)
+looked_again basin before was now events looked are same one = (to, from)
   where
     of_new : IsNew now [] (cells_noted looked) one → Contains (flat_map (reached_by basin) events) one.cell × (one.content ≡ before one.cell)
     of_new new =
@@ -64,15 +62,15 @@ looked_again basin before was now events looked are alike same one = (to, from)
         })
 
 noted_again : (basin : Draft) (before was now : Cells) (events : List Event) (looked : List Held) (old new : Option (List Held)) → new ≡ with_noted now (cells_noted looked) (cleared old)
-    → AreLooked basin was events looked → AreHeld before looked → ((cell : Cell) → now cell ≡ before cell)
+    → AreLooked basin was events looked → ((cell : Cell) → now cell ≡ before cell)
     → IfSome new (λ noted. AreLooked basin before events noted × AreOnce noted)
-noted_again basin before was now events looked old new is are alike same =
+noted_again basin before was now events looked old new is are same =
     subst (λ found. IfSome found (λ noted. AreLooked basin before events noted × AreOnce noted)) (sym is) (by old)
   where
     by : (found : Option (List Held)) → IfSome (with_noted now (cells_noted looked) (cleared found)) (λ noted. AreLooked basin before events noted × AreOnce noted)
     by None = tt
     by (Some found) = (
-      looked_again basin before was now events looked are alike same,
+      looked_again basin before was now events looked are same,
       once now [] (cells_noted looked) (nothing_noted basin before).once,
     )
 
@@ -152,7 +150,7 @@ replays basin kept old new (Ok done) again step can has = record {
           noted = λ keeps. has_noted basin kept.step log (first ∷ events) (seen new) new.noted old.run.trace new.run.trace refl refl
               (has.notes ∙ can.notes ∙ sym has.keeps_trace)
               (noted_again basin (cells_of basin log) (cells_of basin records.old) (held old.run.series) (first ∷ events) kept.looked old.noted new.noted has.noted
-              records.these.looked own shows.cells)
+              records.these.looked shows.cells)
               shown shows.trace has.lines_before (sym has.keeps_trace ∙ keeps) (subst (CanWriteLines basin) told_lines records.these.can) keeps;
         };
       };

@@ -2,7 +2,7 @@
 use Rattle.rw_engine.proofs.Common.{RunFault, State, ended_by, Asked, Bool, Cell, Cells, Draft, Event, IsSome, List, None, Option, Some, [], add-one, ap, arith, cell_at, false, if◌then◌else◌, length, filter_map, filter_map-append, held_after, option_map, range_with_len, refl, subst, suc, sym, true, written_by, zero, ℕ, ℤ, ◌++◌, ◌+◌, ◌∙◌, ◌∷◌, ◌≡◌}
 use Rattle.std.specs.Prelude.{Contains, Err, IfSome, IsErrAnd, Ok, Result, cond, is_some, ◌⊎◌}
 use Rattle.std.specs.List.{cons_option, filter}
-use Rattle.std.proofs.lemmas.List.Elements.{Contains-append_cases, Contains-append_left, Contains-append_right}
+use Rattle.std.proofs.lemmas.List.Elements.{Contains-append_cases, Contains-append_right}
 use Rattle.rw_base.proofs.Common.{inl, inr}
 use Rattle.rw_base.specs.declared.memory.NoMemory.{NoMemory}
 use Rattle.rw_base.specs.declared.number.SlotNo.{SlotNo}
@@ -13,9 +13,9 @@ use Rattle.rw_series.specs.Fire.{Fire}
 use Rattle.rw_series.specs.declared.fire.FireEnd.{FireEnd}
 use Rattle.rw_series.specs.declared.fire.FireEnd.TheVariants.{Done, Unknown, ZeroDivisor as DividesByZero, OutOfRange as EndsOutside}
 use Rattle.rw_series.specs.declared.look.Look.{Look}
-use Rattle.rw_run.specs.Dispatch.{answered, asked_for, cell_in, denied_by, dispatch_of, dispatched, end_in, if_cell, is_written, judged, looked_cells, looks_at, looks_of, or_fault, solved_by}
+use Rattle.rw_run.specs.Dispatch.{answered, asked_for, denied_by, dispatch_of, dispatched, end_in, if_cell, is_written, judged, looked_cells, looks_at, looks_of, or_fault, solved_by}
 use Rattle.rw_run.specs.Next.{asked_of_rule, ended, is_put_again, last_ones}
-use Rattle.rw_run.specs.Frame.{IsFault, cells_asked, cells_looked}
+use Rattle.rw_run.specs.Frame.{IsFault, cells_looked}
 use Rattle.std.specs.Option.{option_or}
 use Rattle.rw_run.specs.Log.{asked_in, fault, idle, last_put, looks_in}
 use Rattle.rw_run.specs.Step.{cells_reached, cells_with, reached_by}

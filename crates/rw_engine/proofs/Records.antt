@@ -1,6 +1,6 @@
 -- The lines of a timestep, what they say to be written, and its record.
 use Rattle.rw_engine.proofs.Common.{All, Asked, Cell, Cells, Draft, Engine, Event, List, Log, None, Option, Some, [], ap, append-nil, arith, cells_of, closed, fault, given, last_put, length, line_of, lines, map, opened, option_or, refl, subst, suc, sym, take, written_by, zero, ℕ, ◌++◌, ◌+◌, ◌∙◌, ◌∷◌, ◌≡◌}
-use Rattle.std.specs.Prelude.{Err, IfOk, IfSome, MatchOption, Ok, Result, drop, slice_get, ◌⊎◌, ◌<◌, ◌≤◌}
+use Rattle.std.specs.Prelude.{Err, IfOk, IfSome, MatchOption, Ok, Result, drop, slice_get, ◌⊎◌, ◌<◌}
 use Rattle.std.specs.List.{cons_option, flat_map}
 use Rattle.std.proofs.lemmas.Grind.{flat_map-append}
 use Rattle.rw_base.proofs.Common.{All-append, All-cons, All-head, All-nil, All-tail, inl, inr}

@@ -1,14 +1,13 @@
 -- The state of an engine, and what it has within a timestep.
-use Rattle.std.specs.Prelude.{◌≡◌, ℕ, ◌<◌, Bool, false, if◌then◌else◌, List, [], ◌∷◌, ◌+◌, ◌≤◌, length, All, Contains, Option, Some, None, IsSome, IfSome, Result, Ok, Err, IfOk, IfErr, is_some, option_map}
+use Rattle.std.specs.Prelude.{◌≡◌, ℕ, ◌<◌, Bool, false, if◌then◌else◌, List, [], ◌∷◌, ◌+◌, ◌≤◌, length, All, Contains, Option, Some, None, IsSome, IfSome, Result, Ok, Err, IfOk, IfErr, is_some}
 use Rattle.rw_base.specs.declared.memory.NoMemory.{NoMemory}
 use Rattle.rw_model.specs.Draft.{Draft, IsObject}
-use Rattle.rw_series.specs.Series.{Series, held}
+use Rattle.rw_series.specs.Series.{held}
 use Rattle.rw_run.specs.Frame.{IsFault}
 use Rattle.rw_run.specs.Log.{Asked, Cells, Event, Log, asked_in, cells_of, last_put, opened, written_by}
 use Rattle.rw_run.specs.Step.{reached_by}
 use Rattle.rw_run.specs.Trace.{lines_in, told}
 use Rattle.rw_run.specs.declared.held.Held.{Held}
-use Rattle.rw_run.specs.declared.trace.TraceEvent.{TraceEvent}
 use Rattle.std.specs.Option.{option_or}
 use Rattle.rw_base.specs.declared.number.Cell.{Cell}
 use Rattle.rw_dispatch.specs.Stage.{IsHeldIn}

@@ -1,4 +1,4 @@
-use Rattle.rw_engine.proofs.Common.{filter_map, held, places, range_with_len, ap, sym, ◌++◌, ◌∙◌}
+use Rattle.rw_engine.proofs.Common.{ap, arith, filter_map, held, places, range_with_len, sym, ◌++◌, ◌∙◌, ◌≡◌}
 use Rattle.rw_run.specs.Dispatch.{cell_in, if_cell}
 use Rattle.rw_record.specs.Noted.{with_noted}
 use Rattle.std.specs.Prelude.{Ok}
@@ -23,3 +23,9 @@ returns-in_err-note_cell c =
     let f = cell_in c.args.basin.now c.args.object.0 c.args.step.0 in
     notes_stop (held c.args.series.now) (filter_map f (range_with_len 0 c.loop-place.place)) (if_cell c.cell_of-cell.result) (filter_map f places) c.args.noted.now c.loop-place.noted
     c.note_cell.new.noted c.in_err-note_cell.field-0.0 _ c.from_residual.result c.from_residual.ensures.1 c.loop-place.invariant c.in_err-note_cell.ensures
+
+pub returns : goal.returns
+returns c =
+    let all : c.loop-place.place ≡ 12 = omega (arith, c.loop-place-test.false, c.loop-place.auto.place-end) in
+    c.loop-place.invariant
+    ∙ ap (λ n. with_noted (held c.args.series.now) (filter_map (cell_in c.args.basin.now c.args.object.0 c.args.step.0) (range_with_len 0 n)) c.args.noted.now) all

@@ -1,4 +1,4 @@
-use Rattle.rw_engine.proofs.Common.{[], add-one, ap, arith, held, last_put, length, option_or, subst, sym, take, ◌++◌, ◌+◌, ◌∙◌, ◌≡◌}
+use Rattle.rw_engine.proofs.Common.{[], add-one, ap, arith, held, last_put, length, option_or, subst, sym, take, ◌∙◌, ◌≡◌}
 use Rattle.std.specs.List.{cons_option}
 use Rattle.std.specs.Prelude.{slice_get}
 use Rattle.std.proofs.lemmas.Grind.{flat_map-append}

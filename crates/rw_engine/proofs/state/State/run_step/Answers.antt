@@ -1,4 +1,4 @@
-use Rattle.std.proofs.Common.{IfSome, IsSome, ap, is_some, option_map, refl, subst, sym, take, ◌∙◌, ◌≡◌}
+use Rattle.std.proofs.Common.{IfSome, IsSome, ap, is_some, option_map, subst, sym, take, ◌∙◌, ◌≡◌}
 use Rattle.rw_run.specs.RunOf.{trace_of}
 use Rattle.rw_series.specs.Series.{held}
 use Rattle.rw_base.specs.declared.number.Cell.{Cell}
