@@ -52,6 +52,11 @@ class BasinObject:
     sure: bool = True  # whether nothing is wrong with its keys
     slots: list = field(default_factory=list)
 
+    @property
+    def stores(self):
+        """Whether it holds water by a Storage, and with a table by an elevation."""
+        return self.kind in formats.STORING
+
 
 @dataclass
 class Model:
