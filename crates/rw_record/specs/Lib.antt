@@ -1,0 +1,5 @@
+pub mod Noted
+pub mod Notes
+pub mod Marks
+pub mod Record
+pub mod Back

@@ -1,0 +1,25 @@
+-- A mark for each cell of so many slots and timesteps, side by side.
+use Rattle.std.specs.Prelude.{◌≡◌, ℕ, ◌*◌, Bool, false, IsTrue, List, [], length, slice_index_or}
+use Rattle.rw_base.specs.declared.number.Cell.{Cell}
+use Rattle.rw_series.specs.Cells.{is_kept, position_of}
+use Rattle.rw_run.specs.declared.held.Held.{Held}
+use Rattle.rw_record.specs.Noted.{AreOnce, is_noted}
+
+-- there is a mark for the cell
+abbrev pub has_mark : ℕ → ℕ → Cell → Bool
+has_mark slots steps cell = is_kept slots steps cell.slot.0 cell.step.0
+
+-- the cell is marked
+abbrev pub is_marked : ℕ → List Bool → Cell → Bool
+is_marked slots marks cell = slice_index_or marks (position_of slots cell.slot.0 cell.step.0) false
+
+-- each cell is noted once, and marked exactly where it is noted, if there is a mark for it
+pub record KeepsMarks (slots steps : ℕ) (marks : List Bool) (noted : List Held) : Type 0 where
+  pub many : length marks ≡ slots * steps
+  pub marked : (cell : Cell) → IsTrue (has_mark slots steps cell) → is_marked slots marks cell ≡ is_noted noted cell
+  pub once : AreOnce noted
+
+-- and nothing is noted where nothing is kept
+pub record KeepsNoted (kept : Bool) (slots steps : ℕ) (marks : List Bool) (noted : List Held) : Type 0 where
+  pub marks_are : KeepsMarks slots steps marks noted
+  pub unkept : kept ≡ false → noted ≡ []

@@ -1,0 +1,43 @@
+ghost use Rattle.std.specs.Prelude.{◌≡◌, ◌≤◌, ◌*◌, IsTrue, if◌then◌else◌, length, vec_len};
+ghost use Rattle.rw_base.specs.declared.number.Cell.{Cell};
+ghost use Rattle.rw_run.specs.Step.{is_same_cell};
+ghost use Rattle.rw_series.specs.Cells.{position_of};
+ghost use Rattle.rw_record.specs.Marks.{has_mark, is_marked};
+
+use rw_base::Cell;
+
+/// Whether there is a mark for a cell, of so many slots and timesteps.
+pub(crate) fn has_mark(slots: u16, steps: u16, cell: Cell) -> bool
+    ensures { result ≡ has_mark slots steps cell }
+{
+    (1 <= cell.slot.0 && cell.slot.0 <= slots) && (1 <= cell.step.0 && cell.step.0 <= steps)
+}
+
+// The place of a mark, counted from 0.
+fn position(slots: u16, cell: Cell) -> usize
+    requires slot { 1 ≤ cell.slot.0 }
+    requires step { 1 ≤ cell.step.0 }
+    ensures { result ≡ position_of slots cell.slot.0 cell.step.0 }
+{
+    usize::from(cell.step.0 - 1) * usize::from(slots) + usize::from(cell.slot.0 - 1)
+}
+
+/// Whether a cell is marked.
+pub(crate) fn is_marked(marks: &[bool], slots: u16, steps: u16, cell: Cell) -> bool
+    requires many { length marks.now ≡ slots * steps }
+    requires there { IsTrue (has_mark slots steps cell) }
+    ensures { result ≡ is_marked slots marks.now cell }
+{
+    marks[position(slots, cell)]
+}
+
+/// Marks a cell, or takes its mark away.
+pub(crate) fn set_mark(marks: &mut Vec<bool>, slots: u16, steps: u16, cell: Cell, mark: bool)
+    requires many { vec_len marks.old ≡ slots * steps }
+    requires there { IsTrue (has_mark slots steps cell) }
+    ensures many { vec_len marks.new ≡ slots * steps }
+    ensures set { (other : Cell) → IsTrue (has_mark slots steps other) → is_marked slots marks.new.items other
+        ≡ (if is_same_cell cell other then mark else is_marked slots marks.old.items other) }
+{
+    marks[position(slots, cell)] = mark;
+}

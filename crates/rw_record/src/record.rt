@@ -1,0 +1,124 @@
+ghost use Rattle.std.specs.Prelude.{◌≡◌, ◌↔◌, ◌||◌, nat_lt, IfOk, MatchOption, Contains, Some, drop, length, take};
+ghost use Rattle.rw_run.specs.Trace.{lines_in, told};
+ghost use Rattle.rw_run.specs.declared.held.Held.{Held as WasHeld};
+ghost use Rattle.rw_record.specs.Noted.{AreOnce, noted_in};
+ghost use Rattle.rw_record.specs.Record.{AreRisingCells, IsLarge, IsRecordOf};
+
+use crate::Noted;
+use rw_base::{Cell, NoMemory, StepNo};
+use rw_run::{Held, Trace};
+use std::alloc::Global;
+use std::marker::Model;
+
+/// The most cells, and the most lines, of a timestep that is kept.
+pub const MOST_KEPT: usize = 6_000;
+
+/// A closed timestep: the cells at which it looked or which its puts reached, with what they held before it, rising by slot and
+/// then by timestep, and its lines.
+#[derive(Drop)]
+pub struct StepRecord {
+    step: StepNo,
+    looked: Vec<Held>,
+    lines: Trace,
+}
+
+impl Model for StepRecord {
+    ghost use Rattle.std.specs.Prelude.{◌≡◌, Some};
+    ghost use Rattle.rw_run.specs.Trace.{lines_in};
+    ghost use Rattle.rw_record.specs.Record as specs;
+
+    ghost Value = { specs.StepRecord };
+
+    ghost view = { λ r. record { step = r.step.0; looked = r.looked.items; lines = lines_in r.lines } };
+
+    ghost invariant = { λ r. r.lines ≡ Some (lines_in r.lines) };
+}
+
+impl StepRecord {
+    /// The record of a timestep of which this is noted, and whose lines stand in the trace from this place on. `None` exactly
+    /// where it has too many cells or lines.
+    pub fn of(
+        alloc: Global,
+        step: StepNo,
+        noted: &Noted,
+        trace: &Trace,
+        from: usize,
+    ) -> Result<Option<StepRecord>, NoMemory>
+        ensures { IfOk result (λ kept. MatchOption kept
+            (IsLarge (noted_in noted.now) (drop from (lines_in trace.now)))
+            (IsRecordOf step.0 (noted_in noted.now) (drop from (lines_in trace.now)))) }
+    {
+        if is_large(noted.as_slice().len(), trace, from) {
+            return Ok(None);
+        }
+        let looked = rising(alloc, noted.as_slice())?;
+        let lines = lines_from(alloc, trace, from)?;
+        Ok(Some(StepRecord {
+            step,
+            looked,
+            lines,
+        }))
+    }
+
+    /// Which timestep it is.
+    pub fn step(&self) -> StepNo
+        ensures { result.0 ≡ self.now.step }
+    {
+        self.step
+    }
+
+    /// The cells at which it looked or which its puts reached, with what they held before it.
+    pub fn looked(&self) -> &[Held]
+        ensures { result.now ≡ self.now.looked }
+    {
+        self.looked.as_slice()
+    }
+
+    /// Its lines.
+    pub fn lines(&self) -> &Trace
+        ensures { result.now ≡ Some self.now.lines }
+    {
+        &self.lines
+    }
+}
+
+// Whether so many cells, or the lines of a trace from a place on, are too many to be kept.
+fn is_large(cells: usize, trace: &Trace, from: usize) -> bool
+    ensures { result ≡ (nat_lt MOST_KEPT cells || nat_lt MOST_KEPT (length (drop from (lines_in trace.now)))) }
+{
+    cells > MOST_KEPT || trace.len().saturating_sub(from) > MOST_KEPT
+}
+
+// The cells, rising by slot and then by timestep.
+fn rising(alloc: Global, cells: &[Held]) -> Result<Vec<Held>, NoMemory>
+    requires { AreOnce cells.now }
+    ensures rising { IfOk result (λ sorted. AreRisingCells sorted.items) }
+    ensures members { IfOk result (λ sorted. (one : WasHeld)
+        → Contains sorted.items one ↔ Contains cells.now one) }
+{
+    let mut sorted = cells.to_vec(alloc)?;
+    sorted.sort_unstable_by_key(|held| (held.cell.slot.0, held.cell.step.0));
+    Ok(sorted)
+}
+
+// The lines of a trace from a place on.
+fn lines_from(alloc: Global, trace: &Trace, from: usize) -> Result<Trace, NoMemory>
+    ensures { IfOk result (λ lines. lines ≡ Some (drop from (lines_in trace.now))) }
+{
+    let mut lines = Trace::new(alloc);
+    for place in from..trace.len() {
+        push_line(&mut lines, trace, place)?;
+    }
+    Ok(lines)
+}
+
+// Adds the line of a trace in a place, if there is one.
+fn push_line(lines: &mut Trace, trace: &Trace, place: usize) -> Result<(), NoMemory>
+    ensures { IfOk result (λ _. lines.new
+        ≡ told lines.old (take 1 (drop place (lines_in trace.now)))) }
+{
+    match trace.line(place) {
+        Some(line) => lines.push(line),
+        None => Ok(()),
+    }
+}
