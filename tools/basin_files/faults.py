@@ -54,6 +54,15 @@ def fault_words(timestep):
     }[fault.kind]
 
 
+def beyond_plant(thing, past, request):
+    """Why a request for energy can't be met, behind the name of its slot."""
+    most = thing.options["max_release"]
+    return (
+        f"is {request:,} kWh, and at the head of {head(thing, past):,} mm that the storage before gives the"
+        f" greatest release, {most:,} m3/step, gives {energy(thing, past, most):,} kWh."
+    )
+
+
 def tell_fault(model, inputs, section):
     """Lines that tell of the fault of a section."""
     step = section.fault_step
@@ -190,7 +199,7 @@ class Telling:
         """Which value is outside, and of what."""
         slot, value = self.fault.slot, self.fault.value
         if slot == "EnergyRequest":
-            return [self.beyond_plant(value)]
+            return [f"{slot} {beyond_plant(self.thing, self.view.past, value)}"]
         one = next(one for one in self.thing.slots if one.name == slot)
         low, high = self.view.bounds[slot]
         table = self.thing.options.get("table")
@@ -204,15 +213,6 @@ class Telling:
         verb = "is" if slot in self.view.known else "would be"
         first = f"{slot} {verb} {value:,} {one.unit}, and {whose} {amount(low)} to {amount(high)}: {by}."
         return [first, *self.how(slot, value)]
-
-    def beyond_plant(self, request):
-        """Why a request for energy can't be met."""
-        fall, most = head(self.thing, self.view.past), self.thing.options["max_release"]
-        gives = energy(self.thing, self.view.past, most)
-        return (
-            f"EnergyRequest is {request:,} kWh, and with the head of {fall:,} mm that the storage before gives,"
-            f" the greatest release, {most:,} m3/step, gives {gives:,} kWh."
-        )
 
     def how(self, slot, value):
         """How the object comes to a value, where its balance says so."""
