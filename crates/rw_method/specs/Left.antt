@@ -2,11 +2,11 @@
 use Rattle.std.specs.Prelude.{◌≡◌, ◌≢◌, ℕ, ◌≤◌, true, List, [], ◌∷◌, Contains, Option, Some, None, Bool, is_some, if◌then◌else◌, ◌++◌}
 use Rattle.rw_model.specs.declared.content.Content.{Content}
 use Rattle.rw_model.specs.declared.kind.Kind.{Kind}
-use Rattle.rw_model.specs.declared.kind.Kind.TheVariants.{Reservoir, WaterUser, Canal}
+use Rattle.rw_model.specs.declared.kind.Kind.TheVariants.{Reservoir, WaterUser, Canal, RoutedReach}
 use Rattle.rw_model.specs.declared.writer.Writer.TheVariants.{Object}
 use Rattle.rw_model.specs.Put.{is_same_object}
 use Rattle.rw_method.specs.declared.given.Given.{Given}
-use Rattle.rw_method.specs.declared.places.TheConstants.{DEPLETION, DIVERSION, INFLOW, OUTFLOW, POOL_ELEVATION, RELEASE, RETURN_FLOW, SEEPAGE, SPILL, STORAGE}
+use Rattle.rw_method.specs.declared.places.TheConstants.{CONTENT, DEPLETION, DIVERSION, INFLOW, OUTFLOW, POOL_ELEVATION, RELEASE, RETURN_FLOW, SEEPAGE, SPILL, STORAGE}
 use Rattle.rw_method.specs.declared.term.Term.{Term}
 use Rattle.rw_method.specs.declared.view.View.{View}
 use Rattle.rw_method.specs.Balance.{balance_of}
@@ -43,6 +43,7 @@ rests_of (Reservoir initial_storage table local_inflow diversion return_flow eva
     ++ rest RELEASE OUTFLOW ∷ rest SPILL OUTFLOW ∷ []
 rests_of (WaterUser depletion supply) = rest DEPLETION DIVERSION ∷ rest RETURN_FLOW DIVERSION ∷ []
 rests_of (Canal seepage) = rest SEEPAGE INFLOW ∷ []
+rests_of (RoutedReach initial_content release) = rest CONTENT OUTFLOW ∷ []
 rests_of kind = []
 
 -- where a term isn't given and its slot is known, so that the object wrote it, all other terms are given; and what the object wrote has

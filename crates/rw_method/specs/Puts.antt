@@ -1,15 +1,15 @@
 -- What is put once a balance is settled.
-use Rattle.std.specs.Prelude.{ℕ, ◌==◌, if◌then◌else◌, ℤ, pos, ◌-ℤ◌, Bool, ◌&&◌, List, [], ◌∷◌, ◌++◌, Option, None, Some, unwrap_or}
+use Rattle.std.specs.Prelude.{ℕ, ◌==◌, if◌then◌else◌, ℤ, pos, ◌+ℤ◌, ◌-ℤ◌, Bool, ◌&&◌, List, [], ◌∷◌, ◌++◌, Option, None, Some, unwrap_or}
 use Rattle.std.specs.Int.{int_min}
 use Rattle.rw_table.specs.Table.{Row}
 use Rattle.rw_model.specs.declared.content.Content.{Content}
 use Rattle.rw_model.specs.declared.kind.Kind.{Kind}
-use Rattle.rw_model.specs.declared.kind.Kind.TheVariants.{Reservoir, WaterUser, Canal}
+use Rattle.rw_model.specs.declared.kind.Kind.TheVariants.{Reservoir, WaterUser, Canal, RoutedReach}
 use Rattle.rw_model.specs.Slot.{all_quantities}
 use Rattle.rw_method.specs.declared.basis.Basis.{Basis}
 use Rattle.rw_method.specs.declared.basis.Basis.TheVariants.{Nothing, Storage, Elevation}
 use Rattle.rw_method.specs.declared.given.Given.{Given}
-use Rattle.rw_method.specs.declared.places.TheConstants.{DEPLETION, DIVERSION, EVAPORATION, INFLOW, OUTFLOW, POOL_ELEVATION, RELEASE, RETURN_FLOW, SEEPAGE, SPILL, STORAGE}
+use Rattle.rw_method.specs.declared.places.TheConstants.{CONTENT, DEPLETION, DIVERSION, EVAPORATION, INFLOW, OUTFLOW, POOL_ELEVATION, RELEASE, RETURN_FLOW, SEEPAGE, SPILL, STORAGE}
 use Rattle.rw_method.specs.declared.put.Put.{Put}
 use Rattle.rw_method.specs.declared.balanced.Balanced.{Balanced}
 use Rattle.rw_method.specs.declared.balanced.Balanced.TheVariants.{Solves}
@@ -17,7 +17,7 @@ use Rattle.rw_method.specs.declared.view.View.{View}
 use Rattle.rw_method.specs.View.{known, given, bounds_at, is_between}
 use Rattle.rw_method.specs.Term.{per_mille}
 use Rattle.rw_method.specs.Contents.{basis_of, elevation_of, volume_of, are_both_zero}
-use Rattle.rw_method.specs.Balance.{evaporation_of}
+use Rattle.rw_method.specs.Balance.{content_before, evaporation_of}
 
 abbrev pub put : ℕ → ℤ → ℕ → Put
 put place value number = record { place = place; value = value; number = number }
@@ -87,6 +87,10 @@ user_puts depletion diversion =
 abbrev pub seepage_put : Given → Given → List Put
 seepage_put inflow outflow = put SEEPAGE (inflow.value -ℤ outflow.value) inflow.number ∷ []
 
+-- what is left of what was held and what flows in, once the outflow is let go
+abbrev pub content_put : ℤ → Given → Given → List Put
+content_put content inflow outflow = put CONTENT (content +ℤ inflow.value -ℤ outflow.value) outflow.number ∷ []
+
 -- all that the object puts, in order of place: what was solved, and what is derived from it
 abbrev pub puts_of : Kind → View → Balanced → List Put
 puts_of (Reservoir initial_storage table local_inflow diversion return_flow evaporation max_release) view balanced =
@@ -95,4 +99,6 @@ puts_of (Reservoir initial_storage table local_inflow diversion return_flow evap
 puts_of (WaterUser depletion supply) view balanced = solved_put balanced ++ user_puts depletion (known_after view balanced DIVERSION)
 puts_of (Canal seepage) view balanced =
     solved_put balanced ++ seepage_put (known_after view balanced INFLOW) (known_after view balanced OUTFLOW)
+puts_of (RoutedReach initial_content release) view balanced =
+    solved_put balanced ++ content_put (content_before view) (known_after view balanced INFLOW) (known_after view balanced OUTFLOW)
 puts_of kind view balanced = solved_put balanced
