@@ -2,12 +2,12 @@
 use Rattle.std.specs.Prelude.{ℕ, zero, suc, ◌+◌, if◌then◌else◌, ℤ, pos, ◌+ℤ◌, Bool, List, [], ◌∷◌, Option, None, Some, unwrap_or, option_map, option_and_then}
 use Rattle.rw_table.specs.Table.{Row}
 use Rattle.rw_model.specs.declared.kind.Kind.{Kind}
-use Rattle.rw_model.specs.declared.kind.Kind.TheVariants.{DataObject, Gage, Confluence, Bifurcation, Reach, Reservoir, WaterUser, Canal, PowerReservoir}
+use Rattle.rw_model.specs.declared.kind.Kind.TheVariants.{DataObject, Gage, Confluence, Bifurcation, Reach, Reservoir, WaterUser, Canal, PowerReservoir, RoutedReach}
 use Rattle.rw_model.specs.declared.kind.Supply.TheVariants.{Request, Rule}
 use Rattle.rw_method.specs.declared.given.Given.{Given}
 use Rattle.rw_method.specs.declared.places.TheConstants.{DIVERSION, DIVERSION_REQUEST, EVAPORATION_RATE, INFLOW, INFLOW_1, INFLOW_2, JOINED_OUTFLOW, OUTFLOW, OUTFLOW_1, OUTFLOW_2, POOL_ELEVATION, REACH_SIDE, RESERVOIR_SIDE, STORAGE}
 use Rattle.rw_method.specs.declared.share.Share.{Share}
-use Rattle.rw_method.specs.declared.share.Share.TheVariants.{Brings, Takes, Conveys}
+use Rattle.rw_method.specs.declared.share.Share.TheVariants.{Brings, Takes, Conveys, Routes}
 use Rattle.rw_method.specs.declared.term.Term.{Term}
 use Rattle.rw_method.specs.declared.view.View.{View}
 use Rattle.rw_method.specs.View.{known_value, given}
@@ -40,6 +40,13 @@ takes view place = term_at view Takes place
 
 abbrev pub conveys : View → ℕ → ℕ → Term
 conveys view seepage place = term_at view (Conveys seepage) place
+
+-- what a routed reach held a timestep ago. Where that isn't known it counts as empty, since the answer is then Idle
+abbrev pub content_before : View → ℤ
+content_before view = unwrap_or view.past (pos 0)
+
+abbrev pub routes : View → ℕ → ℕ → Term
+routes view release place = term_at view (Routes (content_before view) release) place
 
 -- the contents as a term, which takes water and is put as the storage
 abbrev pub stores : Option Given → Term
@@ -104,3 +111,6 @@ balance_of (WaterUser depletion Rule) view = balance (known_value view DIVERSION
 balance_of (Canal seepage) view = balance (Some (pos 0)) (conveys view seepage INFLOW ∷ takes view OUTFLOW ∷ [])
 balance_of (PowerReservoir initial_storage table max_release tailwater power) view =
     power_balance (plant table max_release tailwater power) view
+-- Outflow = floor((Content(t - 1) + Inflow) * release / 1000)
+balance_of (RoutedReach initial_content release) view =
+    balance (option_map (λ content. pos 0) view.past) (routes view release INFLOW ∷ takes view OUTFLOW ∷ [])

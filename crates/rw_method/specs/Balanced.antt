@@ -4,9 +4,9 @@ use Rattle.std.specs.Int.{int_min}
 use Rattle.rw_table.specs.Table.{Row}
 use Rattle.rw_table.specs.Curve.{elev_of, vol_of}
 use Rattle.rw_model.specs.declared.kind.Kind.{Kind}
-use Rattle.rw_model.specs.declared.kind.Kind.TheVariants.{DataObject, Gage, Confluence, Bifurcation, Reach, Reservoir, WaterUser, Canal, PowerReservoir}
+use Rattle.rw_model.specs.declared.kind.Kind.TheVariants.{DataObject, Gage, Confluence, Bifurcation, Reach, Reservoir, WaterUser, Canal, PowerReservoir, RoutedReach}
 use Rattle.rw_model.specs.declared.kind.Supply.TheVariants.{Request, Rule}
-use Rattle.rw_method.specs.declared.places.TheConstants.{DEPLETION, DIVERSION, DIVERSION_REQUEST, ENERGY, EVAPORATION, EVAPORATION_RATE, INFLOW, INFLOW_1, INFLOW_2, JOINED_OUTFLOW, OUTFLOW, OUTFLOW_1, OUTFLOW_2, POOL_ELEVATION, POWER_RELEASE, POWER_SPILL, REACH_SIDE, RELEASE, RESERVOIR_SIDE, RETURN_FLOW, SEEPAGE, SPILL, STORAGE}
+use Rattle.rw_method.specs.declared.places.TheConstants.{DEPLETION, DIVERSION, DIVERSION_REQUEST, ENERGY, EVAPORATION, EVAPORATION_RATE, INFLOW, INFLOW_1, INFLOW_2, JOINED_OUTFLOW, OUTFLOW, OUTFLOW_1, OUTFLOW_2, POOL_ELEVATION, POWER_RELEASE, POWER_SPILL, REACH_SIDE, RELEASE, RESERVOIR_SIDE, RETURN_FLOW, SEEPAGE, SPILL, STORAGE, CONTENT}
 use Rattle.rw_method.specs.declared.view.View.{View}
 use Rattle.rw_method.specs.Balance.{evaporation_of, side_flows}
 use Rattle.rw_method.specs.Contents.{evaporated}
@@ -105,3 +105,7 @@ IsBalanced (Canal seepage) view =
 IsBalanced (PowerReservoir initial_storage table max_release tailwater power) view =
     (past inflow outflow storage : ℤ) → view.past ≡ Some past → IsHeld view INFLOW inflow → IsHeld view OUTFLOW outflow → IsHeld view STORAGE storage
     → IsPowerBalanced (plant table max_release tailwater power) view past inflow outflow storage
+-- Outflow = floor((Content(t - 1) + Inflow) * release / 1000), and Content = Content(t - 1) + Inflow - Outflow
+IsBalanced (RoutedReach initial_content release) view =
+    (past inflow outflow : ℤ) → view.past ≡ Some past → IsHeld view INFLOW inflow → IsHeld view OUTFLOW outflow
+    → (outflow ≡ per_mille (past +ℤ inflow) release) × IsHeld view CONTENT (past +ℤ inflow -ℤ outflow)

@@ -2,11 +2,11 @@
 use Rattle.std.specs.Prelude.{◌≡◌, ◌≢◌, ◌⊎◌, ℕ, ◌≤◌, true, List, [], ◌∷◌, Contains, Option, Some, None, Bool, is_some, if◌then◌else◌, ◌++◌}
 use Rattle.rw_model.specs.declared.content.Content.{Content}
 use Rattle.rw_model.specs.declared.kind.Kind.{Kind}
-use Rattle.rw_model.specs.declared.kind.Kind.TheVariants.{Reservoir, WaterUser, Canal, PowerReservoir}
+use Rattle.rw_model.specs.declared.kind.Kind.TheVariants.{Reservoir, WaterUser, Canal, PowerReservoir, RoutedReach}
 use Rattle.rw_model.specs.declared.writer.Writer.TheVariants.{Object}
 use Rattle.rw_model.specs.Put.{is_same_object}
 use Rattle.rw_method.specs.declared.given.Given.{Given}
-use Rattle.rw_method.specs.declared.places.TheConstants.{DEPLETION, DIVERSION, ENERGY, ENERGY_REQUEST, INFLOW, OUTFLOW, POOL_ELEVATION, POWER_RELEASE, POWER_SPILL, RELEASE, RETURN_FLOW, SEEPAGE, SPILL, STORAGE}
+use Rattle.rw_method.specs.declared.places.TheConstants.{DEPLETION, DIVERSION, ENERGY, ENERGY_REQUEST, INFLOW, OUTFLOW, POOL_ELEVATION, POWER_RELEASE, POWER_SPILL, RELEASE, RETURN_FLOW, SEEPAGE, SPILL, STORAGE, CONTENT}
 use Rattle.rw_method.specs.declared.term.Term.{Term}
 use Rattle.rw_method.specs.declared.view.View.{View}
 use Rattle.rw_method.specs.Power.{plant}
@@ -46,6 +46,7 @@ rests_of (WaterUser depletion supply) = rest DEPLETION DIVERSION ∷ rest RETURN
 rests_of (Canal seepage) = rest SEEPAGE INFLOW ∷ []
 rests_of (PowerReservoir initial_storage table max_release tailwater power) =
     rest STORAGE POOL_ELEVATION ∷ rest POOL_ELEVATION STORAGE ∷ rest ENERGY OUTFLOW ∷ rest POWER_RELEASE OUTFLOW ∷ rest POWER_SPILL OUTFLOW ∷ []
+rests_of (RoutedReach initial_content release) = rest CONTENT OUTFLOW ∷ []
 rests_of kind = []
 
 -- in all other places, the terms are given, with a number that is no greater than this

@@ -1,15 +1,15 @@
 -- What is put once a balance is settled.
-use Rattle.std.specs.Prelude.{ℕ, min, ◌==◌, if◌then◌else◌, ℤ, pos, ◌-ℤ◌, Bool, ◌&&◌, List, [], ◌∷◌, ◌++◌, Option, None, Some, unwrap_or}
+use Rattle.std.specs.Prelude.{ℕ, min, ◌==◌, if◌then◌else◌, ℤ, pos, ◌-ℤ◌, Bool, ◌&&◌, List, [], ◌∷◌, ◌++◌, Option, None, Some, unwrap_or, ◌+ℤ◌}
 use Rattle.std.specs.Int.{int_min}
 use Rattle.rw_table.specs.Table.{Row}
 use Rattle.rw_model.specs.declared.content.Content.{Content}
 use Rattle.rw_model.specs.declared.kind.Kind.{Kind}
-use Rattle.rw_model.specs.declared.kind.Kind.TheVariants.{Reservoir, WaterUser, Canal, PowerReservoir}
+use Rattle.rw_model.specs.declared.kind.Kind.TheVariants.{Reservoir, WaterUser, Canal, PowerReservoir, RoutedReach}
 use Rattle.rw_model.specs.Slot.{all_quantities}
 use Rattle.rw_method.specs.declared.basis.Basis.{Basis}
 use Rattle.rw_method.specs.declared.basis.Basis.TheVariants.{Nothing, Storage, Elevation}
 use Rattle.rw_method.specs.declared.given.Given.{Given}
-use Rattle.rw_method.specs.declared.places.TheConstants.{DEPLETION, DIVERSION, ENERGY, EVAPORATION, INFLOW, OUTFLOW, POOL_ELEVATION, POWER_RELEASE, POWER_SPILL, RELEASE, RETURN_FLOW, SEEPAGE, SPILL, STORAGE}
+use Rattle.rw_method.specs.declared.places.TheConstants.{DEPLETION, DIVERSION, ENERGY, EVAPORATION, INFLOW, OUTFLOW, POOL_ELEVATION, POWER_RELEASE, POWER_SPILL, RELEASE, RETURN_FLOW, SEEPAGE, SPILL, STORAGE, CONTENT}
 use Rattle.rw_method.specs.declared.put.Put.{Put}
 use Rattle.rw_method.specs.declared.balanced.Balanced.{Balanced}
 use Rattle.rw_method.specs.declared.balanced.Balanced.TheVariants.{Holds, Solves}
@@ -19,7 +19,7 @@ use Rattle.rw_method.specs.View.{known, given, bounds_at, is_between}
 use Rattle.rw_method.specs.Term.{per_mille}
 use Rattle.rw_method.specs.Contents.{basis_of, elevation_of, volume_of, are_both_zero}
 use Rattle.rw_method.specs.Power.{Plant, plant, asked_of, energy_of, head_of}
-use Rattle.rw_method.specs.Balance.{evaporation_of, power_balance}
+use Rattle.rw_method.specs.Balance.{evaporation_of, power_balance, content_before}
 use Rattle.rw_method.specs.Settling.{greatest_beside}
 
 abbrev pub put : ℕ → ℤ → ℕ → Put
@@ -132,6 +132,9 @@ power_puts plant view balanced =
     power_flows plant view balanced
     ++ level_puts (Some plant.table) (given view STORAGE) (given view POOL_ELEVATION) balanced
     ++ energy_puts plant (head_of plant view) (held_after view (power_flows plant view balanced) OUTFLOW)
+-- what is left of what was held and what flows in, once the outflow is let go
+abbrev pub content_put : ℤ → Given → Given → List Put
+content_put content inflow outflow = put CONTENT (content +ℤ inflow.value -ℤ outflow.value) outflow.number ∷ []
 
 -- all that the object puts, in order of place: what was solved, and what is derived from it
 abbrev pub puts_of : Kind → View → Balanced → List Put
@@ -143,4 +146,6 @@ puts_of (Canal seepage) view balanced =
     solved_put balanced ++ seepage_put (known_after view balanced INFLOW) (known_after view balanced OUTFLOW)
 puts_of (PowerReservoir initial_storage table max_release tailwater power) view balanced =
     power_puts (plant table max_release tailwater power) view balanced
+puts_of (RoutedReach initial_content release) view balanced =
+    solved_put balanced ++ content_put (content_before view) (known_after view balanced INFLOW) (known_after view balanced OUTFLOW)
 puts_of kind view balanced = solved_put balanced

@@ -1,8 +1,8 @@
 //! Where the slots that a balance speaks of stand among those of their kind (`docs/DEFINITIONS.md`, "Slots").
 
-/// What flows into a gage, a bifurcation, a reach, a reservoir or a canal.
+/// What flows into a gage, a bifurcation, a reach, a reservoir, a canal or a routed reach.
 pub const INFLOW: u8 = 0;
-/// What flows out of a gage, a reach, a reservoir or a canal.
+/// What flows out of a gage, a reach, a reservoir, a canal or a routed reach.
 pub const OUTFLOW: u8 = 1;
 
 /// The two that flow into a confluence.
@@ -55,3 +55,6 @@ pub const RETURN_FLOW: u8 = 3;
 
 /// A canal's Seepage.
 pub const SEEPAGE: u8 = 2;
+
+/// A routed reach's Content.
+pub const CONTENT: u8 = 2;
