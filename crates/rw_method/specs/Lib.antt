@@ -2,6 +2,7 @@ pub mod View
 pub mod Past
 pub mod Term
 pub mod Contents
+pub mod Power
 pub mod Balance
 pub mod Settling
 pub mod Puts
