@@ -1,22 +1,22 @@
 -- The terms of a balance, and by what each is given.
-use Rattle.rw_method.proofs.Common.{AllByRecursion, Bifurcation, Bool, Brings, ByObject, ByRule, Canal, Confluence, Content, Conveys, DataObject, Elevation, Gage, Given, Kind, List, None, ObjectNo, Option, Reach, Request, Reservoir, Row, Share, Some, Storage, Takes, Term, View, WaterUser, [], ap, arith, balance_of, basis_of, contents_by, false, given, given_by, if◌then◌else◌, inl, inr, is_same_object, known, map, nat_le, nat_tests, none-some, option_map, pos, refl, same_Some, subst, suc, sym, true, unwrap_or, volume_of, zero, ℕ, ℤ, ◌∙◌, ◌∷◌, ◌≡◌, ◌≤◌, ◌⊎◌}
+use Rattle.rw_method.proofs.Common.{AllByRecursion, Bifurcation, Bool, Brings, ByObject, ByRule, Canal, Confluence, Content, Conveys, DataObject, Elevation, Gage, Given, Kind, List, None, ObjectNo, Option, Reach, Request, Reservoir, RoutedReach, Routes, Row, Share, Some, Storage, Takes, Term, View, WaterUser, [], ap, arith, balance_of, basis_of, contents_by, false, given, given_by, if◌then◌else◌, inl, inr, is_same_object, known, map, nat_le, nat_tests, none-some, option_map, pos, refl, same_Some, subst, suc, sym, true, unwrap_or, volume_of, zero, ℕ, ℤ, ◌∙◌, ◌∷◌, ◌≡◌, ◌≤◌, ◌⊎◌}
 use Rattle.rw_method.specs.Left.{IsGivenUpTo, is_own}
 use Rattle.rw_method.specs.Passing.{IsAfterOthers}
 use Rattle.rw_method.proofs.Among.{Among}
 
--- ---- a term of a kind, apart from any view
+-- ---- a term of a kind, apart from any view; how it counts may go by the past value
 
 pub data Source : Type 0 where
   slot : Source
   contents : Option (List Row) → Source
 
 pub record Sort : Type 0 where
-  pub share : Share
+  pub share : Option ℤ → Share
   pub place : ℕ
   pub source : Source
 
 abbrev pub sort : Share → ℕ → Sort
-sort share place = record { share = share; place = place; source = slot }
+sort share place = record { share = λ past. share; place = place; source = slot }
 
 abbrev pub given_from : View → ℕ → Source → Option Given
 given_from view place slot = given view place
@@ -26,7 +26,11 @@ abbrev pub given_in : View → Sort → Option Given
 given_in view s = given_from view s.place s.source
 
 abbrev pub term_in : View → Sort → Term
-term_in view s = record { place = s.place; share = s.share; given = given_in view s }
+term_in view s = record { place = s.place; share = s.share view.past; given = given_in view s }
+
+-- the inflow of a reach that lets so much go of what it held and of what flows in
+abbrev pub routed : ℕ → Sort
+routed release = record { share = λ past. Routes (unwrap_or past (pos 0)) release; place = 0; source = slot }
 
 abbrev pub shape_of : Kind → List Sort
 shape_of (DataObject slots) = []
@@ -36,10 +40,11 @@ shape_of Bifurcation = sort Brings 0 ∷ sort Takes 1 ∷ sort Takes 2 ∷ []
 shape_of (Reach zero history local_inflow diversion return_flow) = sort Brings 0 ∷ sort Takes 1 ∷ []
 shape_of (Reach (suc lag) history local_inflow diversion return_flow) = sort Takes 1 ∷ []
 shape_of (Reservoir initial_storage table local_inflow diversion return_flow evaporation max_release) =
-    sort Brings 0 ∷ sort Takes 1 ∷ record { share = Takes; place = 2; source = contents table } ∷ []
+    sort Brings 0 ∷ sort Takes 1 ∷ record { share = λ past. Takes; place = 2; source = contents table } ∷ []
 shape_of (WaterUser depletion Request) = sort Takes 1 ∷ []
 shape_of (WaterUser depletion ByRule) = []
 shape_of (Canal seepage) = sort (Conveys seepage) 0 ∷ sort Takes 1 ∷ []
+shape_of (RoutedReach initial_content release) = routed release ∷ sort Takes 1 ∷ []
 
 pub terms_are : (kind : Kind) (view : View) → (balance_of kind view).terms ≡ map (term_in view) (shape_of kind)
 terms_are (DataObject slots) view = refl
@@ -52,6 +57,7 @@ terms_are (Reservoir initial_storage table local_inflow diversion return_flow ev
 terms_are (WaterUser depletion Request) view = refl
 terms_are (WaterUser depletion ByRule) view = refl
 terms_are (Canal seepage) view = refl
+terms_are (RoutedReach initial_content release) view = refl
 
 -- contents are taken from storage and elevation, and count as a storage
 abbrev pub IsPlacedBy : ℕ → Source → Type 0
@@ -72,6 +78,7 @@ all_sorted (Reservoir initial_storage table local_inflow diversion return_flow e
 all_sorted (WaterUser depletion Request) = (tt, tt)
 all_sorted (WaterUser depletion ByRule) = tt
 all_sorted (Canal seepage) = (tt, (tt, tt))
+all_sorted (RoutedReach initial_content release) = (tt, (tt, tt))
 
 -- the sorts whose terms these are
 pub record IsTermOf (view : View) (shape : List Sort) (term : Term) : Type 0 where

@@ -35,7 +35,7 @@ pub use put::Put;
 pub use put_list::PutList;
 pub use puts::{add_put, begin_puts, known_after, put_solved};
 pub use settling::settle;
-pub use share::{Seepage, Share};
+pub use share::{Release, Seepage, Share};
 pub use side::side_flows;
 pub use solved::Solved;
 pub use term::Term;
