@@ -7,6 +7,7 @@ pub mod SolvedTerm
 pub mod SolvedPuts
 pub mod Among
 pub mod Earlier
+mod Asking
 mod Settled
 mod Terms
 pub mod Leaving
