@@ -13,6 +13,7 @@ mod Terms
 pub mod Leaving
 mod Answering
 mod PlainKinds
+mod Storing
 mod ReservoirFacts
 pub mod LeftKept
 mod Netting
