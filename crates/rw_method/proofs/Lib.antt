@@ -15,6 +15,7 @@ mod Answering
 mod PlainKinds
 mod Storing
 mod ReservoirFacts
+mod PowerFacts
 pub mod LeftKept
 mod Netting
 mod Balancing

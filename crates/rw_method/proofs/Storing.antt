@@ -135,7 +135,7 @@ module _ (kind : Kind) (table : Option (List Row)) (view : View) (puts : List Pu
   basis_code (Elevation held) = 2
 
   -- where another term is solved, or none, a slot holds what it held
-  not_solved : (balanced : Balanced) → balanced_of kind view ≡ balanced → (place : ℕ) → ((solving : Solving kind view) → solving.place ≢ place)
+  pub not_solved : (balanced : Balanced) → balanced_of kind view ≡ balanced → (place : ℕ) → ((solving : Solving kind view) → solving.place ≢ place)
       → known_after view balanced place ≡ held_by (known view place)
   not_solved (Solves at value number) e place none = by (at == place) refl
     where
