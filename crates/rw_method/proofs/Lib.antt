@@ -8,6 +8,7 @@ mod SolvedInflow
 pub mod SolvedPuts
 pub mod Among
 pub mod Earlier
+mod Asking
 mod Settled
 mod Terms
 pub mod Leaving

@@ -9,7 +9,7 @@ use Rattle.rw_model.specs.declared.data_slots.DataSlot.{DataSlot}
 use Rattle.rw_model.specs.declared.kind.Kind.{Kind}
 use Rattle.rw_model.specs.declared.kind.Kind.TheVariants.{DataObject, Gage, Confluence, Bifurcation, Reach, Reservoir, WaterUser, Canal, PowerReservoir, RoutedReach}
 use Rattle.rw_model.specs.Name.{IsName, is_name}
-use Rattle.rw_model.specs.Kind.{IsAmount, IsDataSlots, IsLagged, IsStored, IsPowered, IsRouted, IsKind, is_data_slots, is_lagged, is_inside, is_release, is_stored, is_powered, is_routed, is_kind}
+use Rattle.rw_model.specs.Kind.{IsAmount, IsDataSlots, IsLagged, IsStored, IsPlant, IsPowered, IsRouted, IsKind, is_data_slots, is_lagged, is_inside, is_release, is_stored, is_plant, is_powered, is_routed, is_kind}
 use Rattle.rw_model.specs.Slot.{Bounds, IsInside}
 use Rattle.rw_model.specs.Objects.{Object, Placed, object_named, all_slots, slot_at}
 use Rattle.rw_model.specs.Draft.{Bound, IsSound, IsFresh, CanAdd, bound_of, IsSlot, CanBound}
@@ -71,14 +71,18 @@ Decides-volume : (rows : List Row) (storage : ℤ) → Decides (is_from_to (firs
 Decides-volume rows storage =
     Decides-like _ (λ p. record { from_first = p.0; to_last = p.1 }) (λ p. (p.from_first, p.to_last)) (Decides-from_to _ _ storage)
 
+Decides-plant : (tailwater : ℤ) (power : ℕ) → Decides (is_plant tailwater power) (IsPlant tailwater power)
+Decides-plant tailwater power = Decides-like (is_plant tailwater power)
+    (λ p. record { low = p.0.0; high = p.0.1; some = p.1.0; most = p.1.1 }) (λ p. ((p.low, p.high), (p.some, p.most)))
+    (Decides-and _ _ (Decides-from_to (pos 0) (pos 10000000) tailwater) (Decides-and _ _ (Decides-le 1 power) (Decides-le power 10000)))
+
 Decides-powered : (initial_storage : ℤ) (rows : List Row) (max_release tailwater : ℤ) (power : ℕ)
     → Decides (is_powered initial_storage rows max_release tailwater power) (IsPowered initial_storage rows max_release tailwater power)
 Decides-powered initial_storage rows max_release tailwater power = Decides-like (is_powered initial_storage rows max_release tailwater power)
-    (λ p. record { amount = p.0; inside = p.1.0; release = p.1.1.0; low = p.1.1.1.0.0; high = p.1.1.1.0.1; some = p.1.1.1.1.0; most = p.1.1.1.1.1 })
-    (λ p. (p.amount, (p.inside, (p.release, ((p.low, p.high), (p.some, p.most))))))
+    (λ p. record { amount = p.0; inside = p.1.0; release = p.1.1.0; plant = p.1.1.1 })
+    (λ p. (p.amount, (p.inside, (p.release, p.plant))))
     (Decides-and _ _ (Decides-amount initial_storage) (Decides-and _ _ (Decides-volume rows initial_storage)
-    (Decides-and _ _ (Decides-amount max_release) (Decides-and _ _ (Decides-from_to (pos 0) (pos 10000000) tailwater)
-    (Decides-and _ _ (Decides-le 1 power) (Decides-le power 10000))))))
+    (Decides-and _ _ (Decides-amount max_release) (Decides-plant tailwater power))))
 
 Decides-routed : (initial_content : ℤ) (release : ℕ) → Decides (is_routed initial_content release) (IsRouted initial_content release)
 Decides-routed initial_content release = Decides-like (is_routed initial_content release)

@@ -35,16 +35,19 @@ pub record IsStored (initial_storage : ℤ) (table : Option (List Row)) (evapora
   pub evaporates : IsTrue evaporation → IsSome table
   pub releases : ForSome max_release IsAmount
 
--- an initial storage from 0 to Q m3, which the table has, a greatest release from 0 to Q m3/step, a tailwater from 0 to 10,000,000 mm,
--- and 1 to 10,000 kWh for 10^9 m3 that fall by 1 mm
-pub record IsPowered (initial_storage : ℤ) (rows : List Row) (max_release tailwater : ℤ) (power : ℕ) : Type 0 where
-  pub amount : IsAmount initial_storage
-  pub inside : IsVolumeInside rows initial_storage
-  pub release : IsAmount max_release
+-- a tailwater from 0 to 10,000,000 mm, and 1 to 10,000 kWh for 10^9 m3 that fall by 1 mm
+pub record IsPlant (tailwater : ℤ) (power : ℕ) : Type 0 where
   pub low : pos 0 ≤ℤ tailwater
   pub high : tailwater ≤ℤ pos 10000000
   pub some : 1 ≤ power
   pub most : power ≤ 10000
+
+-- an initial storage from 0 to Q m3, which the table has, a greatest release from 0 to Q m3/step, and a plant
+pub record IsPowered (initial_storage : ℤ) (rows : List Row) (max_release tailwater : ℤ) (power : ℕ) : Type 0 where
+  pub amount : IsAmount initial_storage
+  pub inside : IsVolumeInside rows initial_storage
+  pub release : IsAmount max_release
+  pub plant : IsPlant tailwater power
 
 -- an initial content from 0 to Q m3, and 1 to 1000 of a thousand parts that flow out
 pub record IsRouted (initial_content : ℤ) (release : ℕ) : Type 0 where
@@ -91,11 +94,13 @@ is_stored initial_storage table evaporation max_release =
     is_from_to (pos 0) quantity_max initial_storage && (is_inside table initial_storage
     && ((not evaporation || is_some table) && is_release max_release))
 
+abbrev pub is_plant : ℤ → ℕ → Bool
+is_plant tailwater power = is_from_to (pos 0) (pos 10000000) tailwater && (nat_le 1 power && nat_le power 10000)
+
 abbrev pub is_powered : ℤ → List Row → ℤ → ℤ → ℕ → Bool
 is_powered initial_storage rows max_release tailwater power =
     is_from_to (pos 0) quantity_max initial_storage && (is_from_to (first_row rows).1 (last_row rows).1 initial_storage
-    && (is_from_to (pos 0) quantity_max max_release && (is_from_to (pos 0) (pos 10000000) tailwater
-    && (nat_le 1 power && nat_le power 10000))))
+    && (is_from_to (pos 0) quantity_max max_release && is_plant tailwater power))
 
 abbrev pub is_routed : ℤ → ℕ → Bool
 is_routed initial_content release =

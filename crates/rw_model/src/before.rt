@@ -77,7 +77,8 @@ pub fn before_in(kind: &Kind, place: u8, step: i64) -> Option<i64>
             ..
         } if step == 0 => past_storage(*initial_storage, Some(table), place),
         Kind::RoutedReach {
-            initial_content, ..
+            initial_content,
+            ..
         } if step == 0 => past_content(*initial_content, place),
         _ => None,
     }

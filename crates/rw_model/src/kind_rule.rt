@@ -4,7 +4,7 @@ ghost use Rattle.rw_base.specs.Quantity.{IsQuantity};
 ghost use Rattle.rw_table.specs.Curve.{IsVolumeInside};
 ghost use Rattle.rw_model.specs.declared.data_slots.DataSlot.{DataSlot as Slot};
 ghost use Rattle.rw_model.specs.Name.{IsName};
-ghost use Rattle.rw_model.specs.Kind.{IsAmount, IsDataSlots, IsLagged, IsPowered, IsRouted, IsStored, IsKind, is_kind};
+ghost use Rattle.rw_model.specs.Kind.{IsAmount, IsDataSlots, IsLagged, IsPlant, IsPowered, IsRouted, IsStored, IsKind, is_kind};
 
 use crate::name_rule::is_name;
 use crate::{DataSlot, Kind};
@@ -79,6 +79,19 @@ fn is_stored(
         && is_release(max_release)
 }
 
+// Whether it is an amount that the table has.
+fn is_volume(rating: &Rating, volume: i64) -> bool
+    ensures { IsTrue result ↔ (IsAmount volume × IsVolumeInside rating.now volume) }
+{
+    is_amount(volume) && is_in_table(rating, volume)
+}
+
+fn is_plant(tailwater: i64, power: u16) -> bool
+    ensures { IsTrue result ↔ IsPlant tailwater power }
+{
+    0 <= tailwater && tailwater <= TAILWATER_MAX && 1 <= power && power <= 10_000
+}
+
 fn is_powered(
     initial_storage: i64,
     rating: &Rating,
@@ -88,13 +101,7 @@ fn is_powered(
 ) -> bool
     ensures { IsTrue result ↔ IsPowered initial_storage rating.now max_release tailwater power }
 {
-    is_amount(initial_storage)
-        && is_in_table(rating, initial_storage)
-        && is_amount(max_release)
-        && 0 <= tailwater
-        && tailwater <= TAILWATER_MAX
-        && 1 <= power
-        && power <= 10_000
+    is_volume(rating, initial_storage) && is_amount(max_release) && is_plant(tailwater, power)
 }
 
 fn is_routed(initial_content: i64, release: u16) -> bool
