@@ -1,5 +1,5 @@
 -- An object that is idle doesn't know all its terms, so that nothing is asked of its balance.
-use Rattle.rw_method.proofs.Common.{AllByRecursion, Balanced, Bifurcation, Bool, ByRule, Canal, Conflicts, Confluence, Content, DataObject, Gage, Given, Holds, Idle, IdleAnswer, Kind, List, None, Option, PowerReservoir, Put, Reach, Request, Reservoir, Solved, Some, Term, View, WaterUser, [], all_or_misfit, answer, ap, ap₂, arith, balance_of, balanced_of, difference, false, fault_of_contents, first_fault, first_misfit, fits, if◌then◌else◌, inl, inr, int_eq, is_some, known, map, missing, nat_le, nat_tests, net_of, none-some, pos, puts_of, refl, settled, settled_at, solve_of, solves, suc, sum_of, sym, true, unless_faulty, value_from_others, weakest, zero, ℕ, ℤ, ◌+ℤ◌, ◌+◌, ◌-ℤ◌, ◌==◌, ◌∙◌, ◌∷◌, ◌≡◌, ◌≢◌, ◌≤◌}
+use Rattle.rw_method.proofs.Common.{AllByRecursion, Balanced, Bifurcation, Bool, ByRule, Canal, Conflicts, Confluence, Content, DataObject, Gage, Given, Holds, Idle, IdleAnswer, Kind, List, None, Option, Put, Reach, Request, Reservoir, RoutedReach, Solved, Some, Term, View, WaterUser, [], all_or_misfit, answer, ap, ap₂, arith, balance_of, balanced_of, difference, false, fault_of_contents, first_misfit, fits, if◌then◌else◌, inl, inr, int_eq, is_some, known, map, missing, nat_le, nat_tests, net_of, none-some, option_map, pos, puts_of, refl, settled, settled_at, solve_of, solves, suc, sum_of, sym, true, value_from_others, weakest, zero, ℕ, ℤ, ◌+ℤ◌, ◌+◌, ◌-ℤ◌, ◌==◌, ◌∙◌, ◌∷◌, ◌≡◌, ◌≢◌, ◌≤◌, PowerReservoir, first_fault, unless_faulty}
 use Rattle.rw_method.specs.Balanced.{IsBalanced, IsHeld}
 use Rattle.rw_method.specs.Left.{Left}
 use Rattle.rw_method.proofs.Leaving.{from_left}
@@ -140,3 +140,6 @@ idle_balanced (WaterUser depletion ByRule) view left idle = λ diversion held_di
     absurd (never (WaterUser depletion ByRule) view diversion left tt held_diversion tt idle)
 idle_balanced (Canal seepage) view left idle = λ inflow outflow held_in held_out.
     absurd (never (Canal seepage) view (pos 0) left (((λ same. omega (arith, same)), tt), (tt, tt)) refl (held_known view 0 inflow held_in, (held_known view 1 outflow held_out, tt)) idle)
+idle_balanced (RoutedReach initial_content release) view left idle = λ past inflow outflow past_is held_in held_out.
+    absurd (never (RoutedReach initial_content release) view (pos 0) left (((λ same. omega (arith, same)), tt), (tt, tt)) (ap (option_map (λ z. pos 0)) past_is)
+    (held_known view 0 inflow held_in, (held_known view 1 outflow held_out, tt)) idle)

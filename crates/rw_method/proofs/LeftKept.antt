@@ -1,11 +1,11 @@
 -- What an object's slots are left as, whatever the kind: how its own puts keep it.
-use Rattle.rw_method.proofs.Common.{AllByRecursion, Balanced, Basis, Bifurcation, Bool, ByRule, Canal, Confluence, Contains, DataObject, Elevation, Gage, Given, IsKind, IsStored, Kind, List, None, Nothing, Option, Put, Puts, Reach, Request, Reservoir, Row, Solves, Some, Storage, View, WaterUser, [], ap, are_both_zero, arith, balanced_of, basis_of, beside_basis, beside_given, elevation_of, evaporation_of, evaporation_put, false, given, if◌then◌else◌, inl, inr, known_after, level_puts, nat_tests, put_found, refl, release_puts, seepage_put, solve_of, solved_put, subst, suc, sym, true, user_puts, volume_of, zero, ℕ, ℤ, ◌++◌, ◌<◌, ◌==◌, ◌∙◌, ◌∷◌, ◌≡◌, ◌≢◌, ◌≤◌}
+use Rattle.rw_method.proofs.Common.{AllByRecursion, Balanced, Basis, Bifurcation, Bool, ByRule, Canal, Confluence, Contains, DataObject, Elevation, Gage, Given, IsKind, IsStored, Kind, List, None, Nothing, Option, Put, Puts, Reach, Request, Reservoir, RoutedReach, Row, Solves, Some, Storage, View, WaterUser, [], ap, are_both_zero, arith, balanced_of, basis_of, beside_basis, beside_given, content_before, content_put, elevation_of, evaporation_of, evaporation_put, false, given, if◌then◌else◌, inl, inr, known_after, level_puts, nat_tests, put_found, refl, release_puts, seepage_put, solve_of, solved_put, subst, suc, sym, true, user_puts, volume_of, zero, ℕ, ℤ, ◌++◌, ◌<◌, ◌==◌, ◌∙◌, ◌∷◌, ◌≡◌, ◌≢◌, ◌≤◌}
 use Rattle.rw_method.specs.Left.{Left}
 use Rattle.rw_method.specs.Passing.{IsAfterOwn, IsOwnFall}
 use Rattle.rw_method.proofs.Answering.{Answered, answered}
 use Rattle.rw_method.proofs.Leaving.{DispatchFacts, Solving, from_left, own_falls, own_left, to_left}
 use Rattle.rw_method.proofs.Among.{Among, all_append, all_at, among, weaker_all}
-use Rattle.rw_method.proofs.PlainKinds.{bifurcation_facts, confluence_facts, conveyed_facts, data_facts, gage_facts, lagged_facts, reach_facts, solved_at, user_facts}
+use Rattle.rw_method.proofs.PlainKinds.{bifurcation_facts, canal_facts, confluence_facts, data_facts, gage_facts, lagged_facts, reach_facts, routed_facts, solved_at, user_facts}
 use Rattle.rw_method.proofs.ReservoirFacts.{reservoir_facts}
 use Rattle.rw_method.proofs.Terms.{Sort, shape_of}
 
@@ -19,7 +19,8 @@ dispatch_facts (Reach (suc lag) history local_inflow diversion return_flow) view
 dispatch_facts (Reservoir initial_storage table local_inflow diversion return_flow evaporation max_release) view puts sound is =
     reservoir_facts initial_storage table local_inflow diversion return_flow evaporation max_release view puts sound is
 dispatch_facts (WaterUser depletion supply) view puts sound is = user_facts view puts depletion supply is
-dispatch_facts (Canal seepage) view puts sound is = conveyed_facts view puts seepage sound is
+dispatch_facts (Canal seepage) view puts sound is = canal_facts view puts seepage sound is
+dispatch_facts (RoutedReach initial_content release) view puts sound is = routed_facts view puts initial_content release sound.some sound.most is
 
 -- ---- puts stand in different places
 
@@ -172,6 +173,12 @@ apart_puts (Canal seepage) view puts sound is =
     let b = balanced_of (Canal seepage) view in
     subst AreApart is.same (apart_both (solved_put b) (seepage_put (known_after view b 0) (known_after view b 1)) (solved_alone_apart b) (tt, tt)
     (up_apart 1 (solved_put b) (seepage_put (known_after view b 0) (known_after view b 1)) (solved_up_to 1 b (low_solving (Canal seepage) view puts 1 (omega arith, (omega arith, tt)) sound is)) (omega arith, tt)))
+apart_puts (RoutedReach initial_content release) view puts sound is =
+    let kind : Kind = RoutedReach initial_content release in
+    let b = balanced_of kind view in
+    let left : List Put = content_put (content_before view) (known_after view b 0) (known_after view b 1) in
+    subst AreApart is.same (apart_both (solved_put b) left (solved_alone_apart b) (tt, tt)
+    (up_apart 1 (solved_put b) left (solved_up_to 1 b (low_solving kind view puts 1 (omega arith, (omega arith, tt)) sound is)) (omega arith, tt)))
 
 -- ---- for any kind
 

@@ -4,6 +4,7 @@ pub mod LeastInflow
 pub mod GivingWay
 pub mod GreatestBeside
 pub mod SolvedTerm
+mod SolvedInflow
 pub mod SolvedPuts
 pub mod Among
 pub mod Earlier

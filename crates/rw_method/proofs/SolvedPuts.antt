@@ -1,8 +1,8 @@
 -- What a method puts stands in slots of its kind.
-use Rattle.rw_method.proofs.Common.{All, All-append, All-push, AllFit, Balanced, Bool, Conflicts, Given, Holds, Idle, IsSome, List, None, Option, Put, Solves, Some, Term, View, [], all_or_misfit, answer, asked_of, asked_put, energy_puts, fault_of_level, fault_of_request, first_fault, flow_puts, head_of, held_after, plant, Plant, power_balance, power_flows, release_for, request_of, unless_faulty, Content, put, ap, ap₂, arith, balanced_of, beside_basis, beside_given, evaporation_put, false, fault_of_contents, fault_of_past, first_misfit, fits, gives_way_before, if◌then◌else◌, inl, inr, int_eq, is_bounded, is_some, known_after, length, length-append, level_puts, missing, nat_le, net_of, none-some, not, or_else, pos, put_found, puts_of, refl, release_puts, same_Some, seepage_put, settled, settled_at, solve_of, solved_put, solves, subst, suc, true, user_puts, value_from_others, weakest, zero, ℕ, ℤ, ◌&&◌, ◌++◌, ◌+ℤ◌, ◌+◌, ◌<◌, ◌==◌, ◌∙◌, ◌∷◌, ◌≡◌, ◌≤◌, ◌⊎◌}
+use Rattle.rw_method.proofs.Common.{All, All-append, All-push, AllFit, Balanced, Bool, Conflicts, Given, Holds, Idle, IsSome, List, None, Option, Put, Solves, Some, Term, View, [], all_or_misfit, answer, ap, ap₂, arith, balanced_of, beside_basis, beside_given, content_before, content_put, evaporation_put, false, fault_of_contents, fault_of_past, first_misfit, fits, gives_way_before, if◌then◌else◌, inl, inr, int_eq, is_bounded, is_some, known_after, length, length-append, level_puts, missing, nat_le, net_of, none-some, not, or_else, pos, put_found, puts_of, refl, release_puts, same_Some, seepage_put, settled, settled_at, solve_of, solved_put, solves, subst, suc, true, user_puts, value_from_others, weakest, zero, ℕ, ℤ, ◌&&◌, ◌++◌, ◌+ℤ◌, ◌+◌, ◌<◌, ◌==◌, ◌∙◌, ◌∷◌, ◌≡◌, ◌≤◌, ◌⊎◌, asked_of, asked_put, energy_puts, fault_of_level, fault_of_request, first_fault, flow_puts, head_of, held_after, plant, Plant, power_balance, power_flows, release_for, request_of, unless_faulty, Content, put}
 use Rattle.rw_table.specs.Table.{Row}
 use Rattle.rw_model.specs.declared.kind.Kind.{Kind}
-use Rattle.rw_model.specs.declared.kind.Kind.TheVariants.{DataObject, Gage, Confluence, Bifurcation, Reach, Reservoir, WaterUser, Canal, PowerReservoir}
+use Rattle.rw_model.specs.declared.kind.Kind.TheVariants.{DataObject, Gage, Confluence, Bifurcation, Reach, Reservoir, WaterUser, Canal, RoutedReach, PowerReservoir}
 use Rattle.rw_model.specs.declared.kind.Supply.TheVariants.{Request, Rule}
 use Rattle.rw_model.proofs.Common.{IsKind, IsStored, Slot, where_chosen, slot_in}
 use Rattle.rw_method.specs.declared.basis.Basis.{Basis}
@@ -240,6 +240,11 @@ puts_own (Canal seepage) view is =
     let seeps : AreOwn kind 1 (seepage_put (known_after view (balanced_of kind view) 0) (known_after view (balanced_of kind view) 1)) =
     one_own kind _ (own_at _ 2 _ (omega arith) refl) in
     solved_beside kind view _ (own_at _ 0 _ (omega arith) refl, (own_at _ 1 _ (omega arith) refl, tt)) (more_room kind 1 7 _ (omega arith) seeps)
+puts_own (RoutedReach initial_content release) view is =
+    let kind : Kind = RoutedReach initial_content release in
+    let left : AreOwn kind 1 (content_put (content_before view) (known_after view (balanced_of kind view) 0) (known_after view (balanced_of kind view) 1)) =
+    one_own kind _ (own_at _ 2 _ (omega arith) refl) in
+    solved_beside kind view _ (own_at _ 0 _ (omega arith) refl, (own_at _ 1 _ (omega arith) refl, tt)) (more_room kind 1 7 _ (omega arith) left)
 
 -- ---- what is answered
 

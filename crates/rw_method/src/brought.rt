@@ -94,13 +94,21 @@ fn turned(outflow: i128) -> i128
     -(outflow * 1000)
 }
 
+// The least content of which a reach lets the outflow go.
+fn least_content(release: Release, outflow: i128) -> i128
+    requires { IsWithin 10 outflow }
+    ensures amount { result ≡ neg_ℤ (floor_div (neg_ℤ (outflow *ℤ pos 1000)) (pos release)) }
+    ensures bound { IsWithin 100000 result }
+{
+    -quotient(turned(outflow), release.get())
+}
+
 // The least inflow with which a reach that holds so much lets the outflow go.
 fn least_routed(content: i64, release: Release, outflow: i128) -> i128
     requires { IsWithin 10 outflow }
     ensures { result ≡ least_routed content release outflow }
 {
-    let held = -quotient(turned(outflow), release.get());
-    held - i128::from(content)
+    least_content(release, outflow) - i128::from(content)
 }
 
 // How much a value brings.

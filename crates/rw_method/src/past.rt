@@ -18,7 +18,7 @@ pub fn past_in(kind: &Kind) -> Option<(u8, u16)>
                 Some((INFLOW, u16::from(*lag)))
             }
         }
-        Kind::Reservoir { .. } => Some((STORAGE, 1)),
+        Kind::Reservoir { .. } | Kind::PowerReservoir { .. } => Some((STORAGE, 1)),
         Kind::RoutedReach { .. } => Some((CONTENT, 1)),
         _ => None,
     }
