@@ -23,4 +23,5 @@ mod Balancing
 pub mod Idling
 mod Evaporating
 mod ReservoirBalance
+mod PowerBalance
 pub mod SolvedBalance
