@@ -1,5 +1,5 @@
 -- What an object's slots are left as, whatever the kind: how its own puts keep it.
-use Rattle.rw_method.proofs.Common.{AllByRecursion, Balanced, Basis, Bifurcation, Bool, ByRule, Canal, Conflicts, Confluence, Contains, DataObject, Elevation, Gage, Given, Holds, Idle, IsKind, IsStored, Kind, List, None, Nothing, Option, Plant, PowerReservoir, Put, Puts, Reach, Request, Reservoir, RoutedReach, Row, Solves, Some, Storage, Term, View, WaterUser, [], ap, are_both_zero, arith, asked_of, asked_put, balanced_of, basis_of, beside_basis, beside_given, content_before, content_put, elevation_of, energy_puts, evaporation_of, evaporation_put, false, flow_puts, given, head_of, held_after, if◌then◌else◌, inl, inr, known_after, level_puts, nat_tests, power_balance, power_flows, put_found, refl, release_puts, seepage_put, solve_of, solved_put, subst, suc, sym, true, user_puts, volume_of, zero, ℕ, ℤ, ◌++◌, ◌<◌, ◌==◌, ◌∙◌, ◌∷◌, ◌≡◌, ◌≢◌, ◌≤◌}
+use Rattle.rw_method.proofs.Common.{AllByRecursion, Balanced, Basis, Bifurcation, Bool, ByRule, Canal, Conflicts, Confluence, Contains, DataObject, Elevation, Gage, Given, Holds, Idle, IsKind, IsStored, Kind, List, None, Nothing, Option, Plant, PowerReservoir, Put, Puts, Reach, Request, Reservoir, RoutedReach, Row, Solves, Some, Storage, Term, View, WaterUser, [], ap, are_both_zero, arith, asked_of, asked_put, balanced_of, basis_of, beside_basis, beside_given, content_before, content_put, elevation_of, energy_puts, evaporation_of, evaporation_put, false, flow_puts, given, head_of, held_after, if◌then◌else◌, inl, inr, known_after, level_puts, nat_tests, plant, power_balance, power_flows, put, put_found, refl, release_puts, seepage_put, solve_of, solved_put, subst, suc, sym, true, user_puts, volume_of, zero, ℕ, ℤ, ◌++◌, ◌<◌, ◌==◌, ◌∙◌, ◌∷◌, ◌≡◌, ◌≢◌, ◌≤◌}
 use Rattle.rw_method.specs.Left.{IsOutflowLeft, Left}
 use Rattle.rw_method.specs.Passing.{IsAfterOwn, IsOwnFall}
 use Rattle.rw_method.proofs.Answering.{Answered, answered}
@@ -8,7 +8,7 @@ use Rattle.rw_method.proofs.Among.{Among, all_append, all_at, among, weaker_all}
 use Rattle.rw_method.proofs.PlainKinds.{bifurcation_facts, canal_facts, confluence_facts, data_facts, gage_facts, lagged_facts, reach_facts, routed_facts, solved_at, user_facts}
 use Rattle.rw_method.proofs.ReservoirFacts.{reservoir_facts}
 use Rattle.rw_method.proofs.Terms.{Sort, shape_of}
-use Rattle.rw_method.proofs.PowerFacts.{outflow_left, power_facts}
+use Rattle.rw_method.proofs.PowerFacts.{IsFlow, flows_are, outflow_left, power_facts}
 
 pub dispatch_facts : (kind : Kind) (view : View) (puts : List Put) → IsKind kind → Answered kind view puts → DispatchFacts kind view puts
 dispatch_facts (DataObject slots) view puts sound is = data_facts view puts slots is

@@ -1,6 +1,7 @@
 mod Common
 pub mod PutFacts
 pub mod LeastInflow
+pub mod LeastRelease
 pub mod GivingWay
 pub mod GreatestBeside
 pub mod SolvedTerm
@@ -24,4 +25,6 @@ pub mod Idling
 mod Evaporating
 mod ReservoirBalance
 mod PowerBalance
+mod PowerRows
+mod AskedEnergy
 pub mod SolvedBalance

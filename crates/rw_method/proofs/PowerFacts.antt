@@ -16,17 +16,17 @@ use Rattle.rw_method.proofs.Terms.{Sort, Source, asked, contents, given_as, give
 -- ---- flows
 
 -- nothing but another place is solved
-abbrev SolvesNot : ℕ → Balanced → Type 0
+abbrev pub SolvesNot : ℕ → Balanced → Type 0
 SolvesNot place balanced = (at number : ℕ) (value : ℤ) → balanced ≡ Solves at value number → at ≢ place
 
-record IsAskedPut (asking : Option Given) (terms : List Term) (balanced : Balanced) (put : Put) : Type 0 where
-  by : Given
-  is : asking ≡ Some by
-  same : put ≡ asked_put terms balanced by
-  apart : SolvesNot 1 balanced
+pub record IsAskedPut (asking : Option Given) (terms : List Term) (balanced : Balanced) (put : Put) : Type 0 where
+  pub by : Given
+  pub is : asking ≡ Some by
+  pub same : put ≡ asked_put terms balanced by
+  pub apart : SolvesNot 1 balanced
 
 -- a flow that is put was solved, or is the outflow that is asked for
-abbrev IsFlow : Option Given → List Term → Balanced → Put → Type 0
+abbrev pub IsFlow : Option Given → List Term → Balanced → Put → Type 0
 IsFlow asking terms balanced put = (balanced ≡ Solves put.place put.value put.number) ⊎ IsAskedPut asking terms balanced put
 
 unsolved : (place : ℕ) (balanced : Balanced) → (balanced_code balanced ≡ 2 → ⊥) → SolvesNot place balanced
@@ -45,7 +45,7 @@ solved_flow asking terms (Conflicts place held found) = tt
 asked_flow : (by : Given) (terms : List Term) (balanced : Balanced) → SolvesNot 1 balanced → IsFlow (Some by) terms balanced (asked_put terms balanced by)
 asked_flow by terms balanced apart = inr (record { by = by; is = refl; same = refl; apart = apart })
 
-flows_are : (asking : Option Given) (terms : List Term) (balanced : Balanced) → AllByRecursion (IsFlow asking terms balanced) (flow_puts asking terms balanced)
+pub flows_are : (asking : Option Given) (terms : List Term) (balanced : Balanced) → AllByRecursion (IsFlow asking terms balanced) (flow_puts asking terms balanced)
 flows_are None terms balanced = solved_flow None terms balanced
 flows_are (Some by) terms Idle = (asked_flow by terms Idle (unsolved 1 Idle (λ code. omega (arith, code))), tt)
 flows_are (Some by) terms Holds = (asked_flow by terms Holds (unsolved 1 Holds (λ code. omega (arith, code))), tt)
@@ -75,7 +75,7 @@ solved_there (Some by) terms place number value = by_place (place == 1) (place =
     by_place false true = inl refl
     by_place false false = inr (inl refl)
 
-asked_there : (by : Given) (terms : List Term) (balanced : Balanced) → SolvesNot 1 balanced → Among (flow_puts (Some by) terms balanced) (asked_put terms balanced by)
+pub asked_there : (by : Given) (terms : List Term) (balanced : Balanced) → SolvesNot 1 balanced → Among (flow_puts (Some by) terms balanced) (asked_put terms balanced by)
 asked_there by terms Idle apart = inl refl
 asked_there by terms Holds apart = inl refl
 asked_there by terms (Conflicts place held found) apart = inl refl
@@ -91,12 +91,12 @@ asked_there by terms (Solves place value number) apart = by_place (place == 1) (
     by_place false false far = inl refl
 
 -- what a place holds after puts: what one of them puts there, or what is known
-abbrev HeldAfter : View → List Put → ℕ → Type 0
+abbrev pub HeldAfter : View → List Put → ℕ → Type 0
 HeldAfter view puts place =
     ((put : Put) × (Among puts put × ((put.place ≡ place) × (held_after view puts place ≡ record { value = put.value; number = put.number }))))
     ⊎ (((put : Put) → Among puts put → put.place ≢ place) × (held_after view puts place ≡ held_by (known view place)))
 
-held_cases : (view : View) (puts : List Put) (place : ℕ) → HeldAfter view puts place
+pub held_cases : (view : View) (puts : List Put) (place : ℕ) → HeldAfter view puts place
 held_cases view [] place = inr (λ put has. absurd has, refl)
 held_cases view (first ∷ puts) place = by (first.place == place) refl (held_cases view puts place)
   where
@@ -185,11 +185,11 @@ module _ (initial_storage : ℤ) (table : List Row) (max_release tailwater : ℤ
   all_from = subst (AllByRecursion IsFrom) is.same (all_append IsFrom _ _ (all_append IsFrom flows level
       (weaker_all (IsFlow (asked_of of view) terms b) IsFrom flows (λ put flow. record { from = inl flow }) (flows_are (asked_of of view) terms b))
       (all_among IsFrom level (λ put has. record { from = inr (inl has) }))) (
-    record { from = inr (inr (omega arith, inl refl)) },
-    (record { from = inr (inr (omega arith, inr (inl refl))) }, (record { from = inr (inr (omega arith, inr (inr (inl refl)))) }, tt)),
-  ))
+        record { from = inr (inr (omega arith, inl refl)) },
+        (record { from = inr (inr (omega arith, inr (inl refl))) }, (record { from = inr (inr (omega arith, inr (inr (inl refl)))) }, tt)),
+      ))
 
-  flow_there : (put : Put) → Among flows put → Among puts put
+  pub flow_there : (put : Put) → Among flows put → Among puts put
   flow_there put has = subst (λ ps. Among ps put) is.same (among_left (flows ++ level) energies put (among_left flows level put has))
 
   level_there : (put : Put) → Among level put → Among puts put
@@ -424,9 +424,9 @@ module _ (initial_storage : ℤ) (table : List Row) (max_release tailwater : ℤ
   all_are = subst (AllByRecursion (PutIs kind view puts)) is.same (all_append (PutIs kind view puts) _ _ (all_append (PutIs kind view puts) flows level
       (weaker_all (IsFlow (asked_of of view) terms b) (PutIs kind view puts) flows flow_is (flows_are (asked_of of view) terms b))
       (all_among (PutIs kind view puts) level (λ put has. (level_put put has).is_put))) (
-    energy_is _ (2, omega arith, refl) refl,
-    (energy_is _ (3, omega arith, refl) refl, (energy_is _ (4, omega arith, refl) refl, tt)),
-  ))
+        energy_is _ (2, omega arith, refl) refl,
+        (energy_is _ (3, omega arith, refl) refl, (energy_is _ (4, omega arith, refl) refl, tt)),
+      ))
 
   -- ---- what isn't solved stays given
 

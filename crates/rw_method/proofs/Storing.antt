@@ -301,6 +301,7 @@ module _ (kind : Kind) (table : Option (List Row)) (view : View) (puts : List Pu
       most = let most = up.most in let n = by_elevation.number in omega (arith, most, n);
     }))
   ]
+
   contents_value : (held from : Given) → contents_by table (basis_of storage elevation) ≡ Some held → basis_of storage elevation ≡ Elevation from → (found : ℤ) → volume_of table from.value ≡ Some found
       → held.value ≡ found
   contents_value held from given_is basis found found_is = ap value_or (sym given_is ∙ ap (contents_by table) basis) ∙ ap (λ v. unwrap_or v (pos 0)) found_is
@@ -323,6 +324,7 @@ module _ (kind : Kind) (table : Option (List Row)) (view : View) (puts : List Pu
     given_held place held given_is none =
         let seen = given_as view place held given_is in
         ap (option_map (λ (content : Content). content.value)) (after.rest place none ∙ seen.there) ∙ ap Some seen.value
+
     -- beside the basis, where another term than the contents was solved, or none
     beside_there : (none : NoneStores) → are_both_zero storage elevation ≡ false → (put : Put) → Among (beside_basis table (basis_of storage elevation)) put → Among puts put
     beside_there none zeros put has = storing.level put (by (balanced_of kind view) refl)
@@ -368,13 +370,14 @@ module _ (kind : Kind) (table : Option (List Row)) (view : View) (puts : List Pu
             by None p is lesser = refl
             by (Some s) None is lesser = refl
             by (Some s) (Some p) is lesser = let less = lesser s refl in test_false (s.number == 0) (p.number == 0) (grind (arith, nat_tests, less))
+
     -- where the contents weren't solved they were given
     contents_given : (none : NoneStores) → (held : Given) × (contents_by table (basis_of storage elevation) ≡ Some held)
     contents_given none = elim is.ends [
       | inl holds ↦ some_there (contents_by table (basis_of storage elevation)) (holds_given view (shape_of kind) is.steady (is.settles ∙ holds) (stored table) storing.has)
       | inr solving ↦
           let up = (solving_facts kind view puts storing.shares is solving).others (term_in view (stored table))
-            (contains (map (term_in view) (shape_of kind)) (term_in view (stored table)) (among_terms view (shape_of kind) (stored table) storing.has)) (none solving) in (up.held, up.is)
+          (contains (map (term_in view) (shape_of kind)) (term_in view (stored table)) (among_terms view (shape_of kind) (stored table) storing.has)) (none solving) in (up.held, up.is)
     ]
 
     -- ---- storage and elevation go together
