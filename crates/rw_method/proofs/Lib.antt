@@ -1,5 +1,6 @@
 mod Common
 pub mod PutFacts
+pub mod Misfits
 pub mod LeastInflow
 pub mod LeastRelease
 pub mod GivingWay

@@ -247,7 +247,6 @@ module _ (kind : Kind) (table : Option (List Row)) (view : View) (puts : List Pu
       let at_two : (solving.place == 2) ≡ true = grind (arith, nat_tests, two) in
       let holds : can_hold table solving.value ≡ true =
       storing.holds solving.value solving.number (subst (λ p. is_held kind (record { place = p; value = solving.value; number = solving.number }) ≡ true) two held) in
-      let holds : can_hold table solving.value ≡ true = sym (ap (λ (test : Bool). if test then can_hold table solving.value else true) at_two) ∙ held in
       let read = elevation_there table rows at solving.value holds in
       let put : Put = record { place = 3; value = read.0; number = solving.number } in
       let in_level : Among (level_puts table storage elevation (balanced_of kind view)) put =
