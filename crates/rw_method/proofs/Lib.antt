@@ -10,7 +10,7 @@ mod SolvedInflow
 pub mod SolvedPuts
 pub mod Among
 pub mod Earlier
-mod Asking
+mod Counting
 mod Settled
 mod Terms
 pub mod Leaving

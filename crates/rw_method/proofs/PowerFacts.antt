@@ -3,7 +3,7 @@ use Rattle.rw_method.proofs.Common.{All, All-contains, AllByRecursion, Balanced,
 use Rattle.rw_method.specs.Left.{AreOthersUpTo, IsGivenUpTo, IsOutflowLeft, IsUpTo, Rest, is_own, rest, rests_of}
 use Rattle.rw_method.specs.Passing.{IsAfterOwn, content_of}
 use Rattle.rw_method.proofs.Answering.{Answered}
-use Rattle.rw_method.proofs.Asking.{AsksUpTo, counts, from_asked, to_asked}
+use Rattle.rw_method.proofs.Counting.{AsksUpTo, counts, from_asked, to_asked}
 use Rattle.rw_method.proofs.Leaving.{DispatchFacts, IsFalling, LeftBy, PutIs, Solving, alone, beside, falls_from, holds_given, one_solving, others_pass, place_in, put_or_none, rests, same_own, solved, solving_is}
 use Rattle.rw_method.proofs.Among.{Among, all_among, all_append, all_at, among, among_left, among_right, contains, some_there, weaker_all}
 use Rattle.rw_method.proofs.GreatestBeside.{is_greatest_beside}
