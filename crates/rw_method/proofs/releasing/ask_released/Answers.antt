@@ -1,5 +1,5 @@
 use Rattle.rw_base.proofs.Common.{rules, w64, FitsSigned, w128, to_z-of_z}
-use Rattle.rw_method.proofs.released.ask_released.Goals as goal
+use Rattle.rw_method.proofs.releasing.ask_released.Goals as goal
 
 pub returns : goal.returns
 returns c =
