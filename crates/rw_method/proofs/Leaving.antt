@@ -55,7 +55,7 @@ left_begins kind view none_own = to_left kind view (record {
   outflow = outflow_begins kind view none_own;
 })
 
-same_own : (old new : View) (content : Content) → new.own ≡ old.own → is_own new content ≡ is_own old content
+pub same_own : (old new : View) (content : Content) → new.own ≡ old.own → is_own new content ≡ is_own old content
 same_own old new content same = ap (λ own. is_same_object content.writer (ByObject own)) same
 
 -- what the object wrote itself wasn't written by another

@@ -1,6 +1,7 @@
 mod Common
 pub mod PutFacts
 pub mod LeastInflow
+pub mod LeastRelease
 pub mod GivingWay
 pub mod GreatestBeside
 pub mod SolvedTerm
@@ -14,11 +15,16 @@ mod Terms
 pub mod Leaving
 mod Answering
 mod PlainKinds
+mod Storing
 mod ReservoirFacts
+mod PowerFacts
 pub mod LeftKept
 mod Netting
 mod Balancing
 pub mod Idling
 mod Evaporating
 mod ReservoirBalance
+mod PowerBalance
+mod PowerRows
+mod AskedEnergy
 pub mod SolvedBalance

@@ -1,6 +1,7 @@
 -- A power reservoir: the energy of a release, the release that a request asks for, and whether the request counts.
-use Rattle.std.specs.Prelude.{ℕ, zero, suc, ◌≤◌, ◌<◌, nat_lt, ℤ, pos, ◌-ℤ◌, ◌*ℤ◌, ◌≤ℤ◌, ◌<ℤ◌, int_le, unsigned_abs, if◌then◌else◌, Bool, List, Option, None, Some, is_some, unwrap_or, option_map, option_and_then}
+use Rattle.std.specs.Prelude.{ℕ, zero, suc, ◌≤◌, ◌<◌, nat_lt, ℤ, pos, ◌+ℤ◌, ◌-ℤ◌, ◌*ℤ◌, ◌≤ℤ◌, ◌<ℤ◌, int_le, unsigned_abs, if◌then◌else◌, Bool, List, Option, None, Some, is_some, unwrap_or, option_map, option_and_then}
 use Rattle.std.specs.Int.{int_max}
+use Rattle.std.specs.Ordering.{int_eq}
 use Rattle.rw_base.specs.Quotient.{floor_div}
 use Rattle.rw_table.specs.Table.{Row}
 use Rattle.rw_table.specs.Curve.{elev_of}
@@ -89,3 +90,18 @@ outflow_or (Some asked) held = Some asked
 
 abbrev pub outflow_of : Plant → View → Option Given
 outflow_of plant view = outflow_or (asked_of plant view) (given view OUTFLOW)
+
+-- ---- the least release by a quotient
+
+-- of an energy above 0 and a fall above 0: one more than how often the fall at this power goes into a little less than what is asked for
+abbrev pub release_quotient : ℕ → ℤ → ℤ → ℤ
+release_quotient power head energy = floor_div (energy *ℤ pos 1000000000 -ℤ pos 1) (head *ℤ pos power) +ℤ pos 1
+
+-- up to the greatest one
+abbrev pub up_to : ℤ → ℤ → Option ℤ
+up_to max_release release = if int_le release max_release then Some release else None
+
+abbrev pub quotient_release : ℕ → ℤ → ℤ → ℤ → Option ℤ
+quotient_release power head max_release energy =
+    if int_le energy (pos 0) then Some (pos 0)
+    else (if int_eq head (pos 0) then None else up_to max_release (release_quotient power head energy))

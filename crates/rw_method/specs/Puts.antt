@@ -1,5 +1,5 @@
 -- What is put once a balance is settled.
-use Rattle.std.specs.Prelude.{ℕ, min, ◌==◌, if◌then◌else◌, ℤ, pos, ◌-ℤ◌, Bool, ◌&&◌, List, [], ◌∷◌, ◌++◌, Option, None, Some, unwrap_or, ◌+ℤ◌}
+use Rattle.std.specs.Prelude.{ℕ, min, ◌==◌, if◌then◌else◌, ℤ, pos, ◌-ℤ◌, Bool, true, false, not, ◌&&◌, Contains, List, [], ◌∷◌, ◌++◌, Option, None, Some, unwrap_or, ◌+ℤ◌}
 use Rattle.std.specs.Int.{int_min}
 use Rattle.rw_table.specs.Table.{Row}
 use Rattle.rw_model.specs.declared.content.Content.{Content}
@@ -18,7 +18,7 @@ use Rattle.rw_method.specs.declared.view.View.{View}
 use Rattle.rw_method.specs.View.{known, given, bounds_at, is_between}
 use Rattle.rw_method.specs.Term.{per_mille}
 use Rattle.rw_method.specs.Contents.{basis_of, elevation_of, volume_of, are_both_zero}
-use Rattle.rw_method.specs.Power.{Plant, plant, asked_of, energy_of, head_of}
+use Rattle.rw_method.specs.Power.{IsLeastRelease, Plant, plant, asked_of, energy_of, head_of}
 use Rattle.rw_method.specs.Balance.{evaporation_of, power_balance, content_before}
 use Rattle.rw_method.specs.Settling.{greatest_beside}
 
@@ -132,6 +132,7 @@ power_puts plant view balanced =
     power_flows plant view balanced
     ++ level_puts (Some plant.table) (given view STORAGE) (given view POOL_ELEVATION) balanced
     ++ energy_puts plant (head_of plant view) (held_after view (power_flows plant view balanced) OUTFLOW)
+
 -- what is left of what was held and what flows in, once the outflow is let go
 abbrev pub content_put : ℤ → Given → Given → List Put
 content_put content inflow outflow = put CONTENT (content +ℤ inflow.value -ℤ outflow.value) outflow.number ∷ []
@@ -149,3 +150,19 @@ puts_of (PowerReservoir initial_storage table max_release tailwater power) view 
 puts_of (RoutedReach initial_content release) view balanced =
     solved_put balanced ++ content_put (content_before view) (known_after view balanced INFLOW) (known_after view balanced OUTFLOW)
 puts_of kind view balanced = solved_put balanced
+
+-- ---- a request for energy
+
+-- where the balance is settled, and not by the outflow, a request that counts puts it
+abbrev pub is_put_by_request : Balanced → Bool
+is_put_by_request Holds = true
+is_put_by_request (Solves place value number) = not (place == OUTFLOW)
+is_put_by_request balanced = false
+
+-- the outflow is put as the least release that gives what is requested, and the energy as what that release gives
+pub record GivesRequest (plant : Plant) (view : View) (request : Content) (puts : List Put) : Type 0 where
+  pub release : ℕ
+  pub number : ℕ
+  pub least : IsLeastRelease plant.power (head_of plant view) plant.max_release request.value release
+  pub outflow : Contains puts (put OUTFLOW (pos release) number)
+  pub energy : Contains puts (put ENERGY (energy_of plant.power (head_of plant view) (pos release)) number)

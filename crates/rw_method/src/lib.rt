@@ -13,6 +13,7 @@ pub mod law;
 mod method;
 mod past;
 pub mod places;
+pub mod power_law;
 mod put;
 mod put_list;
 mod puts;
