@@ -188,7 +188,7 @@ power_apart initial_storage table max_release tailwater power view puts sound is
     let are = flows_are (asked_of of view) terms b in
     let first_up : AreUpTo 3 first = weaker_all (IsFlow (asked_of of view) terms b) (λ (put : Put). put.place ≤ 3) first (λ put flow. few put flow low) are in
     let beside : AllApart first second = weaker_all (IsFlow (asked_of of view) terms b) (λ (put : Put). ApartFrom put.place second) first
-    (λ put flow. far put flow (level_apart (Some table) (given view 2) (given view 3) b low) (level_from (Some table) (given view 2) (given view 3) b)) are in
+    (λ put flow. far second put flow (level_apart (Some table) (given view 2) (given view 3) b low) (level_from (Some table) (given view 2) (given view 3) b)) are in
     let two : AreApart (first ++ second) = apart_both first second (flows_apart (asked_of of view) terms b) (level_alone (Some table) (given view 2) (given view 3) b) beside in
     let two_up : AreUpTo 3 (first ++ second) = all_append (λ (put : Put). put.place ≤ 3) first second first_up (level_up (Some table) (given view 2) (given view 3) b) in
     subst AreApart is.same (apart_both (first ++ second) third two
@@ -199,9 +199,9 @@ power_apart initial_storage table max_release tailwater power view puts sound is
     few put (inl solves) low = let most : put.place ≤ 2 = subst (SolvesUpTo 2) solves low in omega (arith, most)
     few put (inr asks) low = let at : put.place ≡ 1 = ap (λ (p : Put). p.place) asks.same in omega (arith, at)
 
-    far : {asking : Option Given} {terms : List Term} {b : Balanced} {level : List Put} (put : Put) → IsFlow asking terms b put → AllApart (solved_put b) level → AreFrom 1 level → ApartFrom put.place level
-    far {level = level} put (inl solves) apart high = (subst (λ balanced. AllApart (solved_put balanced) level) solves apart).0
-    far {level = level} put (inr asks) apart high =
+    far : {asking : Option Given} {terms : List Term} {b : Balanced} (level : List Put) (put : Put) → IsFlow asking terms b put → AllApart (solved_put b) level → AreFrom 1 level → ApartFrom put.place level
+    far level put (inl solves) apart high = (subst (λ balanced. AllApart (solved_put balanced) level) solves apart).0
+    far level put (inr asks) apart high =
         let at : put.place ≡ 1 = ap (λ (p : Put). p.place) asks.same in
         weaker_all (λ (other : Put). 1 < other.place) (λ (other : Put). put.place ≢ other.place) level (λ other above same. omega (arith, above, at, same)) high
 

@@ -1,5 +1,6 @@
 mod Common
 pub mod PutFacts
+pub mod Misfits
 pub mod LeastInflow
 pub mod LeastRelease
 pub mod GivingWay
@@ -9,7 +10,7 @@ mod SolvedInflow
 pub mod SolvedPuts
 pub mod Among
 pub mod Earlier
-mod Asking
+mod Counting
 mod Settled
 mod Terms
 pub mod Leaving

@@ -1,9 +1,9 @@
 -- The power reservoir, whose outflow a request may ask for.
-use Rattle.rw_method.proofs.Common.{All, All-contains, AllByRecursion, Balanced, Bool, Brings, Conflicts, Contains, Content, Given, Holds, Idle, IsShare, IsSome, Kind, List, None, Option, Plant, PowerReservoir, Put, Row, Solves, Some, Term, View, [], ap, arith, asked_number, asked_of, asked_put, balanced_of, cases_lt, energy_puts, false, fault_of_past, fault_of_request, flow_puts, given, greatest_beside, head_of, held_after, held_by, if◌then◌else◌, inl, inr, is_some, known, known_value, level_puts, map, nat_tests, none-some, number_of, option_map, outflow_of, outflow_or, plant, power_balance, power_flows, put, refl, request_of, requested, same_Some, solved_put, subst, sym, true, ℕ, ℤ, ◌++◌, ◌==◌, ◌∙◌, ◌∷◌, ◌≡◌, ◌≢◌, ◌≤◌, ◌⊎◌}
+use Rattle.rw_method.proofs.Common.{All, All-contains, AllByRecursion, Balanced, Bool, Brings, Conflicts, Contains, Content, Given, Holds, Idle, IsShare, IsSome, Kind, List, None, Option, Plant, PowerReservoir, Put, Row, Solves, Some, Term, View, [], ap, arith, asked_number, asked_of, asked_put, balanced_of, cases_lt, energy_puts, false, fault_of_past, fault_of_request, flow_puts, given, greatest_beside, head_of, held_after, held_by, if◌then◌else◌, inl, inr, is_some, known, known_value, level_puts, map, nat_tests, none-some, number_of, option_map, outflow_of, outflow_or, plant, power_balance, power_flows, put, refl, request_of, requested, same_Some, solved_put, subst, sym, true, ℕ, ℤ, ◌++◌, ◌<◌, ◌==◌, ◌∙◌, ◌∷◌, ◌≡◌, ◌≢◌, ◌≤◌, ◌⊎◌}
 use Rattle.rw_method.specs.Left.{AreOthersUpTo, IsGivenUpTo, IsOutflowLeft, IsUpTo, Rest, is_own, rest, rests_of}
 use Rattle.rw_method.specs.Passing.{IsAfterOwn, content_of}
 use Rattle.rw_method.proofs.Answering.{Answered}
-use Rattle.rw_method.proofs.Asking.{AsksUpTo, counts, from_asked, to_asked}
+use Rattle.rw_method.proofs.Counting.{AsksUpTo, counts, from_asked, to_asked}
 use Rattle.rw_method.proofs.Leaving.{DispatchFacts, IsFalling, LeftBy, PutIs, Solving, alone, beside, falls_from, holds_given, one_solving, others_pass, place_in, put_or_none, rests, same_own, solved, solving_is}
 use Rattle.rw_method.proofs.Among.{Among, all_among, all_append, all_at, among, among_left, among_right, contains, some_there, weaker_all}
 use Rattle.rw_method.proofs.GreatestBeside.{is_greatest_beside}
@@ -266,14 +266,27 @@ module _ (initial_storage : ℤ) (table : List Row) (max_release tailwater : ℤ
   not_at none at number value e same = none (record { place = at; value = value; number = number; is = e }) (sym same)
 
   -- it is solved, or asked for, or given
-  data Outflow : Type 0 where
-    out_solved : (solving : Solving kind view) → solving.place ≡ 1 → Outflow
-    out_asked : (by : Given) → asked_of of view ≡ Some by → NotSolved 1 → Outflow
-    out_given : (held : Given) → asked_of of view ≡ None → given view 1 ≡ Some held → NotSolved 1 → Outflow
+  record OutSolved : Type 0 where
+    solving : Solving kind view
+    here : solving.place ≡ 1
+
+  record OutAsked : Type 0 where
+    asking : Given
+    asks : asked_of of view ≡ Some asking
+    none : NotSolved 1
+
+  record OutGiven : Type 0 where
+    held : Given
+    asks : asked_of of view ≡ None
+    there : given view 1 ≡ Some held
+    none : NotSolved 1
+
+  abbrev Outflow : Type 0
+  Outflow = OutSolved ⊎ (OutAsked ⊎ OutGiven)
 
   outflow_by : (asking : Option Given) → asked_of of view ≡ asking → NotSolved 1 → (held : Given) → outflow_of of view ≡ Some held → Outflow
-  outflow_by (Some by) asks none held there = out_asked by asks none
-  outflow_by None asks none held there = out_given held asks (ap (λ asking. outflow_or asking (given view 1)) (sym asks) ∙ there) none
+  outflow_by (Some by) asks none held there = inr (inl (record { asking = by; asks = asks; none = none }))
+  outflow_by None asks none held there = inr (inr (record { held = held; asks = asks; there = ap (λ asking. outflow_or asking (given view 1)) (sym asks) ∙ there; none = none }))
 
   outflow_case : Outflow
   outflow_case = elim is.ends [
@@ -284,7 +297,7 @@ module _ (initial_storage : ℤ) (table : List Row) (max_release tailwater : ℤ
   ]
     where
       by : (solving : Solving kind view) (test : Bool) → (solving.place == 1) ≡ test → Outflow
-      by solving true here = out_solved solving (grind (arith, nat_tests, here))
+      by solving true here = inl (record { solving = solving; here = grind (arith, nat_tests, here) })
       by solving false apart =
           let up = (solving_is kind view is.steady is.settles shares solving).others (term_in view (let_out of)) (1, omega arith, refl) (λ same. absurd (grind (arith, nat_tests, apart, same))) in
           outflow_by (asked_of of view) refl
@@ -358,7 +371,8 @@ module _ (initial_storage : ℤ) (table : List Row) (max_release tailwater : ℤ
   ]
 
   flow_falls : (put : Put) → IsFlow (asked_of of view) terms b put → put.place ≡ 1 → IsFalling kind view 1 put.number
-  flow_falls put (inl solves) at = solved_falls (record { place = put.place; value = put.value; number = put.number; is = solves }) at
+  flow_falls put (inl solves) at left content there =
+      solved_falls (record { place = put.place; value = put.value; number = put.number; is = solves }) at left content there
   flow_falls put (inr asks) at left content there =
       let n : put.number ≡ asked_number terms b asks.by.number = ap (λ (p : Put). p.number) asks.same in
       let falls = asked_falls asks.by asks.is (λ solving same. asks.apart solving.place solving.number solving.value solving.is (sym same)) left content there in
@@ -390,10 +404,10 @@ module _ (initial_storage : ℤ) (table : List Row) (max_release tailwater : ℤ
   none_flows none = by outflow_case
     where
       by : Outflow → (held : Given) × ((given view 1 ≡ Some held) × NotSolved 1)
-      by (out_solved solving here) = absurd (none (of_solving kind view solving) (solving_there solving) here)
-      by (out_asked by asks apart) =
-          absurd (none (asked_put terms b by) (subst (λ asking. Among (flow_puts asking terms b) (asked_put terms b by)) (sym asks) (asked_there by terms b (not_at apart))) refl)
-      by (out_given held asks there apart) = (held, (there, apart))
+      by (inl out) = absurd (none (of_solving kind view out.solving) (solving_there out.solving) out.here)
+      by (inr (inl out)) = absurd (none (asked_put terms b out.asking)
+          (subst (λ asking. Among (flow_puts asking terms b) (asked_put terms b out.asking)) (sym out.asks) (asked_there out.asking terms b (not_at out.none))) refl)
+      by (inr (inr out)) = (out.held, (out.there, out.none))
 
   energy_is : (put : Put) → Contains (rests_of kind) (rest put.place 1) → put.number ≡ (held_after view flows 1).number → PutIs kind view puts put
   energy_is put has number = elim (held_cases view flows 1) [
@@ -441,8 +455,8 @@ module _ (initial_storage : ℤ) (table : List Row) (max_release tailwater : ℤ
           to_asked of new number (inl (ap is_some after.past ∙ asks.0, subst (IsUpTo number) (sym (after.rest 4 no_request)) asks.1))
 
       by : IsGivenUpTo number (given view 1) → (asking : Option Given) → asked_of of view ≡ asking → IsGivenUpTo number (outflow_of of new)
-      by held (Some by) asks =
-          let from = asking_from of view by asks in
+      by held (Some asking) asks =
+          let from = asking_from of view asking asks in
           let counting = counts view from.request from.is in
           let above = counting.above held.held held.is in
           let most = held.most in
@@ -453,7 +467,7 @@ module _ (initial_storage : ℤ) (table : List Row) (max_release tailwater : ℤ
           no_out : (put : Put) → Contains puts put → put.place ≢ 1
           no_out put has at = elim (out_flow put (among puts put has) at) [
             | inl solves ↦ none (record { place = put.place; value = put.value; number = put.number; is = solves }) (sym at)
-            | inr asked_put ↦ none-some asked_put.by (sym asks ∙ asked_put.is)
+            | inr other ↦ none-some other.by (sym asks ∙ other.is)
           ]
 
   given_stays : (new : View) → IsAfterOwn view new puts → (s : Sort) → Among (shape_of kind) s → ((solving : Solving kind view) → s.place ≢ solving.place)
@@ -512,17 +526,18 @@ module _ (initial_storage : ℤ) (table : List Row) (max_release tailwater : ℤ
         (contents_held kind (Some table) view puts is storing new after) s has
       where
         by : Outflow → NotSolved 1 → (g : Given) → outflow_of of view ≡ Some g → known_value new 1 ≡ Some g.value
-        by (out_solved solving here) apart g is_given = absurd (apart solving (sym here))
-        by (out_asked by asks none) apart g is_given =
-            let same : by ≡ g = same_Some _ _ (ap (λ asking. outflow_or asking (given view 1)) (sym asks) ∙ is_given) in
-            let there = subst (λ asking. Among (flow_puts asking terms b) (asked_put terms b by)) (sym asks) (asked_there by terms b (not_at none)) in
-            put_value view new puts after (asked_put terms b by) (contains puts (asked_put terms b by) (flow_there (asked_put terms b by) there)) ∙ ap (λ (h : Given). Some h.value) same
-        by (out_given held asks there none) apart g is_given =
-            let same : held ≡ g = same_Some _ _ (sym there ∙ ap (λ asking. outflow_or asking (given view 1)) (sym asks) ∙ is_given) in
-            given_held kind (Some table) view puts is storing new after 1 held there
+        by (inl out) apart g is_given = absurd (apart out.solving (sym out.here))
+        by (inr (inl out)) apart g is_given =
+            let same : out.asking ≡ g = same_Some _ _ (ap (λ asking. outflow_or asking (given view 1)) (sym out.asks) ∙ is_given) in
+            let there = subst (λ asking. Among (flow_puts asking terms b) (asked_put terms b out.asking)) (sym out.asks) (asked_there out.asking terms b (not_at out.none)) in
+            put_value view new puts after (asked_put terms b out.asking) (contains puts (asked_put terms b out.asking) (flow_there (asked_put terms b out.asking) there))
+            ∙ ap (λ (h : Given). Some h.value) same
+        by (inr (inr out)) apart g is_given =
+            let same : out.held ≡ g = same_Some _ _ (sym out.there ∙ ap (λ asking. outflow_or asking (given view 1)) (sym out.asks) ∙ is_given) in
+            given_held kind (Some table) view puts is storing new after 1 out.held out.there
             (λ put in_puts at. elim (out_flow put (among puts put in_puts) at) [
-              | inl solves ↦ none (record { place = put.place; value = put.value; number = put.number; is = solves }) (sym at)
-              | inr asked_put ↦ none-some asked_put.by (sym asks ∙ asked_put.is)
+              | inl solves ↦ out.none (record { place = put.place; value = put.value; number = put.number; is = solves }) (sym at)
+              | inr other ↦ none-some other.by (sym out.asks ∙ other.is)
             ]) ∙ ap (λ (h : Given). Some h.value) same
 
     pub outflow_value : known_value new 1 ≡ Some (held_after view flows 1).value
@@ -565,14 +580,13 @@ module _ (initial_storage : ℤ) (table : List Row) (max_release tailwater : ℤ
     ]
       where
         by : AreOthersUpTo content.number 1 terms → Outflow → IsLeft content.number
-        by up (out_solved solving here) =
-            inr (others_up content.number (λ other. ap place_in (sym other.is ∙ solving.is) ∙ here) up)
-        by up (out_asked by asks none) = elim is.ends [
+        by up (inl out) = inr (others_up content.number (λ other. ap place_in (sym other.is ∙ out.solving.is) ∙ out.here) up)
+        by up (inr (inl out)) = elim is.ends [
           | inl holds ↦ inr (others_up content.number (λ solving. absurd (let no : 1 ≡ 2 = ap balanced_code (sym holds ∙ solving.is) in omega (arith, no))) up)
-          | inr solving ↦ inl (request_up by asks content.number (request_least by asks solving (none solving) content.number up))
+          | inr solving ↦ inl (request_up out.asking out.asks content.number (request_least out.asking out.asks solving (out.none solving) content.number up))
         ]
-        by up (out_given held asks given_is none) =
-            let seen = given_as view 1 held given_is in
+        by up (inr (inr out)) =
+            let seen = given_as view 1 out.held out.there in
             let same : seen.content ≡ content = same_Some _ _ (sym seen.there ∙ there) in
             absurd (let no : false ≡ true = sym seen.other ∙ ap (is_own view) same ∙ own in cc)
 

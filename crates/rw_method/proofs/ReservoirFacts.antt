@@ -59,7 +59,6 @@ module _ (initial_storage : ℤ) (table : Option (List Row)) (local_inflow diver
   unique pair other has there same =
       (all_at IsOne (rests_of kind) pair one_each (among (rests_of kind) pair has)).0 ∙ ap on_of same ∙ sym (all_at IsOne (rests_of kind) other one_each (among (rests_of kind) other there)).0
 
-
   -- ---- one dispatch
 
   module _ (view : View) (puts : List Put) (sound : IsStored initial_storage table evaporation max_release) (is : Answered kind view puts) where
@@ -199,7 +198,6 @@ module _ (initial_storage : ℤ) (table : Option (List Row)) (local_inflow diver
             none_bare (inr (inr never)) = never
         by (Some rows) at = let level = solved_level kind table view puts is storing solving two rows at in (_, (contains puts _ level.1.1, sym three, refl))
 
-
     -- ---- what isn't solved stays given
 
     untouched_at : (place : ℕ) → (place ≡ 0) ⊎ (place ≡ 1) → ((solving : Solving kind view) → place ≢ solving.place) → (put : Put) → Contains puts put → put.place ≢ place
@@ -222,11 +220,13 @@ module _ (initial_storage : ℤ) (table : Option (List Row)) (local_inflow diver
     given_stays : (new : View) → IsAfterOwn view new puts → (s : Sort) → Among (shape_of kind) s → ((solving : Solving kind view) → s.place ≢ solving.place)
         → (number : ℕ) → IsGivenUpTo number (given_in view s) → IsGivenUpTo number (given_in new s)
     given_stays new after s has apart number = by_sort (λ s. ((solving : Solving kind view) → s.place ≢ solving.place) → IsGivenUpTo number (given_in view s) → IsGivenUpTo number (given_in new s))
-        (λ apart. subst (IsGivenUpTo number) (sym (slot_stays 0 (inl refl) apart new after))) (λ apart. subst (IsGivenUpTo number) (sym (slot_stays 1 (inr refl) apart new after)))        (λ apart. contents_stay kind table view puts is storing apart new after number) s has apart
+        (λ apart. subst (IsGivenUpTo number) (sym (slot_stays 0 (inl refl) apart new after))) (λ apart. subst (IsGivenUpTo number) (sym (slot_stays 1 (inr refl) apart new after)))
+        (λ apart. contents_stay kind table view puts is storing apart new after number) s has apart
 
     abbrev is_slot : Source → Bool
     is_slot slot = true
-    is_slot (contents table) = false    is_slot (asked plant) = false
+    is_slot (contents table) = false
+    is_slot (asked plant) = false
 
     low_untouched : (s : Sort) → Among (shape_of kind) s → s.source ≡ slot → ((solving : Solving kind view) → s.place ≢ solving.place) → (put : Put) → Contains puts put → put.place ≢ s.place
     low_untouched s has = by_sort (λ s. s.source ≡ slot → ((solving : Solving kind view) → s.place ≢ solving.place) → (put : Put) → Contains puts put → put.place ≢ s.place)

@@ -1,5 +1,5 @@
 -- A kind whose contents are given by its storage or by its elevation: what a dispatch puts in these two slots, and what they hold then.
-use Rattle.rw_method.proofs.Common.{All, AllByRecursion, AllFit, Balanced, Basis, Bool, Conflict, Conflicts, Contains, Content, Decides-int_eq, Elevation, Given, Holds, Idle, IsShare, Kind, List, None, Nothing, Option, OutOfRange, Put, Row, Solved, Solves, Some, Storage, Term, View, [], agree, and_parts, ap, ap₂, are_both_zero, arith, balanced_of, basis_of, beside_basis, beside_given, can_hold, contents_by, disagreement, elev_of, elevation_of, false, fault_of_basis, fault_of_level, fault_of_past, fits, given, held_by, if◌then◌else◌, inl, inr, is_held, is_some, is_this, known, known_after, known_value, level_puts, map, nat_le, nat_tests, none-some, not, option_map, or_else, pos, put_found, refl, same_Some, subst, sym, true, unwrap_or, vol_of, volume_of, ℕ, ℤ, ◌&&◌, ◌<◌, ◌==◌, ◌||◌, ◌∙◌, ◌∷◌, ◌≡◌, ◌≢◌, ◌≤◌, ◌⊎◌}
+use Rattle.rw_method.proofs.Common.{All, AllByRecursion, AllFit, Balanced, Basis, Bool, Conflict, Conflicts, Contains, Content, Decides-int_eq, Elevation, Given, Holds, Idle, IsShare, Kind, List, None, Nothing, Option, OutOfRange, Put, Row, Solved, Solves, Some, Storage, Term, View, [], agree, and_parts, ap, ap₂, are_both_zero, arith, balanced_of, basis_of, beside_basis, beside_given, can_hold, contents_by, disagreement, elev_of, elevation_of, false, fault_of_basis, fault_of_level, fault_of_past, fits, given, held_by, if◌then◌else◌, inl, inr, is_held, is_some, is_this, known, known_after, known_value, level_puts, map, nat_le, nat_tests, none-some, not, option_map, or_else, pos, put, put_found, refl, same_Some, subst, sym, true, unwrap_or, vol_of, volume_of, ℕ, ℤ, ◌&&◌, ◌<◌, ◌==◌, ◌||◌, ◌∙◌, ◌∷◌, ◌≡◌, ◌≢◌, ◌≤◌, ◌⊎◌}
 use Rattle.rw_method.specs.Left.{IsGivenUpTo, is_own, rest, rests_of}
 use Rattle.rw_method.specs.Passing.{IsAfterOwn}
 use Rattle.rw_method.proofs.Answering.{Answered}
@@ -247,7 +247,6 @@ module _ (kind : Kind) (table : Option (List Row)) (view : View) (puts : List Pu
       let at_two : (solving.place == 2) ≡ true = grind (arith, nat_tests, two) in
       let holds : can_hold table solving.value ≡ true =
       storing.holds solving.value solving.number (subst (λ p. is_held kind (record { place = p; value = solving.value; number = solving.number }) ≡ true) two held) in
-      let holds : can_hold table solving.value ≡ true = sym (ap (λ (test : Bool). if test then can_hold table solving.value else true) at_two) ∙ held in
       let read = elevation_there table rows at solving.value holds in
       let put : Put = record { place = 3; value = read.0; number = solving.number } in
       let in_level : Among (level_puts table storage elevation (balanced_of kind view)) put =

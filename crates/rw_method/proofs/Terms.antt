@@ -3,7 +3,7 @@ use Rattle.rw_method.proofs.Common.{AllByRecursion, Bifurcation, Bool, Brings, B
 use Rattle.rw_method.specs.Left.{IsGivenUpTo, IsUpTo, is_own}
 use Rattle.rw_method.specs.Passing.{IsAfterOthers}
 use Rattle.rw_method.proofs.Among.{Among}
-use Rattle.rw_method.proofs.Asking.{from_asked, none_asked, to_asked}
+use Rattle.rw_method.proofs.Counting.{from_asked, none_asked, to_asked}
 
 -- ---- a term of a kind, apart from any view; how it counts may go by the past value
 

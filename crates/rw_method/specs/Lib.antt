@@ -7,6 +7,7 @@ pub mod Balance
 pub mod Settling
 pub mod Puts
 pub mod Solve
+pub mod Asking
 pub mod Catalogue
 pub mod Left
 pub mod Passing

@@ -1,4 +1,4 @@
-ghost use Rattle.std.specs.Prelude.{◌≡◌, ◌<◌, Bool, List, [], ◌∷◌, ◌++◌, length, None, IsTrue, IsOk, ◌↔◌, OnOk, OnErr, IfOk, IfErr};
+ghost use Rattle.std.specs.Prelude.{◌≡◌, ◌<◌, MatchOption, Bool, List, [], ◌∷◌, ◌++◌, length, None, IsTrue, IsOk, ◌↔◌, OnOk, OnErr, IfOk, IfErr};
 ghost use Rattle.rw_method.specs.declared.solved.Solved.TheVariants as Solved;
 ghost use Rattle.rw_model.specs.Slot.{all_quantities};
 ghost use Rattle.rw_method.specs.View.{bounds_at, is_between};
@@ -34,8 +34,8 @@ fn is_bounded(view: &View, place: u8, value: i128) -> bool
     is_between(low, high, value) && is_between(-QUANTITY_MAX, QUANTITY_MAX, value)
 }
 
-// The quantity of this value.
-fn quantity(value: i128) -> Qty
+/// The quantity of this value.
+pub fn quantity(value: i128) -> Qty
     requires { IsTrue (is_between all_quantities value) }
     ensures { result ≡ value }
 {
@@ -111,6 +111,31 @@ pub fn begin_puts(view: &View, balanced: Balanced) -> Result<PutList, Solved>
     Ok(puts)
 }
 
+/// What is answered before puts are judged: too little is known, something is wrong with what is held, or the terms conflict.
+pub fn ended(balanced: Balanced, fault: Option<Solved>) -> Option<Solved>
+    ensures { MatchOption result
+        ((fit : Put → Bool) (puts : List Put) → answer fit puts balanced fault ≡ answer_of_puts fit puts)
+        (λ ended. (fit : Put → Bool) (puts : List Put) → answer fit puts balanced fault ≡ ended) }
+{
+    match (balanced, fault) {
+        (Balanced::Idle, _) => Some(Solved::Idle),
+        (_, Some(fault)) => Some(fault),
+        (
+            Balanced::Conflicts {
+                place,
+                held,
+                solved,
+            },
+            None,
+        ) => Some(Solved::Conflict {
+            place,
+            held,
+            solved,
+        }),
+        (Balanced::Holds | Balanced::Solves { .. }, None) => None,
+    }
+}
+
 /// What an object answers that puts the solved term and nothing else.
 #[inline(always)]
 pub fn put_solved(view: &View, balanced: Balanced) -> Solved
@@ -122,7 +147,8 @@ pub fn put_solved(view: &View, balanced: Balanced) -> Solved
     }
 }
 
-fn held_by(content: Option<Content>) -> Given
+/// A value and its number, 0 and 0 where nothing is known.
+pub fn held_by(content: Option<Content>) -> Given
     ensures { result ≡ held_by content }
 {
     match content {

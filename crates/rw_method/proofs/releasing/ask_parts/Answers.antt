@@ -1,6 +1,6 @@
 use Rattle.rw_base.proofs.Common.{◌≡◌, ◌∙◌, ap, rules, w64, FitsSigned, to_z, of_z, w128, to_z-of_z}
-use Rattle.rw_reservoir.proofs.Misfits.{asks_then}
-use Rattle.rw_reservoir.proofs.release.ask_parts.Goals as goal
+use Rattle.rw_method.proofs.Misfits.{asks_then}
+use Rattle.rw_method.proofs.releasing.ask_parts.Goals as goal
 
 pub returns-in-Ok : goal.returns-in-Ok
 returns-in-Ok c =
