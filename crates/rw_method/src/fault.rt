@@ -1,17 +1,16 @@
-ghost use Rattle.std.specs.Prelude.{◌≡◌};
-ghost use Rattle.rw_method.specs.Contents.{basis_of, fault_of_basis, is_this, agree, disagreement};
-ghost use Rattle.rw_method.specs.Solve.{or_else, fault_of_past};
+ghost use Rattle.std.specs.Prelude.{◌≡◌, option_map};
+ghost use Rattle.rw_method.specs.Contents.{fault_of_basis, is_this, agree, disagreement};
+ghost use Rattle.rw_method.specs.Solve.{fault_of_past, fault_of_level};
 
-use crate::basis::basis_of;
-use crate::contents::{can_hold, elevation_of, volume_of};
+use crate::contents::{basis_of, can_hold, elevation_of, volume_of};
+use crate::places::{POOL_ELEVATION, STORAGE};
+use crate::{Basis, Given, Solved, View};
 use rw_base::Qty;
-use rw_method::places::{POOL_ELEVATION, STORAGE};
-use rw_method::{Basis, Given, Solved};
 use rw_table::Rating;
 
-// Where evaporation is chosen, the storage before has to have an elevation.
-fn fault_of_past(evaporation: bool, table: &Option<Rating>, past: Option<Qty>) -> Option<Solved>
-    ensures { result ≡ fault_of_past evaporation table.now past }
+/// Where evaporation is chosen, the storage before has to have an elevation.
+pub fn fault_of_past(evaporation: bool, table: Option<&Rating>, past: Option<Qty>) -> Option<Solved>
+    ensures { result ≡ fault_of_past evaporation (option_map (λ rating. rating.now) table.entry) past }
 {
     match past {
         Some(storage) if evaporation && !can_hold(table, storage.get()) => {
@@ -25,8 +24,8 @@ fn fault_of_past(evaporation: bool, table: &Option<Rating>, past: Option<Qty>) -
 }
 
 // What is wrong with the slot that gives the contents.
-fn fault_of_basis(table: &Option<Rating>, basis: Basis) -> Option<Solved>
-    ensures { result ≡ fault_of_basis table.now basis }
+fn fault_of_basis(table: Option<&Rating>, basis: Basis) -> Option<Solved>
+    ensures { result ≡ fault_of_basis (option_map (λ rating. rating.now) table.entry) basis }
 {
     match basis {
         Basis::Storage(storage) if !can_hold(table, storage.value) => Some(Solved::OutOfRange {
@@ -54,8 +53,8 @@ fn is_this(found: Option<i64>, value: i64) -> bool
 }
 
 // Whether the elevation is the storage's, or the storage is the elevation's.
-fn agree(table: &Option<Rating>, storage: i64, elevation: i64) -> bool
-    ensures { result ≡ agree table.now storage elevation }
+fn agree(table: Option<&Rating>, storage: i64, elevation: i64) -> bool
+    ensures { result ≡ agree (option_map (λ rating. rating.now) table.entry) storage elevation }
 {
     is_this(elevation_of(table, storage), elevation)
         || is_this(volume_of(table, elevation), storage)
@@ -63,11 +62,11 @@ fn agree(table: &Option<Rating>, storage: i64, elevation: i64) -> bool
 
 // A storage and an elevation that are both given with number 0, and don't agree.
 fn disagreement(
-    table: &Option<Rating>,
+    table: Option<&Rating>,
     storage: Option<Given>,
     elevation: Option<Given>,
 ) -> Option<Solved>
-    ensures { result ≡ disagreement table.now storage elevation }
+    ensures { result ≡ disagreement (option_map (λ rating. rating.now) table.entry) storage elevation }
 {
     match (storage, elevation) {
         (Some(storage), Some(elevation))
@@ -84,21 +83,11 @@ fn disagreement(
     }
 }
 
-/// What is wrong with what the reservoir holds, before its balance is looked at: with the storage before, with the slot
-/// that gives the contents, or with storage and elevation together, in this order.
-pub(crate) fn fault_of_contents(
-    table: &Option<Rating>,
-    evaporation: bool,
-    past: Option<Qty>,
-    storage: Option<Given>,
-    elevation: Option<Given>,
-) -> Option<Solved>
-    ensures { result ≡ or_else (fault_of_past evaporation table.now past)
-        (or_else (fault_of_basis table.now (basis_of storage elevation)) (disagreement table.now storage elevation)) }
+/// What is wrong with a storage and an elevation that are given: with the slot that gives the contents, or with both together.
+pub fn fault_of_level(view: &View, table: Option<&Rating>) -> Option<Solved>
+    ensures { result ≡ fault_of_level (option_map (λ rating. rating.now) table.entry) view.entry.now }
 {
-    if let Some(fault) = fault_of_past(evaporation, table, past) {
-        return Some(fault);
-    }
+    let (storage, elevation) = (view.given(STORAGE), view.given(POOL_ELEVATION));
     if let Some(fault) = fault_of_basis(table, basis_of(storage, elevation)) {
         return Some(fault);
     }

@@ -1,47 +1,25 @@
-ghost use Rattle.std.specs.Prelude.{◌≡◌, ◌<◌, ◌+◌, ◌≤◌, ◌++◌, length, OnOk, IfErr};
+ghost use Rattle.std.specs.Prelude.{◌≡◌, option_map, ◌<◌, ◌+◌, ◌≤◌, ◌++◌, length, OnOk, IfErr};
 ghost use Rattle.rw_method.specs.Contents.{basis_of};
-ghost use Rattle.rw_method.specs.Puts.{solved_put, put_found, beside_basis, beside_given, level_puts};
+ghost use Rattle.rw_method.specs.Puts.{solved_put, beside_basis, beside_given, level_puts};
 ghost use Rattle.rw_method.specs.Solve.{AllFit};
-ghost use Rattle.rw_reservoir.specs.Asking.{Asks, can_get};
+ghost use Rattle.rw_method.specs.Asking.{Asks, can_get};
 
-use crate::asking::{ask, narrow};
-use crate::basis::{are_both_zero, basis_of};
-use crate::contents::{elevation_of, volume_of};
-use rw_method::places::{POOL_ELEVATION, STORAGE};
-use rw_method::{Balanced, Basis, Given, PutList, Solved, View};
+use crate::asking::{ask_found, narrow};
+use crate::contents::{are_both_zero, basis_of, elevation_of, volume_of};
+use crate::places::{POOL_ELEVATION, STORAGE};
+use crate::{Balanced, Basis, Given, PutList, Solved, View};
 use rw_table::Rating;
-
-// Puts the value that the table has, if it has one.
-fn ask_found(
-    view: &View,
-    table: &Option<Rating>,
-    puts: &mut PutList,
-    place: u8,
-    found: Option<i64>,
-    number: u16,
-) -> Result<(), Solved>
-    requires { length puts.old < 8 }
-    ensures asks { Asks (can_get table.now view.entry.now)
-        (put_found place found number)
-        puts.old puts.new result }
-    ensures room { OnOk result (length puts.new ≤ length puts.old + 1) }
-{
-    match found {
-        Some(value) => ask(view, table, puts, place, i128::from(value), number),
-        None => Ok(()),
-    }
-}
 
 // Beside the slot that gives the contents puts the other one of storage and elevation.
 fn ask_beside(
     view: &View,
-    table: &Option<Rating>,
+    table: Option<&Rating>,
     puts: &mut PutList,
     basis: Basis,
 ) -> Result<(), Solved>
     requires { length puts.old < 8 }
-    ensures asks { Asks (can_get table.now view.entry.now)
-        (beside_basis table.now basis)
+    ensures asks { Asks (can_get (option_map (λ rating. rating.now) table.entry) view.entry.now)
+        (beside_basis (option_map (λ rating. rating.now) table.entry) basis)
         puts.old puts.new result }
     ensures room { OnOk result (length puts.new ≤ length puts.old + 1) }
 {
@@ -61,14 +39,14 @@ fn ask_beside(
 // Beside the slot that gives the contents puts the other one, unless both are given with number 0.
 fn ask_beside_given(
     view: &View,
-    table: &Option<Rating>,
+    table: Option<&Rating>,
     puts: &mut PutList,
     storage: Option<Given>,
     elevation: Option<Given>,
 ) -> Result<(), Solved>
     requires { length puts.old < 8 }
-    ensures asks { Asks (can_get table.now view.entry.now)
-        (beside_given table.now storage elevation)
+    ensures asks { Asks (can_get (option_map (λ rating. rating.now) table.entry) view.entry.now)
+        (beside_given (option_map (λ rating. rating.now) table.entry) storage elevation)
         puts.old puts.new result }
     ensures room { OnOk result (length puts.new ≤ length puts.old + 1) }
 {
@@ -79,18 +57,18 @@ fn ask_beside_given(
 }
 
 /// Puts the elevation of a solved storage, or what stands beside given contents.
-pub(crate) fn ask_level(
+pub fn ask_level(
     view: &View,
-    table: &Option<Rating>,
+    table: Option<&Rating>,
     puts: &mut PutList,
     storage: Option<Given>,
     elevation: Option<Given>,
     balanced: Balanced,
 ) -> Result<(), Solved>
     requires room { length puts.old < 8 }
-    requires fits { AllFit (can_get table.now view.now) (solved_put balanced) }
-    ensures asks { Asks (can_get table.now view.entry.now)
-        (level_puts table.now storage elevation balanced)
+    requires fits { AllFit (can_get (option_map (λ rating. rating.now) table) view.now) (solved_put balanced) }
+    ensures asks { Asks (can_get (option_map (λ rating. rating.now) table.entry) view.entry.now)
+        (level_puts (option_map (λ rating. rating.now) table.entry) storage elevation balanced)
         puts.old puts.new result }
     ensures room { OnOk result (length puts.new ≤ length puts.old + 1) }
 {

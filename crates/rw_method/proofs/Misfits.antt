@@ -4,7 +4,7 @@ use Rattle.rw_method.specs.declared.put.Put.{Put}
 use Rattle.rw_method.specs.declared.solved.Solved.{Solved}
 use Rattle.rw_method.specs.declared.solved.Solved.TheVariants.{Puts, OutOfRange}
 use Rattle.rw_method.specs.Solve.{AllFit, first_misfit, all_or_misfit, answer_of_puts}
-use Rattle.rw_reservoir.specs.Asking.{Asks, IsRefused}
+use Rattle.rw_method.specs.Asking.{Asks, IsRefused}
 
 first_fits : (b : Bool) (rest : Option Put) (put : Put) → (if b then rest else Some put) ≡ None → (b ≡ true) × (rest ≡ None)
 first_fits true rest put is = (refl, is)

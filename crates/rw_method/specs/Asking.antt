@@ -1,4 +1,4 @@
--- What becomes of the puts that a reservoir asks for.
+-- What becomes of the puts that are asked for one after the other, where a storage has to be held.
 use Rattle.std.specs.Prelude.{◌≡◌, ◌==◌, if◌then◌else◌, Bool, true, ◌&&◌, List, Option, Some, option_map, ◌++◌, Result, OnOk, IfErr}
 use Rattle.rw_table.specs.Table.{Row}
 use Rattle.rw_method.specs.declared.places.TheConstants.{STORAGE}
