@@ -108,13 +108,16 @@ asked_number terms balanced number = number
 abbrev pub asked_put : List Term → Balanced → Given → Put
 asked_put terms balanced asked = put OUTFLOW asked.value (asked_number terms balanced asked.number)
 
+-- a flow that was solved and the outflow that a request asks for, in order of place: the former alone where that is the outflow
+abbrev pub beside_flow : Put → Put → List Put
+beside_flow asked solved =
+    if solved.place == OUTFLOW then solved ∷ [] else (if solved.place == INFLOW then solved ∷ asked ∷ [] else asked ∷ solved ∷ [])
+
 -- what was solved, and beside it the outflow that a request asks for, unless the outflow itself was solved
 abbrev pub flow_puts : Option Given → List Term → Balanced → List Put
 flow_puts None terms balanced = solved_put balanced
 flow_puts (Some asked) terms (Solves place value number) =
-    if place == OUTFLOW then put place value number ∷ []
-    else (if place == INFLOW then put place value number ∷ asked_put terms (Solves place value number) asked ∷ []
-    else asked_put terms (Solves place value number) asked ∷ put place value number ∷ [])
+    beside_flow (asked_put terms (Solves place value number) asked) (put place value number)
 flow_puts (Some asked) terms balanced = asked_put terms balanced asked ∷ []
 
 -- the energy of what is released of an outflow, the release, and the spill

@@ -47,11 +47,15 @@ fault_of_request plant view None = None
 fault_of_request plant view (Some request) =
     if is_some (release_for plant view request) then None else Some (OutOfRange ENERGY_REQUEST request.value)
 
--- what is wrong before all else, even where too little is known: a power reservoir's storage before has no elevation, or no release gives
--- what is requested
+-- the storage before has no elevation, or no release gives what is requested
+abbrev pub fault_of_power : Plant → View → Option Solved
+fault_of_power plant view =
+    or_else (fault_of_past true (Some plant.table) view.past) (fault_of_request plant view (request_of view))
+
+-- what is wrong before all else, even where too little is known
 abbrev pub first_fault : Kind → View → Option Solved
 first_fault (PowerReservoir initial_storage table max_release tailwater power) view =
-    or_else (fault_of_past true (Some table) view.past) (fault_of_request (plant table max_release tailwater power) view (request_of view))
+    fault_of_power (plant table max_release tailwater power) view
 first_fault kind view = None
 
 -- whether a storage that is put is one that the reservoir can hold

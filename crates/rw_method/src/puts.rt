@@ -3,7 +3,7 @@ ghost use Rattle.rw_method.specs.declared.solved.Solved.TheVariants as Solved;
 ghost use Rattle.rw_model.specs.Slot.{all_quantities};
 ghost use Rattle.rw_method.specs.View.{bounds_at, is_between};
 ghost use Rattle.std.specs.List.{All};
-ghost use Rattle.rw_method.specs.Puts.{put, is_bounded, solved_put, held_by, known_after};
+ghost use Rattle.rw_method.specs.Puts.{put, is_bounded, solved_put, held_by, held_after, known_after};
 ghost use Rattle.rw_method.specs.Solve.{AllFit, answer_of_puts, answer};
 ghost use Rattle.rw_method.specs.declared.put.Put.{Put};
 
@@ -34,8 +34,8 @@ fn is_bounded(view: &View, place: u8, value: i128) -> bool
     is_between(low, high, value) && is_between(-QUANTITY_MAX, QUANTITY_MAX, value)
 }
 
-/// The quantity of this value.
-pub fn quantity(value: i128) -> Qty
+// The quantity of this value.
+fn quantity(value: i128) -> Qty
     requires { IsTrue (is_between all_quantities value) }
     ensures { result ≡ value }
 {
@@ -147,8 +147,7 @@ pub fn put_solved(view: &View, balanced: Balanced) -> Solved
     }
 }
 
-/// A value and its number, 0 and 0 where nothing is known.
-pub fn held_by(content: Option<Content>) -> Given
+fn held_by(content: Option<Content>) -> Given
     ensures { result ≡ held_by content }
 {
     match content {
@@ -179,4 +178,19 @@ pub fn known_after(view: &View, balanced: Balanced, place: u8) -> Given
         },
         _ => held_by(view.known(place)),
     }
+}
+
+/// What a place holds after these puts: what one of them puts there, or what is known, and 0 where nothing is.
+pub fn held_after(view: &View, puts: &PutList, place: u8) -> Given
+    ensures { result ≡ held_after view.entry.now puts.now place }
+{
+    for put in puts.as_slice() {
+        if put.place == place {
+            return Given {
+                value: put.value.get(),
+                number: put.number,
+            };
+        }
+    }
+    held_by(view.known(place))
 }
