@@ -13,7 +13,7 @@ use crate::balance::balance;
 use crate::evaporation::evaporation_of;
 use crate::puts::put_all;
 use rw_method::places::RESERVOIR_SIDE;
-use rw_method::{Balanced, Method, Solved, View, fault_of_level, fault_of_past, side_flows};
+use rw_method::{Balanced, Method, Solved, View, ended, fault_of_level, fault_of_past, side_flows};
 use rw_model::Kind;
 use rw_table::Rating;
 
@@ -48,24 +48,9 @@ fn answer_by(
         (known_after view.entry.now balanced OUTFLOW))
         balanced fault }
 {
-    match (balanced, fault) {
-        (Balanced::Idle, _) => Solved::Idle,
-        (_, Some(fault)) => fault,
-        (
-            Balanced::Conflicts {
-                place,
-                held,
-                solved,
-            },
-            None,
-        ) => Solved::Conflict {
-            place,
-            held,
-            solved,
-        },
-        (Balanced::Holds | Balanced::Solves { .. }, None) => {
-            put_all(view, table, evaporation, evaporated, max_release, balanced)
-        }
+    match ended(balanced, fault) {
+        Some(answer) => answer,
+        None => put_all(view, table, evaporation, evaporated, max_release, balanced),
     }
 }
 
