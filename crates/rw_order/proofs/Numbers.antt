@@ -187,7 +187,7 @@ puts_plain Bifurcation view zeros free = alone Bifurcation view zeros free (omeg
 puts_plain (Reach zero history local_inflow diversion return_flow) view zeros free =
     alone (Reach zero history local_inflow diversion return_flow) view zeros free (omega arith, (omega arith, tt))
 puts_plain (Reach (suc lag) history local_inflow diversion return_flow) view zeros free =
-    alone (Reach (suc lag) history local_inflow diversion return_flow) view zeros (omega arith, tt)
+    alone (Reach (suc lag) history local_inflow diversion return_flow) view zeros free (omega arith, tt)
 puts_plain (WaterUser depletion Request) view zeros free = user_plain depletion (WaterUser depletion Request) view zeros free (omega arith, tt)
 puts_plain (WaterUser depletion ByRule) view zeros free = user_plain depletion (WaterUser depletion ByRule) view zeros free tt
 puts_plain (Canal seepage) view zeros free =
