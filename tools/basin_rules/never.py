@@ -162,7 +162,7 @@ class Never:
                 unless = f"counts only where the storage before of {thing.name} isn't known"
                 return f"{unless}: its outflow follows from {request}", ""
             if is_of_plant(slot, thing, "EnergyRequest") and self.first[outflow] in self.of_inputs:
-                return f"never counts: {outflow} follows from inputs alone", ""
+                return f"asks in vain: {outflow} follows from inputs alone", ""
         return "", ""
 
     def never_count(self):
@@ -172,21 +172,21 @@ class Never:
                 if self.why_denied(slot)[0]:
                     continue
                 higher = next((one for one in self.rules[:place] if self.always_sets(one, slot)), None)
-                why = f"{higher.called} sets {slot} at every timestep" if higher else self.why_unasked(rule, slot)
+                why = f"never counts: {higher.called} sets {slot} at every timestep" if higher else self.in_vain(rule, slot)
                 if why:
                     span = next(one.span for one in rule.settings if one.slot == slot)
-                    yield warn(span, f"what is put here never counts: {why}", "", rule.called)
+                    yield warn(span, f"what is put here {why}", "", rule.called)
 
-    def why_unasked(self, rule, name):
-        """Why a request for energy never counts beside an outflow that rules set, or an empty text."""
+    def in_vain(self, rule, name):
+        """Why a request for energy asks in vain beside an outflow that rules set, or an empty text."""
         owner, _, slot_name = name.partition(".")
         thing, outflow = self.model.object_named(owner), f"{owner}.Outflow"
         if thing.kind != "power_reservoir" or slot_name != "EnergyRequest":
             return ""
         if self.first[outflow] in (self.first[one] for one in rule.slots(sure=True)):
-            return f"the rule sets {outflow} with the same priority"
+            return f"asks in vain: the rule sets {outflow} with the same priority"
         higher = next((one for one in self.rules[: rule.number - 1] if self.always_sets(one, outflow)), None)
-        return f"{higher.called} sets {outflow} at every timestep" if higher else ""
+        return f"asks in vain: {higher.called} sets {outflow} at every timestep" if higher else ""
 
     def always_sets(self, rule, slot):
         """Whether each firing of a rule sets a slot, and looks at nothing but what inputs give at every timestep."""
