@@ -1,5 +1,5 @@
 -- Cells that are noted one after the other.
-use Rattle.rw_record.proofs.Common.{AddsNotes, Asked, Cell, Cells, Draft, Held, [], append-nil, cell_at, cells_asked, cells_looked, cells_reached, cells_with, drop, drop_more, flat_map, flat_map-append, length, map, map-append, numbers_of, slice_index_or, take, take-append-drop, take_more, ℕ, ◌+◌, ◌<◌, ◌∷◌, IsSome, List, None, NotesFirst, Option, Some, ap, append_assoc, noted_after, refl, subst, sym, with_noted, ◌++◌, ◌∙◌, ◌≡◌}
+use Rattle.rw_record.proofs.Common.{AddsNotes, Asked, Cell, Cells, Draft, Held, [], append-nil, cell_at, cells_asked, cells_looked, cells_reached, cells_with, drop, drop_more, flat_map, flat_map-append, length, map, map-append, numbers_of, slice_index_or, take, take-append-drop, take_more, ℕ, ◌+◌, ◌<◌, ◌∷◌, IsSome, List, None, Option, Some, ap, append_assoc, refl, subst, sym, with_noted, ◌++◌, ◌∙◌, ◌≡◌}
 use Rattle.std.specs.Prelude.{Err, Ok, Result}
 use Rattle.rw_base.specs.declared.number.SlotNo.{SlotNo}
 use Rattle.rw_series.specs.declared.look.Look.{Look}

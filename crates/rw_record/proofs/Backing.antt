@@ -1,5 +1,5 @@
 -- Putting back what cells held.
-use Rattle.rw_record.proofs.Common.{Bool, Cell, Contains, Contains-append_right, Draft, Held, IsCell, IsSeriesOf, List, None, Series, Sets, [], and_parts, ap, ap₂, arith, drop, false, false≢true, get_or_past, group_of, held, if◌then◌else◌, is_among, is_noted, is_same_cell, is_shared, length, nat_eq_equiv, nat_le, nat_tests, refl, slice_index_or, subst, sym, true, ℕ, ◌&&◌, ◌-◌, ◌<◌, ◌==◌, ◌||◌, ◌∙◌, ◌∷◌, ◌≡◌, ◌≤◌}
+use Rattle.rw_record.proofs.Common.{Bool, Cell, Contains, Contains-append_right, Draft, Held, IsCell, IsSeriesOf, List, None, Series, Sets, [], ap, ap₂, arith, drop, false, false≢true, get_or_past, held, if◌then◌else◌, is_noted, is_same_cell, is_shared, length, nat_eq_equiv, nat_le, nat_tests, refl, subst, sym, true, ℕ, ◌&&◌, ◌-◌, ◌||◌, ◌∙◌, ◌∷◌, ◌≡◌, ◌≤◌}
 use Rattle.std.proofs.lemmas.List.{drop_all}
 use Rattle.rw_model.specs.Links.{is_same_link, link_of}
 use Rattle.rw_series.specs.Cells.{is_kept}

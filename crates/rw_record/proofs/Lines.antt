@@ -1,5 +1,5 @@
 -- Lines of a trace from a place on.
-use Rattle.rw_record.proofs.Common.{Held, cases_lt, get_or_from_slice_get, inl, inr, slice_get_within, ◌⊎◌, List, false, nat_lt, nat_tests, ◌||◌, None, Option, Some, [], ap, append-nil, arith, drop, drop-drop, drop_more, length, length-drop, none-some, refl, slice_get, slice_get-get_or, subst, sym, take, take-add, ℕ, ◌++◌, ◌+◌, ◌-◌, ◌<◌, ◌∙◌, ◌∷◌, ◌≡◌, ◌≤◌}
+use Rattle.rw_record.proofs.Common.{Held, cases_lt, get_or_from_slice_get, inl, inr, slice_get_within, ◌⊎◌, List, false, nat_lt, nat_tests, ◌||◌, None, Option, Some, [], ap, append-nil, arith, drop, drop-drop, drop_more, length, refl, slice_get, slice_get-get_or, sym, take, take-add, ℕ, ◌++◌, ◌+◌, ◌-◌, ◌<◌, ◌∙◌, ◌∷◌, ◌≡◌, ◌≤◌}
 use Rattle.std.proofs.lemmas.List.{drop_all}
 use Rattle.rw_run.specs.Trace.{told}
 use Rattle.rw_run.specs.declared.trace.TraceEvent.{TraceEvent}

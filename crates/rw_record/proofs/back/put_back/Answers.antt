@@ -1,4 +1,4 @@
-use Rattle.rw_record.proofs.Common.{arith, drop, drop_more, sym, subst, held, ◌∙◌, ◌∷◌, ◌+◌, ◌≡◌, ap}
+use Rattle.rw_record.proofs.Common.{drop, drop_more, sym, subst, held, ◌∙◌, ◌∷◌, ◌+◌, ◌≡◌, ap}
 use Rattle.rw_record.specs.Notes.{CanTakeBack}
 use Rattle.rw_record.proofs.Backing.{all_back, one_back}
 use Rattle.rw_record.proofs.back.put_back.Goals as goal

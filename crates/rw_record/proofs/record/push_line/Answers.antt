@@ -1,4 +1,4 @@
-use Rattle.rw_record.proofs.Common.{None, Some, ap, drop, rules, slice_get, sym, take, ◌∙◌, ◌≡◌, IfOk, [], ◌∷◌, subst}
+use Rattle.rw_record.proofs.Common.{None, Some, ap, slice_get, sym, ◌∙◌, ◌≡◌, IfOk, subst}
 use Rattle.rw_run.specs.Trace.{lines_in, told}
 use Rattle.rw_record.proofs.Lines.{none_at, some_at, told_none}
 use Rattle.rw_record.proofs.record.push_line.Goals as goal

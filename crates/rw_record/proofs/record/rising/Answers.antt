@@ -1,4 +1,4 @@
-use Rattle.rw_record.proofs.Common.{rules, subst, sym, ◌≡◌}
+use Rattle.rw_record.proofs.Common.{rules, subst, ◌≡◌}
 use Rattle.rw_base.proofs.Common.{always_returns_same, of_calls}
 use Rattle.std.specs.List.Sorted.{IsPermutation}
 use Rattle.rw_record.proofs.Rising.{place_of, rising, same_members}

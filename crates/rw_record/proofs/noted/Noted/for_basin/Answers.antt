@@ -1,4 +1,4 @@
-use Rattle.rw_record.proofs.Common.{[], ap, arith, false, false≢true, length, length-replicate, replicate, rules, subst, sym, ◌*◌, ◌∙◌, ◌≡◌}
+use Rattle.rw_record.proofs.Common.{[], false, replicate, rules, subst, sym, ◌*◌, ◌≡◌}
 use Rattle.rw_record.specs.Marks.{KeepsMarks}
 use Rattle.rw_record.proofs.Marking.{no_marks}
 use Rattle.rw_record.proofs.noted.Noted.for_basin.Goals as goal

@@ -1,4 +1,4 @@
-use Rattle.rw_record.proofs.Common.{List, [], cell_at, get_or_default, held, map, numbers_of, refl, rules, slice_index_or, ◌∷◌, ◌≡◌}
+use Rattle.rw_record.proofs.Common.{[], cell_at, get_or_default, held, map, numbers_of, refl, rules, slice_index_or, ◌∷◌, ◌≡◌}
 use Rattle.std.specs.Prelude.{Err}
 use Rattle.rw_base.specs.declared.number.SlotNo.{SlotNo}
 use Rattle.rw_record.proofs.Adding.{slots_sum, stopped, turned}

@@ -1,4 +1,4 @@
-use Rattle.rw_record.proofs.Common.{Contains, Held, List, ap, arith, drop, length, nat_lt, nat_tests, noted_in, refl, rules, subst, sym, ◌||◌, ◌∙◌, ◌↔◌, ◌≡◌, ◌≤◌}
+use Rattle.rw_record.proofs.Common.{Contains, ap, drop, noted_in, refl, rules, subst, ◌↔◌}
 use Rattle.rw_run.specs.Trace.{lines_in}
 use Rattle.rw_record.proofs.Lines.{few}
 use Rattle.rw_record.proofs.record.StepRecord.of.Goals as goal
