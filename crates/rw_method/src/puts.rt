@@ -191,10 +191,10 @@ fn given_by(put: Put) -> Given
 }
 
 /// What a place holds after these puts: what one of them puts there, or what is known, and 0 where nothing is.
-pub fn held_after(view: &View, puts: &PutList, place: u8) -> Given
+pub fn held_after(view: &View, puts: &[Put], place: u8) -> Given
     ensures { result ≡ held_after view.entry.now puts.now place }
 {
-    for put in puts.as_slice() {
+    for put in puts {
         if put.place == place {
             return given_by(*put);
         }
