@@ -180,16 +180,23 @@ pub fn known_after(view: &View, balanced: Balanced, place: u8) -> Given
     }
 }
 
+// What a put gives its slot.
+fn given_by(put: Put) -> Given
+    ensures { result ≡ record { value = put.value; number = put.number } }
+{
+    Given {
+        value: put.value.get(),
+        number: put.number,
+    }
+}
+
 /// What a place holds after these puts: what one of them puts there, or what is known, and 0 where nothing is.
-pub fn held_after(view: &View, puts: &PutList, place: u8) -> Given
+pub fn held_after(view: &View, puts: &[Put], place: u8) -> Given
     ensures { result ≡ held_after view.entry.now puts.now place }
 {
-    for put in puts.as_slice() {
+    for put in puts {
         if put.place == place {
-            return Given {
-                value: put.value.get(),
-                number: put.number,
-            };
+            return given_by(*put);
         }
     }
     held_by(view.known(place))

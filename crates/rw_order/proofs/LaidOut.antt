@@ -1,5 +1,5 @@
 -- A basin of which the order of dispatches is free is laid out so.
-use Rattle.rw_order.proofs.Common.{All, AllByRecursion, Bool, Bounds, ByRule, Cells, DataObject, DataSlot, Draft, IsBasin, IsKind, IsPutOf, IsSome, IsSoundObject, Kind, List, Neither, None, Object, Option, Past, Placed, Put, Puts, Reach, Request, Reservoir, Shared-of, Slot, Some, View, WaterUser, [], all_quantities, and_parts, ap, ap₂, arith, both_ways, bounds-slot, bounds_at-view, cases_eq, cases_lt, cell_at, code_of, dim_of, dimension, false, get_or_from_slice_get, get_or_past, group_of, has_slot, if◌then◌else◌, inl, inr, is_among, is_at, is_between, is_bounded, is_data, known_in_place, known_number, length, length-map, list_all, map, nat_tests, none-some, not, not-true, numbered-found, object_at, of_range, option_and_then, option_map, owner_of, past_at, past_in, past_of, pos, put, recursion_from_All, refl, same_Some, slice_get, slice_get_within, slot_in, slot_in_place, slot_numbers, slots_of, solve-puts, solve_of, some_ago, stands_in, subst, suc, sym, true, unwrap_or, view_of, zero, ℕ, ℤ, ◌&&◌, ◌-◌, ◌<◌, ◌==◌, ◌∙◌, ◌∷◌, ◌≡◌, ◌≢◌, ◌≤◌}
+use Rattle.rw_order.proofs.Common.{All, AllByRecursion, Bool, Bounds, ByRule, Cells, DataObject, DataSlot, Draft, IsBasin, IsKind, IsPutOf, IsSome, IsSoundObject, Kind, List, Neither, None, Object, Option, Past, Placed, Put, Puts, Request, Shared-of, Slot, Some, View, WaterUser, [], all_quantities, and_parts, ap, ap₂, arith, both_ways, bounds-slot, bounds_at-view, cases_eq, cases_lt, cell_at, code_of, dim_of, dimension, false, get_or_from_slice_get, get_or_past, group_of, has_slot, inl, inr, is_among, is_at, is_between, is_bounded, is_data, known_in_place, known_number, length, length-map, list_all, map, nat_tests, none-some, not, not-true, numbered-found, object_at, of_range, option_and_then, option_map, owner_of, past_at, past_in, past_of, pos, put, recursion_from_All, refl, same_Some, slice_get, slice_get_within, slot_in, slot_in_place, slot_numbers, slots_of, solve-puts, solve_of, some_ago, stands_in, subst, suc, sym, true, unwrap_or, view_of, zero, ℕ, ℤ, ◌&&◌, ◌-◌, ◌<◌, ◌==◌, ◌∙◌, ◌∷◌, ◌≡◌, ◌≢◌, ◌≤◌}
 use Rattle.rw_order.specs.Free.{has_level_in, has_other_level, is_level, joins_levels, is_free, order_free}
 use Rattle.rw_order.proofs.Lists.{all_weaker}
 use Rattle.rw_order.proofs.Places.{HaveSlots}

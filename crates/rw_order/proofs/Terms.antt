@@ -1,5 +1,5 @@
 -- The terms of a balance, each of a share in a place, and what stands in these places all together.
-use Rattle.rw_order.proofs.Common.{AllByRecursion, Balanced, Bifurcation, Bool, Brings, ByRule, Canal, Conflicts, Confluence, Conveys, DataObject, Gage, Given, Holds, Idle, IsSome, Kind, List, None, Option, PowerReservoir, Reach, Request, Reservoir, RoutedReach, Row, Share, Solves, Some, Takes, Term, View, WaterUser, [], ap, ap₂, arith, balance_of, balanced_of, basis_of, both_ways, brought, brought_by, contents_by, false, given, gives_way_before, if◌then◌else◌, int_eq, ints, is_some, map, missing, nat_le, net_of, option_map, pos, refl, settled, settled_at, solves, suc, sum_of, true, value_from_others, weakest, zero, ℕ, ℤ, ◌++◌, ◌+ℤ◌, ◌==◌, ◌∙◌, ◌∷◌, ◌≡◌}
+use Rattle.rw_order.proofs.Common.{AllByRecursion, Balanced, Bifurcation, Bool, Brings, ByRule, Canal, Conflicts, Confluence, Conveys, Gage, Given, Holds, Idle, IsSome, Kind, List, None, Option, PowerReservoir, Reach, Request, Reservoir, RoutedReach, Row, Share, Solves, Some, Takes, Term, View, WaterUser, [], ap, ap₂, arith, balance_of, balanced_of, basis_of, both_ways, brought, brought_by, contents_by, false, given, gives_way_before, if◌then◌else◌, int_eq, ints, is_some, map, missing, nat_le, net_of, option_map, pos, refl, settled, settled_at, solves, suc, sum_of, true, value_from_others, weakest, zero, ℕ, ℤ, ◌++◌, ◌+ℤ◌, ◌==◌, ◌∙◌, ◌∷◌, ◌≡◌}
 use Rattle.rw_order.specs.Free.{is_free}
 use Rattle.rw_order.proofs.Held.{Sight, Stands, Values}
 

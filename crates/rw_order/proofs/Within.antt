@@ -1,5 +1,5 @@
 -- What a balance comes to from less than stands in the places: nothing, or what stands there.
-use Rattle.rw_order.proofs.Common.{*ℤ-zero, All, All-from_recursion, AllByRecursion, Balanced, Brings, ByRule, Canal, Conflicts, Conveys, DataObject, Decides-int_eq, Gage, Holds, Idle, IsShare, IsSolved, IsSome, Kind, List, None, Option, PowerReservoir, Reach, Request, RoutedReach, Routes, Share, Solves, Some, Takes, Term, WaterUser, [], agree, ap, arith, both_ways, brought, false, int_eq, ints, nat_tests, net_of, none-some, option_map, pos, recursion_from_All, refl, same_Some, settled, solved_term, subst, suc, sym, true, zero, ℕ, ℤ, ◌++◌, ◌+ℤ◌, ◌∙◌, ◌∷◌, ◌≡◌}
+use Rattle.rw_order.proofs.Common.{*ℤ-zero, All, All-from_recursion, AllByRecursion, Balanced, Brings, ByRule, Canal, Conflicts, Conveys, DataObject, Decides-int_eq, Gage, Holds, Idle, IsShare, IsSolved, IsSome, Kind, List, None, Option, PowerReservoir, Reach, Request, RoutedReach, Routes, Share, Solves, Some, Takes, Term, WaterUser, [], agree, ap, arith, both_ways, brought, int_eq, ints, nat_tests, net_of, none-some, option_map, pos, recursion_from_All, refl, same_Some, settled, solved_term, subst, suc, sym, true, zero, ℕ, ℤ, ◌++◌, ◌+ℤ◌, ◌∙◌, ◌∷◌, ◌≡◌}
 use Rattle.rw_order.specs.Free.{is_free}
 use Rattle.rw_order.proofs.Lists.{all_left, all_mapped, all_right, all_weaker}
 use Rattle.rw_order.proofs.Held.{Sight, Stands, Values}

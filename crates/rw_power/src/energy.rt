@@ -2,10 +2,12 @@ ghost use Rattle.std.specs.Prelude.{◌≡◌, ◌≤◌, pos, option_map, optio
 ghost use Rattle.std.specs.Int.{int_max};
 ghost use Rattle.rw_base.specs.Quotient.{floor_div};
 ghost use Rattle.rw_table.specs.Curve.{elev_of};
-ghost use Rattle.rw_method.specs.Power.{head_from, energy_of, least_release, release_quotient, up_to};
+ghost use Rattle.rw_method.specs.Power.{head_from, energy_of, least_release, quotient_release, release_quotient, up_to};
+ghost use Rattle.rw_method.specs.Term.{IsWithin};
 ghost use Rattle.rw_power.specs.Bounds.{IsFall, IsPowered};
 
 use rw_base::Qty;
+use rw_method::power_law::least_release_by_a_quotient;
 use rw_table::Rating;
 
 // How far one elevation is above another.
@@ -77,14 +79,17 @@ pub(crate) fn energy_of(power: u16, head: i64, release: i64) -> i128
 
 // Just less than so much energy, by what a release of 10^9 m3 gives.
 fn just_less(energy: i64) -> i128
-    ensures { result ≡ energy *ℤ pos 1000000000 -ℤ pos 1 }
+    ensures amount { result ≡ energy *ℤ pos 1000000000 -ℤ pos 1 }
+    ensures bound { IsWithin 100000 result }
 {
     i128::from(energy) * 1_000_000_000 - 1
 }
 
 fn quotient(amount: i128, divisor: i128) -> i128
-    requires { pos 0 <ℤ divisor }
-    ensures { result ≡ floor_div amount divisor }
+    requires amount { IsWithin 100000 amount }
+    requires divisor { pos 0 <ℤ divisor }
+    ensures count { result ≡ floor_div amount divisor }
+    ensures bound { IsWithin 100000 result }
 {
     amount.div_euclid(divisor)
 }
@@ -96,7 +101,8 @@ fn release_quotient(power: u16, head: i64, energy: i64) -> i128
     requires power { 1 ≤ power }
     ensures { result ≡ release_quotient power head energy }
 {
-    quotient(just_less(energy), powered(head, power)) + 1
+    let count = quotient(just_less(energy), powered(head, power));
+    count + 1
 }
 
 // It, where it isn't above the greatest one.
@@ -111,12 +117,11 @@ fn up_to(max_release: i64, release: i128) -> Option<i64>
     }
 }
 
-/// The least release up to the greatest one that gives so much energy, where there is one.
-pub(crate) fn least_release(power: u16, head: i64, max_release: i64, energy: i64) -> Option<i64>
+// The least release by a quotient.
+fn quotient_release(power: u16, head: i64, max_release: i64, energy: i64) -> Option<i64>
     requires head { IsFall head }
     requires power { 1 ≤ power }
-    requires most { pos 0 ≤ℤ max_release }
-    ensures { result ≡ option_map pos (least_release power head max_release energy) }
+    ensures { result ≡ quotient_release power head max_release energy }
 {
     if energy <= 0 {
         return Some(0);
@@ -125,4 +130,15 @@ pub(crate) fn least_release(power: u16, head: i64, max_release: i64, energy: i64
         return None;
     }
     up_to(max_release, release_quotient(power, head, energy))
+}
+
+/// The least release up to the greatest one that gives so much energy, where there is one.
+pub(crate) fn least_release(power: u16, head: i64, max_release: i64, energy: i64) -> Option<i64>
+    requires head { IsFall head }
+    requires power { 1 ≤ power }
+    requires most { pos 0 ≤ℤ max_release }
+    ensures { result ≡ option_map pos (least_release power head max_release energy) }
+{
+    least_release_by_a_quotient();
+    quotient_release(power, head, max_release, energy)
 }

@@ -66,7 +66,7 @@ fn ask_front(
     if let Err(answer) = ask_flows(view, table, puts, asked, terms, balanced) {
         return Err(answer);
     }
-    let outflow = held_after(view, puts, OUTFLOW);
+    let outflow = held_after(view, puts.as_slice(), OUTFLOW);
     let (storage, elevation) = (view.given(STORAGE), view.given(POOL_ELEVATION));
     match ask_level(view, table, puts, storage, elevation, balanced) {
         Ok(()) => Ok(outflow),
