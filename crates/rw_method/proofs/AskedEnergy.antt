@@ -1,8 +1,8 @@
 -- A request that puts the outflow gets its energy, from the least release.
-use Rattle.rw_method.proofs.Common.{Balanced, Conflicts, Contains, Content, Given, Holds, HasNoRelease, Idle, IsKind, IsLeastRelease, List, None, Option, OutOfRange, Plant, PowerReservoir, Put, Puts, Row, Solves, Some, View, ap, arith, asked_of, ap₂, asked_put, balanced_of, energy_of, fault_of_request, flow_puts, head_of, held_after, if◌then◌else◌, inl, inr, int_min, ints, is_some, none-some, not, option_map, plant, pos, power_balance, power_flows, put, refl, release_for, request_of, requested, same_Some, solve_of, subst, sym, true, unwrap_or, ℕ, ℤ, ◌==◌, ◌∙◌, ◌≡◌, ◌≢◌, ◌≤ℤ◌, ◌≤◌, nat_tests, false, Bool}
+use Rattle.rw_method.proofs.Common.{Balanced, Contains, Content, Given, HasNoRelease, IsKind, IsLeastRelease, List, None, Option, OutOfRange, Plant, PowerReservoir, Put, Puts, Row, Some, View, ap, arith, asked_of, ap₂, asked_put, balanced_of, energy_of, fault_of_request, flow_puts, head_of, held_after, if◌then◌else◌, inl, inr, int_min, ints, is_some, none-some, not, option_map, plant, pos, power_balance, power_flows, put, refl, release_for, request_of, requested, same_Some, solve_of, subst, sym, true, unwrap_or, ℕ, ℤ, ◌==◌, ◌∙◌, ◌≡◌, ◌≤ℤ◌, false}
 use Rattle.rw_base.proofs.Common.{MatchOption, int_min_is}
 use Rattle.rw_method.specs.Puts.{GivesRequest, is_put_by_request}
-use Rattle.rw_method.proofs.Answering.{Answered, answered}
+use Rattle.rw_method.proofs.Answering.{answered}
 use Rattle.rw_method.proofs.Among.{Among, all_at, contains}
 use Rattle.rw_method.proofs.LeastRelease.{least_is}
 use Rattle.rw_method.proofs.PowerFacts.{IsFlow, SolvesNot, asked_there, clean, energy_there, flow_there, flows_are, held_cases}

@@ -1,5 +1,5 @@
 -- A request for energy that counts, and the outflow that it gives.
-use Rattle.rw_method.proofs.Common.{Bool, Content, Given, None, Option, Plant, Some, View, ap, arith, asked_of, false, given, if◌then◌else◌, inl, inr, is_some, known, nat_tests, none-some, option_and_then, option_map, outflow_of, outflow_or, refl, request_beside, request_of, requested, same_Some, subst, sym, true, ℕ, ℤ, ◌∙◌, ◌≡◌, ◌≤◌, ◌<◌, ◌⊎◌}
+use Rattle.rw_method.proofs.Common.{Bool, Content, Given, None, Option, Plant, Some, View, ap, arith, false, given, if◌then◌else◌, inl, inr, is_some, known, nat_tests, none-some, option_and_then, option_map, outflow_of, outflow_or, refl, request_beside, request_of, requested, same_Some, sym, true, ℕ, ℤ, ◌≡◌, ◌<◌, ◌⊎◌}
 use Rattle.std.specs.Prelude.{nat_lt}
 use Rattle.rw_method.specs.Left.{IsGivenUpTo, IsUpTo}
 

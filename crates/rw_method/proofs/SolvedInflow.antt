@@ -1,5 +1,5 @@
 -- The inflow for which a routed reach is solved.
-use Rattle.rw_method.proofs.Common.{Bool, Given, Kind, Option, RoutedReach, Routes, Solves, Some, Takes, Term, View, ap, ap₂, arith, balanced_of, brought_by, given, gives_way_before, if◌then◌else◌, ints, least_routed, neg_ℤ, option_map, per_mille, pos, refl, settled, solves, subst, sym, unwrap_or, false, true, List, [], ◌∷◌, ℕ, ℤ, ◌+ℤ◌, ◌-ℤ◌, ◌<ℤ◌, ◌∙◌, ◌≡◌, ◌≤◌}
+use Rattle.rw_method.proofs.Common.{Bool, Given, Option, RoutedReach, Routes, Solves, Some, Takes, Term, View, ap, ap₂, arith, balanced_of, brought_by, given, gives_way_before, if◌then◌else◌, ints, least_routed, neg_ℤ, option_map, per_mille, pos, settled, solves, subst, sym, unwrap_or, false, true, List, [], ◌∷◌, ℕ, ℤ, ◌+ℤ◌, ◌-ℤ◌, ◌<ℤ◌, ◌∙◌, ◌≡◌, ◌≤◌}
 use Rattle.rw_method.proofs.LeastInflow.{least_of_routed, routed}
 use Rattle.rw_method.proofs.SolvedTerm.{place_of, solves_of, value_of}
 

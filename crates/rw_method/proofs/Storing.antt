@@ -3,7 +3,7 @@ use Rattle.rw_method.proofs.Common.{All, AllByRecursion, AllFit, Balanced, Basis
 use Rattle.rw_method.specs.Left.{IsGivenUpTo, is_own, rest, rests_of}
 use Rattle.rw_method.specs.Passing.{IsAfterOwn}
 use Rattle.rw_method.proofs.Answering.{Answered}
-use Rattle.rw_method.proofs.Leaving.{IsBase, LeftBy, PutIs, Solving, holds_given, place_in, rests, solved}
+use Rattle.rw_method.proofs.Leaving.{IsBase, LeftBy, PutIs, Solving, holds_given, place_in, rests}
 use Rattle.rw_method.proofs.Among.{Among, all_at, among, contains, some_there}
 use Rattle.rw_method.proofs.Netting.{put_value}
 use Rattle.rw_method.proofs.PutFacts.{first_fits}
