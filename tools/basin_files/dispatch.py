@@ -165,7 +165,7 @@ def least_release(thing, past, request):
 
 
 def asks(view):
-    """Whether a request counts: where it is known, and the storage before, and no outflow of its priority or a higher."""
+    """Whether a request counts: it and the storage before are known, and no outflow of its priority or higher."""
     if view.thing.kind != "power_reservoir" or view.past is None or "EnergyRequest" not in view.known:
         return False
     return not view.given("Outflow") or view.number("Outflow") > view.number("EnergyRequest")

@@ -172,7 +172,8 @@ class Never:
                 if self.why_denied(slot)[0]:
                     continue
                 higher = next((one for one in self.rules[:place] if self.always_sets(one, slot)), None)
-                why = f"never counts: {higher.called} sets {slot} at every timestep" if higher else self.in_vain(rule, slot)
+                why = f"never counts: {higher.called} sets {slot} at every timestep" if higher else ""
+                why = why or self.in_vain(rule, slot)
                 if why:
                     span = next(one.span for one in rule.settings if one.slot == slot)
                     yield warn(span, f"what is put here {why}", "", rule.called)
