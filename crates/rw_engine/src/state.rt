@@ -2,46 +2,50 @@ ghost use Rattle.std.specs.Prelude.{◌≡◌, ◌<◌, ◌∷◌, [], ℕ, List
 ghost use Rattle.rw_model.specs.Draft.{Draft};
 ghost use Rattle.rw_method.specs.Catalogue.{AreInOrder};
 ghost use Rattle.rw_inputs.specs.Inputs.{IsInputsOf};
-ghost use Rattle.rw_run.specs.Log.{Log, fault};
+ghost use Rattle.rw_run.specs.Log.{Event, Log, fault};
 ghost use Rattle.rpl_verify.specs.Verified.{Accepted, verified};
 ghost use Rattle.rw_rules.specs.Firing.{IsRuleTurn};
 ghost use Rattle.rw_run.specs.RunOf.{IsRunOf};
 ghost use Rattle.rw_model.specs.Turn.{IsStep, IsTurn};
 ghost use Rattle.rw_engine.specs.Counts.{count_of};
-ghost use Rattle.rw_engine.specs.Passing.{RunsStep};
-ghost use Rattle.rw_engine.specs.Shows.{IsEngineOf, Shows};
-ghost use Rattle.rw_engine.specs.State.{seen, Begins, Does, HasPassed, HoldsBefore, HoldsDue, HoldsWithin, IsFresh, IsOpened, IsStateOf, IsWithinStep, OnlyTells, ended_by, step_end};
+ghost use Rattle.rw_engine.specs.Passing.{Replays, RunsStep};
+ghost use Rattle.rw_engine.specs.Shows.{CanReplay, IsEngineOf, Shows};
+ghost use Rattle.rw_engine.specs.State.{seen, Begins, Does, HasPassed, HasReplayed, HoldsBefore, HoldsDue, HoldsWithin, IsFresh, IsOpened, IsSound, IsStateOf, IsWithinStep, OnlyTells, ended_by, step_end};
+ghost use Rattle.rw_dispatch.specs.Stage.{IsHeldIn};
+ghost use Rattle.rw_engine.specs.Records.{CanWriteLines, HasNoted, RecordsOrNot};
 
 use crate::counts::Counts;
+use crate::noting::{note_dispatch, note_firing};
 use crate::placing::place;
+use crate::replaying::{retell, write_again};
 use crate::setup::RunSetup;
 use crate::step_end::StepEnd;
 use crate::trace_lines::{tell, tell_firing};
-use crate::undo::{Undone, note, take_back};
 use rpl_verify::Verified;
 use rw_base::{NoMemory, ObjectNo, RuleNo, StepNo};
 use rw_dispatch::{Queue, Workspace, judge_dispatch, make};
 use rw_inputs::Inputs;
 use rw_model::Basin;
+use rw_record::{Noted, StepRecord, take_back};
 use rw_rules::Rules;
+use rw_run::law::again;
 use rw_run::{Run, RunEnd, RunFault, Trace, TraceEvent};
 use rw_series::Series;
 use std::alloc::Global;
 
-/// What an engine works on. Queue, rules and counts, of dispatches and of firings, are those of the open timestep, and what can be
-/// undone was put in it.
+/// What an engine works on. Queue, rules and counts, of dispatches and of firings, are those of the open timestep. What is noted is
+/// at what the events of the last one looked, its lines come behind so many lines of the trace, and where memory wants within it, it
+/// is taken back by both.
 #[derive(Drop)]
 pub(crate) struct State {
-    series: Series,
+    run: Run,
     queue: Queue,
     rules: Rules,
     work: Workspace,
     counts: Counts,
     firings: Counts,
-    trace: Trace,
-    closed: u16,
-    end: RunEnd,
-    undo: Vec<Undone>,
+    noted: Noted,
+    lines_before: usize,
 }
 
 impl State {
@@ -52,12 +56,14 @@ impl State {
         policy: &Verified,
         inputs: &Inputs,
         trace: Trace,
+        noted: Noted,
     ) -> Result<State, NoMemory>
         requires fits { verified basin.now policy.now.blocks ≡ Ok policy.now }
         requires inputs { IsInputsOf basin.now inputs.now }
         requires fresh { IfSome trace (λ lines. lines ≡ []) }
+        requires notes { is_some noted ≡ is_some trace }
         ensures begun { IfOk result (Begins basin.now policy.now inputs.now) }
-        ensures trace { IfOk result (λ state. state.trace ≡ trace) }
+        ensures trace { IfOk result (λ state. state.run.trace ≡ trace) }
     {
         let mut series = Series::sized(alloc, basin)?;
         let queue = Queue::for_basin(alloc, basin)?;
@@ -66,16 +72,19 @@ impl State {
         let firings = Counts::zero(alloc, policy.rule_count())?;
         place(basin, inputs, &mut series);
         Ok(State {
-            series,
+            run: Run {
+                end: RunEnd::Settled,
+                closed: 0,
+                series,
+                trace,
+            },
             queue,
             rules,
-            work: Workspace::new(),
+            work: Workspace::new(noted.is_kept()),
             counts,
             firings,
-            trace,
-            closed: 0,
-            end: RunEnd::Settled,
-            undo: Vec::new(alloc),
+            noted,
+            lines_before: 0,
         })
     }
 
@@ -86,9 +95,9 @@ impl State {
         ensures tells { OnlyTells self.old self.new }
         ensures opened { IfOk result
             (λ _. IsOpened setup.now.basin.now setup.now.policy.now step.0 self.old self.new) }
-        ensures wants { IfErr result (λ _. IsSome self.old.trace) }
+        ensures wants { IfErr result (λ _. IsSome self.old.run.trace) }
     {
-        self.trace.push(TraceEvent::Opened(step))?;
+        self.run.trace.push(TraceEvent::Opened(step))?;
         self.queue.begin_step(setup.basin);
         self.rules.begin_step();
         self.counts.clear();
@@ -104,9 +113,9 @@ impl State {
         ensures { Does setup.now.basin.now setup.now.policy.now step.0 self.old self.new
             (HoldsDue setup.now.basin.now setup.now.policy.now self.old step.0 None) result }
     {
-        self.trace.push(TraceEvent::Closed(step))?;
-        self.closed = step.0;
-        self.end = RunEnd::Settled;
+        self.run.trace.push(TraceEvent::Closed(step))?;
+        self.run.closed = step.0;
+        self.run.end = RunEnd::Settled;
         Ok(true)
     }
 
@@ -118,8 +127,8 @@ impl State {
             (HoldsBefore setup.now.basin.now setup.now.policy.now self.old step.0 waits
             (fault why)) result }
     {
-        self.trace.push(TraceEvent::Fault(why))?;
-        self.end = RunEnd::Fault(why);
+        self.run.trace.push(TraceEvent::Fault(why))?;
+        self.run.end = RunEnd::Fault(why);
         Ok(true)
     }
 
@@ -131,7 +140,7 @@ impl State {
         match fault {
             None => false,
             Some(fault) => {
-                self.end = RunEnd::Fault(fault);
+                self.run.end = RunEnd::Fault(fault);
                 true
             }
         }
@@ -139,9 +148,9 @@ impl State {
 
     // How the timestep ended.
     fn step_end(&self) -> StepEnd
-        ensures { result ≡ step_end self.now.end }
+        ensures { result ≡ step_end self.now.run.end }
     {
-        match self.end {
+        match self.run.end {
             RunEnd::Settled => StepEnd::Closed,
             RunEnd::Fault(fault) => StepEnd::Fault(fault),
         }
@@ -163,15 +172,23 @@ impl State {
         let end = judge_dispatch(
             setup.basin,
             setup.methods,
-            &self.series,
+            &self.run.series,
             object,
             step,
             &mut self.work,
         );
+        let asked = self.work.asked.as_slice();
+        note_dispatch(
+            &mut self.noted,
+            setup.basin,
+            &self.run.series,
+            object,
+            step,
+            asked,
+        )?;
         let writes = self.work.writes.as_slice();
-        note(&mut self.undo, &self.trace, &self.series, writes)?;
-        let fault = tell(&mut self.trace, object, step, &end, writes)?;
-        make(setup.basin, &mut self.series, writes);
+        let fault = tell(&mut self.run.trace, object, step, &end, writes)?;
+        make(setup.basin, &mut self.run.series, writes);
         self.queue
             .wake_written(setup.basin, step, writes, Some(object));
         self.rules.touched(setup.basin, writes);
@@ -218,15 +235,23 @@ impl State {
             setup.policy,
             setup.predefs,
             setup.basin,
-            &self.series,
+            &self.run.series,
             rule,
             step,
         );
+        let looked = self.rules.looked(rule);
+        let asked = self.rules.asked();
+        note_firing(
+            &mut self.noted,
+            setup.basin,
+            &self.run.series,
+            looked,
+            asked,
+        )?;
         let writes = self.rules.written();
-        note(&mut self.undo, &self.trace, &self.series, writes)?;
-        let fault = tell_firing(&mut self.trace, rule, step, &fired, writes)?;
+        let fault = tell_firing(&mut self.run.trace, rule, step, &fired, writes)?;
         self.rules
-            .write(setup.basin, &mut self.series, &mut self.queue, step);
+            .write(setup.basin, &mut self.run.series, &mut self.queue, step);
         Ok(self.end_by(fault))
     }
 
@@ -255,7 +280,7 @@ impl State {
             (HoldsWithin setup.now.basin.now setup.now.policy.now self.old step.0
             self.old.queue.waiting) result }
     {
-        match self.rules.due(&self.series) {
+        match self.rules.due(&self.run.series) {
             Some(rule) => self.let_fire(setup, rule, step),
             None => self.close(setup, step),
         }
@@ -305,13 +330,13 @@ impl State {
         ensures runs { RunsStep setup.now.basin.now setup.now.policy.now step.0
             (seen self.old) (seen self.new) result }
     {
-        self.undo.clear();
-        let mark = self.trace.len();
+        self.noted.begin_step();
+        self.lines_before = self.run.trace.len();
         match self.pass(setup, step) {
             Ok(end) => Ok(end),
             Err(NoMemory) => {
-                self.trace.truncate(mark);
-                take_back(setup.basin, &mut self.series, &mut self.undo);
+                self.run.trace.truncate(self.lines_before);
+                take_back(setup.basin, &mut self.run.series, &self.noted);
                 Err(NoMemory)
             }
         }
@@ -321,14 +346,68 @@ impl State {
     pub(crate) fn finish(self) -> Run
         ensures run { (basin : Draft) (policy : Accepted) (log : Log)
             → IsEngineOf basin policy (seen self) → Shows basin (seen self) log → IsRunOf basin log result }
-        ensures closed { result.closed ≡ self.closed }
-        ensures trace { result.trace ≡ self.trace }
+        ensures closed { result.closed ≡ self.run.closed }
+        ensures trace { result.trace ≡ self.run.trace }
     {
-        Run {
-            end: self.end,
-            closed: self.closed,
-            series: self.series,
-            trace: self.trace,
+        self.run
+    }
+
+    /// The record of the timestep that was closed last, if it isn't too large.
+    pub(crate) fn last_record(&self, alloc: Global) -> Result<Option<StepRecord>, NoMemory>
+        ensures { (basin : Draft) (step : ℕ) (old : Log) (events : List Event)
+            → HasNoted basin step old events (seen self.now) → self.now.run.closed ≡ step
+            → IfOk result (RecordsOrNot basin step old events) }
+    {
+        StepRecord::of(
+            alloc,
+            StepNo(self.run.closed),
+            &self.noted,
+            &self.run.trace,
+            self.lines_before,
+        )
+    }
+
+    // Passes a timestep again, and takes back what was told of it where memory wants for the rest.
+    fn pass_again(&mut self, basin: &Basin, kept: &StepRecord) -> Result<(), NoMemory>
+        requires can { CanWriteLines basin.now kept.now.lines }
+        requires made { IsHeldIn basin.now self.old.run.series }
+        ensures { HasReplayed basin.now kept.now self.old self.new result }
+    {
+        self.noted.begin_step();
+        self.lines_before = self.run.trace.len();
+        match retell(&mut self.noted, &mut self.run.trace, &self.run.series, kept) {
+            Ok(()) => {
+                write_again(basin, &mut self.run.series, kept.lines());
+                self.run.closed = kept.step().0;
+                self.run.end = RunEnd::Settled;
+                Ok(())
+            }
+            Err(NoMemory) => {
+                self.run.trace.truncate(self.lines_before);
+                Err(NoMemory)
+            }
         }
+    }
+
+    /// Passes a timestep again, by its record.
+    pub(crate) fn replay(&mut self, basin: &Basin, kept: &StepRecord) -> Result<(), NoMemory>
+        requires step { IsStep basin.now kept.now.step }
+        requires can { CanWriteLines basin.now kept.now.lines }
+        requires made { CanReplay basin.now (seen self.old) }
+        ensures replays { Replays basin.now kept.now (seen self.old) (seen self.new) result }
+        ensures sound { IsSound self.old → IsSound self.new }
+    {
+        again();
+        self.pass_again(basin, kept)
+    }
+
+    /// What the run comes to so far.
+    pub(crate) fn run(&self) -> &Run
+        ensures is { result.now ≡ self.now.run }
+        ensures run { (basin : Draft) (policy : Accepted) (log : Log)
+            → IsEngineOf basin policy (seen self.now) → Shows basin (seen self.now) log
+            → IsRunOf basin log result.now }
+    {
+        &self.run
     }
 }
