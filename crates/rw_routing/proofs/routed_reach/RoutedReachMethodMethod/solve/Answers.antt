@@ -1,4 +1,4 @@
-use Rattle.rw_base.proofs.Common.{◌≡◌, ◌∙◌, ap, sym}
+use Rattle.rw_base.proofs.Common.{◌∙◌, ap, sym}
 use Rattle.rw_method.specs.Solve.{solve_of}
 use Rattle.rw_routing.proofs.routed_reach.RoutedReachMethodMethod.solve.Goals as goal
 
