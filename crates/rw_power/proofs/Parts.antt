@@ -1,5 +1,6 @@
 -- Puts in three parts, of which the first two are asked for together.
-use Rattle.rw_base.proofs.Common.{Bool, List, None, Option, Some, [], append_assoc, false, if◌then◌else◌, refl, sym, true, ℕ, ℤ, ◌++◌, ◌==◌, ◌∷◌, ◌≡◌}
+use Rattle.rw_base.proofs.Common.{Bool, Err, List, None, Ok, OnOk, Option, Result, Some, [], ap, arith, false, if◌then◌else◌, length, refl, true, ℕ, ℤ, ◌++◌, ◌+◌, ◌==◌, ◌∷◌, ◌≡◌, ◌≤◌}
+use Rattle.std.proofs.lemmas.List.{length-append}
 use Rattle.rw_method.specs.declared.balanced.Balanced.{Balanced}
 use Rattle.rw_method.specs.declared.balanced.Balanced.TheVariants.{Conflicts, Holds, Idle, Solves}
 use Rattle.rw_method.specs.declared.given.Given.{Given}
@@ -7,7 +8,7 @@ use Rattle.rw_method.specs.declared.put.Put.{Put}
 use Rattle.rw_method.specs.declared.solved.Solved.{Solved}
 use Rattle.rw_method.specs.declared.solved.Solved.TheVariants.{Puts}
 use Rattle.rw_method.specs.declared.term.Term.{Term}
-use Rattle.rw_method.specs.Asking.{IsRefused}
+use Rattle.rw_method.specs.Asking.{Asks, IsRefused}
 use Rattle.rw_method.specs.Puts.{asked_put, flow_puts, put, solved_put}
 use Rattle.rw_method.specs.Solve.{AllFit, answer_of_puts}
 use Rattle.rw_method.proofs.Misfits.{all_fit, judged_all, judged_refused, refused_at_once, refused_later}
@@ -40,3 +41,8 @@ solved_fits fit (Some asked) terms (Solves place value number) all = by (place =
     by true in_ all = all
     by false true all = rw ((first_fits fit solved (beside ∷ []) all).0) refl
     by false false all = (first_fits fit beside (solved ∷ []) all).1
+
+-- so many puts at most are there then
+pub room : {X : Type 0} (fit : Put → Bool) (puts old new : List Put) (result : Result X Solved) → Asks fit puts old new result → OnOk result (length new ≤ length old + length puts)
+room fit puts old new (Ok done) asks = let same = ap length asks.added in let sum = length-append old puts in omega (arith, same, sum)
+room fit puts old new (Err answer) asks = tt
