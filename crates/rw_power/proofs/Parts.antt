@@ -1,5 +1,5 @@
 -- Puts in three parts, of which the first two are asked for together.
-use Rattle.rw_base.proofs.Common.{Bool, Err, List, None, Ok, OnOk, Option, Result, Some, [], ap, arith, false, if◌then◌else◌, length, refl, sym, true, ℕ, ℤ, ◌++◌, ◌+◌, ◌==◌, ◌∙◌, ◌∷◌, ◌≡◌, ◌≤◌}
+use Rattle.rw_base.proofs.Common.{Bool, Err, List, None, Ok, OnOk, Option, Result, Some, [], ap, arith, false, if◌then◌else◌, inl, inr, length, refl, sym, true, ℕ, ℤ, ◌++◌, ◌+◌, ◌==◌, ◌∙◌, ◌∷◌, ◌≡◌, ◌≤◌, ◌⊎◌}
 use Rattle.std.proofs.lemmas.List.{length-append}
 use Rattle.rw_table.specs.Table.{Row}
 use Rattle.rw_model.specs.declared.kind.Kind.TheVariants.{PowerReservoir}
@@ -15,7 +15,7 @@ use Rattle.rw_method.specs.declared.places.TheConstants.{OUTFLOW, POOL_ELEVATION
 use Rattle.rw_method.specs.declared.view.View.{View}
 use Rattle.rw_method.specs.Balance.{power_balance}
 use Rattle.rw_method.specs.Power.{Plant, asked_of, head_of, plant}
-use Rattle.rw_method.specs.Puts.{asked_put, energy_puts, flow_puts, held_after, level_puts, power_puts, put, solved_put}
+use Rattle.rw_method.specs.Puts.{asked_number, asked_put, energy_puts, flow_puts, held_after, level_puts, power_puts, put, solved_put}
 use Rattle.rw_method.specs.Settling.{settled}
 use Rattle.rw_method.specs.Solve.{AllFit, answer, answer_of_puts, fault_of_level, fault_of_power, solve_of, unless_faulty}
 use Rattle.rw_method.specs.View.{given}
@@ -51,9 +51,21 @@ solved_fits fit (Some asked) terms (Solves place value number) all = by (place =
     by false false all = (first_fits fit beside (solved ∷ []) all).1
 
 -- so many puts at most are there then
-pub room : {X : Type 0} (fit : Put → Bool) (puts old new : List Put) (result : Result X Solved) → Asks fit puts old new result → OnOk result (length new ≤ length old + length puts)
-room fit puts old new (Ok done) asks = let same = ap length asks.added in let sum = length-append old puts in omega (arith, same, sum)
-room fit puts old new (Err answer) asks = tt
+pub room : {X : Type 0} (fit : Put → Bool) (puts old new : List Put) (result : Result X Solved) (most : ℕ) → length puts ≤ most → Asks fit puts old new result
+    → OnOk result (length new ≤ length old + most)
+room fit puts old new (Ok done) most few asks = let same = ap length asks.added in let sum = length-append old puts in omega (arith, same, sum, few)
+room fit puts old new (Err answer) most few asks = tt
+
+-- where no term was solved, the outflow that is asked for is put alone
+abbrev pub IsUnsolved : Balanced → Type 0
+IsUnsolved balanced =
+    (balanced ≡ Idle) ⊎ ((balanced ≡ Holds) ⊎ ((place : ℕ) × (held : ℤ) × (solved : ℤ) × (balanced ≡ Conflicts place held solved)))
+
+pub unsolved : (asked : Given) (terms : List Term) (balanced : Balanced) → IsUnsolved balanced
+    → (put OUTFLOW asked.value (asked_number terms balanced asked.number) ∷ []) ≡ flow_puts (Some asked) terms balanced
+unsolved asked terms balanced (inl is) = rw is refl
+unsolved asked terms balanced (inr (inl is)) = rw is refl
+unsolved asked terms balanced (inr (inr (place, held, solved, is))) = rw is refl
 
 -- what is answered once the balance is settled, with what was reckoned for it
 pub answered_by : (plant : Plant) (view : View) (head : ℤ) (asked : Option Given) (terms : List Term) (balanced : Balanced) (fault : Option Solved) (solved : Solved)

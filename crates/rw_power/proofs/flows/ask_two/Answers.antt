@@ -1,4 +1,4 @@
-use Rattle.rw_base.proofs.Common.{Bool, FitsSigned, [], option_map, rules, to_z-of_z, w128, ◌∷◌}
+use Rattle.rw_base.proofs.Common.{Bool, FitsSigned, [], arith, option_map, rules, to_z-of_z, w128, ◌∷◌}
 use Rattle.rw_method.specs.declared.put.Put.{Put}
 use Rattle.rw_method.specs.Asking.{can_get}
 use Rattle.rw_method.specs.Puts.{put}
@@ -15,7 +15,7 @@ returns-in-Ok-clause-asks c =
     asks_then _ _ _ _ _ _ _ first.added first.fits second
 
 pub returns-in-Ok-clause-room : goal.returns-in-Ok-clause-room
-returns-in-Ok-clause-room c = room _ _ _ _ _ (returns-in-Ok-clause-asks c)
+returns-in-Ok-clause-room c = room _ _ _ _ _ 2 (omega arith) (returns-in-Ok-clause-asks c)
 
 pub returns-in-Err-clause-asks : goal.returns-in-Err-clause-asks
 returns-in-Err-clause-asks c =
