@@ -1,5 +1,5 @@
 ghost use Rattle.std.specs.Prelude.{◌≡◌, ◌≤◌, pos, option_map, option_and_then, unwrap_or, ◌+ℤ◌, ◌-ℤ◌, ◌*ℤ◌, ◌≤ℤ◌, ◌<ℤ◌, ℤ, Some};
-ghost use Rattle.std.specs.Int.{int_max};
+ghost use Rattle.std.specs.Int.{int_max, int_min};
 ghost use Rattle.rw_base.specs.Quotient.{floor_div};
 ghost use Rattle.rw_table.specs.Curve.{elev_of};
 ghost use Rattle.rw_method.specs.Power.{head_from, energy_of, least_release, quotient_release, release_quotient, up_to};
@@ -8,6 +8,7 @@ ghost use Rattle.rw_power.specs.Bounds.{IsFall, IsPowered};
 
 use rw_base::Qty;
 use rw_method::power_law::least_release_by_a_quotient;
+use rw_method::released;
 use rw_table::Rating;
 
 // How far one elevation is above another.
@@ -69,12 +70,20 @@ fn product(release: i64, powered: i128) -> i128
     i128::from(release) * powered
 }
 
-/// The energy of a release in kWh.
-pub(crate) fn energy_of(power: u16, head: i64, release: i64) -> i128
+// The energy of a release in kWh.
+fn energy_of(power: u16, head: i64, release: i64) -> i128
     requires { IsFall head }
     ensures { result ≡ energy_of power head release }
 {
     product(release, powered(head, power)).div_euclid(1_000_000_000)
+}
+
+/// The energy of what is released of an outflow.
+pub(crate) fn energy_released(power: u16, head: i64, max_release: i64, outflow: i64) -> i128
+    requires { IsFall head }
+    ensures { result ≡ energy_of power head (int_min outflow max_release) }
+{
+    energy_of(power, head, released(outflow, max_release))
 }
 
 // Just less than so much energy, by what a release of 10^9 m3 gives.
@@ -94,14 +103,25 @@ fn quotient(amount: i128, divisor: i128) -> i128
     amount.div_euclid(divisor)
 }
 
-// The least release, of an energy above 0 and a fall above 0.
+// How many releases there are below the least one, of an energy above 0 and a fall above 0.
+fn whole_releases(power: u16, head: i64, energy: i64) -> i128
+    requires head { IsFall head }
+    requires fall { pos 0 <ℤ head }
+    requires power { 1 ≤ power }
+    ensures count { result ≡ floor_div (energy *ℤ pos 1000000000 -ℤ pos 1) (head *ℤ pos power) }
+    ensures bound { IsWithin 100000 result }
+{
+    quotient(just_less(energy), powered(head, power))
+}
+
+// The least release.
 fn release_quotient(power: u16, head: i64, energy: i64) -> i128
     requires head { IsFall head }
     requires fall { pos 0 <ℤ head }
     requires power { 1 ≤ power }
     ensures { result ≡ release_quotient power head energy }
 {
-    let count = quotient(just_less(energy), powered(head, power));
+    let count = whole_releases(power, head, energy);
     count + 1
 }
 

@@ -107,6 +107,8 @@ pub(crate) fn ask_flows(
                 number,
             },
         ),
-        _ => ask(view, table, puts, asked.place, asked.value, asked.number),
+        Balanced::Idle | Balanced::Holds | Balanced::Conflicts { .. } => {
+            ask(view, table, puts, asked.place, asked.value, asked.number)
+        }
     }
 }

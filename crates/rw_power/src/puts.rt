@@ -1,40 +1,35 @@
-ghost use Rattle.std.specs.Prelude.{◌≡◌, ◌<◌, ◌+◌, ◌≤◌, ◌++◌, ℤ, List, [], length, option_map, OnOk, IfOk};
+ghost use Rattle.std.specs.Prelude.{◌≡◌, ◌<◌, ◌+◌, ◌≤◌, ◌++◌, ◌∷◌, ℤ, List, [], length, option_map, OnOk, IfOk};
 ghost use Rattle.rw_table.specs.Table.{Row};
-ghost use Rattle.rw_method.specs.declared.places.TheConstants.{OUTFLOW, POOL_ELEVATION, STORAGE};
+ghost use Rattle.rw_method.specs.declared.places.TheConstants.{ENERGY, OUTFLOW, POOL_ELEVATION, POWER_RELEASE, POWER_SPILL, STORAGE};
 ghost use Rattle.rw_method.specs.View.{given};
 ghost use Rattle.rw_method.specs.Power.{plant};
-ghost use Rattle.rw_method.specs.Puts.{flow_puts, level_puts, energy_puts, held_after};
+ghost use Rattle.rw_method.specs.Puts.{put, flow_puts, level_puts, energy_puts, released_puts, held_after};
 ghost use Rattle.rw_method.specs.Solve.{AllFit, answer_of_puts};
 ghost use Rattle.rw_method.specs.Asking.{Asks, can_get};
 ghost use Rattle.rw_power.specs.Bounds.{IsFall};
 
-use crate::energy::energy_of;
+use crate::energy::energy_released;
 use crate::flows::ask_flows;
 use rw_method::places::{ENERGY, OUTFLOW, POOL_ELEVATION, POWER_RELEASE, POWER_SPILL, STORAGE};
 use rw_method::{
     Balanced, Given, PutList, Solved, Term, View, ask, ask_level, ask_released, held_after,
-    released,
 };
 use rw_table::Rating;
 
-// Puts the energy of what is released of an outflow, the release, and the spill.
-fn ask_energy(
+// Puts this energy, and the release and the spill of an outflow.
+fn ask_parts(
     view: &View,
     table: Option<&Rating>,
     puts: &mut PutList,
+    energy: i128,
     max_release: i64,
-    power: u16,
-    head: i64,
     outflow: Given,
 ) -> Result<(), Solved>
-    requires room { length puts.old < 6 }
-    requires fall { IsFall head }
-    ensures asks { (tailwater : ℤ) (rows : List Row)
-        → Asks (can_get (option_map (λ rating. rating.now) table.entry) view.entry.now)
-        (energy_puts (plant rows max_release tailwater power) head outflow)
+    requires { length puts.old < 6 }
+    ensures asks { Asks (can_get (option_map (λ rating. rating.now) table.entry) view.entry.now)
+        (put ENERGY energy outflow.number ∷ released_puts POWER_RELEASE POWER_SPILL max_release outflow)
         puts.old puts.new result }
 {
-    let energy = energy_of(power, head, released(outflow.value, max_release));
     match ask(view, table, puts, ENERGY, energy, outflow.number) {
         Ok(()) => {
             let places = (POWER_RELEASE, POWER_SPILL);
@@ -99,7 +94,8 @@ pub(crate) fn put_all(
         Ok(outflow) => outflow,
         Err(answer) => return answer,
     };
-    match ask_energy(view, table, &mut puts, max_release, power, head, outflow) {
+    let energy = energy_released(power, head, max_release, outflow.value);
+    match ask_parts(view, table, &mut puts, energy, max_release, outflow) {
         Ok(()) => Solved::Puts(puts),
         Err(answer) => answer,
     }

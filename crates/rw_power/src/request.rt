@@ -1,6 +1,4 @@
-ghost use Rattle.std.specs.Prelude.{◌≡◌, ◌≤◌, ◌≤ℤ◌, ◌∷◌, [], pos, MatchOption, IfOk, IfErr, None, Some};
-ghost use Rattle.rw_method.specs.declared.solved.Solved.TheVariants as Solved;
-ghost use Rattle.rw_method.specs.declared.places.TheConstants.{ENERGY_REQUEST};
+ghost use Rattle.std.specs.Prelude.{◌≡◌, ◌≤◌, ◌≤ℤ◌, pos, IfOk, IfErr, None, Some};
 ghost use Rattle.rw_method.specs.Power.{plant, head_of, request_of, requested, asked_of};
 ghost use Rattle.rw_method.specs.Solve.{fault_of_request, fault_of_power};
 ghost use Rattle.rw_power.specs.Bounds.{HasRelease, IsFall};
@@ -25,7 +23,7 @@ fn request_of(view: &View) -> Option<Content>
     }
 }
 
-// The outflow that a request gives, where a release gives as much energy.
+// The outflow that a request gives, where a release gives as much energy; otherwise that is the answer.
 fn requested(
     view: &View,
     rating: &Rating,
@@ -34,33 +32,23 @@ fn requested(
     power: u16,
     head: i64,
     request: Content,
-) -> Option<Given>
+) -> Result<Given, Solved>
     requires most { pos 0 ≤ℤ max_release }
-    requires tailwater { pos 0 ≤ℤ tailwater }
     requires power { 1 ≤ power }
     requires fall { head ≡ head_of (plant rating.now max_release tailwater power) view.now }
     requires bound { IsFall head }
-    ensures { MatchOption result
-        (fault_of_request (plant rating.now max_release tailwater power) view.entry.now (Some request)
-        ≡ Some (Solved.OutOfRange ENERGY_REQUEST request.value))
-        (HasRelease (plant rating.now max_release tailwater power) view.entry.now request) }
+    ensures ok { IfOk result (HasRelease (plant rating.now max_release tailwater power) view.entry.now request) }
+    ensures err { IfErr result (λ answer.
+        fault_of_request (plant rating.now max_release tailwater power) view.entry.now (Some request) ≡ Some answer) }
 {
-    match least_release(power, head, max_release, request.value.get()) {
-        Some(release) => Some(Given {
-            value: release,
-            number: request.number,
+    let wanted = request.value.get();
+    let number = request.number;
+    match least_release(power, head, max_release, wanted) {
+        Some(value) => Ok(Given { value, number }),
+        None => Err(Solved::OutOfRange {
+            place: ENERGY_REQUEST,
+            value: i128::from(wanted),
         }),
-        None => None,
-    }
-}
-
-// No release gives what is requested.
-fn no_release(request: Content) -> Solved
-    ensures { result ≡ Solved.OutOfRange ENERGY_REQUEST request.value }
-{
-    Solved::OutOfRange {
-        place: ENERGY_REQUEST,
-        value: i128::from(request.value.get()),
     }
 }
 
@@ -75,7 +63,6 @@ pub(crate) fn asked(
     head: i64,
 ) -> Result<Option<Given>, Solved>
     requires most { pos 0 ≤ℤ max_release }
-    requires tailwater { pos 0 ≤ℤ tailwater }
     requires power { 1 ≤ power }
     requires fall { head ≡ head_of (plant rating.now max_release tailwater power) view.now }
     requires bound { IsFall head }
@@ -86,11 +73,19 @@ pub(crate) fn asked(
     if let Some(fault) = fault_of_past(true, Some(rating), view.past) {
         return Err(fault);
     }
-    let Some(request) = request_of(view) else {
-        return Ok(None);
-    };
-    match requested(view, rating, max_release, tailwater, power, head, request) {
-        Some(asked) => Ok(Some(asked)),
-        None => Err(no_release(request)),
+    match request_of(view) {
+        Some(request) => match requested(
+            view,
+            rating,
+            max_release,
+            tailwater,
+            power,
+            head,
+            request,
+        ) {
+            Ok(asked) => Ok(Some(asked)),
+            Err(fault) => Err(fault),
+        },
+        None => Ok(None),
     }
 }
