@@ -4,7 +4,7 @@ ghost use Rattle.rw_method.specs.Catalogue.{AreInOrder};
 
 use crate::dispatch::{Table, first_unmet};
 use crate::kinds::{ALL, methods};
-use crate::powers::{POWERS, POWERS_OUTSIDE_THE_TABLE};
+use crate::powers::{HIGH_POWERS, POWERS, POWERS_OUTSIDE_THE_TABLE};
 use crate::reservoirs::{
     CONTENTS, EVAPORATION, GIVEN_LEVELS, LEVELS_OUTSIDE_THE_TABLE, PASTS_OUTSIDE_THE_TABLE,
     RELEASES, SIDE_FLOWS, STORAGES, UNKNOWN_PASTS,
@@ -55,14 +55,29 @@ fn reservoir(rt: &impl Abort, alloc: Global, evaporation: bool, max_release: Opt
     }
 }
 
-fn power_reservoir(rt: &impl Abort, alloc: Global) -> Kind {
+fn power_reservoir(
+    rt: &impl Abort,
+    alloc: Global,
+    rows: &[(i64, i64)],
+    tailwater: i64,
+    power: u16,
+) -> Kind {
     Kind::PowerReservoir {
         initial_storage: 3000,
-        table: Rating::of(alloc, &[(0, 0), (500, 5000)]).expect(rt, "a table"),
+        table: Rating::of(alloc, rows).expect(rt, "a table"),
         max_release: 1000,
-        tailwater: 100,
-        power: 10_000,
+        tailwater,
+        power,
     }
+}
+
+fn check_powers(rt: &impl Abort, alloc: Global, catalogue: &Catalogue)
+    requires { AreInOrder (map (λ b. code (b.vtable, b.value)) catalogue.now.methods.items) }
+{
+    let low = power_reservoir(rt, alloc, &[(0, 0), (500, 5000)], 100, 10_000);
+    check(rt, catalogue, low, POWER);
+    let high = power_reservoir(rt, alloc, &[(0, 0), (100_000, 1_000_000)], 10_000, 2500);
+    check(rt, catalogue, high, &[HIGH_POWERS]);
 }
 
 fn user(supply: Supply) -> Kind {
@@ -139,7 +154,7 @@ fn each_kind_is_solved_by_its_rules(rt: HostRuntime) -> Result<(), Fail> {
     check_others(&rt, &catalogue);
     check_reaches(&rt, rt.alloc(), &catalogue);
     check_reservoirs(&rt, rt.alloc(), &catalogue);
-    check(&rt, &catalogue, power_reservoir(&rt, rt.alloc()), POWER);
+    check_powers(&rt, rt.alloc(), &catalogue);
     check(&rt, &catalogue, QUARTER, ROUTED);
     Ok(())
 }

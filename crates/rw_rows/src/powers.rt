@@ -62,6 +62,51 @@ pub(crate) const POWERS: Table<'static> = Table {
     ],
 };
 
+/// The pool stood at 50 m, the tailwater at 10 m: 10 m3 give 1 kWh, and 1000 m3, the greatest release, 100.
+pub(crate) const HIGH_POWERS: Table<'static> = Table {
+    past: Some(500_000),
+    bounds: &[],
+    rows: &[
+        TableRow(
+            &[(0, 100, Input), (1, 1205, Input)],
+            Puts(&[
+                (2, 498_895, 0),
+                (3, 49_889, 0),
+                (5, 100, 0),
+                (6, 1000, 0),
+                (7, 205, 0),
+            ]),
+        ),
+        TableRow(
+            &[(0, 100, Input), (4, 57, Input)],
+            Puts(&[
+                (1, 570, 0),
+                (2, 499_530, 0),
+                (3, 49_953, 0),
+                (5, 57, 0),
+                (6, 570, 0),
+                (7, 0, 0),
+            ]),
+        ),
+        TableRow(&[(0, 100, Input), (4, 101, Input)], OutOfRange(4, 101)),
+        TableRow(
+            &[
+                (0, 670, Input),
+                (1, 100, Own(0)),
+                (2, 500_100, Input),
+                (4, 57, Rule(5)),
+            ],
+            Puts(&[
+                (1, 570, 0),
+                (3, 50_010, 0),
+                (5, 57, 0),
+                (6, 570, 0),
+                (7, 0, 0),
+            ]),
+        ),
+    ],
+};
+
 /// The storage before is one that the table doesn't have: that comes before all else.
 pub(crate) const POWERS_OUTSIDE_THE_TABLE: Table<'static> = Table {
     past: Some(9999),
