@@ -14,4 +14,5 @@ mod SomeRun
 mod Choices
 pub mod Common
 pub mod Placed
+pub mod Passings
 mod Openings

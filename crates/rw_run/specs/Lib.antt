@@ -14,5 +14,6 @@ pub mod Index
 pub mod Policy
 pub mod Step
 pub mod Timestep
+pub mod Behind
 pub mod Reuse
 pub mod Worked

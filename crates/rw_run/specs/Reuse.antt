@@ -30,3 +30,8 @@ AreRising (first ∷ rest) = All (λ later. first < later) rest × AreRising res
 pub record AreRerun (basin : Draft) (earlier later : Log) (steps : List ℕ) : Type 0 where
   pub rising : AreRising steps
   pub those : (step : ℕ) → Contains steps step ↔ (IsSome (before_opening step later) × ¬ IsReused basin earlier later step)
+
+-- the timesteps that the run opened, rising
+pub record AreOpened (log : Log) (steps : List ℕ) : Type 0 where
+  pub rising : AreRising steps
+  pub those : (step : ℕ) → Contains steps step ↔ IsSome (before_opening step log)

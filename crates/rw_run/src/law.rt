@@ -1,7 +1,7 @@
 //! What the definitions of this crate come to in plain words. Each law is the `ensures` of a function that does
 //! nothing.
 ghost use Rattle.std.specs.Option.{option_or};
-ghost use Rattle.std.specs.Prelude.{◌≡◌, ◌↔◌, ◌<◌, ◌≤◌, ◌+◌, ℕ, ℤ, Bool, IsTrue, IsFalse, List, [], ◌∷◌, ◌++◌, Option, None, Some, Contains, length};
+ghost use Rattle.std.specs.Prelude.{◌≡◌, ◌↔◌, ◌<◌, ◌≤◌, ◌+◌, ℕ, ℤ, Bool, IsTrue, IsFalse, List, [], ◌∷◌, ◌++◌, Option, None, Some, IsSome, Contains, length};
 ghost use Rattle.rw_base.specs.declared.number.Cell.{Cell};
 ghost use Rattle.rw_model.specs.Draft.{Draft};
 ghost use Rattle.rw_series.specs.Series.{is_shared};
@@ -13,7 +13,8 @@ ghost use Rattle.rw_run.specs.Waiting.{all_waiting, since, slots_at, waiting, wo
 ghost use Rattle.rw_run.specs.Since.{WaitsSince};
 ghost use Rattle.rw_run.specs.Next.{Policy, no_rules};
 ghost use Rattle.rw_run.specs.Policy.{FireAlike, IsPolicyOf};
-ghost use Rattle.rw_run.specs.Runs.{IsRun, Leads, follows, placed, rests, standing};
+ghost use Rattle.rw_run.specs.Runs.{IsRun, Leads, follows, inside, placed, rests, standing};
+ghost use Rattle.rw_run.specs.Behind.{IsBehind};
 ghost use Rattle.rw_run.specs.Choice.{MayFollow, MayLead};
 ghost use Rattle.rw_run.specs.RunOf.{end_of, last_closed, opened_by, opened_in};
 ghost use Rattle.rw_run.specs.Step.{before_closing, before_opening, cell_count, events_of, line_count, looked_at};
@@ -234,6 +235,26 @@ pub fn reused()
     ensures small { (basin : Draft) (earlier later : Log) (step : ℕ)
         → IsReused basin earlier later step
         → (cell_count (looked_at basin step earlier) ≤ 6000) × (line_count step earlier ≤ 6000) }
+{}
+
+/// A timestep that was passed, and the log behind it. The log before it is found there, of each other timestep the log has what it
+/// had, and a timestep that was closed has its own events. One that a fault ended isn't closed.
+pub fn timesteps_behind()
+    ensures closed { (basin : Draft) (policy : Policy) (step : ℕ) (old : Log)
+        (first : Event) (events : List Event)
+        → IsTimestep basin policy step old first events → events_of step old ≡ []
+        → IsBehind step old (log_after (first ∷ events) (opened step ∷ old))
+        × (events_of step (log_after (first ∷ events) (opened step ∷ old))
+        ≡ log_after (first ∷ events) (opened step ∷ []))
+        × IsSome (before_closing step (log_after (first ∷ events) (opened step ∷ old))) }
+    ensures faulted { (basin : Draft) (policy : Policy) (step last : ℕ) (old before : Log)
+        (events : List Event) (why : RunFault) → standing old ≡ rests last → step ≡ last + 1
+        → standing before ≡ inside step → Leads basin policy old events (fault why ∷ before)
+        → events_of step old ≡ []
+        → IsBehind step old (fault why ∷ before) × (before_closing step (fault why ∷ before) ≡ None) }
+    ensures begun { (inputs : List (Cell × ℤ)) (step : ℕ) → events_of step (placed [] inputs) ≡ [] }
+    ensures none { (step : ℕ) (log : Log) → events_of step log ≡ []
+        → (before_opening step log ≡ None) × (before_closing step log ≡ None) }
 {}
 
 /// Where each rule is marked whose last looks the puts touch, a rule without a mark still isn't due.
