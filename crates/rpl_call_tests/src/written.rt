@@ -69,7 +69,7 @@ fn is_fired(
         StepNo(1),
     );
     assert!(rt; fired.count == 12);
-    assert!(rt; is_only(writes.as_slice(), 5));
+    assert!(rt; is_only(writes.written(), 5));
 }
 
 fn is_fired_of_rules(

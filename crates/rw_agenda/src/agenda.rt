@@ -1,8 +1,8 @@
-ghost use Rattle.std.specs.Prelude.{◌≡◌, ◌≤◌, ◌-◌, ◌^◌, IfOk, length, map, min, option_map};
+ghost use Rattle.std.specs.Prelude.{◌≡◌, ◌≤◌, ◌-◌, ◌^◌, [], IfOk, length, map, min, option_map, unwrap_or};
 ghost use Rattle.std.specs.List.{sum};
 ghost use Rattle.rw_model.specs.Draft.{IsSlot};
 ghost use Rattle.rw_series.specs.Series.{held};
-ghost use Rattle.rw_agenda.specs.Agenda.{AreMarkedFresh, IsIndexed, IsListed, KeepsOtherMarks, MarksThose, after_firing, agenda_of_marks, first_due, forgotten, room_of, unfired};
+ghost use Rattle.rw_agenda.specs.Agenda.{AreMarkedFresh, IsIndexed, IsListed, KeepsOtherMarks, MarksThose, after_firing, agenda_of_marks, first_due, forgotten, looked_by, room_of, unfired};
 
 use crate::cell_index::CellIndex;
 use crate::last_looks::LastLooks;
@@ -82,6 +82,14 @@ impl Agenda {
         ensures { option_map (λ rule. rule.0) result ≡ first_due self.now (held series.now) }
     {
         first_changed(&self.marks, self.rules.as_slice(), series)
+    }
+
+    /// At what a rule looked when it last fired, nothing if it hasn't.
+    pub fn looked(&self, r: RuleNo) -> &[Look]
+        requires { IsListed self.now r.0 }
+        ensures { result.now ≡ unwrap_or (looked_by self.now r.0) [] }
+    {
+        self.rules[usize::from(r.0) - 1].looks()
     }
 
     /// A rule fired, and looked at these cells, at no more than there is room for. What it looked at before is forgotten, and

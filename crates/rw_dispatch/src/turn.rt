@@ -1,10 +1,10 @@
-ghost use Rattle.std.specs.Prelude.{◌≡◌, [], List, Some, map, option_map};
+ghost use Rattle.std.specs.Prelude.{◌≡◌, [], IsTrue, List, Some, map, option_map};
 ghost use Rattle.rw_model.specs.Kind.{IsKind};
 ghost use Rattle.rw_model.specs.Objects.{object_at};
 ghost use Rattle.rw_method.specs.View.{IsViewOf};
 ghost use Rattle.rw_method.specs.Catalogue.{AreInOrder};
-ghost use Rattle.rw_run.specs.Log.{Cells, written_by};
-ghost use Rattle.rw_dispatch.specs.Writes.{AreWrites};
+ghost use Rattle.rw_run.specs.Log.{Cells};
+ghost use Rattle.rw_dispatch.specs.Judged.{HasJudged};
 ghost use Rattle.rw_series.specs.declared.look.Look.{Look};
 ghost use Rattle.rw_series.specs.Series.{held};
 ghost use Rattle.rw_run.specs.Dispatch.{answered, asked_for, dispatched, looks_of, put_by, view_of};
@@ -21,7 +21,7 @@ use crate::queue::Queue;
 use crate::view::{blank_view, see_slots, slot_or_none};
 use crate::workspace::Workspace;
 use crate::write_list::WriteList;
-use crate::written::make;
+use crate::written::{asked_by, make};
 use rw_base::{ObjectNo, StepNo};
 use rw_method::{Catalogue, PutList, Solved, View};
 use rw_model::{Basin, Kind};
@@ -127,6 +127,50 @@ fn answer(
     }
 }
 
+// Keeps what puts ask for, one after another.
+fn ask_all(kept: &mut WriteList, basin: &Basin, object: ObjectNo, step: StepNo, puts: &PutList)
+    requires turn { IsTurn basin.now object.0 step.0 }
+    requires puts { ArePuts basin.now object.0 puts.now }
+    ensures { kept.new ≡ asked_for basin.now object.0 step.0 puts.now }
+{
+    kept.clear();
+    for put in puts.as_slice() {
+        kept.push(asked_by(basin, object, step, put));
+    }
+}
+
+// Keeps what is asked for by what a method answers.
+#[inline(never)]
+fn ask(kept: &mut WriteList, basin: &Basin, object: ObjectNo, step: StepNo, solved: &Solved)
+    requires turn { IsTurn basin.now object.0 step.0 }
+    requires puts { ArePuts basin.now object.0 (asked_in solved.now) }
+    ensures { kept.new ≡ asked_for basin.now object.0 step.0 (asked_in solved.now) }
+{
+    match solved {
+        Solved::Puts(puts) => ask_all(kept, basin, object, step, puts),
+        _ => kept.clear(),
+    }
+}
+
+// Keeps it where that is wanted.
+#[inline(always)]
+fn keep_asked(
+    keeps: bool,
+    kept: &mut WriteList,
+    basin: &Basin,
+    object: ObjectNo,
+    step: StepNo,
+    solved: &Solved,
+)
+    requires turn { IsTurn basin.now object.0 step.0 }
+    requires puts { ArePuts basin.now object.0 (asked_in solved.now) }
+    ensures { IsTrue keeps → kept.new ≡ asked_for basin.now object.0 step.0 (asked_in solved.now) }
+{
+    if keeps {
+        ask(kept, basin, object, step, solved);
+    }
+}
+
 // The puts that a method asks for.
 fn asked_in(solved: Solved) -> PutList
     ensures { result ≡ asked_in solved }
@@ -154,7 +198,8 @@ fn answer_of(end: DispatchEnd, solved: Solved, written: PutList) -> Dispatched
 
 /// Dispatches an object at a timestep, and makes nothing yet: its method solves what it can from what its slots hold. What it
 /// asks for is judged by the put rules, all by what the cells hold before. If one put is denied, that is a conflict; otherwise
-/// those that aren't there already are to be written. The workspace has them afterwards, whatever it had before. It takes no memory.
+/// those that aren't there already are to be written. The workspace has them afterwards, whatever it had before, and where it keeps
+/// that, all that was asked for. It takes no memory.
 pub fn judge_dispatch(
     basin: &Basin,
     methods: &Catalogue,
@@ -168,20 +213,29 @@ pub fn judge_dispatch(
     requires bounded { AreBounded basin.now (held series.now) }
     ensures ends { Ends basin.now (looks_of basin.now (held series.now) object.0 step.0)
         object.0 step.0 (dispatched basin.now (held series.now) object.0 step.0) result }
-    ensures writes { work.new.writes
-        ≡ written_by (dispatched basin.now (held series.now) object.0 step.0) }
-    ensures can { AreWrites basin.now work.new.writes }
+    ensures work { HasJudged basin.now
+        (dispatched basin.now (held series.now) object.0 step.0) work.old work.new }
 {
     let kind = see(&mut work.view, basin, series, object, step);
-    answer(
+    let solved = methods.solve(kind, &work.view);
+    let end = answer(
         &work.view,
         basin,
         object,
         step,
-        &methods.solve(kind, &work.view),
+        &solved,
         &mut work.written,
         &mut work.writes,
-    )
+    );
+    keep_asked(
+        work.keeps,
+        &mut work.asked,
+        basin,
+        object,
+        step,
+        &solved,
+    );
+    end
 }
 
 /// Dispatches an object at a timestep: its method solves what it can from what its slots hold. What it asks for is judged by

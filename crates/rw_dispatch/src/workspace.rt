@@ -1,8 +1,10 @@
+ghost use Rattle.std.specs.Prelude.{◌≡◌};
+
 use crate::view::blank_view;
 use crate::write_list::WriteList;
 use rw_method::{PutList, View};
 
-/// What dispatches work in, one after another. A dispatch fills all of it in anew.
+/// What dispatches work in, one after another. A dispatch fills all of it in anew, but for whether it keeps what is asked for.
 #[derive(Drop)]
 pub struct Workspace {
     /// What the object sees.
@@ -11,15 +13,23 @@ pub struct Workspace {
     pub written: PutList,
     /// What they write.
     pub writes: WriteList,
+    /// Whether it keeps all that is asked for.
+    pub keeps: bool,
+    /// All that is asked for, where it keeps that.
+    pub asked: WriteList,
 }
 
 impl Workspace {
     /// The workspace of no dispatch. It takes no memory.
-    pub fn new() -> Workspace {
+    pub fn new(keeps: bool) -> Workspace
+        ensures { result.keeps ≡ keeps }
+    {
         Workspace {
             view: blank_view(),
             written: PutList::none(),
             writes: WriteList::none(),
+            keeps,
+            asked: WriteList::none(),
         }
     }
 }

@@ -6,8 +6,8 @@ use Rattle.rw_model.proofs.Numbered.{numbered-found}
 use Rattle.rw_series.specs.Fire.{Fire}
 use Rattle.rw_series.specs.declared.fire.FireEnd.{FireEnd}
 use Rattle.rw_series.specs.declared.fire.FireEnd.TheVariants.{Done}
-use Rattle.rw_run.specs.Log.{Cells, written_by}
-use Rattle.rw_run.specs.Next.{ended}
+use Rattle.rw_run.specs.Log.{Cells, asked_in, written_by}
+use Rattle.rw_run.specs.Next.{asked_of_rule, ended}
 use Rattle.rw_writes.specs.Writes.{writes_of}
 use Rattle.rpl_code.specs.declared.block.Block.{Block}
 use Rattle.rpl_tree.proofs.Common.{Answer, Budget, Trail, World, fire_of, stuck}
@@ -69,7 +69,12 @@ module _ (basin : Draft) (policy : Accepted) (safe : AreSafe basin policy.blocks
       let most = looks_of_block rule block.0 own.0 block.1 own.1 in
       omega (arith, same, most, own.2.cells)
 
--- ---- what is written
+-- ---- what is asked for, and what is written
+
+pub asked_told : (basin : Draft) (cells : Cells) (rule step : ℕ) (fire : Fire) (end : FireEnd) → fire.end ≡ end → (fire.end ≢ Done → fire.puts ≡ [])
+    → asked_of_rule basin rule step fire.puts ≡ asked_in (ended basin cells rule step fire end)
+asked_told basin cells rule step fire Done is silent = refl
+asked_told basin cells rule step fire end is silent = ap (asked_of_rule basin rule step) (silent (λ done. cc (sym is ∙ done)))
 
 pub written_told : (basin : Draft) (cells : Cells) (rule step : ℕ) (fire : Fire) (end : FireEnd) → fire.end ≡ end → (fire.end ≢ Done → fire.puts ≡ [])
     → writes_of basin cells rule step fire.puts ≡ written_by (ended basin cells rule step fire end)

@@ -23,9 +23,9 @@ looked_after old new rule looks known is =
     ∙ ap (λ (e : Entry). e.looked)
     (get_or-set_same old.rules (rule - 1) (record { room = room_of old rule; looked = Some looks }) (unfired 0) (omega (arith, known.first, known.last)))
 
-pub made_for : (basin : Draft) (policy : Accepted) (agenda : Agenda) (written : List Asked) (reads : List ℕ) → agenda.order ≡ basin.control.agenda
-    → agenda.rules ≡ map unfired reads → AreReads policy reads → IsRulesOf basin policy (record { agenda = agenda; written = written })
-made_for basin policy agenda written reads order is each = record {
+pub made_for : (basin : Draft) (policy : Accepted) (agenda : Agenda) (asked written : List Asked) (reads : List ℕ) → agenda.order ≡ basin.control.agenda
+    → agenda.rules ≡ map unfired reads → AreReads policy reads → IsRulesOf basin policy (record { agenda = agenda; asked = asked; written = written })
+made_for basin policy agenda asked written reads order is each = record {
   order = order;
   many = ap (λ (rules : List Entry). length rules) is ∙ length-map reads unfired ∙ each.many;
   rooms = λ rule first last.

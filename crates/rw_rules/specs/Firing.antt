@@ -2,7 +2,9 @@
 use Rattle.std.specs.Prelude.{◌≡◌, ◌-◌, ◌≤◌, ℕ, List, length, Option, slice_index_or, unwrap_or, option_and_then, option_map, Ok}
 use Rattle.rw_model.specs.Draft.{Draft}
 use Rattle.rw_model.specs.Objects.{numbered}
-use Rattle.rw_run.specs.Log.{Cells, Event}
+use Rattle.rw_dispatch.specs.Writes.{AreWrites}
+use Rattle.rw_run.specs.Log.{Cells, Event, asked_in, written_by}
+use Rattle.rw_writes.specs.Writes.{Writes}
 use Rattle.rw_run.specs.Next.{ended, firing_of}
 use Rattle.rw_model.specs.Turn.{IsStep}
 use Rattle.rw_agenda.specs.declared.limits.TheConstants.{RULES_MAX}
@@ -29,6 +31,13 @@ firing_in basin policy cells rule step = firing_of basin (policy_of_code basin p
 -- the event of a firing that is told, where the cells held this
 abbrev pub event_of : Draft → Cells → ℕ → ℕ → Fired → Event
 event_of basin cells rule step fired = ended basin cells rule step (fire_seen fired) (fire_seen fired).end
+
+-- the writes of a firing are what its event asks for and what it writes, and all of it may be written
+pub record HasPuts (basin : Draft) (event : Event) (writes : Writes) : Type 0 where
+  pub asked : writes.asked ≡ asked_in event
+  pub written : writes.written ≡ written_by event
+  pub can_ask : AreWrites basin writes.asked
+  pub can : AreWrites basin writes.written
 
 -- how often a rule looks at most, by the budget of its block
 abbrev pub most_looks : Accepted → ℕ → ℕ

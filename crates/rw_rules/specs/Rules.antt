@@ -3,7 +3,8 @@ use Rattle.std.specs.Prelude.{◌≡◌, ℕ, ◌≤◌, List, ◌∷◌, length
 use Rattle.rw_model.specs.Draft.{Draft}
 use Rattle.rw_series.specs.Fire.{Fire}
 use Rattle.rw_run.specs.Dispatch.{looks_at}
-use Rattle.rw_run.specs.Log.{Asked, Cells, Firing, Log, fired, written_by}
+use Rattle.rw_dispatch.specs.Writes.{AreWrites}
+use Rattle.rw_run.specs.Log.{Asked, Cells, Firing, Log, asked_in, fired, written_by}
 use Rattle.rw_run.specs.Next.{Policy, ended, last_looks}
 use Rattle.rw_agenda.specs.Agenda.{Agenda, IsIndexed, looked_by, room_of}
 use Rattle.rpl_code.specs.declared.block.BlockHead.TheVariants.{Rule}
@@ -13,9 +14,10 @@ use Rattle.rpl_verify.specs.Verified.{Accepted}
 use Rattle.rw_rules.specs.Firing.{firing_in, most_looks}
 use Rattle.rw_rules.specs.declared.rule_fired.RuleFired.{RuleFired}
 
--- the agenda, and the puts of the last firing that are to be written
+-- the agenda, the puts of the last firing in the run's timesteps, and those of them that are to be written
 pub record Rules : Type 0 where
   pub agenda : Agenda
+  pub asked : List Asked
   pub written : List Asked
 
 -- made for the rules of a policy for a basin, with room for what each may look at
@@ -34,13 +36,15 @@ abbrev pub policy_in : Draft → Accepted → Policy
 policy_in basin policy = policy_of_code basin policy.blocks
 
 -- what is told of a rule's firing: by the definition it is the event of a firing that ended and counted so, looked at what the agenda keeps,
--- and writes what is to be written
+-- asked for what may be written, and writes what is to be written
 pub record Told (basin : Draft) (policy : Accepted) (cells : Cells) (rule step : ℕ) (told : RuleFired) (rules : Rules) : Type 0 where
   pub fire : Fire
   pub event : firing_in basin policy cells rule step ≡ Some (ended basin cells rule step fire fire.end)
   pub end : told.end ≡ fire.end
   pub count : told.count ≡ fire.count
   pub looked : looked_by rules.agenda rule ≡ Some (looks_at cells fire.looked)
+  pub asked : rules.asked ≡ asked_in (ended basin cells rule step fire fire.end)
+  pub can_ask : AreWrites basin rules.asked
   pub written : rules.written ≡ written_by (ended basin cells rule step fire fire.end)
 
 -- once a rule has fired and before its puts are written: what was known of cells still is, and the looks of the log with the firing are shown

@@ -1,10 +1,8 @@
 ghost use Rattle.std.specs.Prelude.{◌≡◌, ◌≤◌, Some, length};
 ghost use Rattle.rw_run.specs.Dispatch.{looks_at};
-ghost use Rattle.rw_run.specs.Log.{written_by};
 ghost use Rattle.rw_series.specs.Series.{held};
-ghost use Rattle.rw_dispatch.specs.Writes.{AreWrites};
 ghost use Rattle.rpl_machine.specs.Fired.{cells_of};
-ghost use Rattle.rw_rules.specs.Firing.{IsRuleTurn, event_of, firing_in, most_looks};
+ghost use Rattle.rw_rules.specs.Firing.{HasPuts, IsRuleTurn, event_of, firing_in, most_looks};
 
 use rpl_machine::{Fired, Machine};
 use rpl_predef::Predefs;
@@ -16,7 +14,7 @@ use rw_series::Series;
 use rw_writes::Writes;
 
 /// Lets a rule of verified code fire at a timestep of the run. What is told is the event that the definition makes of the firing,
-/// by what the cells hold; `writes` has what that event writes, and nothing of it is made yet. At what it looked is told with
+/// by what the cells hold; `writes` has what that event asks for and writes, and nothing of it is made yet. At what it looked is told with
 /// what the cells hold, at no more cells than the budget of its block allows. It takes no memory.
 pub fn fire<'m>(
     machine: &'m mut Machine,
@@ -33,8 +31,8 @@ pub fn fire<'m>(
         ≡ Some (event_of basin.now (held series.now) r.0 t.0 result) }
     ensures looked { looks_at (held series.now) (cells_of result.looked.now) ≡ result.looked.now }
     ensures few { length result.looked.now ≤ most_looks policy.now r.0 }
-    ensures written { writes.new ≡ written_by (event_of basin.now (held series.now) r.0 t.0 result) }
-    ensures can { AreWrites basin.now writes.new }
+    ensures puts { HasPuts basin.now (event_of basin.now (held series.now) r.0 t.0 result)
+        writes.new }
 {
     accepted_code();
     answered_code_is_safe();

@@ -1,4 +1,4 @@
-ghost use Rattle.std.specs.Prelude.{◌≡◌, ◌∷◌, ℕ, IfOk, IfSome, Ok, option_map};
+ghost use Rattle.std.specs.Prelude.{◌≡◌, [], ◌∷◌, ℕ, IfOk, IfSome, Ok, option_map, unwrap_or};
 ghost use Rattle.rw_model.specs.Draft.{Draft};
 ghost use Rattle.rw_series.specs.Series.{held};
 ghost use Rattle.rw_dispatch.specs.Stage.{IsStageOf, Leaves, stage};
@@ -6,7 +6,7 @@ ghost use Rattle.std.specs.Option.{option_or};
 ghost use Rattle.rw_base.specs.declared.number.Cell.{Cell};
 ghost use Rattle.rw_run.specs.Log.{Cells, Firing, Log, fired, last_put, opened};
 ghost use Rattle.rw_run.specs.Next.{first_due};
-ghost use Rattle.rw_agenda.specs.Agenda.{IsIndexed, IsListed};
+ghost use Rattle.rw_agenda.specs.Agenda.{IsIndexed, IsListed, looked_by};
 ghost use Rattle.rw_dispatch.specs.Writes.{AreWrites};
 ghost use Rattle.rpl_verify.specs.Verified.{Accepted, verified};
 ghost use Rattle.rw_rules.specs.Firing.{IsRuleTurn};
@@ -25,12 +25,13 @@ use rw_dispatch::{Queue, make};
 use rw_model::Basin;
 use rw_run::Write;
 use rw_run::law::index;
-use rw_series::Series;
+use rw_series::{Look, Series};
 use rw_writes::{Writes, mark};
 use std::alloc::Global;
 use std::marker::Model;
 
-/// The rules of verified code in a run, seen as the agenda and the puts of the last firing that are to be written.
+/// The rules of verified code in a run, seen as the agenda, the puts of the last firing in the run's timesteps, and those of them
+/// that are to be written.
 #[derive(Drop)]
 pub struct Rules {
     machine: Machine,
@@ -43,7 +44,7 @@ impl Model for Rules {
 
     ghost Value = { specs.Rules };
 
-    ghost view = { λ rules. record { agenda = rules.agenda; written = rules.writes } };
+    ghost view = { λ rules. record { agenda = rules.agenda; asked = rules.writes.asked; written = rules.writes.written } };
 }
 
 impl Rules {
@@ -133,7 +134,7 @@ impl Rules {
             (stage series.new queue.new) }
     {
         index();
-        let writes = self.writes.as_slice();
+        let writes = self.writes.written();
         make(basin, series, writes);
         queue.wake_written(basin, t, writes, None);
         mark(basin, &mut self.agenda, writes);
@@ -150,10 +151,25 @@ impl Rules {
         mark(basin, &mut self.agenda, writes);
     }
 
+    /// At what a rule looked when it last fired, nothing if it hasn't.
+    pub fn looked(&self, r: RuleNo) -> &[Look]
+        requires { IsListed self.now.agenda r.0 }
+        ensures { result.now ≡ unwrap_or (looked_by self.now.agenda r.0) [] }
+    {
+        self.agenda.looked(r)
+    }
+
+    /// What the last firing asks for in the run's timesteps, written or not.
+    pub fn asked(&self) -> &[Write]
+        ensures { result.now ≡ self.now.asked }
+    {
+        self.writes.asked()
+    }
+
     /// What the last firing writes.
     pub fn written(&self) -> &[Write]
         ensures { result.now ≡ self.now.written }
     {
-        self.writes.as_slice()
+        self.writes.written()
     }
 }

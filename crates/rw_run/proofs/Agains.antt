@@ -9,7 +9,8 @@ use Rattle.rw_run.specs.Log.{Asked, Cells, Event, Log, asked_in, cells_of, looks
 use Rattle.rw_run.specs.Next.{Policy}
 use Rattle.rw_run.specs.Runs.{rests, standing}
 use Rattle.rw_run.specs.Step.{cells_reached, cells_with, reached_by}
-use Rattle.rw_run.specs.Timestep.{AreLooked, IsTimestep, WasHeld}
+use Rattle.rw_run.specs.Timestep.{AreLooked, IsTimestep}
+use Rattle.rw_run.specs.declared.held.Held.{Held}
 use Rattle.rw_run.proofs.Reuses.{reuse}
 
 -- each of these events has the property
@@ -58,9 +59,9 @@ module _ (basin : Draft) (one other : Cells) where
     alike_each events (λ c has. same c (Contains-append_right (reached_by basin event) (flat_map (reached_by basin) events) c has)),
   )
 
-pub again : (basin : Draft) (policy : Policy) (step last : ℕ) (old other : Log) (first : Event) (events : List Event) (looked : List WasHeld) → IsFramed policy
+pub again : (basin : Draft) (policy : Policy) (step last : ℕ) (old other : Log) (first : Event) (events : List Event) (looked : List Held) → IsFramed policy
     → IsTimestep basin policy step old first events → AreLooked basin (cells_of basin old) (first ∷ events) looked
-    → ((held : WasHeld) → Contains looked held → cells_of basin other held.cell ≡ held.content) → standing other ≡ rests last → step ≡ last + 1
+    → ((held : Held) → Contains looked held → cells_of basin other held.cell ≡ held.content) → standing other ≡ rests last → step ≡ last + 1
     → IsTimestep basin policy step other first events
 again basin policy step last old other first events looked framed timestep are alike rest next = record {
   last = last;
@@ -70,5 +71,5 @@ again basin policy step last old other first events looked framed timestep are a
   leads = reuse basin policy step old other (log_after (first ∷ events) (opened step ∷ old)) first events framed timestep.goes timestep.leads
       (alike_events basin (cells_of basin old) (cells_of basin other) (first ∷ events)
       (alike_each basin (cells_of basin old) (cells_of basin other) (first ∷ events) (λ cell has.
-      let held : WasHeld = record { cell = cell; content = cells_of basin old cell } in sym (alike held ((are held).1 (has, refl))))));
+      let held : Held = record { cell = cell; content = cells_of basin old cell } in sym (alike held ((are held).1 (has, refl))))));
 }

@@ -1,14 +1,13 @@
 -- A closed timestep by itself: its events, and at what it looked with what that held before.
-use Rattle.std.specs.Prelude.{◌≡◌, ◌↔◌, ℕ, ◌+◌, List, ◌∷◌, Contains, Option}
+use Rattle.std.specs.Prelude.{◌≡◌, ◌↔◌, ℕ, ◌+◌, List, ◌∷◌, Contains}
 use Rattle.std.specs.List.{flat_map}
-use Rattle.rw_base.specs.declared.number.Cell.{Cell}
-use Rattle.rw_model.specs.declared.content.Content.{Content}
 use Rattle.rw_model.specs.Draft.{Draft}
 use Rattle.rw_run.specs.Frame.{IsStepFrom, log_after}
 use Rattle.rw_run.specs.Log.{Cells, Event, Log, opened}
 use Rattle.rw_run.specs.Next.{Policy}
 use Rattle.rw_run.specs.Runs.{Leads, rests, standing}
 use Rattle.rw_run.specs.Step.{reached_by}
+use Rattle.rw_run.specs.declared.held.Held.{Held}
 
 -- behind a log that rests, the timestep after its last closed one is opened, and these events follow, of which the last closes it
 pub record IsTimestep (basin : Draft) (policy : Policy) (step : ℕ) (old : Log) (first : Event) (events : List Event) : Type 0 where
@@ -18,12 +17,7 @@ pub record IsTimestep (basin : Draft) (policy : Policy) (step : ℕ) (old : Log)
   pub goes : IsStepFrom step first events
   pub leads : Leads basin policy (opened step ∷ old) (first ∷ events) (log_after (first ∷ events) (opened step ∷ old))
 
--- a cell, and what it held
-pub record WasHeld : Type 0 where
-  pub cell : Cell
-  pub content : Option Content
-
 -- the cells at which these events looked or which their puts reach, each with what it held before them
-abbrev pub AreLooked : Draft → Cells → List Event → List WasHeld → Type 0
+abbrev pub AreLooked : Draft → Cells → List Event → List Held → Type 0
 AreLooked basin before events looked =
-    (held : WasHeld) → Contains looked held ↔ (Contains (flat_map (reached_by basin) events) held.cell × (held.content ≡ before held.cell))
+    (held : Held) → Contains looked held ↔ (Contains (flat_map (reached_by basin) events) held.cell × (held.content ≡ before held.cell))

@@ -19,7 +19,8 @@ ghost use Rattle.rw_run.specs.Choice.{MayFollow, MayLead};
 ghost use Rattle.rw_run.specs.RunOf.{end_of, last_closed, opened_by, opened_in};
 ghost use Rattle.rw_run.specs.Step.{before_closing, before_opening, cell_count, events_of, line_count, looked_at};
 ghost use Rattle.rw_run.specs.Reuse.{AreRerun, AreRising, IsReused};
-ghost use Rattle.rw_run.specs.Timestep.{AreLooked, IsTimestep, WasHeld};
+ghost use Rattle.rw_run.specs.Timestep.{AreLooked, IsTimestep};
+ghost use Rattle.rw_run.specs.declared.held.Held.{Held};
 ghost use Rattle.rw_run.specs.Worked.{across, across_run, ahead, ahead_run, basin_of, both_days, both_days_run, both_ends, both_ends_run, counted, counted_run, divided, divided_run, faulty_run, five, first_of_ahead, followed, followed_run, given_once, given_run, given_seven_run, linked_basin, needy, needy_run, one_end_run, one_of_each, outranked, outranked_run, put_twice, put_twice_run, raised, raised_run, raised_twice, seven, three};
 ghost use Rattle.rw_model.specs.declared.control.AgendaOrder.TheVariants.{HighFirst, LowFirst};
 ghost use Rattle.rw_run.specs.Frame.{AreAlike, FollowInStep, IsFramed, IsStepFrom, looked_in, log_after};
@@ -216,10 +217,10 @@ pub fn reuse()
 /// A closed timestep goes alike in another run that holds alike what it looked at.
 pub fn again()
     ensures { (basin : Draft) (policy : Policy) (step last : ℕ) (old other : Log)
-        (first : Event) (events : List Event) (looked : List WasHeld)
+        (first : Event) (events : List Event) (looked : List Held)
         → IsFramed policy → IsTimestep basin policy step old first events
         → AreLooked basin (cells_of basin old) (first ∷ events) looked
-        → ((held : WasHeld) → Contains looked held → cells_of basin other held.cell ≡ held.content)
+        → ((held : Held) → Contains looked held → cells_of basin other held.cell ≡ held.content)
         → standing other ≡ rests last → step ≡ last + 1
         → IsTimestep basin policy step other first events }
 {}

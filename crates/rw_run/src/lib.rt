@@ -2,10 +2,11 @@
 //! it: what a cell holds, which objects wait, what follows. `specs/Runs.antt` says which logs are runs. The laws say that
 //! inputs have one run, what a cell holds and who waits after an event, in which order timesteps are opened, and that the
 //! events of a timestep depend on nothing but the cells at which they look. Beside the definitions stand the types in which
-//! a run is handed on: `Run`, with its `RunEnd` or `RunFault` and its `Trace`.
+//! a run is handed on: `Run`, with its `RunEnd` or `RunFault` and its `Trace`; `Write`, and `Held`.
 #![tactic(auto)]
 
 mod fault;
+mod held;
 pub mod law;
 mod line;
 mod run;
@@ -13,6 +14,7 @@ mod trace;
 mod write;
 
 pub use fault::RunFault;
+pub use held::Held;
 pub use run::{Run, RunEnd};
 pub use trace::{Trace, TraceEvent};
 pub use write::Write;

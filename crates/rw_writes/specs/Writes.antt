@@ -9,6 +9,11 @@ use Rattle.rw_run.specs.Next.{asked_of_rule, last_ones}
 use Rattle.rw_agenda.specs.Agenda.{Agenda, is_marked, looked_by}
 use Rattle.rw_writes.specs.declared.limits.TheConstants.{PUTS_MAX}
 
+-- the puts of a firing that are in the run's timesteps, and those of them that are written
+pub record Writes : Type 0 where
+  pub asked : List Asked
+  pub written : List Asked
+
 -- without those that are put again later, those that the put rules write
 abbrev pub written_of : Draft → Cells → List Asked → List Asked
 written_of basin cells puts = puts_written cells (last_ones basin puts)

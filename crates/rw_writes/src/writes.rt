@@ -1,6 +1,7 @@
 ghost use Rattle.std.specs.Prelude.{◌≡◌, ◌≤◌, [], IfOk, length, All};
 ghost use Rattle.rw_model.specs.Turn.{IsStep};
 ghost use Rattle.rw_dispatch.specs.Writes.{AreWrites};
+ghost use Rattle.rw_run.specs.Next.{asked_of_rule};
 ghost use Rattle.rw_run.specs.Policy.{CanAsk};
 ghost use Rattle.rw_series.specs.Series.{held};
 ghost use Rattle.rw_writes.specs.Writes.{writes_of};
@@ -15,7 +16,8 @@ use rw_series::{RulePut, Series};
 use std::alloc::Global;
 use std::marker::Model;
 
-/// The puts of a firing that are written, in the order in which they were put, seen as the list of what they ask for.
+/// The puts of a firing that are in the run's timesteps, and those of them that are written, in the order in which they were put,
+/// seen as the two lists of what they ask for.
 #[derive(Drop)]
 pub struct Writes {
     asked: Vec<Write>,
@@ -23,13 +25,12 @@ pub struct Writes {
 }
 
 impl Model for Writes {
-    ghost use Rattle.std.specs.Prelude.{List, length};
-    ghost use Rattle.rw_run.specs.Log.{Asked};
+    ghost use Rattle.std.specs.Prelude.{length};
     ghost use Rattle.rw_writes.specs.Writes as specs;
 
-    ghost Value = { List Asked };
+    ghost Value = { specs.Writes };
 
-    ghost view = { λ w. w.written.items };
+    ghost view = { λ w. record { asked = w.asked.items; written = w.written.items } };
 
     ghost invariant = { λ w. specs.HasRoom (length w.written.items) w.asked.cap w.written.cap };
 }
@@ -37,29 +38,38 @@ impl Model for Writes {
 impl Writes {
     /// With room for the puts of any firing. No other call takes memory.
     pub fn with_room(alloc: Global) -> Result<Writes, NoMemory>
-        ensures { IfOk result (λ writes. writes ≡ []) }
+        ensures { IfOk result (λ writes. writes ≡ record { asked = []; written = [] }) }
     {
         let asked = Vec::with_capacity(alloc, PUTS_MAX)?;
         let written = Vec::with_capacity(alloc, PUTS_MAX)?;
         Ok(Writes { asked, written })
     }
 
-    /// Has those puts of a rule's firing at a timestep that are written, by what the cells hold. A firing has at most
-    /// `PUTS_MAX`.
+    /// Has those puts of a rule's firing at a timestep that are in the run, and those of them that are written, by what the cells
+    /// hold. A firing has at most `PUTS_MAX`.
     pub fn judge(&mut self, basin: &Basin, series: &Series, r: RuleNo, t: StepNo, puts: &[RulePut])
         requires step { IsStep basin.now t.0 }
         requires can { All (CanAsk basin.now) puts.now }
         requires few { length puts.now ≤ PUTS_MAX }
-        ensures written { self.new ≡ writes_of basin.now (held series.now) r.0 t.0 puts.now }
-        ensures can { AreWrites basin.now self.new }
+        ensures asked { self.new.asked ≡ asked_of_rule basin.now r.0 t.0 puts.now }
+        ensures written { self.new.written
+            ≡ writes_of basin.now (held series.now) r.0 t.0 puts.now }
+        ensures can { AreWrites basin.now self.new.asked × AreWrites basin.now self.new.written }
     {
         ask_all(&mut self.asked, basin, r, t, puts);
         keep_written(&mut self.written, basin, series, self.asked.as_slice());
     }
 
+    /// The puts that are in the run's timesteps, written or not.
+    pub fn asked(&self) -> &[Write]
+        ensures { result.now ≡ self.now.asked }
+    {
+        self.asked.as_slice()
+    }
+
     /// The puts that are written.
-    pub fn as_slice(&self) -> &[Write]
-        ensures { result.now ≡ self.now }
+    pub fn written(&self) -> &[Write]
+        ensures { result.now ≡ self.now.written }
     {
         self.written.as_slice()
     }

@@ -8,7 +8,7 @@ use Rattle.rpl_machine.specs.Steps.{value_in}
 use Rattle.rpl_policy.proofs.Asking.{code_asks}
 use Rattle.rpl_policy.proofs.FramedCode.{code_silent}
 use Rattle.rw_rules.specs.Firing.{most_looks}
-use Rattle.rw_rules.proofs.Fires.{few_looks, few_puts, written_told}
+use Rattle.rw_rules.proofs.Fires.{asked_told, few_looks, few_puts, written_told}
 use Rattle.rw_rules.proofs.firing.fire.Goals as goal
 
 pub judge-requires-clause-can : goal.judge-requires-clause-can
@@ -31,8 +31,14 @@ returns g c = record {
       (c.accepted_code.ensures.within c.args.basin.now c.args.policy.now.blocks c.args.policy.now.budgets
       (c.answered_code_is_safe.ensures.accepted c.args.basin.now c.args.policy.now.blocks c.args.policy.now c.requires.turn.accepted))
       c.args.r.0 c.args.t.0 (value_in c.args.series.now) (fire_seen c.fire-fired.result) c.fire-fired.ensures.fires);
-  written = c.judge.ensures.written
-      ∙ written_told c.args.basin.now (held c.args.series.now) c.args.r.0 c.args.t.0 (fire_seen c.fire-fired.result) (fire_seen c.fire-fired.result).end refl
-      (code_silent c.args.policy.now.blocks c.args.basin.now c.args.r.0 c.args.t.0 (value_in c.args.series.now) (fire_seen c.fire-fired.result) c.fire-fired.ensures.fires);
-  can = c.judge.ensures.can;
+  puts =
+      let silent = code_silent c.args.policy.now.blocks c.args.basin.now c.args.r.0 c.args.t.0 (value_in c.args.series.now) (fire_seen c.fire-fired.result) c.fire-fired.ensures.fires in
+      record {
+        asked = c.judge.ensures.asked
+            ∙ asked_told c.args.basin.now (held c.args.series.now) c.args.r.0 c.args.t.0 (fire_seen c.fire-fired.result) (fire_seen c.fire-fired.result).end refl silent;
+        written = c.judge.ensures.written
+            ∙ written_told c.args.basin.now (held c.args.series.now) c.args.r.0 c.args.t.0 (fire_seen c.fire-fired.result) (fire_seen c.fire-fired.result).end refl silent;
+        can_ask = c.judge.ensures.can.0;
+        can = c.judge.ensures.can.1;
+      };
 }

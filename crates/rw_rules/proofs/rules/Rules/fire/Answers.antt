@@ -14,7 +14,9 @@ returns-clause-told g c = record {
   count = refl;
   looked = looked_after c.self.inside.agenda c.fired.new.self c.args.r.0 c.fire-fired.result.looked.now (search rules) c.fired.ensures.rules
       ∙ ap (λ looks. Some looks) (sym c.fire-fired.ensures.looked);
-  written = c.fire-fired.ensures.written;
+  asked = c.fire-fired.ensures.puts.asked;
+  can_ask = c.fire-fired.ensures.puts.can_ask;
+  written = c.fire-fired.ensures.puts.written;
 }
 
 pub returns-clause-keeps : goal.returns-clause-keeps
@@ -24,5 +26,5 @@ returns-clause-keeps g c = record {
       (search rules)
       (subst (λ looks. is_changed (held c.args.series.now) (Some looks) ≡ false) c.fire-fired.ensures.looked (just_seen (held c.args.series.now) (cells_of c.fire-fired.result.looked.now)))
       c.fired.ensures.rules c.fired.ensures.marked;
-  shows = λ log firing same looked shows. shows_more c.args.policy.now c.args.self.now (record { agenda = c.fired.new.self; written = c.fire-fired.new.writes }) c.args.r.0 c.fire-fired.result.looked.now log firing c.requires.turn.first (search rules) same looked shows;
+  shows = λ log firing same looked shows. shows_more c.args.policy.now c.args.self.now (record { agenda = c.fired.new.self; asked = c.fire-fired.new.writes.asked; written = c.fire-fired.new.writes.written }) c.args.r.0 c.fire-fired.result.looked.now log firing c.requires.turn.first (search rules) same looked shows;
 }

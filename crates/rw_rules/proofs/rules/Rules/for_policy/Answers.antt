@@ -5,5 +5,5 @@ use Rattle.rw_rules.proofs.rules.Rules.for_policy.Goals as goal
 
 pub returns : goal.returns
 returns c =
-    made_for c.args.basin.now c.args.policy.now c.in_ok-agenda.agenda _ c.in_ok-reads.reads.items c.in_ok-agenda.ensures.order
+    made_for c.args.basin.now c.args.policy.now c.in_ok-agenda.agenda _ _ c.in_ok-reads.reads.items c.in_ok-agenda.ensures.order
     (c.in_ok-agenda.ensures.rules ∙ ap (map unfired) c.as_slice.ensures.value) c.in_ok-reads.ensures

@@ -16,7 +16,7 @@ mark-requires c = record { can = subst (AreWrites c.args.basin.now) (search rule
 
 pub returns-clause-keeps : goal.returns-clause-keeps
 returns-clause-keeps c =
-    let writes = c.as_slice-writes.result.now in record {
+    let writes = c.written-writes.result.now in record {
       order = search rules;
       rules = search rules;
       written = search rules;

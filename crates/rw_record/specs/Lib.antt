@@ -1,0 +1,4 @@
+pub mod Noted
+pub mod Notes
+pub mod Marks
+pub mod Record

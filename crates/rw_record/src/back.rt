@@ -1,0 +1,34 @@
+ghost use Rattle.std.specs.Prelude.{◌≡◌};
+ghost use Rattle.rw_base.specs.declared.number.Cell.{Cell};
+ghost use Rattle.rw_series.specs.Series.{Series, IsSeriesOf, held};
+ghost use Rattle.rw_record.specs.Noted.{noted_in};
+ghost use Rattle.rw_record.specs.Notes.{CanTakeBack};
+
+use crate::Noted;
+use rw_base::Cell;
+use rw_model::Basin;
+use rw_series::Series;
+
+// Whether there is such a slot, and such a timestep in the run.
+fn is_cell(basin: &Basin, cell: Cell) -> bool
+    ensures { result ≡ is_cell basin.now cell }
+{
+    let steps = basin.control().stamps.count();
+    (1 <= cell.slot.0 && cell.slot.0 <= basin.slot_count()) && (1 <= cell.step.0 && cell.step.0 <= steps)
+}
+
+/// Puts back what the noted cells held when they were noted. Where no other cell has changed since then, all cells hold again
+/// what they held before.
+pub fn take_back(basin: &Basin, series: &mut Series, noted: &Noted)
+    requires made { IsSeriesOf basin.now series.old }
+    ensures made { IsSeriesOf basin.now series.new }
+    ensures back { (before : Series) → IsSeriesOf basin.now before
+        → CanTakeBack (held before) (held series.old) (noted_in noted.now)
+        → (cell : Cell) → held series.new cell ≡ held before cell }
+{
+    for one in noted.as_slice() {
+        if is_cell(basin, one.cell) {
+            series.hold(basin, one.cell, one.content);
+        }
+    }
+}
