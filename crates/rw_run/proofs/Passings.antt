@@ -1,5 +1,5 @@
 -- A timestep that was passed, within the log behind it.
-use Rattle.rw_base.proofs.Common.{◌≡◌, ◌≢◌, ◌<◌, ◌≤◌, ◌+◌, ◌==◌, ℕ, ℤ, Bool, true, false, List, [], ◌∷◌, Option, Some, None, IsSome, refl, sym, ap, subst, ◌∙◌, arith, if◌then◌else◌, nat_tests}
+use Rattle.rw_base.proofs.Common.{◌≡◌, ◌≢◌, ◌<◌, ◌≤◌, ◌+◌, ◌==◌, ℕ, ℤ, Bool, true, false, List, [], ◌∷◌, Option, Some, None, IsSome, refl, sym, ap, subst, ◌∙◌, arith, if◌then◌else◌, nat_tests, same_Some}
 use Rattle.rw_base.specs.declared.number.Cell.{Cell}
 use Rattle.rw_model.specs.Draft.{Draft}
 use Rattle.rw_run.specs.Behind.{IsBehind}
@@ -85,6 +85,11 @@ module _ (basin : Draft) (policy : Policy) (step : ℕ) (end : Event) (before : 
 leads_after : (basin : Draft) (policy : Policy) (old : Log) (events : List Event) (new : Log) → Leads basin policy old events new → new ≡ log_after events old
 leads_after basin policy old [] new leads = leads
 leads_after basin policy old (event ∷ events) new leads = leads_after basin policy (event ∷ old) events new leads.1
+
+-- it rests behind this timestep
+abbrev IsAtRest : ℕ → Standing → Type 0
+IsAtRest step (rests other) = step ≡ other
+IsAtRest step at = ⊥
 
 abbrev IsRest : Standing → Type 0
 IsRest (rests step) = Unit {0}
@@ -291,3 +296,45 @@ begun inputs step = none-placed step [] inputs refl
 
 pub nothing_of : (step : ℕ) (log : Log) → events_of step log ≡ [] → (before_opening step log ≡ None) × (before_closing step log ≡ None)
 nothing_of step log none = (unopened step log none, unclosed step log none)
+
+-- ---- a timestep can be closed in one way
+
+module _ (basin : Draft) (policy : Policy) (step : ℕ) where
+  same_closing : (log before other : Log) (xs ys : List Event) → standing before ≡ inside step → standing other ≡ inside step
+      → Leads basin policy log xs (closed step ∷ before) → Leads basin policy log ys (closed step ∷ other) → closed step ∷ before ≡ closed step ∷ other
+  same_closing log before other [] [] at to one two = one ∙ sym two
+  same_closing log before other [] (y ∷ ys) at to one two =
+      let there = subst (IsPast step) (ap standing one) (omega arith) in
+      let past = subst (IsPast step) to (past_end basin policy step (closed step) other to log y ys two there) in absurd (omega (arith, past))
+  same_closing log before other (x ∷ xs) [] at to one two =
+      let there = subst (IsPast step) (ap standing two) (omega arith) in
+      let past = subst (IsPast step) at (past_end basin policy step (closed step) before at log x xs one there) in absurd (omega (arith, past))
+  same_closing log before other (x ∷ xs) (y ∷ ys) at to one two =
+      let same : y ≡ x = same_Some _ _ (sym two.0 ∙ one.0) in
+      same_closing (x ∷ log) before other xs ys at to one.1 (subst (λ e. Leads basin policy (e ∷ log) ys (closed step ∷ other)) same two.1)
+
+  rest_inside : (log end : Log) (event : Event) (events : List Event) → standing log ≡ inside step → IsStepFrom step event events
+      → Leads basin policy log (event ∷ events) end → standing (rest_of (log_after (event ∷ events) log)) ≡ inside step
+  rest_inside log end event [] at goes leads = at
+  rest_inside log end event (next ∷ events) at goes leads =
+      let one = subst (λ k. IsAfter k event) at (is_after basin policy log event (standing log) leads.0) in
+      rest_inside (event ∷ log) end next events (stays_open step event log one goes.0).1 goes.1 leads.1
+
+  pub one_timestep : (last : ℕ) (old before : Log) (events own : List Event) (first : Event) → standing old ≡ rests last → step ≡ last + 1
+      → standing before ≡ inside step → Leads basin policy old events (closed step ∷ before) → IsTimestep basin policy step old first own
+      → closed step ∷ before ≡ log_after (first ∷ own) (opened step ∷ old)
+  one_timestep last old before [] own first rest next_one open_before leads timestep =
+      let same = subst (IsAtRest step) (ap standing leads ∙ rest) refl in absurd (omega (arith, same, next_one))
+  one_timestep last old before (event ∷ []) own first rest next_one open_before leads timestep =
+      absurd (subst IsRest (sym (ap (λ log. standing (rest_of log)) leads.1 ∙ rest) ∙ open_before) tt)
+  one_timestep last old before (event ∷ next ∷ events) own first rest next_one open_before leads timestep =
+      let after = subst (λ k. IsAfter k event) rest (is_after basin policy old event (standing old) leads.0) in
+      let opens : event ≡ opened step = after ∙ ap opened (sym next_one) in
+      let on : Leads basin policy (opened step ∷ old) (next ∷ events) (closed step ∷ before) =
+      subst (λ e. Leads basin policy (e ∷ old) (next ∷ events) (closed step ∷ before)) opens leads.1 in
+      let new : Log = log_after (first ∷ own) (opened step ∷ old) in
+      let ends : new ≡ closed step ∷ rest_of new = step_closes step first own (opened step ∷ old) timestep.goes in
+      same_closing (opened step ∷ old) before (rest_of new) (next ∷ events) (first ∷ own) open_before
+      (rest_inside (opened step ∷ old) new first own refl timestep.goes timestep.leads) on
+      (subst (Leads basin policy (opened step ∷ old) (first ∷ own)) ends timestep.leads)
+      ∙ sym ends

@@ -239,7 +239,7 @@ pub fn reused()
 {}
 
 /// A timestep that was passed, and the log behind it. The log before it is found there, of each other timestep the log has what it
-/// had, and a timestep that was closed has its own events. One that a fault ended isn't closed.
+/// had, and a timestep that was closed has its own events; it can be closed in one way. One that a fault ended isn't closed.
 pub fn timesteps_behind()
     ensures closed { (basin : Draft) (policy : Policy) (step : ℕ) (old : Log)
         (first : Event) (events : List Event)
@@ -253,6 +253,11 @@ pub fn timesteps_behind()
         → standing before ≡ inside step → Leads basin policy old events (fault why ∷ before)
         → events_of step old ≡ []
         → IsBehind step old (fault why ∷ before) × (before_closing step (fault why ∷ before) ≡ None) }
+    ensures one { (basin : Draft) (policy : Policy) (step last : ℕ) (old before : Log)
+        (events own : List Event) (first : Event) → standing old ≡ rests last → step ≡ last + 1
+        → standing before ≡ inside step → Leads basin policy old events (closed step ∷ before)
+        → IsTimestep basin policy step old first own
+        → closed step ∷ before ≡ log_after (first ∷ own) (opened step ∷ old) }
     ensures begun { (inputs : List (Cell × ℤ)) (step : ℕ) → events_of step (placed [] inputs) ≡ [] }
     ensures none { (step : ℕ) (log : Log) → events_of step log ≡ []
         → (before_opening step log ≡ None) × (before_closing step log ≡ None) }
