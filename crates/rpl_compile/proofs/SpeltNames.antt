@@ -5,7 +5,7 @@ use Rattle.rw_model.proofs.NameFacts.{Decides-name}
 use Rattle.rw_model.specs.Name as N
 use Rattle.rw_model.specs.declared.data_slots.DataSlot.{DataSlot}
 use Rattle.rw_model.specs.declared.kind.Kind.{Kind}
-use Rattle.rw_model.specs.declared.kind.Kind.TheVariants.{DataObject, Gage, Confluence, Bifurcation, Reach, Reservoir, WaterUser, Canal}
+use Rattle.rw_model.specs.declared.kind.Kind.TheVariants.{DataObject, Gage, Confluence, Bifurcation, Reach, Reservoir, WaterUser, Canal, PowerReservoir, RoutedReach}
 use Rattle.rw_model.specs.declared.kind.Supply.TheVariants.{Request, Rule}
 use Rattle.rw_model.specs.declared.role.Role.TheVariants.{Neither}
 use Rattle.rpl_code.specs.Names as C
@@ -102,6 +102,9 @@ kind_spelt (Reservoir initial_storage table local_inflow diversion return_flow e
 kind_spelt (WaterUser depletion Request) h = (refl, (refl, (refl, (refl, tt))))
 kind_spelt (WaterUser depletion Rule) h = (refl, (refl, (refl, (refl, tt))))
 kind_spelt (Canal seepage) h = (refl, (refl, (refl, tt)))
+kind_spelt (PowerReservoir initial_storage table max_release tailwater power) h =
+    (refl, (refl, (refl, (refl, (refl, (refl, (refl, (refl, tt))))))))
+kind_spelt (RoutedReach initial_content release) h = (refl, (refl, (refl, tt)))
 
 placed_spelt : (owner place : ℕ) (slots : List (Option Slot)) → AllByRecursion IsSlotSpelt slots
     → AllByRecursion IsPlacedSpelt (placed_from owner place slots)

@@ -5,7 +5,7 @@ use Rattle.rw_base.specs.Unit.{units, unit_in}
 use Rattle.rw_model.proofs.Common.{IsBasin, Draft, IsSound, IsKind, IsDigit, IsLetter, IsName, Object, Placed, all_slots, first_from, is_named, object_from, object_named, placed_from, slot_named, slots_from, Slot, of_range, all_quantities, slots_of, where_chosen}
 use Rattle.rw_model.specs.declared.data_slots.DataSlot.{DataSlot}
 use Rattle.rw_model.specs.declared.kind.Kind.{Kind}
-use Rattle.rw_model.specs.declared.kind.Kind.TheVariants.{DataObject, Gage, Confluence, Bifurcation, Reach, Reservoir, WaterUser, Canal}
+use Rattle.rw_model.specs.declared.kind.Kind.TheVariants.{DataObject, Gage, Confluence, Bifurcation, Reach, Reservoir, WaterUser, Canal, PowerReservoir, RoutedReach}
 use Rattle.rw_model.specs.declared.kind.Supply.TheVariants.{Request, Rule}
 use Rattle.rw_model.specs.declared.role.Role.TheVariants.{Neither}
 
@@ -118,6 +118,9 @@ kind_text (Reservoir initial_storage table local_inflow diversion return_flow ev
 kind_text (WaterUser depletion Request) h = (small_text _ refl, (small_text _ refl, (small_text _ refl, (small_text _ refl, tt))))
 kind_text (WaterUser depletion Rule) h = (small_text _ refl, (small_text _ refl, (small_text _ refl, (small_text _ refl, tt))))
 kind_text (Canal seepage) h = (small_text _ refl, (small_text _ refl, (small_text _ refl, tt)))
+kind_text (PowerReservoir initial_storage table max_release tailwater power) h =
+    (small_text _ refl, (small_text _ refl, (small_text _ refl, (small_text _ refl, (small_text _ refl, (small_text _ refl, (small_text _ refl, (small_text _ refl, tt))))))))
+kind_text (RoutedReach initial_content release) h = (small_text _ refl, (small_text _ refl, (small_text _ refl, tt)))
 
 both_all : {X : Type 0} (P : X → Type 0) (xs ys : List X) → AllByRecursion P xs → AllByRecursion P ys → AllByRecursion P (xs ++ ys)
 both_all P [] ys h g = g

@@ -1,10 +1,10 @@
 -- What bounds leave each slot, and that what the readers answer is in range.
 use Rattle.rw_base.proofs.Common.{◌≡◌, ℕ, zero, suc, ◌+◌, ◌*◌, ◌-◌, ◌<◌, ◌≤◌, ◌==◌, List, [], ◌∷◌, length, Bool, true, false, Option, Some, None, refl, sym, ap, subst, ◌∙◌, arith, is_some, ◌&&◌, option_and_then, slice_index_or, All, ℤ, ◌≤ℤ◌, slice_get, option_map, unwrap_or, codes, if◌then◌else◌, list_any, range_with_len, ForSome, int_max, int_min, ints, by_lt_z, fold-int_max_bounds, fold-int_min_bounds, get_or-map-range_with_len, length-map-range_with_len, get_or-range_with_len, length-range_with_len, list_any_at, list_any-append, All-nil, All-cons, All-head, All-tail, All-append, slice_get_within, get_or_from_slice_get}
 use Rattle.rw_base.specs.Dimension.{Dimension}
-use Rattle.rw_base.specs.Unit.{volume, length as length-unit}
+use Rattle.rw_base.specs.Unit.{volume, length as length-unit, energy}
 use Rattle.rw_model.specs.declared.data_slots.DataSlot.{DataSlot}
 use Rattle.rw_model.specs.declared.kind.Kind.{Kind}
-use Rattle.rw_model.specs.declared.kind.Kind.TheVariants.{DataObject, Gage, Confluence, Bifurcation, Reach, Reservoir, WaterUser, Canal}
+use Rattle.rw_model.specs.declared.kind.Kind.TheVariants.{DataObject, Gage, Confluence, Bifurcation, Reach, Reservoir, WaterUser, Canal, PowerReservoir, RoutedReach}
 use Rattle.rw_model.specs.declared.kind.Supply.TheVariants.{Request, Rule}
 use Rattle.rw_model.specs.declared.role.Role.{Role}
 use Rattle.rw_model.specs.declared.role.Role.TheVariants.{Fixed, Derived, Neither}
@@ -167,6 +167,24 @@ bounded_slots (Reservoir initial_storage table local_inflow diversion return_flo
 bounded_slots (WaterUser depletion Request) = (bounded_flow _ _, (bounded_flow _ _, (bounded_flow _ _, (bounded_flow _ _, tt))))
 bounded_slots (WaterUser depletion Rule) = (bounded_flow _ _, (bounded_flow _ _, (bounded_flow _ _, (bounded_flow _ _, tt))))
 bounded_slots (Canal seepage) = (bounded_flow _ _, (bounded_flow _ _, (bounded_flow _ _, tt)))
+bounded_slots (PowerReservoir initial_storage table max_release tailwater power) = (
+  bounded_flow _ _,
+  (
+    bounded_flow _ _,
+    (
+      bounded_range _ volume _ from_zero zero_inside,
+      (
+        bounded_range _ length-unit _ lengths lengths_inside,
+        (
+          bounded_range _ energy _ from_zero zero_inside,
+          (bounded_range _ energy _ from_zero zero_inside, (bounded_flow _ _, (bounded_flow _ _, tt))),
+        ),
+      ),
+    ),
+  ),
+)
+bounded_slots (RoutedReach initial_content release) =
+    (bounded_flow _ _, (bounded_flow _ _, (bounded_range _ volume _ from_zero zero_inside, tt)))
 
 abbrev IsBoundedAt : Placed → Type 0
 IsBoundedAt placed = IsBounded placed.slot

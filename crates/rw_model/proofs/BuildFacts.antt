@@ -4,12 +4,12 @@ use Rattle.rw_base.specs.Quantity.{quantity_max, IsQuantity}
 use Rattle.rw_base.specs.Range.{is_from_to}
 use Rattle.rw_base.proofs.Tests.{Decides-le, Decides-int_le, Decides-from_to, passed, spared, unless, where-true}
 use Rattle.rw_table.specs.Table.{Row}
-use Rattle.rw_table.specs.Curve.{IsVolumeInside}
+use Rattle.rw_table.specs.Curve.{first_row, last_row, IsVolumeInside}
 use Rattle.rw_model.specs.declared.data_slots.DataSlot.{DataSlot}
 use Rattle.rw_model.specs.declared.kind.Kind.{Kind}
-use Rattle.rw_model.specs.declared.kind.Kind.TheVariants.{DataObject, Gage, Confluence, Bifurcation, Reach, Reservoir, WaterUser, Canal}
+use Rattle.rw_model.specs.declared.kind.Kind.TheVariants.{DataObject, Gage, Confluence, Bifurcation, Reach, Reservoir, WaterUser, Canal, PowerReservoir, RoutedReach}
 use Rattle.rw_model.specs.Name.{IsName, is_name}
-use Rattle.rw_model.specs.Kind.{IsAmount, IsDataSlots, IsLagged, IsStored, IsKind, is_data_slots, is_lagged, is_inside, is_release, is_stored, is_kind}
+use Rattle.rw_model.specs.Kind.{IsAmount, IsDataSlots, IsLagged, IsStored, IsPlant, IsPowered, IsRouted, IsKind, is_data_slots, is_lagged, is_inside, is_release, is_stored, is_plant, is_powered, is_routed, is_kind}
 use Rattle.rw_model.specs.Slot.{Bounds, IsInside}
 use Rattle.rw_model.specs.Objects.{Object, Placed, object_named, all_slots, slot_at}
 use Rattle.rw_model.specs.Draft.{Bound, IsSound, IsFresh, CanAdd, bound_of, IsSlot, CanBound}
@@ -67,6 +67,28 @@ Decides-stored initial_storage table evaporation max_release = Decides-like (is_
     (Decides-and _ _ (Decides-amount initial_storage) (Decides-and _ _ (Decides-inside table initial_storage)
     (Decides-and _ _ (Decides-evaporates evaporation table) (Decides-release max_release))))
 
+Decides-volume : (rows : List Row) (storage : ℤ) → Decides (is_from_to (first_row rows).1 (last_row rows).1 storage) (IsVolumeInside rows storage)
+Decides-volume rows storage =
+    Decides-like _ (λ p. record { from_first = p.0; to_last = p.1 }) (λ p. (p.from_first, p.to_last)) (Decides-from_to _ _ storage)
+
+Decides-plant : (tailwater : ℤ) (power : ℕ) → Decides (is_plant tailwater power) (IsPlant tailwater power)
+Decides-plant tailwater power = Decides-like (is_plant tailwater power)
+    (λ p. record { low = p.0.0; high = p.0.1; some = p.1.0; most = p.1.1 }) (λ p. ((p.low, p.high), (p.some, p.most)))
+    (Decides-and _ _ (Decides-from_to (pos 0) (pos 10000000) tailwater) (Decides-and _ _ (Decides-le 1 power) (Decides-le power 10000)))
+
+Decides-powered : (initial_storage : ℤ) (rows : List Row) (max_release tailwater : ℤ) (power : ℕ)
+    → Decides (is_powered initial_storage rows max_release tailwater power) (IsPowered initial_storage rows max_release tailwater power)
+Decides-powered initial_storage rows max_release tailwater power = Decides-like (is_powered initial_storage rows max_release tailwater power)
+    (λ p. record { amount = p.0; inside = p.1.0; release = p.1.1.0; plant = p.1.1.1 })
+    (λ p. (p.amount, (p.inside, (p.release, p.plant))))
+    (Decides-and _ _ (Decides-amount initial_storage) (Decides-and _ _ (Decides-volume rows initial_storage)
+    (Decides-and _ _ (Decides-amount max_release) (Decides-plant tailwater power))))
+
+Decides-routed : (initial_content : ℤ) (release : ℕ) → Decides (is_routed initial_content release) (IsRouted initial_content release)
+Decides-routed initial_content release = Decides-like (is_routed initial_content release)
+    (λ p. record { amount = p.0; some = p.1.0; most = p.1.1 }) (λ p. (p.amount, (p.some, p.most)))
+    (Decides-and _ _ (Decides-amount initial_content) (Decides-and _ _ (Decides-le 1 release) (Decides-le release 1000)))
+
 pub Decides-kind : (kind : Kind) → Decides (is_kind kind) (IsKind kind)
 Decides-kind (DataObject slots) = Decides-data slots
 Decides-kind Gage = (λ _. tt, λ _. refl)
@@ -77,6 +99,9 @@ Decides-kind (Reservoir initial_storage table local_inflow diversion return_flow
     Decides-stored initial_storage table evaporation max_release
 Decides-kind (WaterUser depletion supply) = Decides-le depletion 1000
 Decides-kind (Canal seepage) = Decides-le seepage 999
+Decides-kind (PowerReservoir initial_storage table max_release tailwater power) =
+    Decides-powered initial_storage table max_release tailwater power
+Decides-kind (RoutedReach initial_content release) = Decides-routed initial_content release
 
 pub Decides-sound : (object : Object) → Decides (is_sound object) (IsSound object)
 Decides-sound object = Decides-like (is_sound object)

@@ -4,7 +4,7 @@ use Rattle.std.specs.Ordering.{int_eq}
 use Rattle.rw_table.specs.Table.{Row}
 use Rattle.rw_table.specs.Curve.{elev_of}
 use Rattle.rw_model.specs.declared.kind.Kind.{Kind}
-use Rattle.rw_model.specs.declared.kind.Kind.TheVariants.{DataObject, Gage, Confluence, Bifurcation, Reach, Reservoir, WaterUser, Canal}
+use Rattle.rw_model.specs.declared.kind.Kind.TheVariants.{DataObject, Gage, Confluence, Bifurcation, Reach, Reservoir, WaterUser, Canal, PowerReservoir, RoutedReach}
 use Rattle.rw_model.specs.Objects.{Object, object_at, slot_at}
 
 -- the inflow of a timestep: the last of the history is that of step 0, the one before it that of step -1, and so on
@@ -16,6 +16,10 @@ abbrev pub past_storage : ℤ → Option (List Row) → ℕ → Option ℤ
 past_storage initial_storage table place =
     if place == 2 then Some initial_storage else
     if place == 3 then option_and_then (λ rows. elev_of rows initial_storage) table else None
+
+-- the content before the first timestep in place 2
+abbrev pub past_content : ℤ → ℕ → Option ℤ
+past_content initial_content place = if place == 2 then Some initial_content else None
 
 -- the value of a kind's slot in a place at a timestep before the run, if it has one
 abbrev pub before_in : Kind → ℕ → ℤ → Option ℤ
@@ -29,6 +33,10 @@ before_in (Reservoir initial_storage table local_inflow diversion return_flow ev
     if int_eq step (pos 0) then past_storage initial_storage table place else None
 before_in (WaterUser depletion supply) place step = None
 before_in (Canal seepage) place step = None
+before_in (PowerReservoir initial_storage table max_release tailwater power) place step =
+    if int_eq step (pos 0) then past_storage initial_storage (Some table) place else None
+before_in (RoutedReach initial_content release) place step =
+    if int_eq step (pos 0) then past_content initial_content place else None
 
 -- the value of a slot at a timestep before the run, if it has one
 abbrev pub before_of : List Object → ℕ → ℤ → Option ℤ

@@ -7,7 +7,7 @@ use Rattle.rw_calendar.specs.Stamps.{AreTimesteps}
 use Rattle.rw_model.specs.declared.control.RunControl.{RunControl}
 use Rattle.rw_model.specs.declared.data_slots.DataSlot.{DataSlot}
 use Rattle.rw_model.specs.declared.kind.Kind.{Kind}
-use Rattle.rw_model.specs.declared.kind.Kind.TheVariants.{DataObject, Gage, Confluence, Bifurcation, Reach, Reservoir, WaterUser, Canal}
+use Rattle.rw_model.specs.declared.kind.Kind.TheVariants.{DataObject, Gage, Confluence, Bifurcation, Reach, Reservoir, WaterUser, Canal, PowerReservoir, RoutedReach}
 use Rattle.rw_model.specs.Name.{IsName}
 use Rattle.rw_model.specs.Kind.{IsKind}
 use Rattle.rw_model.specs.Objects.{Object, object_named, all_slots, slot_at}
@@ -53,6 +53,8 @@ has_distinct_slots (Reach lag history local_inflow diversion return_flow) = true
 has_distinct_slots (Reservoir initial_storage table local_inflow diversion return_flow evaporation max_release) = true
 has_distinct_slots (WaterUser depletion supply) = true
 has_distinct_slots (Canal seepage) = true
+has_distinct_slots (PowerReservoir initial_storage table max_release tailwater power) = true
+has_distinct_slots (RoutedReach initial_content release) = true
 
 -- the object has a name, and its parameters are in range
 pub record IsSound (object : Object) : Type 0 where

@@ -8,7 +8,7 @@ use Rattle.rw_table.specs.Table.{Row}
 use Rattle.rw_table.specs.Curve.{first_row, last_row, IsVolumeInside}
 use Rattle.rw_model.specs.declared.data_slots.DataSlot.{DataSlot}
 use Rattle.rw_model.specs.declared.kind.Kind.{Kind}
-use Rattle.rw_model.specs.declared.kind.Kind.TheVariants.{DataObject, Gage, Confluence, Bifurcation, Reach, Reservoir, WaterUser, Canal}
+use Rattle.rw_model.specs.declared.kind.Kind.TheVariants.{DataObject, Gage, Confluence, Bifurcation, Reach, Reservoir, WaterUser, Canal, PowerReservoir, RoutedReach}
 use Rattle.rw_model.specs.Name.{IsName, is_name}
 
 -- a whole number from 0 to Q
@@ -35,6 +35,26 @@ pub record IsStored (initial_storage : ℤ) (table : Option (List Row)) (evapora
   pub evaporates : IsTrue evaporation → IsSome table
   pub releases : ForSome max_release IsAmount
 
+-- a tailwater from 0 to 10,000,000 mm, and 1 to 10,000 kWh for 10^9 m3 that fall by 1 mm
+pub record IsPlant (tailwater : ℤ) (power : ℕ) : Type 0 where
+  pub low : pos 0 ≤ℤ tailwater
+  pub high : tailwater ≤ℤ pos 10000000
+  pub some : 1 ≤ power
+  pub most : power ≤ 10000
+
+-- an initial storage from 0 to Q m3, which the table has, a greatest release from 0 to Q m3/step, and a plant
+pub record IsPowered (initial_storage : ℤ) (rows : List Row) (max_release tailwater : ℤ) (power : ℕ) : Type 0 where
+  pub amount : IsAmount initial_storage
+  pub inside : IsVolumeInside rows initial_storage
+  pub release : IsAmount max_release
+  pub plant : IsPlant tailwater power
+
+-- an initial content from 0 to Q m3, and 1 to 1000 of a thousand parts that flow out
+pub record IsRouted (initial_content : ℤ) (release : ℕ) : Type 0 where
+  pub amount : IsAmount initial_content
+  pub some : 1 ≤ release
+  pub most : release ≤ 1000
+
 -- a kind whose parameters are in range
 abbrev pub IsKind : Kind → Type 0
 IsKind (DataObject slots) = IsDataSlots slots
@@ -46,6 +66,9 @@ IsKind (Reservoir initial_storage table local_inflow diversion return_flow evapo
     IsStored initial_storage table evaporation max_release
 IsKind (WaterUser depletion supply) = depletion ≤ 1000
 IsKind (Canal seepage) = seepage ≤ 999
+IsKind (PowerReservoir initial_storage table max_release tailwater power) =
+    IsPowered initial_storage table max_release tailwater power
+IsKind (RoutedReach initial_content release) = IsRouted initial_content release
 
 -- ---- the same, as tests
 
@@ -71,6 +94,18 @@ is_stored initial_storage table evaporation max_release =
     is_from_to (pos 0) quantity_max initial_storage && (is_inside table initial_storage
     && ((not evaporation || is_some table) && is_release max_release))
 
+abbrev pub is_plant : ℤ → ℕ → Bool
+is_plant tailwater power = is_from_to (pos 0) (pos 10000000) tailwater && (nat_le 1 power && nat_le power 10000)
+
+abbrev pub is_powered : ℤ → List Row → ℤ → ℤ → ℕ → Bool
+is_powered initial_storage rows max_release tailwater power =
+    is_from_to (pos 0) quantity_max initial_storage && (is_from_to (first_row rows).1 (last_row rows).1 initial_storage
+    && (is_from_to (pos 0) quantity_max max_release && is_plant tailwater power))
+
+abbrev pub is_routed : ℤ → ℕ → Bool
+is_routed initial_content release =
+    is_from_to (pos 0) quantity_max initial_content && (nat_le 1 release && nat_le release 1000)
+
 abbrev pub is_kind : Kind → Bool
 is_kind (DataObject slots) = is_data_slots slots
 is_kind Gage = true
@@ -81,3 +116,6 @@ is_kind (Reservoir initial_storage table local_inflow diversion return_flow evap
     is_stored initial_storage table evaporation max_release
 is_kind (WaterUser depletion supply) = nat_le depletion 1000
 is_kind (Canal seepage) = nat_le seepage 999
+is_kind (PowerReservoir initial_storage table max_release tailwater power) =
+    is_powered initial_storage table max_release tailwater power
+is_kind (RoutedReach initial_content release) = is_routed initial_content release

@@ -1,9 +1,9 @@
 -- The table of slots: which slots an object of a kind has, in order of place.
 use Rattle.std.specs.Prelude.{ℕ, ◌==◌, if◌then◌else◌, Bool, ◌&&◌, List, [], ◌∷◌, map, Option, Some, None, is_some, slice_index_or, codes}
-use Rattle.rw_base.specs.Unit.{volume, length}
+use Rattle.rw_base.specs.Unit.{volume, length, energy}
 use Rattle.rw_model.specs.declared.data_slots.DataSlot.{DataSlot}
 use Rattle.rw_model.specs.declared.kind.Kind.{Kind}
-use Rattle.rw_model.specs.declared.kind.Kind.TheVariants.{DataObject, Gage, Confluence, Bifurcation, Reach, Reservoir, WaterUser, Canal}
+use Rattle.rw_model.specs.declared.kind.Kind.TheVariants.{DataObject, Gage, Confluence, Bifurcation, Reach, Reservoir, WaterUser, Canal, PowerReservoir, RoutedReach}
 use Rattle.rw_model.specs.declared.kind.Supply.TheVariants.{Request, Rule}
 use Rattle.rw_model.specs.declared.role.Role.TheVariants.{Solvable, Fixed, Derived, Neither}
 use Rattle.rw_model.specs.Slot.{Slot, flow, of_range, all_quantities, from_zero, lengths, rate_unit}
@@ -65,6 +65,21 @@ slots_of (Canal seepage) =
     Some (flow (codes "Inflow") Solvable) ∷
     Some (flow (codes "Outflow") Solvable) ∷
     Some (flow (codes "Seepage") Derived) ∷
+    []
+slots_of (PowerReservoir initial_storage table max_release tailwater power) =
+    Some (flow (codes "Inflow") Solvable) ∷
+    Some (flow (codes "Outflow") Solvable) ∷
+    Some (of_range (codes "Storage") volume Neither from_zero) ∷
+    Some (of_range (codes "PoolElevation") length Neither lengths) ∷
+    Some (of_range (codes "EnergyRequest") energy Neither from_zero) ∷
+    Some (of_range (codes "Energy") energy Derived from_zero) ∷
+    Some (flow (codes "Release") Derived) ∷
+    Some (flow (codes "Spill") Derived) ∷
+    []
+slots_of (RoutedReach initial_content release) =
+    Some (flow (codes "Inflow") Solvable) ∷
+    Some (flow (codes "Outflow") Solvable) ∷
+    Some (of_range (codes "Content") volume Derived from_zero) ∷
     []
 
 -- the kind's slot in a place, if it has one there

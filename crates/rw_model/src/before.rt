@@ -1,9 +1,9 @@
-ghost use Rattle.std.specs.Prelude.{◌≡◌};
+ghost use Rattle.std.specs.Prelude.{◌≡◌, option_map};
 ghost use Rattle.std.specs.Option.{ForSome};
 ghost use Rattle.rw_base.specs.Quantity.{IsQuantity};
 ghost use Rattle.rw_table.specs.Curve.{elev_of};
 ghost use Rattle.rw_model.specs.Kind.{IsAmount, IsKind};
-ghost use Rattle.rw_model.specs.Before.{past_inflow, past_storage, before_in};
+ghost use Rattle.rw_model.specs.Before.{past_content, past_inflow, past_storage, before_in};
 
 use crate::Kind;
 use rw_table::Rating;
@@ -33,15 +33,28 @@ fn elevation_of(rating: &Rating, storage: i64) -> Option<i64>
 }
 
 // The storage before the first timestep, or its elevation.
-fn past_storage(initial_storage: i64, table: &Option<Rating>, place: u8) -> Option<i64>
+fn past_storage(initial_storage: i64, table: Option<&Rating>, place: u8) -> Option<i64>
     requires { IsAmount initial_storage }
-    ensures value { result ≡ past_storage initial_storage table.now place }
+    ensures value { result ≡ past_storage initial_storage (option_map (λ rating. rating.now) table.entry) place }
     ensures quantity { ForSome result IsQuantity }
 {
     match (place, table) {
         (2, _) => Some(initial_storage),
         (3, Some(rating)) => elevation_of(rating, initial_storage),
         _ => None,
+    }
+}
+
+// The content before the first timestep.
+fn past_content(initial_content: i64, place: u8) -> Option<i64>
+    requires { IsAmount initial_content }
+    ensures value { result ≡ past_content initial_content place }
+    ensures quantity { ForSome result IsQuantity }
+{
+    if place == 2 {
+        Some(initial_content)
+    } else {
+        None
     }
 }
 
@@ -57,7 +70,16 @@ pub fn before_in(kind: &Kind, place: u8, step: i64) -> Option<i64>
             initial_storage,
             table,
             ..
-        } if step == 0 => past_storage(*initial_storage, table, place),
+        } if step == 0 => past_storage(*initial_storage, table.as_ref(), place),
+        Kind::PowerReservoir {
+            initial_storage,
+            table,
+            ..
+        } if step == 0 => past_storage(*initial_storage, Some(table), place),
+        Kind::RoutedReach {
+            initial_content,
+            ..
+        } if step == 0 => past_content(*initial_content, place),
         _ => None,
     }
 }

@@ -69,11 +69,31 @@ pub enum Kind {
         /// How much of a thousand parts seeps away, 0 to 999.
         seepage: u16,
     },
+    /// Water is stored, and what is released drives turbines.
+    PowerReservoir {
+        /// The storage at the start of the run, in m3.
+        initial_storage: i64,
+        /// Which elevation has which volume.
+        table: Rating,
+        /// The greatest release in m3/step, above which water spills past the turbines.
+        max_release: i64,
+        /// The elevation of the water below the plant, in mm.
+        tailwater: i64,
+        /// How much energy 10^9 m3 give that fall by 1 mm, in kWh, 1 to 10,000.
+        power: u16,
+    },
+    /// Water is held back, and a share of it flows out in each timestep.
+    RoutedReach {
+        /// What it holds at the start of the run, in m3.
+        initial_content: i64,
+        /// How much of a thousand parts flows out in a timestep, 1 to 1000.
+        release: u16,
+    },
 }
 
 impl Kind {
     /// The kind's number: data object 0, gage 1, confluence 2, bifurcation 3, reach 4, reservoir 5, water user 6,
-    /// canal 7.
+    /// canal 7, power reservoir 8, routed reach 9.
     pub fn code(&self) -> u8
         ensures { result ≡ code_of self.now }
     {
@@ -86,6 +106,8 @@ impl Kind {
             Kind::Reservoir { .. } => 5,
             Kind::WaterUser { .. } => 6,
             Kind::Canal { .. } => 7,
+            Kind::PowerReservoir { .. } => 8,
+            Kind::RoutedReach { .. } => 9,
         }
     }
 }

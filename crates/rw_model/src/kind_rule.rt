@@ -4,13 +4,16 @@ ghost use Rattle.rw_base.specs.Quantity.{IsQuantity};
 ghost use Rattle.rw_table.specs.Curve.{IsVolumeInside};
 ghost use Rattle.rw_model.specs.declared.data_slots.DataSlot.{DataSlot as Slot};
 ghost use Rattle.rw_model.specs.Name.{IsName};
-ghost use Rattle.rw_model.specs.Kind.{IsAmount, IsDataSlots, IsLagged, IsStored, IsKind, is_kind};
+ghost use Rattle.rw_model.specs.Kind.{IsAmount, IsDataSlots, IsLagged, IsPlant, IsPowered, IsRouted, IsStored, IsKind, is_kind};
 
 use crate::name_rule::is_name;
 use crate::{DataSlot, Kind};
 use rw_base::QUANTITY_MAX;
 use rw_table::Rating;
 use rw_table::law::elevation_is_greatest;
+
+// The greatest elevation, in mm.
+const TAILWATER_MAX: i64 = 10_000_000;
 
 fn is_quantity(z: i64) -> bool
     ensures { IsTrue result ↔ IsQuantity z }
@@ -76,6 +79,37 @@ fn is_stored(
         && is_release(max_release)
 }
 
+// Whether it is an amount that the table has.
+fn is_volume(rating: &Rating, volume: i64) -> bool
+    ensures { IsTrue result ↔ (IsAmount volume × IsVolumeInside rating.now volume) }
+{
+    is_amount(volume) && is_in_table(rating, volume)
+}
+
+fn is_plant(tailwater: i64, power: u16) -> bool
+    ensures { IsTrue result ↔ IsPlant tailwater power }
+{
+    0 <= tailwater && tailwater <= TAILWATER_MAX && 1 <= power && power <= 10_000
+}
+
+fn is_powered(
+    initial_storage: i64,
+    rating: &Rating,
+    max_release: i64,
+    tailwater: i64,
+    power: u16,
+) -> bool
+    ensures { IsTrue result ↔ IsPowered initial_storage rating.now max_release tailwater power }
+{
+    is_volume(rating, initial_storage) && is_amount(max_release) && is_plant(tailwater, power)
+}
+
+fn is_routed(initial_content: i64, release: u16) -> bool
+    ensures { IsTrue result ↔ IsRouted initial_content release }
+{
+    is_amount(initial_content) && 1 <= release && release <= 1000
+}
+
 /// Whether the kind's parameters are in range.
 pub fn is_kind(kind: &Kind) -> bool
     ensures kind { IsTrue result ↔ IsKind kind.now }
@@ -94,5 +128,16 @@ pub fn is_kind(kind: &Kind) -> bool
         } => is_stored(*initial_storage, table, *evaporation, *max_release),
         Kind::WaterUser { depletion, .. } => *depletion <= 1000,
         Kind::Canal { seepage } => *seepage <= 999,
+        Kind::PowerReservoir {
+            initial_storage,
+            table,
+            max_release,
+            tailwater,
+            power,
+        } => is_powered(*initial_storage, table, *max_release, *tailwater, *power),
+        Kind::RoutedReach {
+            initial_content,
+            release,
+        } => is_routed(*initial_content, *release),
     }
 }

@@ -1,6 +1,6 @@
 ghost use Rattle.std.specs.Prelude.{◌≡◌, ◌↔◌, IsTrue, pos};
 ghost use Rattle.rw_base.specs.Dimension.{dimension, IsDimension};
-ghost use Rattle.rw_base.specs.Unit.{volume, length};
+ghost use Rattle.rw_base.specs.Unit.{volume, length, energy};
 ghost use Rattle.rw_model.specs.Slot.{IsInside, flow, of_range, rate_unit, all_quantities, from_zero, lengths};
 
 use crate::Role;
@@ -62,11 +62,24 @@ impl<'a> Slot<'a> {
         Slot::of_range(name, dim, Role::Neither, (-QUANTITY_MAX, QUANTITY_MAX))
     }
 
-    /// A volume of stored water, in m3.
-    pub fn storage(name: &'a str) -> Slot<'a>
-        ensures { result ≡ of_range name.now volume Role.Neither from_zero }
+    /// A volume of water that is held, in m3.
+    pub fn volume(name: &'a str, role: Role) -> Slot<'a>
+        ensures { result ≡ of_range name.now volume role from_zero }
     {
-        Slot::of_range(name, dim(1, 0, 0), Role::Neither, (0, QUANTITY_MAX))
+        Slot::of_range(name, dim(1, 0, 0), role, (0, QUANTITY_MAX))
+    }
+
+    /// An amount of energy, in kWh.
+    pub fn energy(name: &'a str, role: Role) -> Slot<'a>
+        ensures { result ≡ of_range name.now energy role from_zero }
+    {
+        let kilowatt_hour = Dim {
+            volume: 0,
+            length: 0,
+            step: 0,
+            energy: 1,
+        };
+        Slot::of_range(name, kilowatt_hour, role, (0, QUANTITY_MAX))
     }
 
     /// An elevation, in mm.

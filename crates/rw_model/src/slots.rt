@@ -96,7 +96,7 @@ fn of_reservoir<'a>(
     match place {
         0 => Some(Slot::flow("Inflow", Role::Solvable)),
         1 => Some(Slot::flow("Outflow", Role::Solvable)),
-        2 => Some(Slot::storage("Storage")),
+        2 => Some(Slot::volume("Storage", Role::Neither)),
         3 => where_chosen(table.is_some(), Slot::elevation("PoolElevation")),
         4 => where_chosen(local_inflow, Slot::flow("LocalInflow", Role::Fixed)),
         5 => where_chosen(diversion, Slot::flow("Diversion", Role::Fixed)),
@@ -132,6 +132,33 @@ fn of_canal<'a>(place: u8) -> Option<Slot<'a>>
         0 => Some(Slot::flow("Inflow", Role::Solvable)),
         1 => Some(Slot::flow("Outflow", Role::Solvable)),
         2 => Some(Slot::flow("Seepage", Role::Derived)),
+        _ => None,
+    }
+}
+
+fn of_power_reservoir<'a>(place: u8) -> Option<Slot<'a>>
+    ensures { result ≡ slot_in (Kind.PowerReservoir (pos 0) [] (pos 0) (pos 0) 0) place }
+{
+    match place {
+        0 => Some(Slot::flow("Inflow", Role::Solvable)),
+        1 => Some(Slot::flow("Outflow", Role::Solvable)),
+        2 => Some(Slot::volume("Storage", Role::Neither)),
+        3 => Some(Slot::elevation("PoolElevation")),
+        4 => Some(Slot::energy("EnergyRequest", Role::Neither)),
+        5 => Some(Slot::energy("Energy", Role::Derived)),
+        6 => Some(Slot::flow("Release", Role::Derived)),
+        7 => Some(Slot::flow("Spill", Role::Derived)),
+        _ => None,
+    }
+}
+
+fn of_routed_reach<'a>(place: u8) -> Option<Slot<'a>>
+    ensures { result ≡ slot_in (Kind.RoutedReach (pos 0) 0) place }
+{
+    match place {
+        0 => Some(Slot::flow("Inflow", Role::Solvable)),
+        1 => Some(Slot::flow("Outflow", Role::Solvable)),
+        2 => Some(Slot::volume("Content", Role::Derived)),
         _ => None,
     }
 }
@@ -172,6 +199,8 @@ impl Kind {
             ),
             Kind::WaterUser { supply, .. } => of_user(*supply, place),
             Kind::Canal { .. } => of_canal(place),
+            Kind::PowerReservoir { .. } => of_power_reservoir(place),
+            Kind::RoutedReach { .. } => of_routed_reach(place),
         }
     }
 }

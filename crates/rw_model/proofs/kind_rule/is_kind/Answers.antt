@@ -14,3 +14,15 @@ returns-in-Reach-clause-kind c = search rules
 
 pub returns-in-Reach-clause-test : goal.returns-in-Reach-clause-test
 returns-in-Reach-clause-test c = same_from_decides _ (is_kind c.args.kind.now) (returns-in-Reach-clause-kind c) (Decides-kind c.args.kind.now)
+
+pub returns-in-PowerReservoir-clause-kind : goal.returns-in-PowerReservoir-clause-kind
+returns-in-PowerReservoir-clause-kind c = search rules
+
+pub returns-in-PowerReservoir-clause-test : goal.returns-in-PowerReservoir-clause-test
+returns-in-PowerReservoir-clause-test c = same_from_decides _ (is_kind c.args.kind.now) (returns-in-PowerReservoir-clause-kind c) (Decides-kind c.args.kind.now)
+
+pub returns-in-RoutedReach-clause-kind : goal.returns-in-RoutedReach-clause-kind
+returns-in-RoutedReach-clause-kind c = search rules
+
+pub returns-in-RoutedReach-clause-test : goal.returns-in-RoutedReach-clause-test
+returns-in-RoutedReach-clause-test c = same_from_decides _ (is_kind c.args.kind.now) (returns-in-RoutedReach-clause-kind c) (Decides-kind c.args.kind.now)
