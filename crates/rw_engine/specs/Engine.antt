@@ -2,10 +2,12 @@
 use Rattle.std.specs.Prelude.{ℕ, List, Option}
 use Rattle.rw_series.specs.Series.{Series}
 use Rattle.rw_rules.specs.Rules.{Rules}
+use Rattle.rw_run.specs.declared.held.Held.{Held}
 use Rattle.rw_run.specs.declared.run.RunEnd.{RunEnd}
 use Rattle.rw_run.specs.declared.trace.TraceEvent.{TraceEvent}
 
--- of how many objects it is, its rules, what the cells hold, the lines of its trace, if that is kept, the last closed timestep, and how it stands
+-- of how many objects it is, its rules, what the cells hold, the lines of its trace, if that is kept, the last closed timestep, how it
+-- stands, at what the last timestep looked, if that is noted, and how many lines stand before those of the last timestep
 pub record Engine : Type 0 where
   pub objects : ℕ
   pub rules : Rules
@@ -13,3 +15,5 @@ pub record Engine : Type 0 where
   pub trace : Option (List TraceEvent)
   pub closed : ℕ
   pub end : RunEnd
+  pub noted : Option (List Held)
+  pub lines_before : ℕ

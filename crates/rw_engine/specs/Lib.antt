@@ -1,8 +1,9 @@
 pub mod Counts
 pub mod Held
-pub mod Undone
 pub mod Lines
 pub mod Engine
+pub mod Noting
+pub mod Records
 pub mod Shows
 pub mod State
 pub mod Passing

@@ -2,18 +2,37 @@
 use Rattle.std.specs.Prelude.{◌≡◌, ◌≤◌, ℕ, ◌+◌, List, [], ◌∷◌, IfErr, IfOk, IsSome, Result, Ok, Err}
 use Rattle.rw_base.specs.declared.memory.NoMemory.{NoMemory}
 use Rattle.rw_model.specs.Draft.{Draft}
-use Rattle.rw_run.specs.Log.{Event, Log}
+use Rattle.rw_series.specs.Series.{held}
+use Rattle.rw_run.specs.Frame.{IsFramed, log_after}
+use Rattle.rw_run.specs.Log.{Event, Log, opened}
 use Rattle.rw_run.specs.Next.{Policy}
 use Rattle.rw_run.specs.Runs.{Leads, IsRun, placed, standing, rests, inside}
 use Rattle.rw_run.specs.RunOf.{IsRunOf, opened_by}
+use Rattle.rw_run.specs.Timestep.{IsTimestep}
 use Rattle.rw_run.specs.declared.run.Run.{Run}
+use Rattle.rw_record.specs.Noted.{AreHeld}
+use Rattle.rw_record.specs.Record.{StepRecord}
 use Rattle.rw_inputs.specs.Inputs.{Inputs}
 use Rattle.rw_inputs.specs.Givens.{givens}
 use Rattle.rw_engine.specs.Engine.{Engine}
+use Rattle.rw_engine.specs.Records.{HasNoted, Records}
 use Rattle.rw_engine.specs.declared.step_end.StepEnd.{StepEnd}
+use Rattle.rw_engine.specs.declared.step_end.StepEnd.TheVariants.{Closed as IsClosed, Fault as IsFault}
 use Rattle.rpl_verify.specs.Verified.{Accepted}
 use Rattle.rw_rules.specs.Rules.{policy_in}
 use Rattle.rw_engine.specs.Shows.{IsBefore, IsEngineOf, Shows, EndsBy, closed_by}
+
+-- in the new log this timestep has followed the old one up to its closing, and an engine that keeps a trace has noted it
+pub record ClosesStep (basin : Draft) (policy : Policy) (step : ℕ) (old new : Log) (engine : Engine) : Type 0 where
+  pub first : Event
+  pub events : List Event
+  pub timestep : IsTimestep basin policy step old first events
+  pub is : new ≡ log_after (first ∷ events) (opened step ∷ old)
+  pub noted : IsSome engine.trace → HasNoted basin step old (first ∷ events) engine
+
+abbrev pub Closes : Draft → Policy → StepEnd → ℕ → Log → Log → Engine → Type 0
+Closes basin policy IsClosed step old new engine = ClosesStep basin policy step old new engine
+Closes basin policy (IsFault why) step old new engine = Unit {0}
 
 -- the events of the timestep follow, up to its closing or to the fault, and the engine shows them
 pub record Passes (basin : Draft) (policy : Policy) (log : Log) (end : StepEnd) (engine : Engine) (step : ℕ) : Type 0 where
@@ -24,6 +43,7 @@ pub record Passes (basin : Draft) (policy : Policy) (log : Log) (end : StepEnd) 
   pub within : standing before ≡ inside step
   pub ends : EndsBy end step last
   pub shows : Shows basin engine (last ∷ before)
+  pub closes : Closes basin policy end step log (last ∷ before) engine
 
 -- a call passes the timestep after the last closed one. After want of memory the engine shows what it showed before
 pub record RunsStep (basin : Draft) (policy : Accepted) (step : ℕ) (old new : Engine) (result : Result StepEnd NoMemory) : Type 0 where
@@ -32,6 +52,15 @@ pub record RunsStep (basin : Draft) (policy : Accepted) (step : ℕ) (old new : 
   pub before : (log : Log) → Shows basin old log → IfErr result (λ fault. Shows basin new log)
   pub kept : IsSome old.trace → IsSome new.trace
   pub closed_steps : IfOk result (λ end. new.closed ≡ closed_by end step old.closed)
+
+-- a call passes again the timestep of which this is the record. After want of memory the engine shows what it showed before
+pub record Replays (basin : Draft) (kept : StepRecord) (old new : Engine) (result : Result (Unit {0}) NoMemory) : Type 0 where
+  pub made : (policy : Accepted) → IsEngineOf basin policy old → IsEngineOf basin policy new
+  pub passes : (policy : Policy) (log : Log) → IsFramed policy → Records basin policy kept → Shows basin old log → IsBefore basin kept.step log
+      → AreHeld (held old.series) kept.looked → IfOk result (λ done. Passes basin policy log IsClosed new kept.step)
+  pub before : (log : Log) → Shows basin old log → IfErr result (λ fault. Shows basin new log)
+  pub keeps_trace : IsSome old.trace → IsSome new.trace
+  pub closed_steps : IfOk result (λ done. new.closed ≡ kept.step)
 
 -- how many timesteps a call counts
 abbrev pub steps_of : Result StepEnd NoMemory → ℕ

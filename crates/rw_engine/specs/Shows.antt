@@ -1,5 +1,5 @@
 -- The log that an engine stands for.
-use Rattle.std.specs.Prelude.{◌≡◌, ℕ, ◌+◌, ◌≤◌, length, IfSome, Ok}
+use Rattle.std.specs.Prelude.{◌≡◌, ℕ, ◌+◌, ◌≤◌, length, IfSome, Ok, is_some}
 use Rattle.rw_base.specs.declared.number.Cell.{Cell}
 use Rattle.rw_model.specs.Draft.{Draft}
 use Rattle.rw_model.specs.Basin.{IsBasin}
@@ -22,6 +22,8 @@ pub record IsEngineOf (basin : Draft) (policy : Accepted) (engine : Engine) : Ty
   pub rules : IsRulesOf basin policy engine.rules
   pub series : IsHeldIn basin engine.series
   pub closed_steps : engine.closed ≤ basin.control.stamps.count
+  -- it notes what timesteps look at exactly where it keeps a trace
+  pub notes : is_some engine.noted ≡ is_some engine.trace
 
 -- what an engine shows of a log: what the cells hold, its trace, if that is kept, the last closed timestep, and the fault if there is one
 pub record Shows (basin : Draft) (engine : Engine) (log : Log) : Type 0 where

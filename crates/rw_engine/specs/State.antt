@@ -1,9 +1,21 @@
 -- The state of an engine, and what it has within a timestep.
-use Rattle.std.specs.Prelude.{◌≡◌, ℕ, ◌<◌, Bool, false, if◌then◌else◌, List, [], ◌∷◌, ◌+◌, ◌≤◌, length, All, Option, Some, None, IsSome, Result, Ok, Err, IfOk, IfErr}
+use Rattle.std.specs.Prelude.{◌≡◌, ℕ, ◌<◌, Bool, false, if◌then◌else◌, List, [], ◌∷◌, ◌+◌, ◌≤◌, length, map, All, Option, Some, None, IsSome, IfSome, Result, Ok, Err, IfOk, IfErr, is_some, option_map}
 use Rattle.rw_base.specs.declared.memory.NoMemory.{NoMemory}
 use Rattle.rw_model.specs.Draft.{Draft, IsObject}
-use Rattle.rw_series.specs.Series.{held}
-use Rattle.rw_run.specs.Log.{Cells, Event, Log, opened}
+use Rattle.rw_series.specs.Series.{Series, held}
+use Rattle.rw_run.specs.Frame.{IsFault}
+use Rattle.rw_run.specs.Log.{Cells, Event, Log, cells_of, last_put, opened, written_by}
+use Rattle.rw_run.specs.Step.{reached_by}
+use Rattle.rw_run.specs.Trace.{lines_in, told}
+use Rattle.rw_run.specs.declared.held.Held.{Held}
+use Rattle.rw_run.specs.declared.trace.TraceEvent.{TraceEvent}
+use Rattle.std.specs.Option.{option_or}
+use Rattle.rw_base.specs.declared.number.Cell.{Cell}
+use Rattle.rw_dispatch.specs.Stage.{IsHeldIn}
+use Rattle.rw_record.specs.Record.{StepRecord}
+use Rattle.rw_dispatch.specs.Writes.{AreWrites}
+use Rattle.rw_record.specs.Noted.{noted_after, with_noted}
+use Rattle.rw_record.specs.Notes.{CanTakeBack, Notes}
 use Rattle.rw_model.specs.Turn.{is_data}
 use Rattle.rw_run.specs.Waiting.{waiting}
 use Rattle.rw_run.specs.Next.{next, dispatches, firings, first_due}
@@ -17,8 +29,8 @@ use Rattle.rw_engine.specs.Counts.{count_of, room}
 use Rattle.rw_engine.specs.Engine.{Engine}
 use Rattle.rw_engine.specs.Lines.{Grows}
 use Rattle.rw_engine.specs.Passing.{Passes}
+use Rattle.rw_engine.specs.Records.{CanWriteAll, puts_in}
 use Rattle.rw_engine.specs.Shows.{IsBefore, IsEngineOf, Shows, EndsBy, closed_by}
-use Rattle.rw_engine.specs.Undone.{AreCells, CanUndo}
 use Rattle.rw_engine.specs.declared.state.State.{State}
 use Rattle.rw_engine.specs.declared.step_end.StepEnd.{StepEnd}
 use Rattle.rw_engine.specs.declared.step_end.StepEnd.TheVariants.{Closed, Fault as StepFault}
@@ -31,25 +43,26 @@ abbrev pub seen : State → Engine
 seen state = record {
   objects = state.queue.objects;
   rules = state.rules;
-  series = state.series;
-  trace = state.trace;
-  closed = state.closed;
-  end = state.end;
+  series = state.run.series;
+  trace = state.run.trace;
+  closed = state.run.closed;
+  end = state.run.end;
+  noted = state.noted;
+  lines_before = state.lines_before;
 }
 
--- a state made for the basin and the policy, with a count for each object and each rule
+-- a state made for the basin and the policy, with a count for each object and each rule, that keeps what is asked for where it notes it
 pub record IsStateOf (basin : Draft) (policy : Accepted) (state : State) : Type 0 where
   pub engine : IsEngineOf basin policy (seen state)
+  pub keeps : state.work.keeps ≡ is_some state.noted
   pub counts : length state.counts ≡ length basin.objects
   pub firings : length state.firings ≡ length state.rules.agenda.rules
 
--- within a timestep only objects with a method wait, what can be undone are cells, and the cells of rules that aren't marked hold
--- what they saw
+-- within a timestep only objects with a method wait, and the cells of rules that aren't marked hold what they saw
 pub record IsWithinStep (basin : Draft) (policy : Accepted) (state : State) : Type 0 where
   pub made : IsStateOf basin policy state
   pub ready : All (λ object. is_data basin object ≡ false) state.queue.waiting
-  pub undo : AreCells basin state.undo.items
-  pub indexed : IsIndexed state.rules.agenda (held state.series)
+  pub indexed : IsIndexed state.rules.agenda (held state.run.series)
 
 -- there it also has those that wait, how often each object was dispatched, how often each rule fired, and at what it looked
 pub record HoldsWithin (basin : Draft) (policy : Accepted) (state : State) (step : ℕ) (waits : List ℕ) (log : Log) : Type 0 where
@@ -65,50 +78,70 @@ abbrev pub GoesTo : Draft → Accepted → Option StepEnd → State → ℕ → 
 GoesTo basin policy None state step log event = HoldsWithin basin policy state step state.queue.waiting (event ∷ log)
 GoesTo basin policy (Some end) state step log event = EndsBy end step event × Shows basin (seen state) (event ∷ log)
 
--- after the event that follows
-pub record Goes (basin : Draft) (policy : Accepted) (end : Option StepEnd) (state : State) (step : ℕ) (log : Log) : Type 0 where
+-- what an event looks at and reaches is noted, with what is held before it
+abbrev pub NotesThat : Draft → State → State → Event → Type 0
+NotesThat basin old new event = new.noted ≡ with_noted (held old.run.series) (reached_by basin event) old.noted
+
+-- after the event that follows, which is noted unless it is a fault
+pub record Goes (basin : Draft) (policy : Accepted) (end : Option StepEnd) (old new : State) (step : ℕ) (log : Log) : Type 0 where
   pub event : Event
   pub follows : next basin (policy_in basin policy) step log ≡ Some event
-  pub goes : GoesTo basin policy end state step log event
+  pub goes : GoesTo basin policy end new step log event
+  pub noted : (¬ IsFault event) → NotesThat basin old new event
+  pub can : AreWrites basin (written_by event)
 
--- within the timestep, on the way
-pub record Reached (basin : Draft) (policy : Accepted) (start : Log) (state : State) (step : ℕ) : Type 0 where
+-- events within the timestep
+abbrev pub AreInside : ℕ → List Event → Type 0
+AreInside step [] = Unit {0}
+AreInside step (event ∷ events) = (standing (event ∷ []) ≡ inside step) × AreInside step events
+
+-- on the way through a timestep that follows this log: it is opened, and these events follow
+pub record Reached (basin : Draft) (policy : Accepted) (old : Log) (state : State) (step : ℕ) : Type 0 where
   pub events : List Event
-  pub log : Log
-  pub leads : Leads basin (policy_in basin policy) start events log
-  pub holds : HoldsWithin basin policy state step state.queue.waiting log
+  pub now : Log
+  pub leads : Leads basin (policy_in basin policy) (opened step ∷ old) events now
+  pub holds : HoldsWithin basin policy state step state.queue.waiting now
+  pub inside_step : AreInside step events
+  pub notes : IfSome state.noted (Notes basin (cells_of basin old) (held state.run.series) events)
+  pub can : CanWriteAll basin events
 
 -- ---- what work within a timestep keeps
 
 -- lines may have been added, and who waits and what was counted may be another
 pub record OnlyTells (old new : State) : Type 0 where
-  pub series : new.series ≡ old.series
-  pub undo : new.undo ≡ old.undo
-  pub closed_steps : new.closed ≡ old.closed
-  pub end : new.end ≡ old.end
-  pub grows : Grows old.trace new.trace
+  pub series : new.run.series ≡ old.run.series
+  pub noted : new.noted ≡ old.noted
+  pub closed_steps : new.run.closed ≡ old.run.closed
+  pub end : new.run.end ≡ old.run.end
+  pub lines_before : new.lines_before ≡ old.lines_before
+  pub grows : Grows old.run.trace new.run.trace
 
 -- the run didn't come nearer to its end
 pub record IsStill (old new : State) : Type 0 where
-  pub closed_steps : new.closed ≡ old.closed
-  pub end : new.end ≡ old.end
+  pub closed_steps : new.run.closed ≡ old.run.closed
+  pub end : new.run.end ≡ old.run.end
 
 -- where there is a fault the run ends by it
 abbrev pub ended_by : Option RunFault → State → State
 ended_by None state = state
-ended_by (Some why) state = record state { end = Fault why }
+ended_by (Some why) state = record state { run = record state.run { end = Fault why } }
 
--- all can still be taken back, where a trace is kept
+-- what these cells held before can be taken back, where it is noted
+abbrev pub IsRevocable : Cells → State → Type 0
+IsRevocable before state = IfSome state.noted (CanTakeBack before (held state.run.series))
+
+-- all can still be taken back
 pub record Keeps (basin : Draft) (policy : Accepted) (old new : State) : Type 0 where
   pub within : IsWithinStep basin policy new
-  pub undo : IsSome old.trace → (before : Cells) → CanUndo basin old.undo.items old.series before → CanUndo basin new.undo.items new.series before
-  pub grows : Grows old.trace new.trace
+  pub revocable : (before : Cells) → IsRevocable before old → IsRevocable before new
+  pub lines_before : new.lines_before ≡ old.lines_before
+  pub grows : Grows old.run.trace new.run.trace
 
--- what was done since then can be taken back, where a trace is kept
-pub record IsRevocable (basin : Draft) (old new : State) : Type 0 where
-  pub cells : AreCells basin new.undo.items
-  pub undo : IsSome old.trace → CanUndo basin new.undo.items new.series (held old.series)
-  pub grows : Grows old.trace new.trace
+-- what was done since the timestep began can be taken back
+pub record CanGoBack (old new : State) : Type 0 where
+  pub revocable : IsRevocable (held old.run.series) new
+  pub lines_before : new.lines_before ≡ old.lines_before
+  pub grows : Grows old.run.trace new.run.trace
 
 -- how often objects may still be dispatched and rules may still fire
 abbrev pub left : Draft → State → ℕ
@@ -121,7 +154,7 @@ step_end (Fault why) = StepFault why
 
 -- whether a timestep ended, as how it did: the state has that
 abbrev pub ending : State → Bool → Option StepEnd
-ending state ended = if ended then Some (step_end state.end) else None
+ending state ended = if ended then Some (step_end state.run.end) else None
 
 abbrev pub seen_end : State → Result Bool NoMemory → Result (Option StepEnd) NoMemory
 seen_end state (Ok ended) = Ok (ending state ended)
@@ -130,16 +163,16 @@ seen_end state (Err fault) = Err fault
 -- unless the timestep ended, the run is still, and where it goes on, less is left to do in the timestep
 abbrev pub IsOnTheWay : Draft → ℕ → Result (Option StepEnd) NoMemory → State → State → Type 0
 IsOnTheWay basin step (Ok None) old new = IsStill old new × (left basin new < left basin old)
-IsOnTheWay basin step (Ok (Some end)) old new = new.closed ≡ closed_by end step old.closed
+IsOnTheWay basin step (Ok (Some end)) old new = new.run.closed ≡ closed_by end step old.run.closed
 IsOnTheWay basin step (Err fault) old new = IsStill old new
 
 -- what is done for the event that follows a log of which this is given
 pub record Does (basin : Draft) (policy : Accepted) (step : ℕ) (old new : State) (given : Log → Type 0) (result : Result Bool NoMemory) : Type 0 where
   pub keeps : Keeps basin policy old new
   pub on_the_way : IsOnTheWay basin step (seen_end new result) old new
-  pub goes : (log : Log) → given log → IfOk (seen_end new result) (λ end. Goes basin policy end new step log)
+  pub goes : (log : Log) → given log → IfOk (seen_end new result) (λ end. Goes basin policy end old new step log)
   -- memory wants only where a trace is kept
-  pub wants : IfErr result (λ fault. IsSome old.trace)
+  pub wants : IfErr result (λ fault. IsSome old.run.trace)
 
 -- ---- what opening and passing a timestep do
 
@@ -148,10 +181,15 @@ pub record Begins (basin : Draft) (policy : Accepted) (inputs : Inputs) (state :
   pub made : IsStateOf basin policy state
   pub shows : Shows basin (seen state) (placed [] (givens basin inputs))
 
--- nothing is noted yet of what can be taken back
+-- nothing is noted yet, and the lines of the timestep come behind those that there are
 pub record IsFresh (basin : Draft) (policy : Accepted) (state : State) : Type 0 where
   pub made : IsStateOf basin policy state
-  pub cleared : state.undo.items ≡ []
+  pub cleared : IfSome state.noted (λ noted. noted ≡ [])
+  pub lines_before : state.lines_before ≡ length (lines_in state.run.trace)
+
+-- a timestep is to begin: nothing else has changed
+pub record Clears (old new : State) : Type 0 where
+  pub cleared : new ≡ record old { noted = option_map (λ noted. []) old.noted; lines_before = length (lines_in old.run.trace) }
 
 -- the timestep is opened
 pub record IsOpened (basin : Draft) (policy : Accepted) (step : ℕ) (old new : State) : Type 0 where
@@ -161,19 +199,55 @@ pub record IsOpened (basin : Draft) (policy : Accepted) (step : ℕ) (old new : 
 -- the timestep was passed to its end, or memory wants within it and it can be taken back
 pub record HasPassed (basin : Draft) (policy : Accepted) (step : ℕ) (old new : State) (result : Result StepEnd NoMemory) : Type 0 where
   pub made : IsStateOf basin policy new
-  pub revocable : IsRevocable basin old new
+  pub back : CanGoBack old new
   pub still : IfErr result (λ fault. IsStill old new)
   pub passes : (log : Log) → Shows basin (seen old) log → IsBefore basin step log
       → IfOk result (λ end. Passes basin (policy_in basin policy) log end (seen new) step)
-  pub closed_steps : IfOk result (λ end. new.closed ≡ closed_by end step old.closed)
-  pub wants : IfErr result (λ fault. IsSome old.trace)
+  pub closed_steps : IfOk result (λ end. new.run.closed ≡ closed_by end step old.run.closed)
+  pub wants : IfErr result (λ fault. IsSome old.run.trace)
+
+-- ---- what passing a timestep again does
+
+-- the cells of the record are noted and its lines are told, or memory wants for it; nothing else has changed
+pub record Retells (kept : StepRecord) (old new : State) (result : Result (Unit {0}) NoMemory) : Type 0 where
+  pub noted : Option (List Held)
+  pub trace : Option (List TraceEvent)
+  pub is : new ≡ record old { noted = noted; run = record old.run { trace = trace } }
+  pub notes : is_some noted ≡ is_some old.noted
+  pub grows : Grows old.run.trace trace
+  pub noted_is : IfOk result (λ done. noted ≡ with_noted (held old.run.series) (map (λ (one : Held). one.cell) kept.looked) old.noted)
+  pub trace_is : IfOk result (λ done. trace ≡ told old.run.trace kept.lines)
+
+-- what its lines say to be written is, and its timestep is closed; nothing else has changed
+pub record Remakes (basin : Draft) (kept : StepRecord) (old new : State) : Type 0 where
+  pub series : Series
+  pub is : new ≡ record old { run = record { end = Settled; closed = kept.step; series = series; trace = old.run.trace } }
+  pub made : IsHeldIn basin series
+  pub cells : (cell : Cell) → held series cell ≡ option_or (last_put basin (puts_in kept.lines) cell) (held old.run.series cell)
+
+-- both, after the new timestep has begun. Where memory wants, the lines are those that there were
+pub record HasReplayed (basin : Draft) (kept : StepRecord) (old new : State) (result : Result (Unit {0}) NoMemory) : Type 0 where
+  pub rules : new.rules ≡ old.rules
+  pub queue : new.queue ≡ old.queue
+  pub work : new.work ≡ old.work
+  pub counts : (new.counts ≡ old.counts) × (new.firings ≡ old.firings)
+  pub made : IsHeldIn basin new.run.series
+  pub notes : is_some new.noted ≡ is_some old.noted
+  pub keeps_trace : is_some new.run.trace ≡ is_some old.run.trace
+  pub lines_before : new.lines_before ≡ length (lines_in old.run.trace)
+  pub unchanged : IfErr result (λ fault. new.run ≡ old.run)
+  pub noted : IfOk result (λ done. new.noted ≡ option_map (λ (none : List Held). noted_after (held old.run.series) [] (map (λ (one : Held). one.cell) kept.looked)) old.noted)
+  pub trace : IfOk result (λ done. new.run.trace ≡ told old.run.trace kept.lines)
+  pub ends : IfOk result (λ done. (new.run.end ≡ Settled) × (new.run.closed ≡ kept.step))
+  pub cells : IfOk result (λ done. (cell : Cell) → held new.run.series cell
+      ≡ option_or (last_put basin (puts_in kept.lines) cell) (held old.run.series cell))
 
 -- ---- what is given of a log, for the event that follows it
 
 -- this rule is due, or none
 abbrev pub HoldsDue : Draft → Accepted → State → ℕ → Option ℕ → Log → Type 0
 HoldsDue basin policy state step due log =
-    HoldsWithin basin policy state step state.queue.waiting log × (first_due basin (policy_in basin policy) (held state.series) log ≡ due)
+    HoldsWithin basin policy state step state.queue.waiting log × (first_due basin (policy_in basin policy) (held state.run.series) log ≡ due)
 
 -- this event follows
 abbrev pub HoldsBefore : Draft → Accepted → State → ℕ → List ℕ → Event → Log → Type 0

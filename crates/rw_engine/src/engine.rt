@@ -1,15 +1,19 @@
-ghost use Rattle.std.specs.Prelude.{◌≤◌, ◌+◌, [], map, IfOk, ◌≡◌, IsSome, Ok};
+ghost use Rattle.std.specs.Prelude.{◌≤◌, ◌+◌, ◌↔◌, ℕ, List, [], map, IfOk, ◌≡◌, IsSome, Ok, true};
 ghost use Rattle.rw_model.specs.Draft.{Draft};
 ghost use Rattle.rw_method.specs.Catalogue.{AreInOrder};
 ghost use Rattle.rw_inputs.specs.Inputs.{IsInputsOf};
 ghost use Rattle.rpl_verify.specs.Verified.{Accepted, verified};
-ghost use Rattle.rw_run.specs.Log.{Log};
+ghost use Rattle.rw_run.specs.Log.{Event, Log};
 ghost use Rattle.rw_run.specs.Runs.{placed};
 ghost use Rattle.rw_run.specs.RunOf.{IsRunOf};
 ghost use Rattle.rw_model.specs.Turn.{IsStep};
 ghost use Rattle.rw_inputs.specs.Givens.{givens};
+ghost use Rattle.rw_series.specs.Series.{held};
+ghost use Rattle.rw_dispatch.specs.Stage.{IsHeldIn};
+ghost use Rattle.rw_record.specs.Noted.{AreHeld};
 ghost use Rattle.rw_engine.specs.Shows.{IsEngineOf, Shows};
-ghost use Rattle.rw_engine.specs.Passing.{RunsStep, steps_of};
+ghost use Rattle.rw_engine.specs.Passing.{Replays, RunsStep, steps_of};
+ghost use Rattle.rw_engine.specs.Records.{CanWriteLines, HasNoted, RecordsOrNot};
 
 use crate::setup::RunSetup;
 use crate::state::State;
@@ -20,6 +24,7 @@ use rw_base::{Ledger, NoMemory, StepNo, Steps};
 use rw_inputs::Inputs;
 use rw_method::Catalogue;
 use rw_model::Basin;
+use rw_record::{Noted, StepRecord, is_alike};
 use rw_run::{Run, Trace};
 use std::alloc::Global;
 use std::marker::Model;
@@ -45,7 +50,8 @@ impl Model for Engine {
 }
 
 impl Engine {
-    /// The engine of a run whose inputs are placed, and no timestep opened. It shows the log of the inputs.
+    /// The engine of a run whose inputs are placed, and no timestep opened. It shows the log of the inputs. It keeps a trace, and
+    /// notes at what each timestep looks, so that a record of it can be made.
     pub fn for_run(
         alloc: Global,
         basin: &Basin,
@@ -59,12 +65,13 @@ impl Engine {
             (λ engine. Shows basin.now engine (placed [] (givens basin.now inputs.now))) }
         ensures kept { IfOk result (λ engine. IsSome engine.trace) }
     {
+        let noted = Noted::for_basin(alloc, basin)?;
         Ok(Engine {
-            state: State::for_run(alloc, basin, policy, inputs, Trace::new(alloc))?,
+            state: State::for_run(alloc, basin, policy, inputs, Trace::new(alloc), noted)?,
         })
     }
 
-    /// The same without a trace: no line is kept, and within a timestep no memory is taken.
+    /// The same without a trace: no line is kept, nothing is noted, and within a timestep no memory is taken.
     pub fn without_trace(
         alloc: Global,
         basin: &Basin,
@@ -77,8 +84,9 @@ impl Engine {
         ensures shows { IfOk result
             (λ engine. Shows basin.now engine (placed [] (givens basin.now inputs.now))) }
     {
+        let noted = Noted::unkept(alloc);
         Ok(Engine {
-            state: State::for_run(alloc, basin, policy, inputs, Trace::unkept(alloc))?,
+            state: State::for_run(alloc, basin, policy, inputs, Trace::unkept(alloc), noted)?,
         })
     }
 
@@ -108,6 +116,43 @@ impl Engine {
         let end = self.state.run_step(&setup, step)?;
         steps.tick();
         Ok(end)
+    }
+
+    /// What the run comes to so far. It takes no memory.
+    pub fn run(&self) -> &Run
+        ensures run { (basin : Draft) (policy : Accepted) (log : Log) → IsEngineOf basin policy self.now
+            → Shows basin self.now log → IsRunOf basin log result.now }
+        ensures same { (result.now.closed ≡ self.now.closed) × (result.now.trace ≡ self.now.trace) }
+    {
+        self.state.run()
+    }
+
+    /// The record of the timestep that was closed last, of an engine that keeps a trace. `None` exactly where it has too many cells
+    /// or lines to be kept.
+    pub fn last_record(&self, alloc: Global) -> Result<Option<StepRecord>, NoMemory>
+        ensures { (basin : Draft) (step : ℕ) (old : Log) (events : List Event)
+            → HasNoted basin step old events self.now → self.now.closed ≡ step
+            → IfOk result (RecordsOrNot basin step old events) }
+    {
+        self.state.last_record(alloc)
+    }
+
+    /// Whether each cell at which a timestep looked holds what it held before it then.
+    pub fn alike(&self, kept: &StepRecord) -> bool
+        ensures { (result ≡ true) ↔ AreHeld (held self.now.series) kept.now.looked }
+    {
+        is_alike(&self.state.run().series, kept.looked())
+    }
+
+    /// Passes a timestep again, by its record, without asking methods and rules. Where its cells are alike, and it comes after the
+    /// last closed one, that is what `run_step` would do. After want of memory the engine shows the log that it showed before.
+    pub fn replay(&mut self, basin: &Basin, kept: &StepRecord) -> Result<(), NoMemory>
+        requires step { IsStep basin.now kept.now.step }
+        requires can { CanWriteLines basin.now kept.now.lines }
+        requires made { IsHeldIn basin.now self.old.series }
+        ensures { Replays basin.now kept.now self.old self.new result }
+    {
+        self.state.replay(basin, kept)
     }
 
     /// What the run came to, or so far where timesteps are left. It takes no memory.

@@ -7,15 +7,17 @@
 mod counts;
 mod engine;
 pub mod law;
+mod noting;
 mod placing;
+mod replaying;
 mod running;
 mod setup;
 mod state;
 mod step_end;
 mod trace_lines;
-mod undo;
 
 pub use engine::Engine;
 pub use running::{run_all, run_without_trace};
+pub use rw_record::{Held, StepRecord};
 pub use rw_run::{Run, RunEnd, RunFault, Trace, TraceEvent};
 pub use step_end::StepEnd;

@@ -1,4 +1,4 @@
-ghost use Rattle.std.specs.Prelude.{◌≡◌, ◌<◌, ◌∷◌, [], ℕ, List, map, Some, None, Ok, IfOk, IfErr, IfSome, IsSome, is_some};
+ghost use Rattle.std.specs.Prelude.{◌≡◌, ◌<◌, ◌∷◌, [], ℕ, List, map, Some, None, Ok, IfOk, IfErr, IfSome, IsSome, MatchOption, drop, is_some};
 ghost use Rattle.rw_model.specs.Draft.{Draft};
 ghost use Rattle.rw_method.specs.Catalogue.{AreInOrder};
 ghost use Rattle.rw_inputs.specs.Inputs.{IsInputsOf};
@@ -10,38 +10,44 @@ ghost use Rattle.rw_model.specs.Turn.{IsStep, IsTurn};
 ghost use Rattle.rw_engine.specs.Counts.{count_of};
 ghost use Rattle.rw_engine.specs.Passing.{RunsStep};
 ghost use Rattle.rw_engine.specs.Shows.{IsEngineOf, Shows};
-ghost use Rattle.rw_engine.specs.State.{seen, Begins, Does, HasPassed, HoldsBefore, HoldsDue, HoldsWithin, IsFresh, IsOpened, IsStateOf, IsWithinStep, OnlyTells, ended_by, step_end};
+ghost use Rattle.rw_engine.specs.State.{seen, Begins, Clears, Does, HasPassed, HasReplayed, HoldsBefore, HoldsDue, HoldsWithin, IsFresh, IsOpened, IsStateOf, IsWithinStep, OnlyTells, Remakes, Retells, ended_by, step_end};
+ghost use Rattle.rw_dispatch.specs.Stage.{IsHeldIn};
+ghost use Rattle.rw_run.specs.Trace.{lines_in};
+ghost use Rattle.rw_record.specs.Noted.{noted_in};
+ghost use Rattle.rw_record.specs.Record.{IsLarge, IsRecordOf};
+ghost use Rattle.rw_engine.specs.Records.{CanWriteLines};
 
 use crate::counts::Counts;
+use crate::noting::{note_dispatch, note_firing};
 use crate::placing::place;
+use crate::replaying::{note_again, tell_again, write_again};
 use crate::setup::RunSetup;
 use crate::step_end::StepEnd;
 use crate::trace_lines::{tell, tell_firing};
-use crate::undo::{Undone, note, take_back};
 use rpl_verify::Verified;
 use rw_base::{NoMemory, ObjectNo, RuleNo, StepNo};
 use rw_dispatch::{Queue, Workspace, judge_dispatch, make};
 use rw_inputs::Inputs;
 use rw_model::Basin;
+use rw_record::{Noted, StepRecord, take_back};
 use rw_rules::Rules;
 use rw_run::{Run, RunEnd, RunFault, Trace, TraceEvent};
 use rw_series::Series;
 use std::alloc::Global;
 
-/// What an engine works on. Queue, rules and counts, of dispatches and of firings, are those of the open timestep, and what can be
-/// undone was put in it.
+/// What an engine works on. Queue, rules and counts, of dispatches and of firings, are those of the open timestep. What is noted is
+/// at what the events of the last one looked, its lines come behind so many lines of the trace, and where memory wants within it, it
+/// is taken back by both.
 #[derive(Drop)]
 pub(crate) struct State {
-    series: Series,
+    run: Run,
     queue: Queue,
     rules: Rules,
     work: Workspace,
     counts: Counts,
     firings: Counts,
-    trace: Trace,
-    closed: u16,
-    end: RunEnd,
-    undo: Vec<Undone>,
+    noted: Noted,
+    lines_before: usize,
 }
 
 impl State {
@@ -52,12 +58,14 @@ impl State {
         policy: &Verified,
         inputs: &Inputs,
         trace: Trace,
+        noted: Noted,
     ) -> Result<State, NoMemory>
         requires fits { verified basin.now policy.now.blocks ≡ Ok policy.now }
         requires inputs { IsInputsOf basin.now inputs.now }
         requires fresh { IfSome trace (λ lines. lines ≡ []) }
+        requires notes { is_some noted ≡ is_some trace }
         ensures begun { IfOk result (Begins basin.now policy.now inputs.now) }
-        ensures trace { IfOk result (λ state. state.trace ≡ trace) }
+        ensures trace { IfOk result (λ state. state.run.trace ≡ trace) }
     {
         let mut series = Series::sized(alloc, basin)?;
         let queue = Queue::for_basin(alloc, basin)?;
@@ -66,16 +74,19 @@ impl State {
         let firings = Counts::zero(alloc, policy.rule_count())?;
         place(basin, inputs, &mut series);
         Ok(State {
-            series,
+            run: Run {
+                end: RunEnd::Settled,
+                closed: 0,
+                series,
+                trace,
+            },
             queue,
             rules,
-            work: Workspace::new(),
+            work: Workspace::new(noted.is_kept()),
             counts,
             firings,
-            trace,
-            closed: 0,
-            end: RunEnd::Settled,
-            undo: Vec::new(alloc),
+            noted,
+            lines_before: 0,
         })
     }
 
@@ -86,9 +97,9 @@ impl State {
         ensures tells { OnlyTells self.old self.new }
         ensures opened { IfOk result
             (λ _. IsOpened setup.now.basin.now setup.now.policy.now step.0 self.old self.new) }
-        ensures wants { IfErr result (λ _. IsSome self.old.trace) }
+        ensures wants { IfErr result (λ _. IsSome self.old.run.trace) }
     {
-        self.trace.push(TraceEvent::Opened(step))?;
+        self.run.trace.push(TraceEvent::Opened(step))?;
         self.queue.begin_step(setup.basin);
         self.rules.begin_step();
         self.counts.clear();
@@ -104,9 +115,9 @@ impl State {
         ensures { Does setup.now.basin.now setup.now.policy.now step.0 self.old self.new
             (HoldsDue setup.now.basin.now setup.now.policy.now self.old step.0 None) result }
     {
-        self.trace.push(TraceEvent::Closed(step))?;
-        self.closed = step.0;
-        self.end = RunEnd::Settled;
+        self.run.trace.push(TraceEvent::Closed(step))?;
+        self.run.closed = step.0;
+        self.run.end = RunEnd::Settled;
         Ok(true)
     }
 
@@ -118,8 +129,8 @@ impl State {
             (HoldsBefore setup.now.basin.now setup.now.policy.now self.old step.0 waits
             (fault why)) result }
     {
-        self.trace.push(TraceEvent::Fault(why))?;
-        self.end = RunEnd::Fault(why);
+        self.run.trace.push(TraceEvent::Fault(why))?;
+        self.run.end = RunEnd::Fault(why);
         Ok(true)
     }
 
@@ -131,7 +142,7 @@ impl State {
         match fault {
             None => false,
             Some(fault) => {
-                self.end = RunEnd::Fault(fault);
+                self.run.end = RunEnd::Fault(fault);
                 true
             }
         }
@@ -139,9 +150,9 @@ impl State {
 
     // How the timestep ended.
     fn step_end(&self) -> StepEnd
-        ensures { result ≡ step_end self.now.end }
+        ensures { result ≡ step_end self.now.run.end }
     {
-        match self.end {
+        match self.run.end {
             RunEnd::Settled => StepEnd::Closed,
             RunEnd::Fault(fault) => StepEnd::Fault(fault),
         }
@@ -163,15 +174,23 @@ impl State {
         let end = judge_dispatch(
             setup.basin,
             setup.methods,
-            &self.series,
+            &self.run.series,
             object,
             step,
             &mut self.work,
         );
+        let asked = self.work.asked.as_slice();
+        note_dispatch(
+            &mut self.noted,
+            setup.basin,
+            &self.run.series,
+            object,
+            step,
+            asked,
+        )?;
         let writes = self.work.writes.as_slice();
-        note(&mut self.undo, &self.trace, &self.series, writes)?;
-        let fault = tell(&mut self.trace, object, step, &end, writes)?;
-        make(setup.basin, &mut self.series, writes);
+        let fault = tell(&mut self.run.trace, object, step, &end, writes)?;
+        make(setup.basin, &mut self.run.series, writes);
         self.queue
             .wake_written(setup.basin, step, writes, Some(object));
         self.rules.touched(setup.basin, writes);
@@ -218,15 +237,23 @@ impl State {
             setup.policy,
             setup.predefs,
             setup.basin,
-            &self.series,
+            &self.run.series,
             rule,
             step,
         );
+        let looked = self.rules.looked(rule);
+        let asked = self.rules.asked();
+        note_firing(
+            &mut self.noted,
+            setup.basin,
+            &self.run.series,
+            looked,
+            asked,
+        )?;
         let writes = self.rules.written();
-        note(&mut self.undo, &self.trace, &self.series, writes)?;
-        let fault = tell_firing(&mut self.trace, rule, step, &fired, writes)?;
+        let fault = tell_firing(&mut self.run.trace, rule, step, &fired, writes)?;
         self.rules
-            .write(setup.basin, &mut self.series, &mut self.queue, step);
+            .write(setup.basin, &mut self.run.series, &mut self.queue, step);
         Ok(self.end_by(fault))
     }
 
@@ -255,7 +282,7 @@ impl State {
             (HoldsWithin setup.now.basin.now setup.now.policy.now self.old step.0
             self.old.queue.waiting) result }
     {
-        match self.rules.due(&self.series) {
+        match self.rules.due(&self.run.series) {
             Some(rule) => self.let_fire(setup, rule, step),
             None => self.close(setup, step),
         }
@@ -275,6 +302,14 @@ impl State {
             Some(object) => self.ask(setup, object, step),
             None => self.turn_to_rules(setup, step),
         }
+    }
+
+    // Nothing is noted yet of a timestep, and its lines come behind those that there are.
+    fn begin_step(&mut self)
+        ensures { Clears self.old self.new }
+    {
+        self.noted.begin_step();
+        self.lines_before = self.run.trace.len();
     }
 
     // The events of a timestep, of which the first opens it.
@@ -305,13 +340,12 @@ impl State {
         ensures runs { RunsStep setup.now.basin.now setup.now.policy.now step.0
             (seen self.old) (seen self.new) result }
     {
-        self.undo.clear();
-        let mark = self.trace.len();
+        self.begin_step();
         match self.pass(setup, step) {
             Ok(end) => Ok(end),
             Err(NoMemory) => {
-                self.trace.truncate(mark);
-                take_back(setup.basin, &mut self.series, &mut self.undo);
+                self.run.trace.truncate(self.lines_before);
+                take_back(setup.basin, &mut self.run.series, &self.noted);
                 Err(NoMemory)
             }
         }
@@ -321,14 +355,70 @@ impl State {
     pub(crate) fn finish(self) -> Run
         ensures run { (basin : Draft) (policy : Accepted) (log : Log)
             → IsEngineOf basin policy (seen self) → Shows basin (seen self) log → IsRunOf basin log result }
-        ensures closed { result.closed ≡ self.closed }
-        ensures trace { result.trace ≡ self.trace }
+        ensures closed { result.closed ≡ self.run.closed }
+        ensures trace { result.trace ≡ self.run.trace }
     {
-        Run {
-            end: self.end,
-            closed: self.closed,
-            series: self.series,
-            trace: self.trace,
+        self.run
+    }
+
+    /// The record of the timestep that was closed last, if it isn't too large.
+    pub(crate) fn last_record(&self, alloc: Global) -> Result<Option<StepRecord>, NoMemory>
+        ensures { IfOk result (λ kept. MatchOption kept
+            (IsLarge (noted_in self.now.noted) (drop self.now.lines_before (lines_in self.now.run.trace)))
+            (IsRecordOf self.now.run.closed (noted_in self.now.noted)
+            (drop self.now.lines_before (lines_in self.now.run.trace)))) }
+    {
+        StepRecord::of(
+            alloc,
+            StepNo(self.run.closed),
+            &self.noted,
+            &self.run.trace,
+            self.lines_before,
+        )
+    }
+
+    // Notes the cells of a record and tells its lines: all that takes memory when it is passed again.
+    fn tell_record(&mut self, kept: &StepRecord) -> Result<(), NoMemory>
+        ensures { Retells kept.now self.old self.new result }
+    {
+        note_again(&mut self.noted, &self.run.series, kept.looked())?;
+        tell_again(&mut self.run.trace, kept.lines())
+    }
+
+    // Makes what a record's lines say to be written, and closes its timestep.
+    fn make_record(&mut self, basin: &Basin, kept: &StepRecord)
+        requires can { CanWriteLines basin.now kept.now.lines }
+        requires made { IsHeldIn basin.now self.old.run.series }
+        ensures { Remakes basin.now kept.now self.old self.new }
+    {
+        write_again(basin, &mut self.run.series, kept.lines());
+        self.run.closed = kept.step().0;
+        self.run.end = RunEnd::Settled;
+    }
+
+    /// Passes a timestep again, by its record, and takes back what was told of it where memory wants for the rest.
+    pub(crate) fn replay(&mut self, basin: &Basin, kept: &StepRecord) -> Result<(), NoMemory>
+        requires can { CanWriteLines basin.now kept.now.lines }
+        requires made { IsHeldIn basin.now self.old.run.series }
+        ensures { HasReplayed basin.now kept.now self.old self.new result }
+    {
+        self.begin_step();
+        match self.tell_record(kept) {
+            Ok(()) => {
+                self.make_record(basin, kept);
+                Ok(())
+            }
+            Err(NoMemory) => {
+                self.run.trace.truncate(self.lines_before);
+                Err(NoMemory)
+            }
         }
+    }
+
+    /// What the run comes to so far.
+    pub(crate) fn run(&self) -> &Run
+        ensures { result.now ≡ self.now.run }
+    {
+        &self.run
     }
 }

@@ -2,3 +2,4 @@ pub mod Noted
 pub mod Notes
 pub mod Marks
 pub mod Record
+pub mod Back

@@ -1,28 +1,25 @@
--- A mark for each cell of so many slots and timesteps.
-use Rattle.std.specs.Prelude.{◌≡◌, ℕ, ◌*◌, Bool, true, false, IsTrue, List, length, map, Option, Some, None, is_some}
+-- A mark for each cell of so many slots and timesteps, side by side.
+use Rattle.std.specs.Prelude.{◌≡◌, ℕ, ◌*◌, Bool, false, IsTrue, List, [], length, slice_index_or}
 use Rattle.rw_base.specs.declared.number.Cell.{Cell}
-use Rattle.rw_series.specs.Cells.{is_kept, kept_at}
+use Rattle.rw_series.specs.Cells.{is_kept, position_of}
 use Rattle.rw_run.specs.declared.held.Held.{Held}
-use Rattle.rw_record.specs.Noted.{is_noted}
-
--- side by side, timestep by timestep
-pub record Marks : Type 0 where
-  pub slots : ℕ
-  pub steps : ℕ
-  pub flags : List Bool
+use Rattle.rw_record.specs.Noted.{AreOnce, is_noted}
 
 -- there is a mark for the cell
-abbrev pub has_mark : Marks → Cell → Bool
-has_mark marks cell = is_kept marks.slots marks.steps cell.slot.0 cell.step.0
-
-abbrev pub mark_of : Bool → Option (Unit {0})
-mark_of true = Some tt
-mark_of false = None
+abbrev pub has_mark : ℕ → ℕ → Cell → Bool
+has_mark slots steps cell = is_kept slots steps cell.slot.0 cell.step.0
 
 -- the cell is marked
-abbrev pub is_marked : Marks → Cell → Bool
-is_marked marks cell = is_some (kept_at marks.slots marks.steps (map mark_of marks.flags) cell.slot.0 cell.step.0)
+abbrev pub is_marked : ℕ → List Bool → Cell → Bool
+is_marked slots marks cell = slice_index_or marks (position_of slots cell.slot.0 cell.step.0) false
 
--- of the cells for which there is a mark, those that are noted are marked
-abbrev pub AreMarked : Marks → List Held → Type 0
-AreMarked marks noted = (cell : Cell) → IsTrue (has_mark marks cell) → is_marked marks cell ≡ is_noted noted cell
+-- each cell is noted once, and marked exactly where it is noted, if there is a mark for it
+pub record KeepsMarks (slots steps : ℕ) (marks : List Bool) (noted : List Held) : Type 0 where
+  pub many : length marks ≡ slots * steps
+  pub marked : (cell : Cell) → IsTrue (has_mark slots steps cell) → is_marked slots marks cell ≡ is_noted noted cell
+  pub once : AreOnce noted
+
+-- and nothing is noted where nothing is kept
+pub record KeepsNoted (kept : Bool) (slots steps : ℕ) (marks : List Bool) (noted : List Held) : Type 0 where
+  pub marks_are : KeepsMarks slots steps marks noted
+  pub unkept : kept ≡ false → noted ≡ []

@@ -1,20 +1,22 @@
 -- Cells, each of them once, with what they held when they were noted.
-use Rattle.std.specs.Prelude.{◌≡◌, ℕ, IsFalse, Bool, List, [], ◌∷◌, ◌++◌, Contains, Option, Some, None, IsSome, option_map, Result, Ok, Err, if◌then◌else◌}
-use Rattle.std.specs.List.{list_any}
+use Rattle.std.specs.Prelude.{◌≡◌, Bool, List, [], ◌∷◌, ◌++◌, map, Contains, Option, Some, None, IsSome, option_map, Result, Ok, Err, if◌then◌else◌}
+use Rattle.std.specs.List.{IsDistinct, list_any}
 use Rattle.rw_base.specs.declared.number.Cell.{Cell}
 use Rattle.rw_base.specs.declared.memory.NoMemory.{NoMemory}
 use Rattle.rw_run.specs.Log.{Cells}
 use Rattle.rw_run.specs.Step.{is_same_cell}
 use Rattle.rw_run.specs.declared.held.Held.{Held}
 
+abbrev pub cells_noted : List Held → List Cell
+cells_noted noted = map (λ (one : Held). one.cell) noted
+
 -- the cell is one of these
 abbrev pub is_noted : List Held → Cell → Bool
-is_noted noted cell = list_any (λ (one : Held). is_same_cell cell one.cell) noted
+is_noted noted cell = list_any (is_same_cell cell) (cells_noted noted)
 
 -- no cell stands there twice
 abbrev pub AreOnce : List Held → Type 0
-AreOnce [] = Unit {0}
-AreOnce (one ∷ noted) = IsFalse (is_noted noted one.cell) × AreOnce noted
+AreOnce noted = IsDistinct is_same_cell (cells_noted noted)
 
 -- each of them holds what it held when it was noted
 abbrev pub AreHeld : Cells → List Held → Type 0

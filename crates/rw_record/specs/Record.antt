@@ -1,5 +1,5 @@
 -- A closed timestep, as it is kept.
-use Rattle.std.specs.Prelude.{◌≡◌, ◌↔◌, ◌×◌, ◌⊎◌, ℕ, ◌<◌, ◌≤◌, List, [], ◌∷◌, Contains, length, All}
+use Rattle.std.specs.Prelude.{◌≡◌, ◌↔◌, ◌⊎◌, ℕ, ◌<◌, ◌≤◌, List, [], ◌∷◌, Contains, length, All}
 use Rattle.rw_base.specs.declared.number.Cell.{Cell}
 use Rattle.rw_run.specs.Reuse.{most_kept}
 use Rattle.rw_run.specs.declared.held.Held.{Held}

@@ -1,6 +1,7 @@
 ghost use Rattle.std.specs.Prelude.{◌≡◌};
 ghost use Rattle.rw_base.specs.declared.number.Cell.{Cell};
 ghost use Rattle.rw_series.specs.Series.{Series, IsSeriesOf, held};
+ghost use Rattle.rw_record.specs.Back.{is_cell};
 ghost use Rattle.rw_record.specs.Noted.{noted_in};
 ghost use Rattle.rw_record.specs.Notes.{CanTakeBack};
 
@@ -14,7 +15,8 @@ fn is_cell(basin: &Basin, cell: Cell) -> bool
     ensures { result ≡ is_cell basin.now cell }
 {
     let steps = basin.control().stamps.count();
-    (1 <= cell.slot.0 && cell.slot.0 <= basin.slot_count()) && (1 <= cell.step.0 && cell.step.0 <= steps)
+    (1 <= cell.slot.0 && cell.slot.0 <= basin.slot_count())
+        && (1 <= cell.step.0 && cell.step.0 <= steps)
 }
 
 /// Puts back what the noted cells held when they were noted. Where no other cell has changed since then, all cells hold again

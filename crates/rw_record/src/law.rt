@@ -1,6 +1,7 @@
 //! What is noted, in plain words. Each law is the `ensures` of a function that does nothing.
+ghost use Rattle.std.specs.List.{flat_map};
 ghost use Rattle.std.specs.Option.{option_or};
-ghost use Rattle.std.specs.Prelude.{◌≡◌, ◌↔◌, ◌×◌, ◌⊎◌, ℕ, IsTrue, IsFalse, List, [], ◌∷◌, ◌++◌, Contains, Option, length};
+ghost use Rattle.std.specs.Prelude.{◌≡◌, ◌↔◌, ◌⊎◌, ℕ, IsTrue, IsFalse, List, [], ◌∷◌, ◌++◌, Contains, Option, length};
 ghost use Rattle.rw_base.specs.declared.number.Cell.{Cell};
 ghost use Rattle.rw_model.specs.Draft.{Draft};
 ghost use Rattle.rw_run.specs.Log.{Asked, Cells, Event, asked_in, held_after, last_put, written_by};

@@ -1,13 +1,14 @@
-ghost use Rattle.std.specs.Prelude.{◌≡◌, ◌∷◌, [], All, IfOk, IfErr, Some, None, is_some, option_map};
+ghost use Rattle.std.specs.Prelude.{◌≡◌, ◌*◌, ◌∷◌, [], All, IfOk, IfErr, IsTrue, Some, None, if◌then◌else◌, is_some, option_map, vec_len};
+ghost use Rattle.rw_base.specs.declared.number.Cell.{Cell};
 ghost use Rattle.rw_model.specs.Draft.{IsSlot};
 ghost use Rattle.rw_series.specs.Series.{held};
 ghost use Rattle.rw_run.specs.Frame.{cells_looked};
-ghost use Rattle.rw_run.specs.Step.{cells_reached, cells_with};
+ghost use Rattle.rw_run.specs.Step.{cells_reached, cells_with, is_same_cell};
 ghost use Rattle.rw_run.specs.declared.write.Write.{Write};
-ghost use Rattle.rw_record.specs.Marks.{AreMarked};
-ghost use Rattle.rw_record.specs.Noted.{AddsNotes, is_noted, noted_after, noted_in};
+ghost use Rattle.rw_record.specs.Marks.{KeepsMarks, has_mark, is_marked};
+ghost use Rattle.rw_record.specs.Noted.{AddsNotes, AreOnce, is_noted, noted_after, noted_in};
 
-use crate::marks::Marks;
+use crate::marks::{has_mark, is_marked, set_mark};
 use rw_base::{Cell, NoMemory};
 use rw_model::Basin;
 use rw_run::{Held, Write};
@@ -16,34 +17,41 @@ use std::alloc::Global;
 use std::marker::Model;
 
 /// The cells that were noted since a timestep was opened, each once, with what it held then, in the order of noting. Seen as
-/// that list, and as none where nothing is kept.
+/// that list, and as none where nothing is kept. That a cell is noted already is told by its mark.
 #[derive(Drop)]
 pub struct Noted {
     kept: bool,
-    marks: Marks,
+    slots: u16,
+    steps: u16,
+    marks: Vec<bool>,
     items: Vec<Held>,
 }
 
 impl Model for Noted {
     ghost use Rattle.std.specs.Prelude.{List, Option, Some, None, if◌then◌else◌};
     ghost use Rattle.rw_run.specs.declared.held.Held.{Held};
-    ghost use Rattle.rw_record.specs.Marks as marks;
+    ghost use Rattle.rw_record.specs.Marks.{KeepsNoted};
 
     ghost Value = { Option (List Held) };
 
     ghost view = { λ n. if n.kept then Some n.items.items else None };
 
-    ghost invariant = { λ n. marks.AreMarked n.marks n.items.items };
+    ghost invariant = { λ n. KeepsNoted n.kept n.slots n.steps n.marks.items n.items.items };
 }
 
 impl Noted {
-    /// No cell is noted. That a cell is noted already is told by a mark, for which this takes room.
+    /// No cell is noted. This takes room for a mark of each cell of the basin.
     pub fn for_basin(alloc: Global, basin: &Basin) -> Result<Noted, NoMemory>
         ensures { IfOk result (λ noted. noted ≡ Some []) }
     {
+        let slots = basin.slot_count();
+        let steps = basin.control().stamps.count();
+        let marks = Vec::from_elem(alloc, false, usize::from(slots) * usize::from(steps))?;
         Ok(Noted {
             kept: true,
-            marks: Marks::for_basin(alloc, basin)?,
+            slots,
+            steps,
+            marks,
             items: Vec::new(alloc),
         })
     }
@@ -54,7 +62,9 @@ impl Noted {
     {
         Noted {
             kept: false,
-            marks: Marks::none(alloc),
+            slots: 0,
+            steps: 0,
+            marks: Vec::new(alloc),
             items: Vec::new(alloc),
         }
     }
@@ -68,7 +78,8 @@ impl Noted {
 
     /// What is noted.
     pub fn as_slice(&self) -> &[Held]
-        ensures { result.now ≡ noted_in self.now }
+        ensures noted { result.now ≡ noted_in self.now }
+        ensures once { AreOnce result.now }
     {
         self.items.as_slice()
     }
@@ -77,7 +88,7 @@ impl Noted {
     pub fn begin_step(&mut self)
         ensures { self.new ≡ option_map (λ _. []) self.old }
     {
-        clear(&mut self.marks, &mut self.items);
+        clear(&mut self.marks, self.slots, self.steps, &mut self.items);
     }
 
     /// Notes a cell with what it holds, unless it is noted already.
@@ -86,7 +97,14 @@ impl Noted {
         ensures unchanged { IfErr result (λ _. self.new ≡ self.old) }
     {
         if self.kept {
-            add(&mut self.marks, &mut self.items, series, cell)
+            add(
+                &mut self.marks,
+                self.slots,
+                self.steps,
+                &mut self.items,
+                series,
+                cell,
+            )
         } else {
             Ok(())
         }
@@ -103,7 +121,12 @@ impl Noted {
     }
 
     /// Notes the cells of puts, each with all that share its value.
-    pub fn note_reached(&mut self, basin: &Basin, series: &Series, writes: &[Write]) -> Result<(), NoMemory>
+    pub fn note_reached(
+        &mut self,
+        basin: &Basin,
+        series: &Series,
+        writes: &[Write],
+    ) -> Result<(), NoMemory>
         requires { All (λ (write : Write). IsSlot basin.now.objects write.cell.slot.0) writes.now }
         ensures { AddsNotes (held series.now) (cells_reached basin.now writes.now) self.old self.new result }
     {
@@ -120,7 +143,13 @@ impl Noted {
     {
         self.note(series, cell)?;
         for slot in basin.group(cell.slot) {
-            self.note(series, Cell { slot: *slot, step: cell.step })?;
+            self.note(
+                series,
+                Cell {
+                    slot: *slot,
+                    step: cell.step,
+                },
+            )?;
         }
         Ok(())
     }
@@ -145,41 +174,62 @@ fn is_among(items: &[Held], cell: Cell) -> bool
     false
 }
 
-// Whether a cell is noted. Each cell of the basin has a mark.
-fn is_noted(marks: &Marks, items: &[Held], cell: Cell) -> bool
-    requires { AreMarked marks.now items.now }
+// Whether a cell is noted. A cell of the basin has a mark.
+fn is_noted(marks: &[bool], slots: u16, steps: u16, items: &[Held], cell: Cell) -> bool
+    requires { KeepsMarks slots steps marks.now items.now }
     ensures { result ≡ is_noted items.now cell }
 {
-    if marks.has_mark(cell) {
-        marks.is_marked(cell)
+    if has_mark(slots, steps, cell) {
+        is_marked(marks, slots, steps, cell)
     } else {
         is_among(items, cell)
     }
 }
 
 // Adds a cell with what it holds, unless it is noted. After want of memory all is as it was.
-fn add(marks: &mut Marks, items: &mut Vec<Held>, series: &Series, cell: Cell) -> Result<(), NoMemory>
-    requires { AreMarked marks.old items.old.items }
-    ensures marked { AreMarked marks.new items.new.items }
+fn add(
+    marks: &mut Vec<bool>,
+    slots: u16,
+    steps: u16,
+    items: &mut Vec<Held>,
+    series: &Series,
+    cell: Cell,
+) -> Result<(), NoMemory>
+    requires { KeepsMarks slots steps marks.old.items items.old.items }
+    ensures marks { KeepsMarks slots steps marks.new.items items.new.items }
     ensures added { IfOk result (λ _. items.new.items
         ≡ noted_after (held series.now) items.old.items (cell ∷ [])) }
     ensures unchanged { IfErr result (λ _. items.new.items ≡ items.old.items) }
 {
-    if !is_noted(marks, items.as_slice(), cell) {
-        let content = series.get(cell);
-        items.push(Held { cell, content })?;
-        marks.set(cell, true);
+    if is_noted(marks.as_slice(), slots, steps, items.as_slice(), cell) {
+        return Ok(());
     }
+    let content = series.get(cell);
+    items.push(Held { cell, content })?;
+    mark_if(marks, slots, steps, cell, true);
     Ok(())
 }
 
 // Takes all cells out, with their marks.
-fn clear(marks: &mut Marks, items: &mut Vec<Held>)
-    requires { AreMarked marks.old items.old.items }
-    ensures marked { AreMarked marks.new items.new.items }
+fn clear(marks: &mut Vec<bool>, slots: u16, steps: u16, items: &mut Vec<Held>)
+    requires { KeepsMarks slots steps marks.old.items items.old.items }
+    ensures marks { KeepsMarks slots steps marks.new.items items.new.items }
     ensures empty { items.new.items ≡ [] }
 {
     while let Some(one) = items.pop() {
-        marks.set(one.cell, false);
+        mark_if(marks, slots, steps, one.cell, false);
+    }
+}
+
+// Marks a cell, or takes its mark away, if there is a mark for it.
+fn mark_if(marks: &mut Vec<bool>, slots: u16, steps: u16, cell: Cell, mark: bool)
+    requires { vec_len marks.old ≡ slots * steps }
+    ensures many { vec_len marks.new ≡ slots * steps }
+    ensures set { (other : Cell) → IsTrue (has_mark slots steps other)
+        → is_marked slots marks.new.items other
+        ≡ (if is_same_cell cell other then mark else is_marked slots marks.old.items other) }
+{
+    if has_mark(slots, steps, cell) {
+        set_mark(marks, slots, steps, cell, mark);
     }
 }

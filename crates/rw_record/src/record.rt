@@ -1,4 +1,4 @@
-ghost use Rattle.std.specs.Prelude.{◌≡◌, ◌+◌, ◌*◌, ◌↔◌, IfOk, MatchOption, Contains, Some, drop};
+ghost use Rattle.std.specs.Prelude.{◌≡◌, ◌↔◌, ◌||◌, nat_lt, IfOk, MatchOption, Contains, Some, drop, length};
 ghost use Rattle.rw_run.specs.Trace.{lines_in};
 ghost use Rattle.rw_run.specs.declared.held.Held.{Held as WasHeld};
 ghost use Rattle.rw_record.specs.Noted.{AreOnce, noted_in};
@@ -23,6 +23,7 @@ pub struct StepRecord {
 }
 
 impl Model for StepRecord {
+    ghost use Rattle.std.specs.Prelude.{◌≡◌, Some};
     ghost use Rattle.rw_run.specs.Trace.{lines_in};
     ghost use Rattle.rw_record.specs.Record as specs;
 
@@ -43,12 +44,11 @@ impl StepRecord {
         trace: &Trace,
         from: usize,
     ) -> Result<Option<StepRecord>, NoMemory>
-        requires { AreOnce (noted_in noted.now) }
         ensures { IfOk result (λ kept. MatchOption kept
             (IsLarge (noted_in noted.now) (drop from (lines_in trace.now)))
             (IsRecordOf step.0 (noted_in noted.now) (drop from (lines_in trace.now)))) }
     {
-        if is_large(noted.as_slice().len(), trace.len(), from) {
+        if is_large(noted.as_slice().len(), trace, from) {
             return Ok(None);
         }
         let looked = rising(alloc, noted.as_slice())?;
@@ -80,4 +80,36 @@ impl StepRecord {
     {
         &self.lines
     }
+}
+
+// Whether so many cells, or the lines of a trace from a place on, are too many to be kept.
+fn is_large(cells: usize, trace: &Trace, from: usize) -> bool
+    ensures { result ≡ (nat_lt MOST_KEPT cells || nat_lt MOST_KEPT (length (drop from (lines_in trace.now)))) }
+{
+    cells > MOST_KEPT || trace.len().saturating_sub(from) > MOST_KEPT
+}
+
+// The cells, rising by slot and then by timestep.
+fn rising(alloc: Global, cells: &[Held]) -> Result<Vec<Held>, NoMemory>
+    requires { AreOnce cells.now }
+    ensures rising { IfOk result (λ sorted. AreRisingCells sorted.items) }
+    ensures members { IfOk result (λ sorted. (one : WasHeld)
+        → Contains sorted.items one ↔ Contains cells.now one) }
+{
+    let mut sorted = cells.to_vec(alloc)?;
+    sorted.sort_unstable_by_key(|held| (held.cell.slot.0, held.cell.step.0));
+    Ok(sorted)
+}
+
+// The lines of a trace from a place on.
+fn lines_from(alloc: Global, trace: &Trace, from: usize) -> Result<Trace, NoMemory>
+    ensures { IfOk result (λ lines. lines ≡ Some (drop from (lines_in trace.now))) }
+{
+    let mut lines = Trace::new(alloc);
+    for place in from..trace.len() {
+        if let Some(line) = trace.line(place) {
+            lines.push(line)?;
+        }
+    }
+    Ok(lines)
 }

@@ -75,7 +75,7 @@ module _ (basin : Draft) (policy : Policy) (inputs : Inputs) (earlier : Log) (wa
   }
 
   -- behind a fault nothing happens
-  pub none_on : old.over ≡ true → new.over ≡ true → new.engine ≡ old.engine → new.reran ≡ old.reran → before_closing step way.log ≡ None
+  pub none_on : old.over ≡ true → new.over ≡ true → new.engine ≡ old.engine → new.reran.items ≡ old.reran.items → before_closing step way.log ≡ None
       → change ≡ Some None → IsUnderWay basin policy inputs earlier was new step
   none_on was_over is_over engine reran unclosed nothing = record {
     many = so_many;
@@ -85,7 +85,7 @@ module _ (basin : Draft) (policy : Policy) (inputs : Inputs) (earlier : Log) (wa
     shows = subst (λ e. Shows basin e way.log) (sym engine) way.shows;
     stands = way.stands ∙ ap (λ o. stands_at o last) was_over ∙ sym (ap (λ o. stands_at o step) is_over);
     later = λ other far. way.later other (omega (arith, far, next_one));
-    rerun = subst (λ (steps : Vec StepNo Global). AreRerun basin earlier way.log (numbers_of steps.items)) (sym reran) way.rerun;
+    rerun = subst (λ (steps : List StepNo). AreRerun basin earlier way.log (numbers_of steps)) (sym reran) way.rerun;
     kept = let many = kept_so_far in
         subst (AreKept basin policy way.log 1) (sym changed_now)
         (kept_more basin policy step 1 way.log (changed was old.changes.items) (unwrap_or change entry) (omega (arith, many, next_one)) way.kept

@@ -1,0 +1,92 @@
+//! Passing a timestep again, by its record.
+ghost use Rattle.std.specs.Prelude.{◌≡◌, [], IfErr, IfOk, IfSome, map};
+ghost use Rattle.std.specs.List.{cons_option};
+ghost use Rattle.std.specs.Option.{option_or};
+ghost use Rattle.rw_base.specs.declared.number.Cell.{Cell as Place};
+ghost use Rattle.rw_series.specs.Series.{held};
+ghost use Rattle.rw_dispatch.specs.Stage.{IsHeldIn};
+ghost use Rattle.rw_run.specs.Log.{last_put};
+ghost use Rattle.rw_run.specs.Trace.{lines_in, told};
+ghost use Rattle.rw_run.specs.declared.held.Held.{Held as WasHeld};
+ghost use Rattle.rw_engine.specs.Lines.{Grows};
+ghost use Rattle.rw_engine.specs.Noting.{NotesAll};
+ghost use Rattle.rw_engine.specs.Records.{CanWriteLine, CanWriteLines, puts_in, puts_of_line};
+
+use rw_base::{Cell, NoMemory};
+use rw_dispatch::make;
+use rw_model::Basin;
+use rw_record::{Held, Noted};
+use rw_run::{Trace, TraceEvent, Write};
+use rw_series::Series;
+
+/// Notes these cells, with what they hold now.
+pub(crate) fn note_again(
+    noted: &mut Noted,
+    series: &Series,
+    looked: &[Held],
+) -> Result<(), NoMemory>
+    ensures { NotesAll (held series.now) (map (λ (one : WasHeld). one.cell) looked.now)
+        noted.old noted.new result }
+{
+    for one in looked {
+        noted.note(series, one.cell)?;
+    }
+    Ok(())
+}
+
+// Tells a line, if there is one.
+fn tell_line(trace: &mut Trace, line: Option<TraceEvent>) -> Result<(), NoMemory>
+    ensures told { IfOk result (λ _. trace.new ≡ told trace.old (cons_option line [])) }
+    ensures unchanged { IfErr result (λ _. trace.new ≡ trace.old) }
+{
+    match line {
+        Some(line) => trace.push(line),
+        None => Ok(()),
+    }
+}
+
+/// Tells these lines.
+pub(crate) fn tell_again(trace: &mut Trace, lines: &Trace) -> Result<(), NoMemory>
+    ensures told { IfOk result (λ _. trace.new ≡ told trace.old (lines_in lines.now)) }
+    ensures grows { Grows trace.old trace.new }
+{
+    for place in 0..lines.len() {
+        tell_line(trace, lines.line(place))?;
+    }
+    Ok(())
+}
+
+// Writes what a line says to be written, if there is one that does.
+fn write_line(basin: &Basin, series: &mut Series, line: Option<TraceEvent>)
+    requires can { IfSome line (CanWriteLine basin.now) }
+    requires made { IsHeldIn basin.now series.old }
+    ensures made { IsHeldIn basin.now series.new }
+    ensures cells { (cell : Place) → held series.new cell
+        ≡ option_or (last_put basin.now (puts_in (cons_option line [])) cell) (held series.old cell) }
+{
+    match line {
+        Some(TraceEvent::Written {
+            slot,
+            step,
+            content,
+        }) => {
+            let cell = Cell { slot, step };
+            make(basin, series, &[Write { cell, content }]);
+        }
+        _ => {}
+    }
+}
+
+/// Writes what these lines say to be written, one after another.
+pub(crate) fn write_again(basin: &Basin, series: &mut Series, lines: &Trace)
+    requires can { CanWriteLines basin.now (lines_in lines.now) }
+    requires made { IsHeldIn basin.now series.old }
+    ensures made { IsHeldIn basin.now series.new }
+    ensures cells { (cell : Place) → held series.new cell
+        ≡ option_or (last_put basin.now (puts_in (lines_in lines.now)) cell)
+        (held series.old cell) }
+{
+    for place in 0..lines.len() {
+        write_line(basin, series, lines.line(place));
+    }
+}

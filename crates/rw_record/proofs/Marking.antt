@@ -1,0 +1,120 @@
+-- Marks of cells.
+use Rattle.rw_record.proofs.Common.{AreOnce, Bool, Cell, Cells, Held, IsTrue, List, [], and_parts, ap, arith, cells_noted, false, false≢true, get_or-set_other, get_or-set_same, if◌then◌else◌, is_noted, is_same_cell, length, list_any, list_any-append, map-append, nat_tests, noted_after, refl, replicate, set, slice_index_or, subst, suc, sym, true, zero, ℕ, ◌&&◌, ◌*◌, ◌++◌, ◌<◌, ◌==◌, ◌||◌, ◌∙◌, ◌∷◌, ◌≡◌, ◌≢◌}
+use Rattle.std.specs.List.{IsDistinct}
+use Rattle.std.proofs.lemmas.List.Elements.{All-from_recursion}
+use Rattle.std.proofs.lemmas.List.Folds.{list_any_none}
+use Rattle.std.proofs.lemmas.List.Sorted.{IsPermutation-to_front}
+use Rattle.std.proofs.lemmas.Map.Keys.{IsDistinct-IsPermutation, IsDistinct-head, IsDistinct-tail}
+use Rattle.rw_series.specs.Cells.{position_of}
+use Rattle.rw_series.proofs.Places.{Kept, Kept-of, same_slot, same_step, within}
+use Rattle.rw_record.specs.Marks.{KeepsMarks, has_mark, is_marked}
+use Rattle.rw_record.proofs.Cells.{cells_equiv, same_cell}
+use Rattle.rw_record.proofs.Noting.{noted_is, once}
+
+pub near : (slots steps : ℕ) (marks : List Bool) (cell : Cell) → length marks ≡ slots * steps → has_mark slots steps cell ≡ true
+    → position_of slots cell.slot.0 cell.step.0 < length marks
+near slots steps marks cell many there =
+    omega (arith, many, within slots steps cell.slot.0 cell.step.0 (Kept-of slots steps cell.slot.0 cell.step.0 there))
+
+-- a cell is set, and no other changes
+pub mark_set : (slots steps : ℕ) (marks : List Bool) (cell other : Cell) (mark : Bool) → length marks ≡ slots * steps
+    → has_mark slots steps cell ≡ true → has_mark slots steps other ≡ true
+    → is_marked slots (set marks (position_of slots cell.slot.0 cell.step.0) mark) other ≡ (if is_same_cell cell other then mark else is_marked slots marks other)
+mark_set slots steps marks cell other mark many there too = by (is_same_cell cell other) refl
+  where
+    apart : is_same_cell cell other ≡ false → position_of slots other.slot.0 other.step.0 ≢ position_of slots cell.slot.0 cell.step.0
+    apart none at =
+        let one = Kept-of slots steps other.slot.0 other.step.0 too in
+        let this = Kept-of slots steps cell.slot.0 cell.step.0 there in
+        let slot = same_slot slots steps other.slot.0 other.step.0 cell.slot.0 cell.step.0 one this at in
+        let step = same_step slots steps other.slot.0 other.step.0 cell.slot.0 cell.step.0 one this at in
+        let same : is_same_cell cell other ≡ true = grind (arith, nat_tests, slot, step) in
+        false≢true (sym none ∙ same)
+
+    by : (same : Bool) → is_same_cell cell other ≡ same
+        → is_marked slots (set marks (position_of slots cell.slot.0 cell.step.0) mark) other ≡ (if same then mark else is_marked slots marks other)
+    by true same =
+        subst (λ it. is_marked slots (set marks (position_of slots cell.slot.0 cell.step.0) mark) it ≡ mark) (same_cell cell other same)
+        (get_or-set_same marks (position_of slots cell.slot.0 cell.step.0) mark false (near slots steps marks cell many there))
+    by false none = get_or-set_other marks (position_of slots cell.slot.0 cell.step.0) (position_of slots other.slot.0 other.step.0) mark false (apart none)
+
+-- ---- with what is noted
+
+none_marked : (n k : ℕ) → slice_index_or (replicate n false) k false ≡ false
+none_marked zero k = refl
+none_marked (suc n) zero = refl
+none_marked (suc n) (suc k) = none_marked n k
+
+pub no_marks : (slots steps n : ℕ) → n ≡ slots * steps → length (replicate n false) ≡ n → KeepsMarks slots steps (replicate n false) []
+unfolding IsDistinct
+no_marks slots steps n many all = record {
+  many = all ∙ many;
+  marked = λ cell there. none_marked n (position_of slots cell.slot.0 cell.step.0);
+  once = tt;
+}
+
+-- a cell that isn't noted is noted and marked
+pub one_added : (slots steps : ℕ) (marks new : List Bool) (cells : Cells) (noted : List Held) (cell : Cell) → KeepsMarks slots steps marks noted
+    → is_noted noted cell ≡ false → length new ≡ slots * steps
+    → ((other : Cell) → IsTrue (has_mark slots steps other) → is_marked slots new other ≡ (if is_same_cell cell other then true else is_marked slots marks other))
+    → KeepsMarks slots steps new (noted_after cells noted (cell ∷ []))
+one_added slots steps marks new cells noted cell keeps fresh many sets = record {
+  many = many;
+  marked = λ other there.
+      sets other there ∙ ap (λ was. if is_same_cell cell other then true else was) (keeps.marked other there)
+      ∙ either (is_same_cell cell other) (is_noted noted other)
+      ∙ ap (λ same. is_noted noted other || (same || false)) (cells_equiv.symm cell other)
+      ∙ sym (noted_is cells noted (cell ∷ []) other);
+  once = once cells noted (cell ∷ []) keeps.once;
+}
+  where
+    either : (same was : Bool) → (if same then true else was) ≡ (was || (same || false))
+    either true true = refl
+    either true false = refl
+    either false true = refl
+    either false false = refl
+
+-- a list in which each stands once, without the last of them
+record IsBut (first : List Cell) (last : Cell) : Type 0 where
+  once : IsDistinct is_same_cell first
+  fresh : list_any (is_same_cell last) first ≡ false
+
+but_last : (first : List Cell) (last : Cell) → IsDistinct is_same_cell (first ++ last ∷ []) → IsBut first last
+but_last first last once =
+    let turned = IsDistinct-IsPermutation is_same_cell cells_equiv.symm (first ++ last ∷ []) (last ∷ first) (IsPermutation-to_front first last) once in
+    record {
+      once = IsDistinct-tail is_same_cell last first turned;
+      fresh = list_any_none (is_same_cell last) first (All-from_recursion (λ cell. is_same_cell last cell ≡ false) first (IsDistinct-head is_same_cell last first turned));
+    }
+
+-- the last one is noted no more, and has no mark
+pub one_taken : (slots steps : ℕ) (marks new : List Bool) (all noted : List Held) (last : Held) → all ≡ noted ++ last ∷ [] → KeepsMarks slots steps marks all
+    → length new ≡ slots * steps
+    → ((other : Cell) → IsTrue (has_mark slots steps other) → is_marked slots new other ≡ (if is_same_cell last.cell other then false else is_marked slots marks other))
+    → KeepsMarks slots steps new noted
+one_taken slots steps marks new all noted last is keeps many sets = record {
+  many = many;
+  marked = λ other there.
+      sets other there ∙ ap (λ was. if is_same_cell last.cell other then false else was) (keeps.marked other there ∙ noted_all other)
+      ∙ by other (is_same_cell last.cell other) refl;
+  once = but.once;
+}
+  where
+    cells : cells_noted all ≡ cells_noted noted ++ last.cell ∷ []
+    cells = ap cells_noted is ∙ map-append (λ (one : Held). one.cell) noted (last ∷ [])
+
+    but : IsBut (cells_noted noted) last.cell
+    but = but_last (cells_noted noted) last.cell (subst (IsDistinct is_same_cell) cells keeps.once)
+
+    noted_all : (other : Cell) → is_noted all other ≡ (is_noted noted other || (is_same_cell other last.cell || false))
+    noted_all other = ap (list_any (is_same_cell other)) cells ∙ list_any-append (is_same_cell other) (cells_noted noted) (last.cell ∷ [])
+
+    or_none : (was : Bool) → (was || (false || false)) ≡ was
+    or_none true = refl
+    or_none false = refl
+
+    by : (other : Cell) (same : Bool) → is_same_cell last.cell other ≡ same
+        → (if same then false else (is_noted noted other || (is_same_cell other last.cell || false))) ≡ is_noted noted other
+    by other true same = sym (ap (is_noted noted) (sym (same_cell last.cell other same)) ∙ but.fresh)
+    by other false apart =
+        ap (λ same. is_noted noted other || (same || false)) (cells_equiv.symm other last.cell ∙ apart) ∙ or_none (is_noted noted other)

@@ -1,0 +1,34 @@
+-- What a call tells where memory wants, and where it goes on.
+use Rattle.rw_base.proofs.Common.{◌≡◌, ◌≤◌, ◌+◌, ℕ, Err, List, Ok, Option, Result}
+use Rattle.std.specs.Prelude.{IsErrAnd}
+use Rattle.rw_base.specs.declared.memory.NoMemory.{NoMemory}
+use Rattle.rw_model.specs.Draft.{Draft}
+use Rattle.rw_inputs.specs.Inputs.{Inputs}
+use Rattle.rw_record.specs.Record.{StepRecord}
+use Rattle.rpl_verify.specs.Verified.{Accepted}
+use Rattle.rw_rerun.specs.UnderWay.{GoesOn, PassesAll}
+use Rattle.rw_rerun.specs.declared.pass.Pass.{Pass}
+
+pub wants : (basin : Draft) (policy : Accepted) (step : ℕ) (Fits : Option StepRecord → Type 0) (old new : Pass) (before after : ℕ)
+    (result : Result (Unit {0}) NoMemory) (why : NoMemory) → IsErrAnd result (λ fault. fault ≡ why) → before ≤ after → after ≤ before + 1
+    → GoesOn basin policy step Fits old new before after result
+wants basin policy step Fits old new before after (Ok done) why is rises few = absurd is
+wants basin policy step Fits old new before after (Err fault) why is rises few = record {
+  made = tt;
+  goes = λ inputs earlier was last entry framed there fits next_one way. tt;
+  each = tt;
+  rises = rises;
+  few = few;
+}
+
+pub wants_all : (basin : Draft) (policy : Accepted) (inputs : Inputs) (was : List (Option StepRecord)) (before after : ℕ) (result : Result Pass NoMemory)
+    (why : NoMemory) → IsErrAnd result (λ fault. fault ≡ why) → before ≤ after → after ≤ before + basin.control.stamps.count
+    → PassesAll basin policy inputs was before after result
+wants_all basin policy inputs was before after (Ok pass) why is rises few = absurd is
+wants_all basin policy inputs was before after (Err fault) why is rises few = record {
+  made = tt;
+  goes = λ earlier kept. tt;
+  each = tt;
+  rises = rises;
+  few = few;
+}
