@@ -16,7 +16,6 @@ use rw_base::{Ledger, NoMemory, StepNo, Steps};
 use rw_engine::{Engine, StepEnd, StepRecord};
 use rw_inputs::Inputs;
 use rw_record::law::how_many;
-use rw_run::law::{again, timesteps_behind};
 use std::alloc::Global;
 
 // No timestep is opened behind a fault, and none is kept.
@@ -26,7 +25,6 @@ fn skip(pass: &mut Pass, _setup: &Setup<'_>, _step: StepNo) -> Result<(), NoMemo
     ensures { (steps : ℕ) → GoesOn _setup.now.basin.now _setup.now.policy.now _step.0 (λ entry. ⊤)
         pass.old pass.new steps steps result }
 {
-    timesteps_behind();
     pass.changes.push(Some(None))?;
     Ok(())
 }
@@ -46,8 +44,6 @@ fn take_over(
     ensures { (steps : ℕ) → GoesOn setup.now.basin.now setup.now.policy.now step.0
         (λ entry. entry ≡ Some kept.now) pass.old pass.new steps steps result }
 {
-    timesteps_behind();
-    again();
     pass.changes.push(None)?;
     pass.engine.replay(setup.basin, kept)?;
     Ok(())
@@ -69,7 +65,6 @@ fn run_anew<L: Ledger>(
     ensures { GoesOn setup.now.basin.now setup.now.policy.now step.0 (IsUnlike pass.old)
         pass.old pass.new steps.old steps.new result }
 {
-    timesteps_behind();
     how_many();
     let end = pass.engine.run_step(
         setup.basin,
@@ -144,7 +139,6 @@ pub(crate) fn pass_all<L: Ledger>(
 {
     answered_code_is_safe();
     code_keeps_promises();
-    timesteps_behind();
     let engine = Engine::for_run(alloc, setup.basin, setup.policy, inputs)?;
     let mut pass = Pass {
         engine,

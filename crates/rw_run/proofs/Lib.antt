@@ -1,11 +1,11 @@
 pub mod Lists
 pub mod Waits
 pub mod Ready
-mod OneRun
+pub mod OneRun
 pub mod Sinces
 mod Frames
 mod Reuses
-mod Agains
+pub mod Agains
 mod StepEvents
 mod Reruns
 mod Lasts

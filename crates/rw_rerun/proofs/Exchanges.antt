@@ -1,0 +1,31 @@
+-- Changes take the place of what was kept, the last one first.
+use Rattle.rw_base.proofs.Common.{◌≡◌, ◌≤◌, ◌<◌, ◌+◌, ◌∙◌, ℕ, zero, suc, List, [], ◌∷◌, ◌++◌, Option, Some, None, unwrap_or, length, refl, sym, ap, subst, arith, set, drop}
+use Rattle.rw_record.specs.Record.{StepRecord}
+use Rattle.rw_rerun.specs.Kept.{changed}
+
+-- what is kept once this change has taken its place
+abbrev pub placed_in : List (Option StepRecord) → ℕ → Option (Option StepRecord) → List (Option StepRecord)
+placed_in kept place None = kept
+placed_in kept place (Some record') = set kept place record'
+
+placed_later : (one : Option StepRecord) (kept : List (Option StepRecord)) (place : ℕ) (change : Option (Option StepRecord))
+    → placed_in (one ∷ kept) (suc place) change ≡ one ∷ placed_in kept place change
+placed_later one kept place None = refl
+placed_later one kept place (Some record') = refl
+
+placed_first : (one : Option StepRecord) (kept : List (Option StepRecord)) (change : Option (Option StepRecord))
+    → placed_in (one ∷ kept) 0 change ≡ unwrap_or change one ∷ kept
+placed_first one kept None = refl
+placed_first one kept (Some record') = refl
+
+-- what is changed so far, and what isn't yet
+abbrev pub both : List (Option StepRecord) → List (Option (Option StepRecord)) → List (Option StepRecord)
+both kept changes = changed kept changes ++ drop (length changes) kept
+
+pub one_less : (kept : List (Option StepRecord)) (changes : List (Option (Option StepRecord))) (change : Option (Option StepRecord))
+    → length changes < length kept → both (placed_in kept (length changes) change) changes ≡ both kept (changes ++ change ∷ [])
+one_less [] changes change near = absurd (omega (arith, near))
+one_less (one ∷ kept) [] change near = placed_first one kept change
+one_less (one ∷ kept) (first ∷ changes) change near =
+    ap (λ ks. both ks (first ∷ changes)) (placed_later one kept (length changes) change)
+    ∙ ap (λ rest. unwrap_or first one ∷ rest) (one_less kept changes change (omega (arith, near)))
