@@ -1,5 +1,5 @@
 -- What is kept of a timestep that was run, and of one that was taken over.
-use Rattle.rw_base.proofs.Common.{◌≡◌, ◌<◌, ◌≤◌, ◌+◌, ◌∙◌, ℕ, Bool, true, false, List, [], ◌∷◌, ◌++◌, Contains, Option, Some, None, IsSome, length, length-append, nat_lt, refl, sym, ap, subst, arith, inl, inr, nat_tests}
+use Rattle.rw_base.proofs.Common.{◌≡◌, ◌⊎◌, ◌<◌, ◌≤◌, ◌+◌, ◌∙◌, ℕ, Bool, true, false, List, [], ◌∷◌, ◌++◌, Contains, Option, Some, None, IsSome, length, length-append, nat_lt, refl, sym, ap, subst, arith, inl, inr, nat_tests}
 use Rattle.std.specs.List.{flat_map}
 use Rattle.rw_base.specs.declared.number.Cell.{Cell}
 use Rattle.rw_model.specs.Draft.{Draft}
@@ -21,10 +21,10 @@ use Rattle.rw_rerun.proofs.Keeping.{keepable_same}
 use Rattle.rw_rerun.proofs.Reusing.{length_after, reached_after, reached_events}
 
 at_most : (most n : ℕ) → ¬ (most < n) → n ≤ most
-at_most most n no = by (nat_lt most n) refl
+at_most most n few = by (nat_lt most n) refl
   where
     by : (more : Bool) → nat_lt most n ≡ more → n ≤ most
-    by true is = absurd (no (grind (arith, nat_tests, is)))
+    by true is = absurd (few (grind (arith, nat_tests, is)))
     by false is = grind (arith, nat_tests, is)
 
 -- what the log closed of the timestep

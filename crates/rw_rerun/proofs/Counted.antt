@@ -32,3 +32,16 @@ wants_all basin policy inputs was before after (Err fault) why is rises few = re
   rises = rises;
   few = few;
 }
+
+-- what goes on where more is known
+pub weaker : (basin : Draft) (policy : Accepted) (step : ℕ) (Fits Known : Option StepRecord → Type 0) (old new : Pass) (before after : ℕ)
+    (result : Result (Unit {0}) NoMemory) → ((entry : Option StepRecord) → Known entry → Fits entry)
+    → GoesOn basin policy step Fits old new before after result → GoesOn basin policy step Known old new before after result
+weaker basin policy step Fits Known old new before after result known on = record {
+  made = on.made;
+  goes = λ inputs earlier was last entry framed there fits next_one way.
+      on.goes inputs earlier was last entry framed there (known entry fits) next_one way;
+  each = on.each;
+  rises = on.rises;
+  few = on.few;
+}

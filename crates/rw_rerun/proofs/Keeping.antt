@@ -67,3 +67,14 @@ pub length_changed : (was : List (Option StepRecord)) (changes : List (Option (O
 length_changed was [] few = refl
 length_changed [] (change ∷ changes) few = absurd (omega (arith, few))
 length_changed (one ∷ was) (change ∷ changes) few = ap suc (length_changed was changes (omega (arith, few)))
+
+-- of one timestep
+pub kept_there : (basin : Draft) (policy : Policy) (log : Log) (first place : ℕ) (was : List (Option StepRecord)) (entry : Option StepRecord)
+    → AreKept basin policy log first was → slice_get was place ≡ Some entry → IsKept basin policy log (first + place) entry
+kept_there basin policy log first place [] entry are there = absurd (none-some _ there)
+kept_there basin policy log first zero (one ∷ was) entry are there =
+    let here : first ≡ first + zero = omega arith in
+    subst (λ step. IsKept basin policy log step entry) here (subst (IsKept basin policy log first) (same_Some one entry there) are.0)
+kept_there basin policy log first (suc place) (one ∷ was) entry are there =
+    let here : (first + 1) + place ≡ first + suc place = omega arith in
+    subst (λ step. IsKept basin policy log step entry) here (kept_there basin policy log (first + 1) place was entry are.1 there)

@@ -1,5 +1,5 @@
 -- A timestep is taken over exactly where it is reused.
-use Rattle.rw_base.proofs.Common.{◌≡◌, ◌≢◌, ◌↔◌, ◌<◌, ◌≤◌, ◌+◌, ◌==◌, ◌∙◌, ℕ, zero, suc, Bool, true, false, false≢true, nat_lt, List, [], ◌∷◌, ◌++◌, map, All, All-cons, All-head, All-nil, All-push, All-tail, Contains, Option, Some, None, IsSome, IfSome, length, length-append, refl, sym, ap, subst, arith, inl, inr, nat_tests, same_Some, none-some}
+use Rattle.rw_base.proofs.Common.{◌≡◌, ◌≢◌, ◌⊎◌, ◌↔◌, ◌<◌, ◌≤◌, ◌+◌, ◌==◌, ◌∙◌, ℕ, zero, suc, Bool, true, false, false≢true, nat_lt, List, [], ◌∷◌, ◌++◌, map, All, All-cons, All-head, All-nil, All-push, All-tail, Contains, Option, Some, None, IsSome, IfSome, length, length-append, refl, sym, ap, subst, arith, inl, inr, nat_tests, same_Some, none-some}
 use Rattle.std.proofs.lemmas.List.Elements.{Contains-append_cases, Contains-append_left, Contains-append_right}
 use Rattle.std.specs.List.{flat_map}
 use Rattle.rw_base.specs.declared.number.Cell.{Cell}
