@@ -64,7 +64,7 @@ module _ (basin : Draft) (policy : Policy) (step : ℕ) (log old : Log) (first :
 
   module _ (engine : Engine) (noted : HasNoted basin step old (first ∷ events) engine)
       (how_many : (events : List Event) (cells : List Held) → AreOnce cells → AreLooked basin (cells_of basin old) events cells
-          → length cells ≡ cell_count (flat_map (reached_by basin) events)) where
+      → length cells ≡ cell_count (flat_map (reached_by basin) events)) where
     cells_same : cell_count (looked_at basin step log) ≡ cell_count (flat_map (reached_by basin) (first ∷ events))
     cells_same =
         ap (λ (es : Log). cell_count (flat_map (reached_by basin) es)) closed.own

@@ -154,7 +154,7 @@ module _ (basin : Draft) (policy : Accepted) (step : ℕ) (old new : Pass) (made
           let log : Log = passes.last ∷ passes.before in
           let ends : log ≡ fault why ∷ passes.before = ap (λ e. e ∷ passes.before) passes.ends in
           let facts = faulted_behind basin in_run step last now passes.before passes.events why rest next_one passes.within
-              (subst (Leads basin in_run now passes.events) ends passes.leads) (none step (omega arith)) in
+          (subst (Leads basin in_run now passes.events) ends passes.leads) (none step (omega arith)) in
           let behind : IsBehind step now log = subst (IsBehind step now) (sym ends) facts.0 in
           one_on basin in_run inputs earlier was old new last step entry (Some None) way next_one there.there changes log passes.events passes.leads passes.shows
           (ap standing ends ∙ sym (ap (λ o. stands_at o step) ended)) behind

@@ -28,6 +28,7 @@ module _ {B : Type 0} (f : Event → List B) where
       last : Contains (f event) c ⊎ Contains (flat_map f log) c → Contains (flat_map f (event ∷ events)) c ⊎ Contains (flat_map f log) c
       last (inl one) = inl (Contains-append_left (f event) (flat_map f events) c one)
       last (inr rest) = inr rest
+
       by : Contains (flat_map f events) c ⊎ Contains (flat_map f (event ∷ log)) c → Contains (flat_map f (event ∷ events)) c ⊎ Contains (flat_map f log) c
       by (inl later) = inl (Contains-append_right (f event) (flat_map f events) c later)
       by (inr one) = last (Contains-append_cases (f event) (flat_map f log) c one)
@@ -105,7 +106,7 @@ module _ (basin : Draft) (policy : Policy) (earlier later now : Log) (step : ℕ
       let same_one : reused.one ≡ is.old = same_Some _ _ (sym reused.one_is ∙ is.opening) in
       let same_other : reused.other ≡ now = same_Some _ _ (sym reused.other_is ∙ opening) in
       let alike = alike_at (cells_of basin reused.one) (cells_of basin reused.other) (looked_at basin step earlier) reused.alike one.cell
-          ((looks kept is one.cell).1 both.0) in
+      ((looks kept is one.cell).1 both.0) in
       ap (λ log. cells_of basin log one.cell) (sym same_other) ∙ sym alike ∙ ap (λ log. cells_of basin log one.cell) same_one ∙ sym both.1
 
   -- where there is no record, or one that isn't alike, it isn't reused

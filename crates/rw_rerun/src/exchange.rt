@@ -7,10 +7,7 @@ use rw_engine::StepRecord;
 use std::alloc::Global;
 
 /// Nothing is kept of so many timesteps.
-pub(crate) fn nothing_kept(
-    alloc: Global,
-    count: u16,
-) -> Result<Vec<Option<StepRecord>>, NoMemory>
+pub(crate) fn nothing_kept(alloc: Global, count: u16) -> Result<Vec<Option<StepRecord>>, NoMemory>
     ensures { IfOk result (λ kept. kept.items ≡ replicate count None) }
 {
     let mut kept = Vec::new(alloc);

@@ -68,11 +68,7 @@ impl<'a> Session<'a> {
 
     /// Applies a batch of edits to its inputs, and comes to their run. A timestep of which all at which it looked is held alike is
     /// taken over; each other one is run, and counted. After want of memory the session is as before.
-    pub fn apply<L: Ledger>(
-        &mut self,
-        batch: &Batch,
-        steps: &mut Steps<L>,
-    ) -> Result<(), NoMemory>
+    pub fn apply<L: Ledger>(&mut self, batch: &Batch, steps: &mut Steps<L>) -> Result<(), NoMemory>
         requires made { IsSessionOf self.old.setup.basin.now self.old.setup.policy.now self.old.state }
         requires order { AreInOrder
             (map (λ b. code (b.vtable, b.value)) self.old.setup.methods.now.methods.items) }

@@ -280,7 +280,7 @@ closed_behind basin policy step old first events timestep none =
       subst (IsBehind step old) (sym ends) (behind step old (rest_of new) (closed step) passed),
       ap (events_of step) ends ∙ own_events step old (rest_of new) (closed step) passed none,
       subst (λ log. IsSome (before_closing step log)) (sym ends)
-      (subst IsSome (sym (ap (λ (t : Bool). if t then Some (rest_of new) else before_closing step (rest_of new)) (own_number step))) refl),
+          (subst IsSome (sym (ap (λ (t : Bool). if t then Some (rest_of new) else before_closing step (rest_of new)) (own_number step))) refl),
     )
 
 pub faulted_behind : (basin : Draft) (policy : Policy) (step last : ℕ) (old before : Log) (events : List Event) (why : RunFault)
