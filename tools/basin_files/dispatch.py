@@ -8,6 +8,8 @@ with what `basin` wrote, and where it differs they say so.
 from collections import deque
 from dataclasses import dataclass, field
 
+from .formats import LEVELS
+
 
 @dataclass
 class Cell:
@@ -26,10 +28,16 @@ class View:
     own: set
     past: int | None
     bounds: dict
+    numbers: dict = field(default_factory=dict)  # of slots that rules gave; all others have 0
 
     def given(self, name):
         """Whether a slot is known and another than the object wrote it."""
         return name in self.known and name not in self.own
+
+    def number(self, name):
+        """The number of a slot that is known: that of the contents is that of what gives them."""
+        levels = [self.numbers.get(level, 0) for level in LEVELS if self.given(level)]
+        return min(levels, default=0) if name == "Storage" else self.numbers.get(name, 0)
 
 
 @dataclass
@@ -66,27 +74,36 @@ def elevation(table, storage):
 
 
 def past_name(thing):
-    """The slot at whose past the object looks, or "": a reservoir's storage, a lagged reach's inflow."""
-    if thing.kind == "reservoir":
+    """The slot at whose past the object looks, or "": what it holds, or a lagged reach's inflow."""
+    if thing.stores:
         return "Storage"
+    if thing.kind == "routed_reach":
+        return "Content"
     return "Inflow" if thing.kind == "reach" and thing.options["lag"] else ""
+
+
+def past_ago(thing):
+    """How many timesteps ago an object looks at its past."""
+    return thing.options["lag"] if thing.kind == "reach" else 1
+
+
+def past_key(thing):
+    """The key of the model that gives the past before the run."""
+    return {"reach": "history", "routed_reach": "initial_content"}.get(thing.kind, "initial_storage")
 
 
 def past_value(thing, step, rows):
     """That value for a timestep: before the run by the model, else from the rows of the timesteps before."""
-    name = past_name(thing)
-    ago = 1 if thing.kind == "reservoir" else thing.options.get("lag", 0)
+    ago, first = past_ago(thing), thing.options[past_key(thing)]
     if step - ago >= 1:
-        return rows[step - ago - 1].values.get(f"{thing.name}.{name}")
-    return (
-        thing.options["initial_storage"] if thing.kind == "reservoir" else thing.options["history"][step - 1]
-    )
+        return rows[step - ago - 1].values.get(f"{thing.name}.{past_name(thing)}")
+    return first[step - 1] if thing.kind == "reach" else first
 
 
 def terms_of(thing):
-    """The terms for which the balance can be solved, in order; a reservoir's contents are Storage."""
+    """The terms for which the balance can be solved, in order; the contents of what stores are Storage."""
     names = [slot.name for slot in thing.slots if slot.role == "solvable"]
-    return names + ["Storage"] if thing.kind == "reservoir" else names
+    return names + ["Storage"] if thing.stores else names
 
 
 def missing(thing, known, past_known):
@@ -94,7 +111,8 @@ def missing(thing, known, past_known):
     fixed = [slot.name for slot in thing.slots if slot.role == "fixed" and slot.name not in known]
     if past_name(thing) and not past_known:
         fixed.append(f"{past_name(thing)} before")
-    held = set(known) | ({"Storage"} if thing.kind == "reservoir" and "PoolElevation" in known else set())
+    held = set(known) | ({"Storage"} if "PoolElevation" in known else set())
+    held |= {"Outflow"} if "EnergyRequest" in known else set()
     terms = [name for name in terms_of(thing) if name not in held]
     return fixed, terms if len(terms) > 1 else []
 
@@ -102,11 +120,16 @@ def missing(thing, known, past_known):
 def solve(view):
     """What a dispatch of an object answers, where every value has number 0."""
     thing = view.thing
+    refused = refused_plant(view) if thing.kind == "power_reservoir" else None
+    if refused:
+        return refused
     given = [name for name in view.known if view.given(name)]
     fixed, terms = missing(thing, given, view.past is not None)
     if thing.kind == "data" or any(name not in view.known for name in fixed) or terms:
         return IDLE
     values = dict(view.known)
+    if asks(view):
+        values["Outflow"] = least_release(thing, view.past, view.known["EnergyRequest"])
     refused = take_evaporation(view, values) or take_contents(view, values)
     if refused:
         return refused
@@ -115,8 +138,50 @@ def solve(view):
     if refused:
         return refused
     put_contents(view, values, puts)
-    put_derived(thing, values, puts)
+    put_derived(view, values, puts)
     return in_bounds(view, puts)
+
+
+# ---- power
+
+
+def head(thing, past):
+    """The height in mm through which water falls: from the elevation of the storage before to the tailwater."""
+    return max(elevation(thing.options["table"], past) - thing.options["tailwater"], 0)
+
+
+def energy(thing, past, release):
+    """The energy in kWh that a release gives, rounded down."""
+    return release * head(thing, past) * thing.options["power"] // 10**9
+
+
+def least_release(thing, past, request):
+    """The least release, of 0 to the greatest, whose energy is a request's at least; `None` where none is."""
+    if request <= 0:
+        return 0
+    each = head(thing, past) * thing.options["power"]
+    release = -(-request * 10**9 // each) if each else thing.options["max_release"] + 1
+    return release if release <= thing.options["max_release"] else None
+
+
+def asks(view):
+    """Whether a request counts: it and the storage before are known, and no outflow of its priority or higher."""
+    if view.thing.kind != "power_reservoir" or view.past is None or "EnergyRequest" not in view.known:
+        return False
+    return not view.given("Outflow") or view.number("Outflow") > view.number("EnergyRequest")
+
+
+def refused_plant(view):
+    """What is wrong before all else: a storage before that the table doesn't have, a request that can't be met."""
+    if view.past is not None and elevation(view.thing.options["table"], view.past) is None:
+        return Answer("out of range", "Storage", value=view.past)
+    request = view.known.get("EnergyRequest")
+    if asks(view) and least_release(view.thing, view.past, request) is None:
+        return Answer("out of range", "EnergyRequest", value=request)
+    return None
+
+
+# ---- contents, and the balance
 
 
 def take_evaporation(view, values):
@@ -136,7 +201,7 @@ def take_contents(view, values):
     """Takes a reservoir's contents from its storage or its elevation; two that are given have to agree."""
     table = view.thing.options.get("table")
     storage, level = view.given("Storage"), view.given("PoolElevation")
-    if view.thing.kind != "reservoir" or not table:
+    if not view.thing.stores or not table:
         return None
     if storage and elevation(table, values["Storage"]) is None:
         return Answer("out of range", "Storage", value=values["Storage"])
@@ -152,10 +217,15 @@ def take_contents(view, values):
 
 
 def is_given(view, term):
-    """Whether a term of the balance is given: a reservoir's contents by the storage or the elevation."""
-    return view.given(term) or (
-        view.thing.kind == "reservoir" and term == "Storage" and view.given("PoolElevation")
-    )
+    """Whether a term of the balance is given: contents by storage or elevation, an outflow also by a request."""
+    if term == "Outflow" and asks(view):
+        return True
+    return view.given(term) or (view.thing.stores and term == "Storage" and view.given("PoolElevation"))
+
+
+def number_of(view, term):
+    """The number with which a term is given."""
+    return view.number("EnergyRequest" if term == "Outflow" and asks(view) else term)
 
 
 def settle(view, values, puts):
@@ -164,14 +234,14 @@ def settle(view, values, puts):
     if not terms:
         return None
     free = next((name for name in terms if not is_given(view, name)), None)
-    term = free or terms[-1]
-    solved = solved_term(view.thing, term, values, view.past)
-    if free:
-        puts[free] = values[free] = solved
-    elif view.thing.kind == "canal":
-        return None if values[term] == solved else Answer("conflict", term, values[term], solved)
-    elif values[term] != solved:
-        return Answer("conflict", term, values[term], solved)
+    if not free:
+        solved = solved_term(view.thing, terms[-1], values, view.past)
+        if values[terms[-1]] == solved:
+            return None
+        free = max(reversed(terms), key=lambda name: number_of(view, name))
+        if not number_of(view, free):
+            return Answer("conflict", terms[-1], values[terms[-1]], solved)
+    puts[free] = values[free] = solved_term(view.thing, free, values, view.past)
     return None
 
 
@@ -181,7 +251,7 @@ def signed_terms(thing):
     pairs = [
         (slot.sign, slot.name) for slot in thing.slots if slot.sign and not (lagged and slot.name == "Inflow")
     ]
-    return pairs + [(-1, "Storage")] if thing.kind == "reservoir" else pairs
+    return pairs + [(-1, "Storage")] if thing.stores else pairs
 
 
 def solved_term(thing, term, values, past):
@@ -191,6 +261,12 @@ def solved_term(thing, term, values, past):
             inflow_of_canal(thing, values["Outflow"])
             if term == "Inflow"
             else conveyed(thing, values["Inflow"])
+        )
+    if thing.kind == "routed_reach":
+        return (
+            inflow_of_routed(thing, past, values["Outflow"])
+            if term == "Inflow"
+            else routed(thing, past, values["Inflow"])
         )
     rest = (past or 0) if past_name(thing) else 0
     rest += sum(sign * values[name] for sign, name in signed_terms(thing) if name != term)
@@ -208,10 +284,20 @@ def inflow_of_canal(thing, outflow):
     return 0 if outflow == 0 else 1000 * (outflow - 1) // (1000 - thing.options["seepage"]) + 1
 
 
+def routed(thing, past, inflow):
+    """What flows out of a routed reach: a share of what it holds and what flows in, rounded down."""
+    return (past + inflow) * thing.options["release"] // 1000
+
+
+def inflow_of_routed(thing, past, outflow):
+    """The least inflow of a routed reach by which an outflow flows out."""
+    return -(-1000 * outflow // thing.options["release"]) - past
+
+
 def put_contents(view, values, puts):
     """Puts the storage beside a given elevation, or the elevation beside the storage."""
     table = view.thing.options.get("table")
-    if view.thing.kind != "reservoir" or not table:
+    if not view.thing.stores or not table:
         return
     if not view.given("Storage"):
         puts["Storage"] = values["Storage"]
@@ -219,19 +305,26 @@ def put_contents(view, values, puts):
         puts["PoolElevation"] = elevation(table, values["Storage"])
 
 
-def put_derived(thing, values, puts):
-    """Puts what follows: evaporation, release and spill, what is used up and flows back, seepage."""
+def put_derived(view, values, puts):
+    """Puts what follows: evaporation, a request's outflow, release, spill, energy, use, return, seepage, content."""
+    thing = view.thing
     names = {slot.name for slot in thing.slots if slot.role == "derived"}
+    if asks(view):
+        puts["Outflow"] = values["Outflow"]
     if "Evaporation" in names:
         puts["Evaporation"] = values["Evaporation"]
     if "Release" in names:
         puts["Release"] = min(values["Outflow"], thing.options["max_release"])
         puts["Spill"] = values["Outflow"] - puts["Release"]
+    if "Energy" in names:
+        puts["Energy"] = energy(thing, view.past, puts["Release"])
     if "Depletion" in names:
         puts["Depletion"] = values["Diversion"] * thing.options["depletion"] // 1000
         puts["ReturnFlow"] = values["Diversion"] - puts["Depletion"]
     if "Seepage" in names:
         puts["Seepage"] = values["Inflow"] - values["Outflow"]
+    if "Content" in names:
+        puts["Content"] = view.past + values["Inflow"] - values["Outflow"]
 
 
 def in_bounds(view, puts):

@@ -1,6 +1,21 @@
 """What a fault of a run means: what was known of the object, and which balance doesn't hold."""
 
-from .dispatch import Timestep, past_name, signed_terms, take_contents, take_evaporation, terms_of, volume
+from .dispatch import (
+    Timestep,
+    asks,
+    elevation,
+    energy,
+    head,
+    least_release,
+    past_ago,
+    past_key,
+    past_name,
+    signed_terms,
+    take_contents,
+    take_evaporation,
+    terms_of,
+    volume,
+)
 from .formats import amount
 from .moments import stamp_of
 
@@ -12,6 +27,7 @@ LEFT_SIDE = {
     "reach": "Outflow",
     "reservoir": "Storage",
     "water_user": "Diversion",
+    "power_reservoir": "Storage",
 }
 DERIVED_TEXT = {
     "Evaporation": "what lies between the elevation before and the one that is lower by EvaporationRate",
@@ -20,6 +36,8 @@ DERIVED_TEXT = {
     "Depletion": "depletion parts of 1000 of Diversion, rounded down",
     "ReturnFlow": "Diversion less Depletion",
     "Seepage": "Inflow less Outflow",
+    "Energy": "Release x head x power / 10^9, rounded down",
+    "Content": "Content before and Inflow, less Outflow",
 }
 
 
@@ -34,6 +52,15 @@ def fault_words(timestep):
         "out of range": f"out of range {at} value {fault.value}",
         "limit": f"limit object {timestep.at.name} step {timestep.step} after {fault.value}",
     }[fault.kind]
+
+
+def beyond_plant(thing, past, request):
+    """Why a request for energy can't be met, behind the name of its slot."""
+    most = thing.options["max_release"]
+    return (
+        f"is {request:,} kWh, and at the head of {head(thing, past):,} mm that the storage before gives the"
+        f" greatest release, {most:,} m3/step, gives {energy(thing, past, most):,} kWh."
+    )
 
 
 def tell_fault(model, inputs, section):
@@ -59,6 +86,14 @@ class Telling:
         self.values = dict(self.view.known)
         if not any(slot.role == "fixed" and slot.name not in self.values for slot in self.thing.slots):
             _ = take_evaporation(self.view, self.values) or take_contents(self.view, self.values)
+        if self.is_asked():
+            self.values["Outflow"] = least_release(self.thing, self.view.past, self.values["EnergyRequest"])
+
+    def is_asked(self):
+        """Whether a request for energy counts that can be met."""
+        view = self.view
+        is_seen = asks(view) and elevation(view.thing.options["table"], view.past) is not None
+        return is_seen and least_release(view.thing, view.past, view.known["EnergyRequest"]) is not None
 
     def lines(self):
         """What happened, what was known, and what to do."""
@@ -85,9 +120,8 @@ class Telling:
         """A line for each slot of the object, and for the value before."""
         lines = []
         if self.view.past is not None:
-            step = self.timestep.step - (1 if self.thing.kind == "reservoir" else self.thing.options["lag"])
-            where = "initial_storage" if self.thing.kind == "reservoir" else "history"
-            whence = f"timestep {step}" if step >= 1 else f"{where} of the model"
+            step = self.timestep.step - past_ago(self.thing)
+            whence = f"timestep {step}" if step >= 1 else f"{past_key(self.thing)} of the model"
             lines.append(f"    {self.past_label()} = {self.view.past:,} ({whence})")
         for slot in self.thing.slots:
             if slot.name in self.view.known:
@@ -100,10 +134,10 @@ class Telling:
 
     def past_label(self):
         """The name of the value before."""
-        lag = self.thing.options.get("lag")
-        if self.thing.kind == "reservoir":
-            return "Storage before"
-        return "Inflow a timestep ago" if lag == 1 else f"Inflow {lag} timesteps ago"
+        name, ago = past_name(self.thing), past_ago(self.thing)
+        if name != "Inflow":
+            return f"{name} before"
+        return "Inflow a timestep ago" if ago == 1 else f"Inflow {ago} timesteps ago"
 
     # ---- the balance
 
@@ -114,6 +148,11 @@ class Telling:
             words = f"Inflow - Inflow x {self.thing.options['seepage']} / 1000, rounded down"
             sum_words = f"{values['Inflow']:,} - {seepage:,}"
             return "Outflow", values["Outflow"], words, sum_words, values["Inflow"] - seepage
+        if self.thing.kind == "routed_reach":
+            before, inflow, release = self.view.past, values["Inflow"], self.thing.options["release"]
+            words = f"(Content before + Inflow) x {release} / 1000, rounded down"
+            sum_words = f"({before:,} + {inflow:,}) x {release} / 1000"
+            return "Outflow", values["Outflow"], words, sum_words, (before + inflow) * release // 1000
         left = left or LEFT_SIDE[self.thing.kind]
         terms = [(1, self.past_label(), self.view.past)] if past_name(self.thing) else []
         terms += [(sign, name, values[name]) for sign, name in signed_terms(self.thing)]
@@ -148,15 +187,19 @@ class Telling:
             f"    {left} = {words}",
             f"    {left_value:,}, and not {numbers}{total}",
         ]
-        if self.thing.kind == "reservoir" and not self.view.given("Storage"):
+        if self.thing.stores and not self.view.given("Storage"):
             lines.append(
                 f"    (the table has {held:,} m3 at PoolElevation {self.view.known['PoolElevation']:,})"
             )
+        if self.is_asked():
+            lines.append(f"    (Outflow is the least by which Energy is {self.values['EnergyRequest']:,} kWh)")
         return lines
 
     def out_of_range(self):
         """Which value is outside, and of what."""
         slot, value = self.fault.slot, self.fault.value
+        if slot == "EnergyRequest":
+            return [f"{slot} {beyond_plant(self.thing, self.view.past, value)}"]
         one = next(one for one in self.thing.slots if one.name == slot)
         low, high = self.view.bounds[slot]
         table = self.thing.options.get("table")
@@ -176,14 +219,18 @@ class Telling:
         if slot in self.view.known or slot not in terms_of(self.thing):
             return []
         if self.is_of_before():
-            return ["    (that is the storage before the timestep, of which the table tells what evaporates)"]
+            tells = "the head" if self.thing.kind == "power_reservoir" else "what evaporates"
+            return [f"    (that is the storage before the timestep, of which the table tells {tells})"]
         left, left_value, words, numbers, _ = self.balance({**self.values, slot: value}, slot)
         return [f"    {left} = {words}", f"    {left_value:,} = {numbers}"]
 
     def is_of_before(self):
-        """Whether what is outside is the storage before, of which the table tells what evaporates."""
-        evaporates = self.thing.options.get("evaporation") and "Evaporation" not in self.values
-        return bool(evaporates) and self.fault.slot == "Storage" and self.fault.value == self.view.past
+        """Whether what is outside is the storage before, of which the table tells what evaporates, or the head."""
+        if self.fault.slot != "Storage" or self.fault.value != self.view.past:
+            return False
+        if self.thing.kind == "power_reservoir":
+            return elevation(self.thing.options["table"], self.view.past) is None
+        return bool(self.thing.options.get("evaporation")) and "Evaporation" not in self.values
 
     def advice(self):
         """What to do."""
@@ -200,8 +247,10 @@ class Telling:
             return [f"Take one of these inputs away ({', '.join(given)}), or change it so that they agree."]
         if self.is_of_before():
             return [f"Mend what its storage of timestep {self.timestep.step - 1} comes from."]
+        if self.fault.slot == "EnergyRequest":
+            return ["Ask for less, or keep more in store before."]
         value, low = self.fault.value, self.view.bounds[self.fault.slot][0]
-        if self.thing.kind != "reservoir":
+        if not self.thing.stores:
             return ["Change an input that it comes from, or set other bounds."]
         if self.fault.slot == "Outflow" and value < low:
             return ["More is wanted in store than there is: want less, or let less be diverted."]

@@ -117,6 +117,17 @@ KIND_KEYS = {
         Key("supply", "text", words=("request", "rule"), default="request"),
     ),
     "canal": (Key("seepage", "integer", 0, 999, unit="parts of 1000"),),
+    "power_reservoir": (
+        Key("initial_storage", "integer", 0, GREATEST_QUANTITY, unit="m3"),
+        Key("table", "array"),
+        Key("max_release", "integer", 0, GREATEST_QUANTITY, unit="m3/step"),
+        Key("tailwater", "integer", 0, GREATEST_ELEVATION, default=0, unit="mm"),
+        Key("power", "integer", 1, 10_000, unit="kWh for 10^9 m3 that fall by 1 mm"),
+    ),
+    "routed_reach": (
+        Key("initial_content", "integer", 0, GREATEST_QUANTITY, unit="m3"),
+        Key("release", "integer", 1, 1_000, unit="parts of 1000"),
+    ),
 }
 
 # ---- slots of a kind
@@ -183,7 +194,25 @@ KIND_SLOTS = {
         outflow("ReturnFlow", "derived"),
     ),
     "canal": (inflow("Inflow", "solvable"), outflow("Outflow", "solvable"), outflow("Seepage", "derived")),
+    "power_reservoir": (
+        inflow("Inflow", "solvable"),
+        outflow("Outflow", "solvable"),
+        SlotRow("Storage", "neither", unit="m3"),
+        SlotRow("PoolElevation", "neither", unit="mm"),
+        SlotRow("EnergyRequest", "neither", unit="kWh"),
+        SlotRow("Energy", "derived", unit="kWh"),
+        outflow("Release", "derived"),
+        outflow("Spill", "derived"),
+    ),
+    "routed_reach": (
+        inflow("Inflow", "solvable"),
+        outflow("Outflow", "solvable"),
+        SlotRow("Content", "derived", unit="m3"),
+    ),
 }
+
+STORING = ("reservoir", "power_reservoir")  # kinds that hold water by a Storage, and with a table by an elevation
+LEVELS = ("Storage", "PoolElevation")  # either of which gives the contents of such an object
 
 # What makes an option's slots exist, in the words of a model's file.
 OPTION_TEXT = {
@@ -238,10 +267,10 @@ RATES = {"cms": "m3/s", "cfs": "ft3/s"}  # flows that have a word of their own
 
 def widest_bounds(slot_name, kind):
     """The widest bounds of a slot, in its base unit."""
-    if kind == "reservoir" and slot_name == "Storage":
-        return 0, GREATEST_QUANTITY
-    if kind == "reservoir" and slot_name in ("PoolElevation", "EvaporationRate"):
+    if kind in STORING and slot_name in ("PoolElevation", "EvaporationRate"):
         return 0, GREATEST_ELEVATION
+    if kind != "data" and slot_name in ("Storage", "EnergyRequest", "Energy", "Content"):
+        return 0, GREATEST_QUANTITY
     return -GREATEST_QUANTITY, GREATEST_QUANTITY
 
 

@@ -52,6 +52,16 @@ class BasinObject:
     sure: bool = True  # whether nothing is wrong with its keys
     slots: list = field(default_factory=list)
 
+    @property
+    def stores(self):
+        """Whether it holds water by a Storage, and with a table by an elevation."""
+        return self.kind in formats.STORING
+
+    @property
+    def looked_up(self):
+        """The table into which rules look: that of a reservoir, which isn't a power reservoir; or `None`."""
+        return self.options.get("table") if self.kind == "reservoir" else None
+
 
 @dataclass
 class Model:

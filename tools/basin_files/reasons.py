@@ -80,7 +80,7 @@ def wrong_with_object(thing, model):
     names = [name for name, _ in thing.options.get("slots", ())]
     twice = next((name for name in names if names.count(name) > 1), None)
     slots = len(model.slots) + len(list(slots_of(thing.kind, thing.options))) + len(names)
-    wrong = wrong_with_reservoir(thing) if thing.kind == "reservoir" else None
+    wrong = wrong_with_reservoir(thing) if thing.stores else None
     if wrong:
         return "bad parameter", *wrong
     if earlier:

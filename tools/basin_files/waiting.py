@@ -3,7 +3,8 @@
 from collections import deque
 from dataclasses import dataclass
 
-from .dispatch import missing, past_name, past_value
+from .dispatch import missing, past_ago, past_name, past_value
+from .formats import LEVELS
 from .inputs import folded
 from .moments import stamp_of
 
@@ -32,7 +33,7 @@ def tell_empty(model, inputs, section):
 
 def is_solved(slot, thing):
     """Whether a slot is known once its object has solved all that it can."""
-    return slot.role != "neither" or thing.kind == "reservoir"
+    return slot.role != "neither" or (thing.stores and slot.name in LEVELS)
 
 
 class Waiting:
@@ -133,7 +134,7 @@ class Waiting:
 
     def past_step(self, thing):
         """The earlier timestep at which an object looks."""
-        return self.step - (1 if thing.kind == "reservoir" else thing.options["lag"])
+        return self.step - past_ago(thing)
 
     def missing_input(self, root):
         """Lines that tell of a missing input, and where else the inputs give it."""

@@ -3,7 +3,7 @@
 from bisect import bisect_left
 from dataclasses import dataclass, field
 
-from .dispatch import elevation, past_name
+from .dispatch import elevation, past_ago, past_key, past_name
 from .firing import Firing
 
 END = float("inf")  # a place behind all of a trace
@@ -98,12 +98,12 @@ class Walk:
         """What a slot held before the run."""
         owner, _, name = slot.partition(".")
         thing = self.model.object_named(owner)
-        if thing.kind == "reach" and name == "Inflow" and -thing.options["lag"] < step:
-            return thing.options["history"][step - 1]
-        if thing.kind != "reservoir" or step or name not in ("Storage", "PoolElevation"):
+        if name == "PoolElevation" and thing.stores and not step:
+            return elevation(thing.options["table"], thing.options["initial_storage"])
+        if name != past_name(thing) or step <= -past_ago(thing):
             return None
-        storage = thing.options["initial_storage"]
-        return storage if name == "Storage" else elevation(thing.options["table"], storage)
+        first = thing.options[past_key(thing)]
+        return first[step - 1] if thing.kind == "reach" else first
 
     def looked_at(self, event):
         """The cells at which the writer of an event looked, as slots and timesteps."""
@@ -137,14 +137,13 @@ class Walk:
         contents = {cell: self.held(*cell, event.place) for cell in cells}
         others = [cell for cell, content in contents.items() if is_of_another(content, thing)]
         if past_name(thing):
-            ago = 1 if thing.kind == "reservoir" else thing.options["lag"]
-            others.append((f"{thing.name}.{past_name(thing)}", event.step - ago))
+            others.append((f"{thing.name}.{past_name(thing)}", event.step - past_ago(thing)))
         return others
 
 
 def goes_by(thing, slot):
     """Whether an object solves by what this slot of it holds at the timestep."""
-    return slot.role in ("solvable", "fixed") or (thing.kind == "reservoir" and slot.role == "neither")
+    return slot.role in ("solvable", "fixed") or (thing.stores and slot.role == "neither")
 
 
 def is_of_another(content, thing):

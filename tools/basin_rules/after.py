@@ -4,6 +4,7 @@ import re
 from collections import Counter, deque
 from dataclasses import dataclass
 
+from basin_files.faults import beyond_plant
 from basin_files.formats import GREATEST_QUANTITY, amount
 from basin_files.moments import stamp_of
 from basin_files.waiting import Waiting
@@ -241,6 +242,9 @@ def what_of_object(run, thing):
     if fault.startswith("conflict"):
         held, solved = numbers
         return f"{name} holds {held:,} {slot.unit}, and the others give {solved:,}: neither gives way."
+    if slot.name == "EnergyRequest":
+        before = run.walk.held(f"{thing.name}.Storage", run.section.fault_step - 1, END)
+        return f"{name} {beyond_plant(thing, before.value, numbers[0])}"
     low, high = run.model.bounds(name)
     whose, table = "its bounds are", thing.options.get("table")
     if low <= numbers[0] <= high and table:

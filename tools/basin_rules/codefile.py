@@ -58,7 +58,7 @@ def basin_of(model):
     return {
         thing.name: {
             "slots": {slot.name: slot.settable for slot in thing.slots},
-            "table": bool(thing.options.get("table")),
+            "table": bool(thing.looked_up),
         }
         for thing in model.objects
     }
@@ -192,7 +192,7 @@ def no_name(site):
         is_rule = 1 <= number <= len(blocks)
         return f"block {number} is {'a rule, and no function' if is_rule else 'not there'}", ""
     thing = site.model.object_named(site.things[0])
-    names = [one.name for one in site.model.objects if one.options.get("table")]
+    names = [one.name for one in site.model.objects if one.looked_up]
     why = f"{thing.name} ({thing.kind}) has no table" if thing else f"there is no object {site.things[0]}"
     return why, ", ".join(names)
 

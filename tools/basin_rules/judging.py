@@ -488,9 +488,9 @@ class Judge:
         thing = self.model.object_named(node.owner)
         if not thing:
             raise Wrong("unknown name", *meant.owner(node.owner, self.model))
-        if not thing.options.get("table"):
-            says = f"{node.owner} ({thing.kind}) has no table of elevations and volumes"
-            raise Wrong("no table", says, meant.with_table(self.model))
+        if not thing.looked_up:
+            says = f"{node.owner} ({thing.kind}) has no table into which a rule may look"
+            raise Wrong("no table", says, meant.with_table(thing, self.model))
         asked, answered = (Type("number", measure) for measure in TABLES[node.word])
         wrong = misfit(given, asked, self.text(node.parts[0]), f"what {node.word} takes")
         soonest([self.hinted(wrong, node.parts[0], given, asked)])

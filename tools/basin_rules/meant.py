@@ -111,10 +111,10 @@ def owner(name, model):
     return f"there is no object {name}", nearest(name, [thing.name for thing in model.objects]) or ""
 
 
-def with_table(model):
-    """The objects that have a table."""
-    names = [thing.name for thing in model.objects if thing.options.get("table")]
-    return ", ".join(names) if names else "a table for it in the model"
+def with_table(thing, model):
+    """The objects that have a table into which rules may look, or how this one may get it."""
+    names = [one.name for one in model.objects if one.looked_up]
+    return ", ".join(names) or ("a table for it in the model" if thing.kind == "reservoir" else "")
 
 
 def known(part, given, source):

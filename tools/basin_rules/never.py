@@ -31,6 +31,11 @@ def is_request(slot, thing):
     return thing.kind == "water_user" and slot.name == "Diversion" and slot.role == "solvable"
 
 
+def is_of_plant(slot, thing, name):
+    """Whether a slot is this one of a power reservoir."""
+    return thing.kind == "power_reservoir" and slot.name == name
+
+
 class Never:
     """What rules look at and set, with the model and the inputs, and what can be known in a timestep."""
 
@@ -152,17 +157,37 @@ class Never:
             if thing.kind == "reach" and slot.name == "Outflow" and thing.options["lag"]:
                 unless = f"counts only where an earlier inflow of {thing.name} isn't known"
                 return f"{unless}: its outflow follows from that", ""
+            request, outflow = f"{thing.name}.EnergyRequest", f"{thing.name}.Outflow"
+            if is_of_plant(slot, thing, "Outflow") and self.first[request] in self.always:
+                unless = f"counts only where the storage before of {thing.name} isn't known"
+                return f"{unless}: its outflow follows from {request}", ""
+            if is_of_plant(slot, thing, "EnergyRequest") and self.first[outflow] in self.of_inputs:
+                return f"asks in vain: {outflow} follows from inputs alone", ""
         return "", ""
 
     def never_count(self):
         """Settings of a rule that a higher one always replaces."""
         for place, rule in enumerate(self.rules):
             for slot in rule.slots():
+                if self.why_denied(slot)[0]:
+                    continue
                 higher = next((one for one in self.rules[:place] if self.always_sets(one, slot)), None)
-                if higher and not self.why_denied(slot)[0]:
+                why = f"never counts: {higher.called} sets {slot} at every timestep" if higher else ""
+                why = why or self.in_vain(rule, slot)
+                if why:
                     span = next(one.span for one in rule.settings if one.slot == slot)
-                    says = f"what is put here never counts: {higher.called} sets {slot} at every timestep"
-                    yield warn(span, says, "", rule.called)
+                    yield warn(span, f"what is put here {why}", "", rule.called)
+
+    def in_vain(self, rule, name):
+        """Why a request for energy asks in vain beside an outflow that rules set, or an empty text."""
+        owner, _, slot_name = name.partition(".")
+        thing, outflow = self.model.object_named(owner), f"{owner}.Outflow"
+        if thing.kind != "power_reservoir" or slot_name != "EnergyRequest":
+            return ""
+        if self.first[outflow] in (self.first[one] for one in rule.slots(sure=True)):
+            return f"asks in vain: the rule sets {outflow} with the same priority"
+        higher = next((one for one in self.rules[: rule.number - 1] if self.always_sets(one, outflow)), None)
+        return f"asks in vain: {higher.called} sets {outflow} at every timestep" if higher else ""
 
     def always_sets(self, rule, slot):
         """Whether each firing of a rule sets a slot, and looks at nothing but what inputs give at every timestep."""
@@ -183,7 +208,7 @@ def high_pools(judge, ruleset):
             slot = model.slots[setting.slot]
             is_pool = slot.name in ("Storage", "PoolElevation")
             most = most_of(looking, setting.value)
-            end = end_of(model, slot) if is_pool and model.object_named(slot.owner).kind == "reservoir" else None
+            end = end_of(model, slot) if is_pool and model.object_named(slot.owner).stores else None
             if end and most is not None and most > end[0]:
                 says = f"the limit {most:,} {slot.unit} never counts: {end[1]}, and a run that comes to more ends there"
                 hint = "a limit below that end, with room for what lower rules bring"

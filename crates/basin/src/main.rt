@@ -10,7 +10,9 @@ use rpl_predef::{
 use rw_base::NoMemory;
 use rw_io::{FileShelf, Shelf, Sink, StdSink};
 use rw_method::{Catalogue, Method};
+use rw_power::PowerReservoirMethod;
 use rw_reservoir::ReservoirMethod;
+use rw_routing::RoutedReachMethod;
 use rw_stream::{BifurcationMethod, ConfluenceMethod, GageMethod, ReachMethod};
 use rw_top::{Blank, Ledger, Steps, basin_main, end_without_memory};
 use rw_users::{CanalMethod, WaterUserMethod};
@@ -53,6 +55,8 @@ fn status<S: Shelf, K: Sink, E: Sink, L: Ledger>(
     methods.push(Box::new(alloc, ReservoirMethod)?)?;
     methods.push(Box::new(alloc, WaterUserMethod)?)?;
     methods.push(Box::new(alloc, CanalMethod)?)?;
+    methods.push(Box::new(alloc, PowerReservoirMethod)?)?;
+    methods.push(Box::new(alloc, RoutedReachMethod)?)?;
     let Ok(methods) = Catalogue::of(methods) else {
         return Err(NoMemory);
     };

@@ -15,7 +15,9 @@ use rw_engine::{Run, RunEnd, RunFault, TraceEvent, run_all};
 use rw_inputs::read_inputs;
 use rw_method::{Catalogue, Method};
 use rw_model::{Basin, Writer};
+use rw_power::PowerReservoirMethod;
 use rw_reservoir::ReservoirMethod;
+use rw_routing::RoutedReachMethod;
 use rw_series::Series;
 use rw_stream::{BifurcationMethod, ConfluenceMethod, GageMethod, ReachMethod};
 use rw_users::{CanalMethod, WaterUserMethod};
@@ -258,13 +260,15 @@ fn method(alloc: Global, number: u8) -> Result<Box<dyn Method>, AllocError> {
         4 => Ok(Box::new(alloc, ReachMethod)?),
         5 => Ok(Box::new(alloc, ReservoirMethod)?),
         6 => Ok(Box::new(alloc, WaterUserMethod)?),
-        _ => Ok(Box::new(alloc, CanalMethod)?),
+        7 => Ok(Box::new(alloc, CanalMethod)?),
+        8 => Ok(Box::new(alloc, PowerReservoirMethod)?),
+        _ => Ok(Box::new(alloc, RoutedReachMethod)?),
     }
 }
 
 fn all_methods(alloc: Global) -> Result<Vec<Box<dyn Method>>, AllocError> {
     let mut methods = Vec::new(alloc);
-    for number in 1..8 {
+    for number in 1..10 {
         methods.push(method(alloc, number)?)?;
     }
     Ok(methods)

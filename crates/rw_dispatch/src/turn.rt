@@ -227,14 +227,7 @@ pub fn judge_dispatch(
         &mut work.written,
         &mut work.writes,
     );
-    keep_asked(
-        work.keeps,
-        &mut work.asked,
-        basin,
-        object,
-        step,
-        &solved,
-    );
+    keep_asked(work.keeps, &mut work.asked, basin, object, step, &solved);
     end
 }
 

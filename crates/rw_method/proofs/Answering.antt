@@ -1,13 +1,15 @@
 -- What is known where a dispatch answers puts.
-use Rattle.rw_method.proofs.Common.{AllFit, Balanced, Holds, Kind, List, None, Option, Put, Puts, Solves, Some, View, ap, ap₂, arith, balance_of, balanced_of, fault_of_contents, fits, inl, inr, map, puts_of, refl, settled, solve_of, sym, ℤ, ◌≡◌, ◌⊎◌}
+use Rattle.rw_method.proofs.Common.{AllFit, Balanced, Holds, Kind, List, None, Option, Put, Puts, Solves, Some, View, ap, ap₂, arith, balance_of, balanced_of, fault_of_contents, first_fault, fits, inl, inr, map, puts_of, refl, settled, solve_of, sym, ℤ, ◌≡◌, ◌⊎◌}
 use Rattle.rw_method.proofs.Leaving.{Solving}
-use Rattle.rw_method.proofs.SolvedPuts.{contents_faulty, judged}
+use Rattle.rw_method.proofs.SolvedPuts.{contents_faulty, faultless, first_faulty, judged}
 use Rattle.rw_method.proofs.Settled.{balanced_code}
 use Rattle.rw_method.proofs.Terms.{shape_of, term_in, terms_are}
 
--- the puts are those that were judged, all of them fit, nothing is wrong with the contents, and a term was solved or the balance is true
+-- nothing was wrong before all else, the puts are those that were judged, all of them fit, nothing is wrong with the contents, and a term
+-- was solved or the balance is true
 pub record Answered (kind : Kind) (view : View) (puts : List Put) : Type 0 where
   pub same : puts_of kind view (balanced_of kind view) ≡ puts
+  pub clean : first_fault kind view ≡ None
   pub fine : fault_of_contents kind view ≡ None
   pub fit : AllFit (fits kind view) puts
   pub ends : (balanced_of kind view ≡ Holds) ⊎ Solving kind view
@@ -30,10 +32,12 @@ steady_by kind view None is code =
 
 pub answered : (kind : Kind) (view : View) (puts : List Put) → solve_of kind view ≡ Puts puts → Answered kind view puts
 answered kind view puts e =
-    let is = judged (fits kind view) (puts_of kind view (balanced_of kind view)) puts (balanced_of kind view) (fault_of_contents kind view) (contents_faulty kind view) e in
+    let clean = faultless (first_fault kind view) _ puts (first_faulty kind view) e in
+    let is = judged (fits kind view) (puts_of kind view (balanced_of kind view)) puts (balanced_of kind view) (fault_of_contents kind view) (contents_faulty kind view) clean.1 in
     let steady = steady_by kind view (balance_of kind view).steady refl is.code in
     record {
       same = is.same;
+      clean = clean.0;
       fine = is.fine;
       fit = is.fit_all;
       ends = ends_by kind view (balanced_of kind view) refl is.code;

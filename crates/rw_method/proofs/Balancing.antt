@@ -1,6 +1,6 @@
 -- Where a dispatch answers puts, the balance of what is held then is true, and each derived slot holds what is derived: every kind but the
 -- reservoir.
-use Rattle.rw_method.proofs.Common.{AllByRecursion, Balanced, Bifurcation, Bool, Brings, ByRule, Canal, Conflicts, Confluence, Contains, Content, Conveys, Gage, Holds, Idle, IsKind, Kind, List, None, Option, Put, Reach, Request, Solves, Some, Supply, Takes, View, WaterUser, [], ap, ap₂, arith, balanced_of, chosen, difference, false, given, held_by, if◌then◌else◌, inl, inr, ints, known, known_after, known_value, nat_tests, none-some, option_map, per_mille, pos, refl, same_Some, seepage_put, side_flows, solved_put, subst, suc, sum_of, sym, true, user_puts, zero, ℕ, ℤ, ◌+ℤ◌, ◌+◌, ◌-ℤ◌, ◌<◌, ◌==◌, ◌∙◌, ◌∷◌, ◌≡◌, ◌≢◌, ◌≤◌}
+use Rattle.rw_method.proofs.Common.{AllByRecursion, Balanced, Bifurcation, Bool, Brings, ByRule, Canal, Conflicts, Confluence, Contains, Content, Conveys, Gage, Holds, Idle, IsKind, Kind, List, None, Option, Put, Reach, Request, RoutedReach, Solves, Some, Supply, Takes, View, WaterUser, [], ap, ap₂, arith, balanced_of, chosen, content_before, content_put, difference, false, given, held_by, if◌then◌else◌, inl, inr, ints, known, known_after, known_value, nat_tests, none-some, option_map, per_mille, pos, refl, same_Some, seepage_put, side_flows, solved_put, subst, suc, sum_of, sym, true, unwrap_or, user_puts, zero, ℕ, ℤ, ◌+ℤ◌, ◌+◌, ◌-ℤ◌, ◌<◌, ◌==◌, ◌∙◌, ◌∷◌, ◌≡◌, ◌≢◌, ◌≤◌}
 use Rattle.rw_method.specs.Balanced.{IsBalanced, IsHeld, IsUsed}
 use Rattle.rw_method.specs.Passing.{IsAfterOwn}
 use Rattle.rw_method.proofs.Answering.{Answered}
@@ -10,7 +10,7 @@ use Rattle.rw_method.proofs.Netting.{IsAgreed, net_zero, put_value, rest_value}
 use Rattle.rw_method.proofs.Among.{Among, all_append, all_at, among, among_right, contains}
 use Rattle.rw_method.proofs.PlainKinds.{base_in, one_sort, solved_at}
 use Rattle.rw_method.proofs.Settled.{balanced_code}
-use Rattle.rw_method.proofs.Terms.{Sort, given_as, given_in, shape_of, slot, some_value, sort}
+use Rattle.rw_method.proofs.Terms.{Sort, given_as, given_in, routed, shape_of, slot, some_value, sort}
 
 -- ---- what isn't put stays
 
@@ -199,4 +199,30 @@ module _ (old : View) (puts : List Put) (new : View) (after : IsAfterOwn old new
       let has : Contains puts put = contains puts put (subst (λ ps. Among ps put) is.same (among_right (solved_put (balanced_of kind old)) (seepage_put (known_after old (balanced_of kind old) 0) (known_after old (balanced_of kind old) 1)) put (inl refl))) in (
         omega (arith, ints, zero_sum, steady),
         put_value old new puts after put has ∙ ap₂ (λ a b. Some (a -ℤ b)) same_zero same_one,
+      )
+
+  -- ---- routed reaches
+
+  pub routed_balanced : (initial_content : ℤ) (release : ℕ) → Answered (RoutedReach initial_content release) old puts → DispatchFacts (RoutedReach initial_content release) old puts
+      → IsBalanced (RoutedReach initial_content release) new
+  routed_balanced initial_content release is facts past inflow outflow past_is held_in held_out =
+      let kind : Kind = RoutedReach initial_content release in
+      let was : old.past ≡ Some past = sym after.past ∙ past_is in
+      let content : content_before old ≡ past = ap (λ p. unwrap_or p (pos 0)) was in
+      let zero_sum = net_zero kind old puts is facts new after (plain_agreed kind old puts is facts new after (refl, (refl, tt)))
+      (((λ same. omega (arith, same)), tt), (tt, tt)) (routed release) (inl refl) (inflow ∷ outflow ∷ []) (held_in, (held_out, tt)) in
+      let steady : pos 0 ≡ is.steady = same_Some _ _ (ap (option_map (λ z. pos 0)) (sym was) ∙ is.is_steady) in
+      let gone : per_mille (content_before old +ℤ inflow) release ≡ per_mille (past +ℤ inflow) release = ap (λ z. per_mille (z +ℤ inflow) release) content in
+      let base_zero = base_in kind old puts facts.shares is (routed release) (inl refl) refl in
+      let base_one = base_in kind old puts facts.shares is (sort Takes 1) (inr (inl refl)) refl in
+      let value_zero = after_value kind old puts is facts new after 0 base_zero (λ none. facts.untouched (routed release) (inl refl) refl none) in
+      let value_one = after_value kind old puts is facts new after 1 base_one (λ none. facts.untouched (sort Takes 1) (inr (inl refl)) refl none) in
+      let came = known_after old (balanced_of kind old) 0 in
+      let went = known_after old (balanced_of kind old) 1 in
+      let same_zero : came.value ≡ inflow = same_Some _ _ (sym value_zero ∙ held_in) in
+      let same_one : went.value ≡ outflow = same_Some _ _ (sym value_one ∙ held_out) in
+      let put : Put = record { place = 2; value = content_before old +ℤ came.value -ℤ went.value; number = went.number } in
+      let has : Contains puts put = contains puts put (subst (λ ps. Among ps put) is.same (among_right (solved_put (balanced_of kind old)) (content_put (content_before old) came went) put (inl refl))) in (
+        omega (arith, ints, zero_sum, steady, gone),
+        put_value old new puts after put has ∙ ap Some (ap₂ (λ a b. a -ℤ b) (ap₂ (λ a b. a +ℤ b) content same_zero) same_one),
       )

@@ -1,5 +1,5 @@
 -- An object that is idle doesn't know all its terms, so that nothing is asked of its balance.
-use Rattle.rw_method.proofs.Common.{AllByRecursion, Balanced, Bifurcation, Bool, ByRule, Canal, Conflicts, Confluence, Content, DataObject, Gage, Given, Holds, Idle, IdleAnswer, Kind, List, None, Option, Put, Reach, Request, Reservoir, Solved, Some, Term, View, WaterUser, [], all_or_misfit, answer, ap, ap₂, arith, balance_of, balanced_of, difference, false, fault_of_contents, first_misfit, fits, if◌then◌else◌, inl, inr, int_eq, is_some, known, map, missing, nat_le, nat_tests, net_of, none-some, pos, puts_of, refl, settled, settled_at, solve_of, solves, suc, sum_of, sym, true, value_from_others, weakest, zero, ℕ, ℤ, ◌+ℤ◌, ◌+◌, ◌-ℤ◌, ◌==◌, ◌∙◌, ◌∷◌, ◌≡◌, ◌≢◌, ◌≤◌}
+use Rattle.rw_method.proofs.Common.{AllByRecursion, Balanced, Bifurcation, Bool, ByRule, Canal, Conflicts, Confluence, Content, DataObject, Gage, Given, Holds, Idle, IdleAnswer, Kind, List, None, Option, Put, Reach, Request, Reservoir, RoutedReach, Solved, Some, Term, View, WaterUser, [], all_or_misfit, answer, ap, ap₂, arith, balance_of, balanced_of, difference, false, fault_of_contents, first_misfit, fits, if◌then◌else◌, inl, inr, int_eq, is_some, known, map, missing, nat_le, nat_tests, net_of, none-some, option_map, pos, puts_of, refl, settled, settled_at, solve_of, solves, suc, sum_of, sym, true, value_from_others, weakest, zero, ℕ, ℤ, ◌+ℤ◌, ◌+◌, ◌-ℤ◌, ◌==◌, ◌∙◌, ◌∷◌, ◌≡◌, ◌≢◌, ◌≤◌, PowerReservoir, first_fault, unless_faulty}
 use Rattle.rw_method.specs.Balanced.{IsBalanced, IsHeld}
 use Rattle.rw_method.specs.Left.{Left}
 use Rattle.rw_method.proofs.Leaving.{from_left}
@@ -7,7 +7,7 @@ use Rattle.rw_method.proofs.Netting.{AreDistinct}
 use Rattle.rw_method.proofs.Among.{Among, all_at}
 use Rattle.rw_method.proofs.Settled.{balanced_code}
 use Rattle.rw_method.proofs.Terms.{Sort, given_in, shape_of, some_value, term_in, terms_are}
-use Rattle.rw_method.proofs.SolvedPuts.{IsFaulty, answer_code, contents_faulty}
+use Rattle.rw_method.proofs.SolvedPuts.{IsFaulty, answer_code, contents_faulty, first_faulty}
 
 -- ---- an answer of Idle comes of an idle balance
 
@@ -21,8 +21,14 @@ idle_of fit puts (Conflicts place held solved) None busy e = absurd (let code = 
 idle_of fit puts balanced (Some found) busy e = absurd (let code = ap answer_code e in omega (arith, busy, code))
 idle_of fit puts balanced None busy e = absurd (let code = ap answer_code e in let some = misfit_busy puts (first_misfit fit puts) in omega (arith, some, code))
 
+idle_after : (first : Option Solved) (solved : Solved) → IsFaulty first → unless_faulty first solved ≡ IdleAnswer → solved ≡ IdleAnswer
+idle_after None solved busy e = e
+idle_after (Some fault) solved busy e = absurd (let code = ap answer_code e in omega (arith, busy, code))
+
 pub idle_balance : (kind : Kind) (view : View) → solve_of kind view ≡ IdleAnswer → balanced_code (balanced_of kind view) ≡ 0
-idle_balance kind view e = idle_of (fits kind view) (puts_of kind view (balanced_of kind view)) (balanced_of kind view) (fault_of_contents kind view) (contents_faulty kind view) e
+idle_balance kind view e =
+    idle_of (fits kind view) (puts_of kind view (balanced_of kind view)) (balanced_of kind view) (fault_of_contents kind view) (contents_faulty kind view)
+    (idle_after (first_fault kind view) _ (first_faulty kind view) e)
 
 -- ---- two terms that aren't given
 
@@ -124,9 +130,16 @@ idle_balanced (Reservoir initial_storage table local_inflow diversion return_flo
     (((λ same. omega (arith, same)), ((λ same. omega (arith, same)), tt)), (((λ same. omega (arith, same)), tt), (tt, tt)))
     (ap₂ (λ a b. difference a b) (ap₂ (λ a b. sum_of a b) past_is sides) evaporates_is)
     (held_known view 0 inflow held_in, (held_known view 1 outflow held_out, (held_known view 2 storage held_storage, tt))) idle)
+idle_balanced (PowerReservoir initial_storage table max_release tailwater power) view left idle = λ past inflow outflow storage past_is held_in held_out held_storage.
+    absurd (never (PowerReservoir initial_storage table max_release tailwater power) view past left
+    (((λ same. omega (arith, same)), ((λ same. omega (arith, same)), tt)), (((λ same. omega (arith, same)), tt), (tt, tt))) past_is
+    (held_known view 0 inflow held_in, (held_known view 1 outflow held_out, (held_known view 2 storage held_storage, tt))) idle)
 idle_balanced (WaterUser depletion Request) view left idle = λ request diversion held_request held_diversion.
     absurd (never (WaterUser depletion Request) view request left (tt, tt) held_request (held_known view 1 diversion held_diversion, tt) idle)
 idle_balanced (WaterUser depletion ByRule) view left idle = λ diversion held_diversion.
     absurd (never (WaterUser depletion ByRule) view diversion left tt held_diversion tt idle)
 idle_balanced (Canal seepage) view left idle = λ inflow outflow held_in held_out.
     absurd (never (Canal seepage) view (pos 0) left (((λ same. omega (arith, same)), tt), (tt, tt)) refl (held_known view 0 inflow held_in, (held_known view 1 outflow held_out, tt)) idle)
+idle_balanced (RoutedReach initial_content release) view left idle = λ past inflow outflow past_is held_in held_out.
+    absurd (never (RoutedReach initial_content release) view (pos 0) left (((λ same. omega (arith, same)), tt), (tt, tt)) (ap (option_map (λ z. pos 0)) past_is)
+    (held_known view 0 inflow held_in, (held_known view 1 outflow held_out, tt)) idle)

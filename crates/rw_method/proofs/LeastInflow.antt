@@ -1,5 +1,5 @@
--- The least inflow of a canal that gives an outflow.
-use Rattle.rw_method.proofs.Common.{*ℤ-zero, *ℤ_comm, Conveys, ap, arith, brought, inl, inr, ints, least_inflow, pos, refl, suc, suc_ℤ-*ℤ, zero, ℕ, ℤ, ◌*ℤ◌, ◌*◌, ◌+ℤ◌, ◌+◌, ◌-ℤ◌, ◌-◌, ◌/◌, ◌<ℤ◌, ◌<◌, ◌∙◌, ◌≡◌, ◌≢◌, ◌≤ℤ◌, ◌≤◌}
+-- The least inflow of a canal, and of a routed reach, that gives an outflow.
+use Rattle.rw_method.proofs.Common.{*ℤ-zero, *ℤ_comm, Conveys, Routes, ap, arith, brought, inl, inr, ints, least_inflow, least_routed, neg_ℤ, per_mille, pos, refl, suc, suc_ℤ-*ℤ, zero, ℕ, ℤ, ◌*ℤ◌, ◌*◌, ◌+ℤ◌, ◌+◌, ◌-ℤ◌, ◌-◌, ◌/◌, ◌<ℤ◌, ◌<◌, ◌∙◌, ◌≡◌, ◌≢◌, ◌≤ℤ◌, ◌≤◌}
 use Rattle.rw_base.specs.Quotient.{floor_div}
 use Rattle.rw_base.proofs.Quotients.{IsFloor-floor_div}
 use Rattle.rw_table.proofs.Comparison.{same_or_not, eq_fails}
@@ -12,6 +12,10 @@ times_next z n = *ℤ_comm z (pos (suc n)) ∙ suc_ℤ-*ℤ (pos n) z ∙ ap (λ
 next_times : (z : ℤ) (n : ℕ) → (z +ℤ pos 1) *ℤ pos n ≡ z *ℤ pos n +ℤ pos n
 next_times z zero = *ℤ-zero (z +ℤ pos 1) ∙ omega (arith, ints, *ℤ-zero z)
 next_times z (suc n) = times_next (z +ℤ pos 1) n ∙ omega (arith, ints, next_times z n, times_next z n)
+
+neg_times : (z : ℤ) (n : ℕ) → neg_ℤ z *ℤ pos n ≡ neg_ℤ (z *ℤ pos n)
+neg_times z zero = *ℤ-zero (neg_ℤ z) ∙ omega (arith, ints, *ℤ-zero z)
+neg_times z (suc n) = times_next (neg_ℤ z) n ∙ omega (arith, ints, neg_times z n, times_next z n)
 
 parts : (z : ℤ) (m n all : ℕ) → m + n ≡ all → z *ℤ pos m +ℤ z *ℤ pos n ≡ z *ℤ pos all
 parts z zero n all is = rw (← is) omega (arith, ints, *ℤ-zero z)
@@ -90,3 +94,40 @@ least seepage outflow inflow few some less =
     let formula = formula_bounds (1000 - seepage) outflow stay.1 in
     let below = rw (by_formula seepage outflow some) at less in
     too_little inflow _ seepage (1000 - seepage) outflow stay.0 formula.0 (omega (arith, ints, below))
+
+-- ---- what is routed
+
+-- a thousand times what is let go is just below the parts of all that is held
+parts_let_go : (held : ℤ) (release : ℕ) → ((per_mille held release *ℤ pos 1000) ≤ℤ (held *ℤ pos release)) × ((held *ℤ pos release) <ℤ ((per_mille held release +ℤ pos 1) *ℤ pos 1000))
+parts_let_go held release = (IsFloor-floor_div (held *ℤ pos release) (pos 1000)).over_positive (omega (arith, ints))
+
+-- the least content is just enough
+least_content : (outflow : ℤ) (release : ℕ) → 1 ≤ release
+    → ((outflow *ℤ pos 1000) ≤ℤ (neg_ℤ (floor_div (neg_ℤ (outflow *ℤ pos 1000)) (pos release)) *ℤ pos release))
+    × ((neg_ℤ (floor_div (neg_ℤ (outflow *ℤ pos 1000)) (pos release) +ℤ pos 1) *ℤ pos release) <ℤ (outflow *ℤ pos 1000))
+least_content outflow release some =
+    let floor = (IsFloor-floor_div (neg_ℤ (outflow *ℤ pos 1000)) (pos release)).over_positive (omega (arith, ints, some)) in
+    let q = floor_div (neg_ℤ (outflow *ℤ pos 1000)) (pos release) in
+    (omega (arith, ints, floor.0, neg_times q release), omega (arith, ints, floor.1, neg_times (q +ℤ pos 1) release))
+
+pub routed : (content : ℤ) (release : ℕ) (outflow : ℤ) → 1 ≤ release → release ≤ 1000
+    → brought (Routes content release) (least_routed content release outflow) ≡ outflow
+routed content release outflow some most =
+    let q = floor_div (neg_ℤ (outflow *ℤ pos 1000)) (pos release) in
+    let held : content +ℤ (neg_ℤ q -ℤ content) ≡ neg_ℤ q = omega (arith, ints) in
+    let enough = least_content outflow release some in
+    let gone = parts_let_go (neg_ℤ q) release in
+    let one_more = neg_times (q +ℤ pos 1) release in
+    let one = neg_times q release in
+    let next = next_times q release in
+    ap (λ z. per_mille z release) held ∙ omega (arith, ints, some, most, enough.0, enough.1, gone.0, gone.1, one_more, one, next)
+
+pub least_of_routed : (content : ℤ) (release : ℕ) (outflow inflow : ℤ) → 1 ≤ release
+    → inflow <ℤ least_routed content release outflow → brought (Routes content release) inflow <ℤ outflow
+least_of_routed content release outflow inflow some less =
+    let q = floor_div (neg_ℤ (outflow *ℤ pos 1000)) (pos release) in
+    let below : (content +ℤ inflow) ≤ℤ neg_ℤ (q +ℤ pos 1) = omega (arith, ints, less) in
+    let enough = least_content outflow release some in
+    let gone = parts_let_go (content +ℤ inflow) release in
+    let rises = times_rises (content +ℤ inflow) (neg_ℤ (q +ℤ pos 1)) release below in
+    omega (arith, ints, enough.1, gone.0, rises)

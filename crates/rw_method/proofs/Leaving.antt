@@ -1,10 +1,10 @@
 -- A dispatch keeps what it is kept by: which facts of a kind's puts are enough.
-use Rattle.rw_method.proofs.Common.{All, AllByRecursion, Balanced, Bool, ByObject, Contains, Content, Given, Holds, IsShare, IsSome, Kind, List, None, Option, Put, Solves, Some, Term, View, [], ap, arith, balanced_of, false, held_by, if◌then◌else◌, inl, inr, is_same_object, known, known_after, map, nat_tests, none-some, number_of, refl, rules, same_Some, settled, subst, sym, true, ℕ, ℤ, ◌==◌, ◌∙◌, ◌∷◌, ◌≡◌, ◌≢◌, ◌≤◌, ◌⊎◌}
-use Rattle.rw_method.specs.Left.{IsGivenUpTo, IsUpTo, Left, Rest, is_own, rest, rests_of}
+use Rattle.rw_method.proofs.Common.{All, AllByRecursion, Balanced, Bool, ByObject, Contains, Content, Given, Holds, IsShare, IsSome, Kind, List, None, Option, PowerReservoir, Put, Solves, Some, Term, View, [], ap, arith, balance_of, balanced_of, false, held_by, if◌then◌else◌, inl, inr, is_same_object, known, known_after, map, nat_tests, none-some, number_of, refl, rules, same_Some, settled, subst, sym, true, ℕ, ℤ, ◌==◌, ◌∙◌, ◌∷◌, ◌≡◌, ◌≢◌, ◌≤◌, ◌⊎◌}
+use Rattle.rw_method.specs.Left.{AreOthersUpTo, IsGivenUpTo, IsOutflowLeft, IsUpTo, Left, Rest, is_own, rest, rests_of}
 use Rattle.rw_method.specs.Passing.{IsAfterOwn, IsAfterOthers, content_of}
 use Rattle.rw_method.proofs.Among.{Among, all_at, among, contains, weaker_all}
 use Rattle.rw_method.proofs.Settled.{SolvedFacts, balanced_code, given_up_to, holds_facts, solved_facts}
-use Rattle.rw_method.proofs.Terms.{IsSorted, IsTermOf, Sort, all_sorted, among_terms, given_in, other_in, own_in, shape_of, slot, term_in, term_of, terms_are}
+use Rattle.rw_method.proofs.Terms.{IsSorted, IsTermOf, Sort, all_sorted, among_terms, given_in, other_in, own_in, shape_of, slot, term_in, term_of, terms_are, up_to_passes}
 use Rattle.rw_method.specs.Passing.{IsOwnFall}
 
 -- ---- the condition, by the sorts of a kind's terms
@@ -14,6 +14,7 @@ pub record LeftBy (kind : Kind) (view : View) : Type 0 where
       → known view s.place ≡ Some content → IsGivenUpTo content.number (given_in view r)
   pub rests : (pair : Rest) (content : Content) → Contains (rests_of kind) pair → known view pair.place ≡ Some content → is_own view content ≡ true
       → IsUpTo content.number (known view pair.on)
+  pub outflow : IsOutflowLeft kind view
 
 pub to_left : (kind : Kind) (view : View) → LeftBy kind view → Left kind view
 to_left kind view left = record {
@@ -24,6 +25,7 @@ to_left kind view left = record {
       (left.terms s.at r.at content s.has r.has (λ same. apart (ap (λ (t : Term). t.place) r.is ∙ same ∙ ap (λ (t : Term). t.place) (sym s.is)))
       (ap (λ (t : Term). t.given) (sym s.is) ∙ none) (ap (λ (t : Term). known view t.place) (sym s.is) ∙ held));
   rests = left.rests;
+  outflow = left.outflow;
 }
 
 pub from_left : (kind : Kind) (view : View) → Left kind view → LeftBy kind view
@@ -34,9 +36,15 @@ from_left kind view left = record {
       (subst (λ ts. Contains ts (term_in view r)) (sym (terms_are kind view)) (contains (map (term_in view) (shape_of kind)) (term_in view r) (among_terms view (shape_of kind) r there)))
       apart none held;
   rests = left.rests;
+  outflow = left.outflow;
 }
 
 -- ---- a timestep begins, and others write
+
+outflow_begins : (kind : Kind) (view : View) → ((place : ℕ) (content : Content) → known view place ≡ Some content → is_own view content ≡ false) → IsOutflowLeft kind view
+outflow_begins (PowerReservoir initial_storage table max_release tailwater power) view none_own =
+    λ content held own. absurd (let no : true ≡ false = sym own ∙ none_own 1 content held in cc)
+outflow_begins kind view none_own = tt
 
 pub left_begins : (kind : Kind) (view : View) → ((place : ℕ) (content : Content) → known view place ≡ Some content → is_own view content ≡ false) → Left kind view
 left_begins kind view none_own = to_left kind view (record {
@@ -44,9 +52,10 @@ left_begins kind view none_own = to_left kind view (record {
       let own = own_in view s content (all_at IsSorted (shape_of kind) s (all_sorted kind) has) none held in
       absurd (let no : true ≡ false = sym own ∙ none_own s.place content held in cc);
   rests = λ pair content has held own. absurd (let no : true ≡ false = sym own ∙ none_own pair.place content held in cc);
+  outflow = outflow_begins kind view none_own;
 })
 
-same_own : (old new : View) (content : Content) → new.own ≡ old.own → is_own new content ≡ is_own old content
+pub same_own : (old new : View) (content : Content) → new.own ≡ old.own → is_own new content ≡ is_own old content
 same_own old new content same = ap (λ own. is_same_object content.writer (ByObject own)) same
 
 -- what the object wrote itself wasn't written by another
@@ -58,15 +67,28 @@ own_was old new passes place content there own = elim (passes.slots place) [
       absurd (let no : true ≡ false = sym own ∙ same_own old new content passes.own ∙ ap (is_own old) (sym this) ∙ replaced.other in cc)
 ]
 
-up_to_passes : (old new : View) → IsAfterOthers old new → (place number : ℕ) → IsUpTo number (known old place) → IsUpTo number (known new place)
-up_to_passes old new passes place number is = elim (passes.slots place) [
-  | inl same ↦ record { content = is.content; is = same ∙ is.is; most = is.most }
-  | inr replaced ↦ let falls = replaced.falls is.content is.is in let most = is.most in record { content = replaced.content; is = replaced.is; most = omega (arith, falls, most) }
-]
-
 not_given : (view : View) (s : Sort) (held : Option Given) → given_in view s ≡ held → (IsGivenUpTo (number_of held) held → ⊥) → given_in view s ≡ None
 not_given view s None is never = is
 not_given view s (Some held) is never = absurd (never (record { held = held; is = refl; most = omega arith }))
+
+-- terms up to a number that are given as these are have no greater ones
+pub others_pass : (kind : Kind) (old new : View) (place number : ℕ) → ((r : Sort) → Among (shape_of kind) r → r.place ≢ place → IsGivenUpTo number (given_in old r) → IsGivenUpTo number (given_in new r))
+    → AreOthersUpTo number place (balance_of kind old).terms → AreOthersUpTo number place (balance_of kind new).terms
+others_pass kind old new place number passes up other has apart =
+    let r = term_of new (shape_of kind) other (among (map (term_in new) (shape_of kind)) other (subst (λ ts. Contains ts other) (terms_are kind new) has)) in
+    let far : r.at.place ≢ place = λ same. apart (ap (λ (t : Term). t.place) r.is ∙ same) in
+    let there : Contains (balance_of kind old).terms (term_in old r.at) =
+    subst (λ ts. Contains ts (term_in old r.at)) (sym (terms_are kind old)) (contains (map (term_in old) (shape_of kind)) (term_in old r.at) (among_terms old (shape_of kind) r.at r.has)) in
+    subst (λ (t : Term). IsGivenUpTo number t.given) (sym r.is) (passes r.at r.has far (up (term_in old r.at) there far))
+
+outflow_by_others : (kind : Kind) (old new : View) → IsAfterOthers old new → IsOutflowLeft kind old → IsOutflowLeft kind new
+outflow_by_others (PowerReservoir initial_storage table max_release tailwater power) old new passes left = λ content held own.
+    let kind : Kind = PowerReservoir initial_storage table max_release tailwater power in
+    elim (left content (own_was old new passes 1 content held own) (sym (same_own old new content passes.own) ∙ own)) [
+      | inl asks ↦ inl (up_to_passes old new passes 4 content.number asks)
+      | inr up ↦ inr (others_pass kind old new 1 content.number (λ r has apart. other_in old new passes r content.number) up)
+    ]
+outflow_by_others kind old new passes left = tt
 
 pub left_by_others : (kind : Kind) (old new : View) → IsAfterOthers old new → Left kind old → Left kind new
 left_by_others kind old new passes is =
@@ -81,6 +103,7 @@ left_by_others kind old new passes is =
       rests = λ pair content has held own.
           let was = own_was old new passes pair.place content held own in
           up_to_passes old new passes pair.on content.number (left.rests pair content has was (sym (same_own old new content passes.own) ∙ own));
+      outflow = outflow_by_others kind old new passes left.outflow;
     })
 
 -- ---- a dispatch
@@ -99,11 +122,24 @@ pub record RestsOn (kind : Kind) (view : View) (put : Put) : Type 0 where
   pub number : put.number ≡ (known_after view (balanced_of kind view) on).number
   pub base : IsBase view (balanced_of kind view) on
 
--- a put is the term that was solved, or rests on another slot, or has number 0 in a place that rests on none
-pub data PutIs (kind : Kind) (view : View) (put : Put) : Type 0 where
-  solved : balanced_of kind view ≡ Solves put.place put.value put.number → PutIs kind view put
-  rests : RestsOn kind view put → PutIs kind view put
-  plain : put.number ≡ 0 → ((pair : Rest) → Contains (rests_of kind) pair → pair.place ≢ put.place) → PutIs kind view put
+-- over a slot that is known a number doesn't rise
+abbrev pub IsFalling : Kind → View → ℕ → ℕ → Type 0
+IsFalling kind view place number = LeftBy kind view → (content : Content) → known view place ≡ Some content → number ≤ content.number
+
+-- what a put rests on is put, too
+pub record GoesWith (kind : Kind) (view : View) (puts : List Put) (put : Put) : Type 0 where
+  pub beside : Put
+  pub there : Contains puts beside
+  pub has : Contains (rests_of kind) (rest put.place beside.place)
+  pub number : put.number ≡ beside.number
+  pub falls : IsFalling kind view beside.place beside.number
+
+-- a put is the term that was solved, or rests on another slot that is known, was solved or is put, or rests on none and doesn't rise
+pub data PutIs (kind : Kind) (view : View) (puts : List Put) (put : Put) : Type 0 where
+  solved : balanced_of kind view ≡ Solves put.place put.value put.number → PutIs kind view puts put
+  rests : RestsOn kind view put → PutIs kind view puts put
+  beside : GoesWith kind view puts put → PutIs kind view puts put
+  alone : (LeftBy kind view → IsOwnFall view put) → ((pair : Rest) → Contains (rests_of kind) pair → pair.place ≢ put.place) → PutIs kind view puts put
 
 pub record Solving (kind : Kind) (view : View) : Type 0 where
   pub place : ℕ
@@ -121,12 +157,11 @@ pub record DispatchFacts (kind : Kind) (view : View) (puts : List Put) : Type 0 
   pub settles : settled (Some steady) (map (term_in view) (shape_of kind)) ≡ balanced_of kind view
   pub ends : (balanced_of kind view ≡ Holds) ⊎ Solving kind view
   pub shares : All (λ (term : Term). IsShare term.share) (map (term_in view) (shape_of kind))
-  pub each : AllByRecursion (PutIs kind view) puts
+  pub each : AllByRecursion (PutIs kind view puts) puts
   pub has_solved : (solving : Solving kind view) → Contains puts (record { place = solving.place; value = solving.value; number = solving.number })
   pub beside : (solving : Solving kind view) (on : ℕ) → Contains (rests_of kind) (rest solving.place on)
       → (put : Put) × (Contains puts put × (put.place ≡ on) × (put.number ≡ solving.number))
-  pub below : LeftBy kind view → (s : Sort) (held : Given) (content : Content) → Among (shape_of kind) s → given_in view s ≡ Some held
-      → known view s.place ≡ Some content → held.number ≤ content.number
+  pub falls : (solving : Solving kind view) → IsFalling kind view solving.place solving.number
   pub stays : (new : View) → IsAfterOwn view new puts → (s : Sort) → Among (shape_of kind) s → ((solving : Solving kind view) → s.place ≢ solving.place)
       → (number : ℕ) → IsGivenUpTo number (given_in view s) → IsGivenUpTo number (given_in new s)
   pub untouched : (s : Sort) → Among (shape_of kind) s → s.source ≡ slot → ((solving : Solving kind view) → s.place ≢ solving.place) → (put : Put) → Contains puts put → put.place ≢ s.place
@@ -171,30 +206,23 @@ holds_given view (first ∷ shape) steady holds s has =
     (holds_facts steady (term_in view first) (map (term_in view) shape) holds).given (term_in view s)
     (contains (map (term_in view) (first ∷ shape)) (term_in view s) (among_terms view (first ∷ shape) s has))
 
-module _ (kind : Kind) (old : View) (puts : List Put) (facts : DispatchFacts kind old puts) (left : LeftBy kind old) where
-  solved_term_facts : (solving : Solving kind old) → SolvedFacts (map (term_in old) (shape_of kind)) solving.place solving.number
-  solved_term_facts solving = solved_facts facts.steady (map (term_in old) (shape_of kind)) solving.place solving.number solving.value facts.shares (facts.settles ∙ solving.is)
-
-  -- each other term is given, with no greater a number
-  others_given : (solving : Solving kind old) (r : Sort) → Among (shape_of kind) r → r.place ≢ solving.place → IsGivenUpTo solving.number (given_in old r)
-  others_given solving r has apart =
-      (solved_term_facts solving).others (term_in old r) (contains (map (term_in old) (shape_of kind)) (term_in old r) (among_terms old (shape_of kind) r has)) apart
+-- what is known where a term was solved
+module _ (kind : Kind) (old : View) (steady : ℤ) (settles : settled (Some steady) (map (term_in old) (shape_of kind)) ≡ balanced_of kind old)
+    (shares : All (λ (term : Term). IsShare term.share) (map (term_in old) (shape_of kind))) where
+  pub solving_is : (solving : Solving kind old) → SolvedFacts (map (term_in old) (shape_of kind)) solving.place solving.number
+  solving_is solving = solved_facts steady (map (term_in old) (shape_of kind)) solving.place solving.number solving.value shares (settles ∙ solving.is)
 
   number_of_up : (number : ℕ) (held : Option Given) → IsGivenUpTo number held → number_of held ≤ number
   number_of_up number None is = omega arith
   number_of_up number (Some held) is = let most = is.most in subst (λ (g : Given). g.number ≤ number) (sym (same_Some _ _ is.is)) most
 
-  falls_by : (solving : Solving kind old) (content : Content) → known old solving.place ≡ Some content → (s : IsTermOf old (shape_of kind) (solved_term_facts solving).term)
-      → (held : Option Given) → given_in old s.at ≡ held → solving.number ≤ content.number
-  falls_by solving content there s (Some held) is =
-      let of = solved_term_facts solving in
-      let at : s.at.place ≡ solving.place = ap (λ (t : Term). t.place) (sym s.is) ∙ of.there in
-      let less = of.self held (ap (λ (t : Term). t.given) s.is ∙ is) in
-      let below = facts.below left s.at held content s.has is (ap (known old) at ∙ there) in omega (arith, less, below)
-  falls_by solving content there s None is = elim (solved_term_facts solving).one [
+  -- a solved term that wasn't given has no greater a number than what it replaces
+  falls_open : LeftBy kind old → (solving : Solving kind old) (content : Content) → known old solving.place ≡ Some content
+      → (s : IsTermOf old (shape_of kind) (solving_is solving).term) → given_in old s.at ≡ None → solving.number ≤ content.number
+  falls_open left solving content there s is = elim (solving_is solving).one [
     | inl none ↦ omega (arith, none)
     | inr (other, has, apart, is_number) ↦
-        let of = solved_term_facts solving in
+        let of = solving_is solving in
         let at : s.at.place ≡ solving.place = ap (λ (t : Term). t.place) (sym s.is) ∙ of.there in
         let r = term_of old (shape_of kind) other (among (map (term_in old) (shape_of kind)) other has) in
         let up = left.terms s.at r.at content s.has r.has (λ same. apart (ap (λ (t : Term). t.place) r.is ∙ same ∙ at)) is (ap (known old) at ∙ there) in
@@ -202,12 +230,31 @@ module _ (kind : Kind) (old : View) (puts : List Put) (facts : DispatchFacts kin
         omega (arith, below, is_number)
   ]
 
+  -- and no other one, where what is given in its slot has no greater a number than what is known there
+  pub falls_from : (solving : Solving kind old) → ((s : Sort) → Among (shape_of kind) s → s.place ≡ solving.place → (held : Given) → given_in old s ≡ Some held → IsFalling kind old s.place held.number)
+      → IsFalling kind old solving.place solving.number
+  falls_from solving below left content there = by (given_in old s.at) refl
+    where
+      s : IsTermOf old (shape_of kind) (solving_is solving).term
+      s = let of = solving_is solving in term_of old (shape_of kind) of.term (among (map (term_in old) (shape_of kind)) of.term of.has)
+
+      by : (held : Option Given) → given_in old s.at ≡ held → solving.number ≤ content.number
+      by None is = falls_open left solving content there s is
+      by (Some held) is =
+          let of = solving_is solving in
+          let at : s.at.place ≡ solving.place = ap (λ (t : Term). t.place) (sym s.is) ∙ of.there in
+          let less = of.self held (ap (λ (t : Term). t.given) s.is ∙ is) in
+          let most = below s.at s.has at held is left content (ap (known old) at ∙ there) in omega (arith, less, most)
+
+module _ (kind : Kind) (old : View) (puts : List Put) (facts : DispatchFacts kind old puts) (left : LeftBy kind old) where
+  -- each other term is given, with no greater a number
+  others_given : (solving : Solving kind old) (r : Sort) → Among (shape_of kind) r → r.place ≢ solving.place → IsGivenUpTo solving.number (given_in old r)
+  others_given solving r has apart =
+      (solving_is kind old facts.steady facts.settles facts.shares solving).others (term_in old r) (contains (map (term_in old) (shape_of kind)) (term_in old r) (among_terms old (shape_of kind) r has)) apart
+
   -- a solved term has no greater a number than what it replaces
   pub number_falls : (solving : Solving kind old) (content : Content) → known old solving.place ≡ Some content → solving.number ≤ content.number
-  number_falls solving content there =
-      let of = solved_term_facts solving in
-      let s = term_of old (shape_of kind) of.term (among (map (term_in old) (shape_of kind)) of.term of.has) in
-      falls_by solving content there s (given_in old s.at) refl
+  number_falls solving content there = facts.falls solving left content there
 
   -- what is known of a slot once the balance is settled has no greater a number than what the slot held
   after_falls : (balanced : Balanced) → balanced_of kind old ≡ balanced → (on : ℕ) (content : Content) → known old on ≡ Some content → (known_after old balanced on).number ≤ content.number
@@ -220,16 +267,20 @@ module _ (kind : Kind) (old : View) (puts : List Put) (facts : DispatchFacts kin
       by false apart = let same : held_by (known old on) ≡ held_by (Some content) = ap held_by there in let n : (held_by (known old on)).number ≡ content.number = ap (λ (g : Given). g.number) same in omega (arith, n)
   after_falls balanced is on content there = let same : held_by (known old on) ≡ held_by (Some content) = ap held_by there in let n : (held_by (known old on)).number ≡ content.number = ap (λ (g : Given). g.number) same in omega (arith, n)
 
-  own_fall : (put : Put) → PutIs kind old put → IsOwnFall old put
+  own_fall : (put : Put) → PutIs kind old puts put → IsOwnFall old put
   own_fall put (solved is) content there own = number_falls (record { place = put.place; value = put.value; number = put.number; is = is }) content there
   own_fall put (rests on) content there own =
       let up = left.rests (rest put.place on.on) content on.has there own in
       let falls = after_falls (balanced_of kind old) refl on.on up.content up.is in
       let most = up.most in let number = on.number in omega (arith, falls, most, number)
-  own_fall put (plain none apart) content there own = omega (arith, none)
+  own_fall put (beside also) content there own =
+      let up = left.rests (rest put.place also.beside.place) content also.has there own in
+      let falls = also.falls left up.content up.is in
+      let most = up.most in let number = also.number in omega (arith, falls, most, number)
+  own_fall put (alone falls apart) content there own = falls left content there own
 
   pub own_falls : AllByRecursion (IsOwnFall old) puts
-  own_falls = weaker_all (PutIs kind old) (IsOwnFall old) puts own_fall facts.each
+  own_falls = weaker_all (PutIs kind old puts) (IsOwnFall old) puts own_fall facts.each
 
   -- ---- what it leaves
 
@@ -308,7 +359,7 @@ module _ (kind : Kind) (old : View) (puts : List Put) (facts : DispatchFacts kin
         | inr kept ↦ unchanged (ap (known old) (sym at) ∙ kept.was ∙ sym kept.is ∙ ap (known new) at ∙ there)
         | inl written ↦
             let same : content_of old put ≡ content = same_Some _ _ (sym written.is ∙ ap (known new) at ∙ there) in
-            by_put put at (ap (λ (c : Content). c.number) same) (all_at (PutIs kind old) puts put facts.each in_puts)
+            by_put put at (ap (λ (c : Content). c.number) same) (all_at (PutIs kind old puts) puts put facts.each in_puts)
       ]
     ]
       where
@@ -318,8 +369,13 @@ module _ (kind : Kind) (old : View) (puts : List Put) (facts : DispatchFacts kin
             let still = up_to_after old new puts after pair.on up.content up.is in
             let most = up.most in let less = still.most in record { content = still.content; is = still.is; most = omega (arith, most, less) }
 
-        by_put : (put : Put) → put.place ≡ pair.place → put.number ≡ content.number → PutIs kind old put → IsUpTo content.number (known new pair.on)
-        by_put put at number (plain none apart) = absurd (apart pair has (sym at))
+        by_put : (put : Put) → put.place ≡ pair.place → put.number ≡ content.number → PutIs kind old puts put → IsUpTo content.number (known new pair.on)
+        by_put put at number (alone falls apart) = absurd (apart pair has (sym at))
+        by_put put at number (beside also) =
+            let same : also.beside.place ≡ pair.on = facts.unique (rest put.place also.beside.place) pair also.has has at in
+            let up = put_up_to old new puts after also.beside also.there in
+            let most = up.most in let is = also.number in
+            subst (λ p. IsUpTo content.number (known new p)) same (record { content = up.content; is = up.is; most = omega (arith, most, is, number) })
         by_put put at number (rests on) =
             let same : on.on ≡ pair.on = facts.unique (rest put.place on.on) pair on.has has at in
             let up = base_up_to on.on on.base in
@@ -332,5 +388,9 @@ module _ (kind : Kind) (old : View) (puts : List Put) (facts : DispatchFacts kin
             let most = up.most in let n = also.1.2 in
             subst (λ p. IsUpTo content.number (known new p)) also.1.1 (record { content = up.content; is = up.is; most = omega (arith, most, n, number) })
 
-    pub own_left : LeftBy kind new
-    own_left = record { terms = λ s r content has there apart none held. terms_by s r content has there apart none held facts.ends; rests = rests_by }
+    pub own_left : IsOutflowLeft kind new → LeftBy kind new
+    own_left outflow = record {
+      terms = λ s r content has there apart none held. terms_by s r content has there apart none held facts.ends;
+      rests = rests_by;
+      outflow = outflow;
+    }

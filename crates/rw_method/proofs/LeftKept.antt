@@ -1,13 +1,14 @@
 -- What an object's slots are left as, whatever the kind: how its own puts keep it.
-use Rattle.rw_method.proofs.Common.{AllByRecursion, Balanced, Basis, Bifurcation, Bool, ByRule, Canal, Confluence, Contains, DataObject, Elevation, Gage, Given, IsKind, IsStored, Kind, List, None, Nothing, Option, Put, Puts, Reach, Request, Reservoir, Row, Solves, Some, Storage, View, WaterUser, [], ap, are_both_zero, arith, balanced_of, basis_of, beside_basis, beside_given, elevation_of, evaporation_of, evaporation_put, false, given, if◌then◌else◌, inl, inr, known_after, level_puts, nat_tests, put_found, refl, release_puts, seepage_put, solve_of, solved_put, subst, suc, sym, true, user_puts, volume_of, zero, ℕ, ℤ, ◌++◌, ◌<◌, ◌==◌, ◌∙◌, ◌∷◌, ◌≡◌, ◌≢◌, ◌≤◌}
-use Rattle.rw_method.specs.Left.{Left}
+use Rattle.rw_method.proofs.Common.{AllByRecursion, Balanced, Basis, Bifurcation, Bool, ByRule, Canal, Conflicts, Confluence, Contains, DataObject, Elevation, Gage, Given, Holds, Idle, IsKind, IsStored, Kind, List, None, Nothing, Option, Plant, PowerReservoir, Put, Puts, Reach, Request, Reservoir, RoutedReach, Row, Solves, Some, Storage, Term, View, WaterUser, [], ap, are_both_zero, arith, asked_of, asked_put, balanced_of, basis_of, beside_basis, beside_given, content_before, content_put, elevation_of, energy_puts, evaporation_of, evaporation_put, false, flow_puts, given, head_of, held_after, if◌then◌else◌, inl, inr, known_after, level_puts, nat_tests, plant, power_balance, power_flows, put, put_found, refl, release_puts, seepage_put, solve_of, solved_put, subst, suc, sym, true, user_puts, volume_of, zero, ℕ, ℤ, ◌++◌, ◌<◌, ◌==◌, ◌∙◌, ◌∷◌, ◌≡◌, ◌≢◌, ◌≤◌}
+use Rattle.rw_method.specs.Left.{IsOutflowLeft, Left}
 use Rattle.rw_method.specs.Passing.{IsAfterOwn, IsOwnFall}
 use Rattle.rw_method.proofs.Answering.{Answered, answered}
-use Rattle.rw_method.proofs.Leaving.{DispatchFacts, Solving, from_left, own_falls, own_left, to_left}
+use Rattle.rw_method.proofs.Leaving.{DispatchFacts, LeftBy, Solving, from_left, own_falls, own_left, to_left}
 use Rattle.rw_method.proofs.Among.{Among, all_append, all_at, among, weaker_all}
-use Rattle.rw_method.proofs.PlainKinds.{bifurcation_facts, confluence_facts, conveyed_facts, data_facts, gage_facts, lagged_facts, reach_facts, solved_at, user_facts}
+use Rattle.rw_method.proofs.PlainKinds.{bifurcation_facts, canal_facts, confluence_facts, data_facts, gage_facts, lagged_facts, reach_facts, routed_facts, solved_at, user_facts}
 use Rattle.rw_method.proofs.ReservoirFacts.{reservoir_facts}
 use Rattle.rw_method.proofs.Terms.{Sort, shape_of}
+use Rattle.rw_method.proofs.PowerFacts.{IsFlow, flows_are, outflow_left, power_facts}
 
 pub dispatch_facts : (kind : Kind) (view : View) (puts : List Put) → IsKind kind → Answered kind view puts → DispatchFacts kind view puts
 dispatch_facts (DataObject slots) view puts sound is = data_facts view puts slots is
@@ -19,7 +20,10 @@ dispatch_facts (Reach (suc lag) history local_inflow diversion return_flow) view
 dispatch_facts (Reservoir initial_storage table local_inflow diversion return_flow evaporation max_release) view puts sound is =
     reservoir_facts initial_storage table local_inflow diversion return_flow evaporation max_release view puts sound is
 dispatch_facts (WaterUser depletion supply) view puts sound is = user_facts view puts depletion supply is
-dispatch_facts (Canal seepage) view puts sound is = conveyed_facts view puts seepage sound is
+dispatch_facts (Canal seepage) view puts sound is = canal_facts view puts seepage sound is
+dispatch_facts (PowerReservoir initial_storage table max_release tailwater power) view puts sound is =
+    power_facts initial_storage table max_release tailwater power view puts is
+dispatch_facts (RoutedReach initial_content release) view puts sound is = routed_facts view puts initial_content release sound.some sound.most is
 
 -- ---- puts stand in different places
 
@@ -109,6 +113,9 @@ module _ (table : Option (List Row)) (storage elevation : Option Given) where
   level_up : (balanced : Balanced) → AreUpTo 3 (level_puts table storage elevation balanced)
   level_up = level_cases (AreUpTo 3) tt (λ value number. (omega arith, tt)) (λ value number. (omega arith, tt))
 
+  level_from : (balanced : Balanced) → AreFrom 1 (level_puts table storage elevation balanced)
+  level_from = level_cases (AreFrom 1) tt (λ value number. (omega arith, tt)) (λ value number. (omega arith, tt))
+
   level_alone : (balanced : Balanced) → AreApart (level_puts table storage elevation balanced)
   level_alone = level_cases AreApart tt (λ value number. (tt, tt)) (λ value number. (tt, tt))
 
@@ -149,6 +156,55 @@ reservoir_apart initial_storage table local_inflow diversion return_flow evapora
     let three_up : AreUpTo 8 ((first ++ second) ++ third) = all_append (λ (put : Put). put.place ≤ 8) (first ++ second) third (more_up 3 8 (first ++ second) (omega arith) two_up) e.1.0 in
     subst AreApart is.same (apart_both ((first ++ second) ++ third) fourth three r.1 (up_apart 8 ((first ++ second) ++ third) fourth three_up r.0))
 
+-- ---- a power reservoir's
+
+flows_apart : (asking : Option Given) (terms : List Term) (balanced : Balanced) → AreApart (flow_puts asking terms balanced)
+flows_apart None terms balanced = solved_alone_apart balanced
+flows_apart (Some by) terms Idle = (tt, tt)
+flows_apart (Some by) terms Holds = (tt, tt)
+flows_apart (Some by) terms (Conflicts place held found) = (tt, tt)
+flows_apart (Some by) terms (Solves place value number) = by_place (place == 1) (place == 0) refl
+  where
+    b : Balanced
+    b = Solves place value number
+
+    by_place : (out in_ : Bool) → (place == 1) ≡ out
+        → AreApart (if out then put place value number ∷ [] else (if in_ then put place value number ∷ asked_put terms b by ∷ [] else asked_put terms b by ∷ put place value number ∷ []))
+    by_place true in_ here = (tt, tt)
+    by_place false true far = (((λ same. absurd (grind (arith, nat_tests, far, same))), tt), (tt, tt))
+    by_place false false far = (((λ same. absurd (grind (arith, nat_tests, far, same))), tt), (tt, tt))
+
+power_apart : (initial_storage : ℤ) (table : List Row) (max_release tailwater : ℤ) (power : ℕ) (view : View) (puts : List Put)
+    → IsKind (PowerReservoir initial_storage table max_release tailwater power) → Answered (PowerReservoir initial_storage table max_release tailwater power) view puts → AreApart puts
+power_apart initial_storage table max_release tailwater power view puts sound is =
+    let kind : Kind = PowerReservoir initial_storage table max_release tailwater power in
+    let of : Plant = plant table max_release tailwater power in
+    let b = balanced_of kind view in
+    let terms : List Term = (power_balance of view).terms in
+    let low = low_solving kind view puts 2 (omega arith, (omega arith, (omega arith, tt))) sound is in
+    let first : List Put = power_flows of view b in
+    let second : List Put = level_puts (Some table) (given view 2) (given view 3) b in
+    let third : List Put = energy_puts of (head_of of view) (held_after view first 1) in
+    let are = flows_are (asked_of of view) terms b in
+    let first_up : AreUpTo 3 first = weaker_all (IsFlow (asked_of of view) terms b) (λ (put : Put). put.place ≤ 3) first (λ put flow. few put flow low) are in
+    let beside : AllApart first second = weaker_all (IsFlow (asked_of of view) terms b) (λ (put : Put). ApartFrom put.place second) first
+    (λ put flow. far second put flow (level_apart (Some table) (given view 2) (given view 3) b low) (level_from (Some table) (given view 2) (given view 3) b)) are in
+    let two : AreApart (first ++ second) = apart_both first second (flows_apart (asked_of of view) terms b) (level_alone (Some table) (given view 2) (given view 3) b) beside in
+    let two_up : AreUpTo 3 (first ++ second) = all_append (λ (put : Put). put.place ≤ 3) first second first_up (level_up (Some table) (given view 2) (given view 3) b) in
+    subst AreApart is.same (apart_both (first ++ second) third two
+    (((λ same. omega (arith, same)), ((λ same. omega (arith, same)), tt)), (((λ same. omega (arith, same)), tt), (tt, tt)))
+    (up_apart 3 (first ++ second) third two_up (omega arith, (omega arith, (omega arith, tt)))))
+  where
+    few : {asking : Option Given} {terms : List Term} {b : Balanced} (put : Put) → IsFlow asking terms b put → SolvesUpTo 2 b → put.place ≤ 3
+    few put (inl solves) low = let most : put.place ≤ 2 = subst (SolvesUpTo 2) solves low in omega (arith, most)
+    few put (inr asks) low = let at : put.place ≡ 1 = ap (λ (p : Put). p.place) asks.same in omega (arith, at)
+
+    far : {asking : Option Given} {terms : List Term} {b : Balanced} (level : List Put) (put : Put) → IsFlow asking terms b put → AllApart (solved_put b) level → AreFrom 1 level → ApartFrom put.place level
+    far level put (inl solves) apart high = (subst (λ balanced. AllApart (solved_put balanced) level) solves apart).0
+    far level put (inr asks) apart high =
+        let at : put.place ≡ 1 = ap (λ (p : Put). p.place) asks.same in
+        weaker_all (λ (other : Put). 1 < other.place) (λ (other : Put). put.place ≢ other.place) level (λ other above same. omega (arith, above, at, same)) high
+
 pub apart_puts : (kind : Kind) (view : View) (puts : List Put) → IsKind kind → Answered kind view puts → AreApart puts
 apart_puts (DataObject slots) view puts sound is = subst AreApart is.same (solved_alone_apart (balanced_of (DataObject slots) view))
 apart_puts Gage view puts sound is = subst AreApart is.same (solved_alone_apart (balanced_of Gage view))
@@ -172,6 +228,14 @@ apart_puts (Canal seepage) view puts sound is =
     let b = balanced_of (Canal seepage) view in
     subst AreApart is.same (apart_both (solved_put b) (seepage_put (known_after view b 0) (known_after view b 1)) (solved_alone_apart b) (tt, tt)
     (up_apart 1 (solved_put b) (seepage_put (known_after view b 0) (known_after view b 1)) (solved_up_to 1 b (low_solving (Canal seepage) view puts 1 (omega arith, (omega arith, tt)) sound is)) (omega arith, tt)))
+apart_puts (PowerReservoir initial_storage table max_release tailwater power) view puts sound is =
+    power_apart initial_storage table max_release tailwater power view puts sound is
+apart_puts (RoutedReach initial_content release) view puts sound is =
+    let kind : Kind = RoutedReach initial_content release in
+    let b = balanced_of kind view in
+    let left : List Put = content_put (content_before view) (known_after view b 0) (known_after view b 1) in
+    subst AreApart is.same (apart_both (solved_put b) left (solved_alone_apart b) (tt, tt)
+    (up_apart 1 (solved_put b) left (solved_up_to 1 b (low_solving kind view puts 1 (omega arith, (omega arith, tt)) sound is)) (omega arith, tt)))
 
 -- ---- for any kind
 
@@ -184,6 +248,13 @@ pub puts_are_apart : (kind : Kind) (view : View) (puts : List Put) → IsKind ki
 puts_are_apart kind view puts sound answers one other has there same =
     once_of puts one other (apart_puts kind view puts sound (answered kind view puts answers)) (among puts one has) (among puts other there) same
 
+outflow_kept : (kind : Kind) (old new : View) (puts : List Put) → Answered kind old puts → LeftBy kind old → IsAfterOwn old new puts → IsOutflowLeft kind new
+outflow_kept (PowerReservoir initial_storage table max_release tailwater power) old new puts is left after =
+    outflow_left initial_storage table max_release tailwater power old puts is new after left
+outflow_kept kind old new puts is left after = tt
+
 pub left_by_own : (kind : Kind) (old new : View) (puts : List Put) → IsKind kind → Left kind old → solve_of kind old ≡ Puts puts → IsAfterOwn old new puts → Left kind new
 left_by_own kind old new puts sound left answers after =
-    let is = answered kind old puts answers in to_left kind new (own_left kind old puts (dispatch_facts kind old puts sound is) (from_left kind old left) new after)
+    let is = answered kind old puts answers in
+    let was = from_left kind old left in
+    to_left kind new (own_left kind old puts (dispatch_facts kind old puts sound is) was new after (outflow_kept kind old new puts is was after))

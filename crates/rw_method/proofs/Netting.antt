@@ -15,10 +15,10 @@ HeldIn view [] (v ∷ vs) = ⊥
 HeldIn view (s ∷ shape) [] = ⊥
 HeldIn view (s ∷ shape) (v ∷ vs) = (known_value view s.place ≡ Some v) × HeldIn view shape vs
 
-abbrev pub net_in : List Sort → List ℤ → ℤ
-net_in [] vs = pos 0
-net_in (s ∷ shape) [] = pos 0
-net_in (s ∷ shape) (v ∷ vs) = brought s.share v +ℤ net_in shape vs
+abbrev pub net_in : Option ℤ → List Sort → List ℤ → ℤ
+net_in past [] vs = pos 0
+net_in past (s ∷ shape) [] = pos 0
+net_in past (s ∷ shape) (v ∷ vs) = brought (s.share past) v +ℤ net_in past shape vs
 
 -- what is given is what is held then
 abbrev pub IsAgreed : View → View → Sort → Type 0
@@ -28,11 +28,11 @@ abbrev IsSure : View → View → Sort → Type 0
 IsSure old new s = IsSome (given_in old s) × IsAgreed old new s
 
 brought_same : (old new : View) (s : Sort) (v : ℤ) (found : Option Given) → given_in old s ≡ found → IsSome found → IsAgreed old new s → known_value new s.place ≡ Some v
-    → brought_by s.share found ≡ brought s.share v
+    → brought_by (s.share old.past) found ≡ brought (s.share old.past) v
 brought_same old new s v None is some agreed there = absurd (cc)
-brought_same old new s v (Some g) is some agreed there = ap (brought s.share) (same_Some _ _ (sym (agreed g is) ∙ there))
+brought_same old new s v (Some g) is some agreed there = ap (brought (s.share old.past)) (same_Some _ _ (sym (agreed g is) ∙ there))
 
-same_net : (old new : View) (shape : List Sort) (vs : List ℤ) → HeldIn new shape vs → AllByRecursion (IsSure old new) shape → net_of (map (term_in old) shape) ≡ net_in shape vs
+same_net : (old new : View) (shape : List Sort) (vs : List ℤ) → HeldIn new shape vs → AllByRecursion (IsSure old new) shape → net_of (map (term_in old) shape) ≡ net_in old.past shape vs
 same_net old new [] [] held all = refl
 same_net old new [] (v ∷ vs) held all = absurd held
 same_net old new (s ∷ shape) [] held all = absurd held
@@ -41,12 +41,12 @@ same_net old new (s ∷ shape) (v ∷ vs) held all =
 
 solved_net : (old new : View) (before : List Sort) (s : Sort) (after : List Sort) (vs : List ℤ) (value : ℤ) → HeldIn new (before ++ s ∷ after) vs
     → AllByRecursion (IsSure old new) before → AllByRecursion (IsSure old new) after → known_value new s.place ≡ Some value
-    → (net_of (map (term_in old) before) +ℤ brought s.share value) +ℤ net_of (map (term_in old) after) ≡ net_in (before ++ s ∷ after) vs
+    → (net_of (map (term_in old) before) +ℤ brought (s.share old.past) value) +ℤ net_of (map (term_in old) after) ≡ net_in old.past (before ++ s ∷ after) vs
 solved_net old new [] s after [] value held b a there = absurd held
 solved_net old new [] s after (v ∷ vs) value held b a there =
     let same : value ≡ v = same_Some _ _ (sym there ∙ held.0) in
     let rest_same = same_net old new after vs held.1 a in
-    let mine : brought s.share value ≡ brought s.share v = ap (brought s.share) same in
+    let mine : brought (s.share old.past) value ≡ brought (s.share old.past) v = ap (brought (s.share old.past)) same in
     omega (arith, ints, rest_same, mine)
 solved_net old new (r ∷ before) s after [] value held b a there = absurd held
 solved_net old new (r ∷ before) s after (v ∷ vs) value held b a there =
@@ -135,7 +135,7 @@ all_holds old (s ∷ shape) steady holds first has = (holds_facts steady (term_i
 
 module _ (kind : Kind) (old : View) (puts : List Put) (is : Answered kind old puts) (facts : DispatchFacts kind old puts) (new : View) (after : IsAfterOwn old new puts)
     (agreed : (s : Sort) → Among (shape_of kind) s → ((solving : Solving kind old) → s.place ≢ solving.place) → IsAgreed old new s) (apart : AreDistinct (shape_of kind)) where
-  solved_zero : (solving : Solving kind old) (vs : List ℤ) → HeldIn new (shape_of kind) vs → is.steady +ℤ net_in (shape_of kind) vs ≡ pos 0
+  solved_zero : (solving : Solving kind old) (vs : List ℤ) → HeldIn new (shape_of kind) vs → is.steady +ℤ net_in old.past (shape_of kind) vs ≡ pos 0
   solved_zero solving vs held =
       let of = solved_term is.steady (map (term_in old) (shape_of kind)) solving.place solving.number solving.value facts.shares (is.settles ∙ solving.is) in
       let way = of.way in
@@ -158,10 +158,10 @@ module _ (kind : Kind) (old : View) (puts : List Put) (is : Answered kind old pu
       put_value old new puts after (record { place = solving.place; value = solving.value; number = solving.number }) (facts.has_solved solving) in
       let here : known_value new parts.at.place ≡ Some solving.value = ap (known_value new) at ∙ put_held in
       let net = solved_net old new parts.first parts.at parts.later vs solving.value (subst (λ ss. HeldIn new ss vs) parts.whole held) sure_before sure_after here in
-      let share : brought of.term.share solving.value ≡ brought parts.at.share solving.value = ap (λ (t : Term). brought t.share solving.value) parts.at_is in
+      let share : brought of.term.share solving.value ≡ brought (parts.at.share old.past) solving.value = ap (λ (t : Term). brought t.share solving.value) parts.at_is in
       let first : net_of way.before ≡ net_of (map (term_in old) parts.first) = ap net_of parts.first_is in
       let later : net_of way.after ≡ net_of (map (term_in old) parts.later) = ap net_of parts.later_is in
-      let whole : net_in (shape_of kind) vs ≡ net_in (parts.first ++ parts.at ∷ parts.later) vs = ap (λ ss. net_in ss vs) parts.whole in
+      let whole : net_in old.past (shape_of kind) vs ≡ net_in old.past (parts.first ++ parts.at ∷ parts.later) vs = ap (λ ss. net_in old.past ss vs) parts.whole in
       let zero_sum = of.balances in
       omega (arith, ints, net, share, first, later, whole, zero_sum)
     where
@@ -179,7 +179,7 @@ module _ (kind : Kind) (old : View) (puts : List Put) (is : Answered kind old pu
           (both_all (Among (shape_of kind)) IsFar part has_all far_all))
 
   -- beside what else is brought, what is held comes to nothing
-  pub net_zero : (first : Sort) → Among (shape_of kind) first → (vs : List ℤ) → HeldIn new (shape_of kind) vs → is.steady +ℤ net_in (shape_of kind) vs ≡ pos 0
+  pub net_zero : (first : Sort) → Among (shape_of kind) first → (vs : List ℤ) → HeldIn new (shape_of kind) vs → is.steady +ℤ net_in old.past (shape_of kind) vs ≡ pos 0
   net_zero first has vs held = elim is.ends [
     | inr solving ↦ solved_zero solving vs held
     | inl holds ↦

@@ -1,11 +1,11 @@
 -- The kinds whose terms are slots: all but the reservoir.
-use Rattle.rw_method.proofs.Common.{All, All-cons, All-nil, AllByRecursion, Balanced, Bifurcation, Bool, ByRule, Canal, Confluence, Contains, Content, Conveys, DataObject, DataSlot, Gage, Holds, IsShare, IsSome, Kind, List, Put, Reach, Request, Solves, Some, Supply, Takes, Term, View, WaterUser, [], ap, arith, balanced_of, false, given, inl, inr, known, known_after, map, nat_tests, puts_of, refl, seepage_put, solved_put, subst, suc, sym, true, user_puts, zero, ℕ, ℤ, ◌++◌, ◌==◌, ◌∙◌, ◌∷◌, ◌≡◌, ◌≢◌, ◌≤◌, ◌⊎◌}
+use Rattle.rw_method.proofs.Common.{All, All-cons, All-nil, AllByRecursion, Balanced, Bifurcation, Bool, ByRule, Canal, Confluence, Contains, Content, Conveys, DataObject, DataSlot, Gage, Holds, IsShare, IsSome, Kind, List, Put, Reach, Request, RoutedReach, Solves, Some, Supply, Takes, Term, View, WaterUser, [], ap, arith, balanced_of, content_before, content_put, false, given, inl, inr, known, known_after, map, nat_tests, puts_of, refl, seepage_put, solved_put, subst, suc, sym, true, user_puts, zero, ℕ, ℤ, ◌++◌, ◌==◌, ◌∙◌, ◌∷◌, ◌≡◌, ◌≢◌, ◌≤◌, ◌⊎◌}
 use Rattle.rw_method.specs.Left.{IsGivenUpTo, Rest, rest, rests_of}
 use Rattle.rw_method.proofs.Answering.{Answered}
-use Rattle.rw_method.proofs.Leaving.{DispatchFacts, IsBase, PutIs, Solving, holds_given, rests, solved}
+use Rattle.rw_method.proofs.Leaving.{DispatchFacts, IsBase, PutIs, Solving, falls_from, holds_given, rests, solved}
 use Rattle.rw_method.proofs.Among.{Among, all_append, all_at, among, contains, some_there, weaker_all}
 use Rattle.rw_method.proofs.Settled.{SolvedFacts, solved_facts}
-use Rattle.rw_method.proofs.Terms.{Sort, among_terms, given_as, given_in, given_number, same_given, shape_of, slot, some_value, sort, term_in, term_of}
+use Rattle.rw_method.proofs.Terms.{Sort, among_terms, given_as, given_in, given_number, routed, same_given, shape_of, slot, some_value, sort, term_in, term_of}
 
 -- ---- the solved term, by the sorts
 
@@ -58,12 +58,12 @@ base_in kind view puts shares is s has plain_source = by is.ends
 abbrev pub IsApart : Kind → View → Put → Type 0
 IsApart kind view put = (balanced_of kind view ≡ Solves put.place put.value put.number) ⊎ ((s : Sort) → Among (shape_of kind) s → s.place ≢ put.place)
 
-abbrev pub IsGood : Kind → View → Put → Type 0
-IsGood kind view put = PutIs kind view put × IsApart kind view put
+abbrev pub IsGood : Kind → View → List Put → Put → Type 0
+IsGood kind view puts put = PutIs kind view puts put × IsApart kind view put
 
-pub solved_good : (kind : Kind) (view : View) (balanced : Balanced) → balanced_of kind view ≡ balanced → AllByRecursion (IsGood kind view) (solved_put balanced)
-solved_good kind view (Solves place value number) is = ((solved is, inl is), tt)
-solved_good kind view balanced is = tt
+pub solved_good : (kind : Kind) (view : View) (puts : List Put) (balanced : Balanced) → balanced_of kind view ≡ balanced → AllByRecursion (IsGood kind view puts) (solved_put balanced)
+solved_good kind view puts (Solves place value number) is = ((solved is, inl is), tt)
+solved_good kind view puts balanced is = tt
 
 abbrev pub of_solving : (kind : Kind) (view : View) → Solving kind view → Put
 of_solving kind view solving = record { place = solving.place; value = solving.value; number = solving.number }
@@ -77,34 +77,36 @@ solved_alone kind view solving = subst (λ b. Among (solved_put b) (of_solving k
 
 -- ---- a kind whose terms are slots
 
-record PlainFacts (kind : Kind) (view : View) : Type 0 where
+record PlainFacts (kind : Kind) (view : View) (puts : List Put) : Type 0 where
   slots : AllByRecursion (λ (s : Sort). s.source ≡ slot) (shape_of kind)
   shares : All (λ (term : Term). IsShare term.share) (map (term_in view) (shape_of kind))
-  good : AllByRecursion (IsGood kind view) (puts_of kind view (balanced_of kind view))
+  good : AllByRecursion (IsGood kind view puts) (puts_of kind view (balanced_of kind view))
   has : (solving : Solving kind view) → Among (puts_of kind view (balanced_of kind view)) (of_solving kind view solving)
   alone : (s : Sort) → Among (shape_of kind) s → (pair : Rest) → Among (rests_of kind) pair → pair.place ≢ s.place
   unique : (pair other : Rest) → Among (rests_of kind) pair → Among (rests_of kind) other → pair.place ≡ other.place → pair.on ≡ other.on
 
-plain_facts : (kind : Kind) (view : View) (puts : List Put) → Answered kind view puts → PlainFacts kind view → DispatchFacts kind view puts
+plain_facts : (kind : Kind) (view : View) (puts : List Put) → Answered kind view puts → PlainFacts kind view puts → DispatchFacts kind view puts
 plain_facts kind view puts is facts = record {
   steady = is.steady;
   settles = is.settles;
   ends = is.ends;
   shares = facts.shares;
-  each = subst (AllByRecursion (PutIs kind view)) is.same (weaker_all (IsGood kind view) (PutIs kind view) (puts_of kind view (balanced_of kind view)) (λ put good. good.0) facts.good);
+  each = subst (AllByRecursion (PutIs kind view puts)) is.same (weaker_all (IsGood kind view puts) (PutIs kind view puts) (puts_of kind view (balanced_of kind view)) (λ put good. good.0) facts.good);
   has_solved = λ solving. contains puts (of_solving kind view solving) (subst (λ ps. Among ps (of_solving kind view solving)) is.same (facts.has solving));
   beside = λ solving on has.
       let at = solved_at kind view puts facts.shares is solving in
       absurd (facts.alone at.at at.has (rest solving.place on) (among (rests_of kind) (rest solving.place on) has) (sym at.there));
-  below = λ left s held content has given_is there. given_number view s.place held content (sym (as_slot s has) ∙ given_is) there;
+  falls = λ solving.
+      falls_from kind view is.steady is.settles facts.shares solving
+      (λ s has at held given_is left content there. given_number view s.place held content (sym (as_slot s has) ∙ given_is) there);
   stays = λ new after s has apart number up.
       let still : known new s.place ≡ known view s.place =
       after.rest s.place (λ put in_puts. by s has apart put
-      (all_at (IsGood kind view) puts put (subst (AllByRecursion (IsGood kind view)) is.same facts.good) (among puts put in_puts)).1) in
+      (all_at (IsGood kind view puts) puts put (subst (AllByRecursion (IsGood kind view puts)) is.same facts.good) (among puts put in_puts)).1) in
       let same : given_in new s ≡ given_in view s = as_slot_new new s has ∙ same_given view new s.place after.own still ∙ sym (as_slot s has) in
       record { held = up.held; is = same ∙ up.is; most = up.most };
   untouched = λ s has source apart put in_puts. by s has apart put
-      (all_at (IsGood kind view) puts put (subst (AllByRecursion (IsGood kind view)) is.same facts.good) (among puts put in_puts)).1;
+      (all_at (IsGood kind view puts) puts put (subst (AllByRecursion (IsGood kind view puts)) is.same facts.good) (among puts put in_puts)).1;
   unique = λ pair other has there. facts.unique pair other (among (rests_of kind) pair has) (among (rests_of kind) other there);
 }
   where
@@ -149,10 +151,18 @@ two_sorts first second s (inl same) = inl (ap (λ (s : Sort). s.place) (sym same
 two_sorts first second s (inr (inl same)) = inr (ap (λ (s : Sort). s.place) (sym same))
 two_sorts first second s (inr (inr never)) = absurd never
 
+-- of two flows none is in a place behind theirs
+flow_place : (first s : Sort) → first.place ≡ 0 → Among (first ∷ sort Takes 1 ∷ []) s → s.place ≤ 1
+flow_place first s zero_place has = elim (two_sorts first (sort Takes 1) s has) [ inl a ↦ omega (arith, a, zero_place) | inr b ↦ omega (arith, b) ]
+
+one_rest : (first pair : Rest) → Among (first ∷ []) pair → first ≡ pair
+one_rest first pair (inl same) = same
+one_rest first pair (inr never) = absurd never
+
 -- a user's or a canal's put that rests on a slot
-rests_good : (kind : Kind) (view : View) (put : Put) (on : ℕ) → Contains (rests_of kind) (rest put.place on) → put.number ≡ (known_after view (balanced_of kind view) on).number
-    → IsBase view (balanced_of kind view) on → ((s : Sort) → Among (shape_of kind) s → s.place ≢ put.place) → IsGood kind view put
-rests_good kind view put on has number base apart = (rests (record { on = on; has = has; number = number; base = base }), inr apart)
+rests_good : (kind : Kind) (view : View) (puts : List Put) (put : Put) (on : ℕ) → Contains (rests_of kind) (rest put.place on) → put.number ≡ (known_after view (balanced_of kind view) on).number
+    → IsBase view (balanced_of kind view) on → ((s : Sort) → Among (shape_of kind) s → s.place ≢ put.place) → IsGood kind view puts put
+rests_good kind view puts put on has number base apart = (rests (record { on = on; has = has; number = number; base = base }), inr apart)
 
 module _ (view : View) (puts : List Put) where
   -- a kind all of whose puts are solved
@@ -161,7 +171,7 @@ module _ (view : View) (puts : List Put) where
   bare_facts kind is slots shares bare same = plain_facts kind view puts is (record {
     slots = slots;
     shares = shares;
-    good = subst (AllByRecursion (IsGood kind view)) (sym same) (solved_good kind view (balanced_of kind view) refl);
+    good = subst (AllByRecursion (IsGood kind view puts)) (sym same) (solved_good kind view puts (balanced_of kind view) refl);
     has = λ solving. subst (λ ps. Among ps (of_solving kind view solving)) (sym same) (solved_alone kind view solving);
     alone = λ s has pair never at. absurd (subst (λ ps. Among ps pair) bare never);
     unique = λ pair other never there at. absurd (subst (λ ps. Among ps pair) bare never);
@@ -198,40 +208,46 @@ module _ (view : View) (puts : List Put) where
       plain_facts kind view puts is (record {
         slots = slots;
         shares = shares;
-        good = all_append (IsGood kind view) (solved_put (balanced_of kind view)) (user_puts depletion (known_after view (balanced_of kind view) 1)) (solved_good kind view (balanced_of kind view) refl) (
-          rests_good kind view _ 1 (0, omega arith, refl) refl base (λ s has same. let at = one s has in omega (arith, at, same)),
-          (rests_good kind view _ 1 (1, omega arith, refl) refl base (λ s has same. let at = one s has in omega (arith, at, same)), tt),
+        good = all_append (IsGood kind view puts) (solved_put (balanced_of kind view)) (user_puts depletion (known_after view (balanced_of kind view) 1)) (solved_good kind view puts (balanced_of kind view) refl) (
+          rests_good kind view puts _ 1 (0, omega arith, refl) refl base (λ s has same. let at = one s has in omega (arith, at, same)),
+          (rests_good kind view puts _ 1 (1, omega arith, refl) refl base (λ s has same. let at = one s has in omega (arith, at, same)), tt),
         );
         has = solved_in kind view (user_puts depletion (known_after view (balanced_of kind view) 1));
         alone = λ s has pair there. let at = one s has in two_apart (rest 2 1) (rest 3 1) pair there s.place (λ e. omega (arith, e, at)) (λ e. omega (arith, e, at));
         unique = λ pair other has there same. on_one (rest 2 1) (rest 3 1) pair has refl ∙ sym (on_one (rest 2 1) (rest 3 1) other there refl);
       })
 
-  canal_facts : (seepage : ℕ) → seepage ≤ 999 → Answered (Canal seepage) view puts → DispatchFacts (Canal seepage) view puts
+  pub canal_facts : (seepage : ℕ) → seepage ≤ 999 → Answered (Canal seepage) view puts → DispatchFacts (Canal seepage) view puts
   canal_facts seepage few is =
       let kind : Kind = Canal seepage in
-      let shares = shares_two (term_in view (sort (Conveys seepage) 0)) (term_in view (sort Takes 1)) few tt in
-      let base = base_in kind view puts shares is (sort (Conveys seepage) 0) (inl refl) refl in
+      let first = sort (Conveys seepage) 0 in
+      let shares = shares_two (term_in view first) (term_in view (sort Takes 1)) few tt in
+      let base = base_in kind view puts shares is first (inl refl) refl in
       plain_facts kind view puts is (record {
         slots = (refl, (refl, tt));
         shares = shares;
-        good = all_append (IsGood kind view) (solved_put (balanced_of kind view)) (seepage_put (known_after view (balanced_of kind view) 0) (known_after view (balanced_of kind view) 1)) (solved_good kind view (balanced_of kind view) refl) (
-          rests_good kind view _ 0 (0, omega arith, refl) refl base
-              (λ s has same. elim (two_sorts (sort (Conveys seepage) 0) (sort Takes 1) s has) [ inl a ↦ omega (arith, a, same) | inr b ↦ omega (arith, b, same) ]),
-          tt,
-        );
+        good = all_append (IsGood kind view puts) (solved_put (balanced_of kind view)) (seepage_put (known_after view (balanced_of kind view) 0) (known_after view (balanced_of kind view) 1)) (solved_good kind view puts (balanced_of kind view) refl)
+            (rests_good kind view puts _ 0 (0, omega arith, refl) refl base (λ s has same. let low = flow_place first s refl has in omega (arith, low, same)), tt);
         has = solved_in kind view (seepage_put (known_after view (balanced_of kind view) 0) (known_after view (balanced_of kind view) 1));
-        alone = λ s has pair there same.
-            elim there [
-              | inl e ↦
-                  let at : 2 ≡ s.place = ap (λ (p : Rest). p.place) e ∙ same in
-                  elim (two_sorts (sort (Conveys seepage) 0) (sort Takes 1) s has) [ inl a ↦ omega (arith, a, at) | inr b ↦ omega (arith, b, at) ]
-              | inr never ↦ absurd never
-            ];
-        unique = λ pair other has there same. elim has [
-          | inl e ↦ elim there [ inl f ↦ ap (λ (p : Rest). p.on) (sym e ∙ f) | inr never ↦ absurd never ]
-          | inr never ↦ absurd never
-        ];
+        alone = λ s has pair there same. let low = flow_place first s refl has in let at = ap (λ (p : Rest). p.place) (one_rest (rest 2 0) pair there) in omega (arith, low, same, at);
+        unique = λ pair other has there same. ap (λ (p : Rest). p.on) (sym (one_rest (rest 2 0) pair has) ∙ one_rest (rest 2 0) other there);
+      })
+
+  pub routed_facts : (initial_content : ℤ) (release : ℕ) → 1 ≤ release → release ≤ 1000 → Answered (RoutedReach initial_content release) view puts
+      → DispatchFacts (RoutedReach initial_content release) view puts
+  routed_facts initial_content release some most is =
+      let kind : Kind = RoutedReach initial_content release in
+      let left : List Put = content_put (content_before view) (known_after view (balanced_of kind view) 0) (known_after view (balanced_of kind view) 1) in
+      let shares = shares_two (term_in view (routed release)) (term_in view (sort Takes 1)) (some, most) tt in
+      let base = base_in kind view puts shares is (sort Takes 1) (inr (inl refl)) refl in
+      plain_facts kind view puts is (record {
+        slots = (refl, (refl, tt));
+        shares = shares;
+        good = all_append (IsGood kind view puts) (solved_put (balanced_of kind view)) left (solved_good kind view puts (balanced_of kind view) refl)
+            (rests_good kind view puts _ 1 (0, omega arith, refl) refl base (λ s has same. let low = flow_place (routed release) s refl has in omega (arith, low, same)), tt);
+        has = solved_in kind view left;
+        alone = λ s has pair there same. let low = flow_place (routed release) s refl has in let at = ap (λ (p : Rest). p.place) (one_rest (rest 2 1) pair there) in omega (arith, low, same, at);
+        unique = λ pair other has there same. ap (λ (p : Rest). p.on) (sym (one_rest (rest 2 1) pair has) ∙ one_rest (rest 2 1) other there);
       })
 
   pub user_facts : (depletion : ℕ) (supply : Supply) → Answered (WaterUser depletion supply) view puts → DispatchFacts (WaterUser depletion supply) view puts
@@ -240,6 +256,3 @@ module _ (view : View) (puts : List Put) where
       user_plain depletion Request is (refl, tt) shares (one_sort (sort Takes 1)) (base_in (WaterUser depletion Request) view puts shares is (sort Takes 1) (inl refl) refl)
   user_facts depletion ByRule is =
       user_plain depletion ByRule is tt (All-nil (λ (term : Term). IsShare term.share)) (λ s never. absurd never) (inl (some_value (known view 1) is.steady is.is_steady))
-
-  pub conveyed_facts : (seepage : ℕ) → seepage ≤ 999 → Answered (Canal seepage) view puts → DispatchFacts (Canal seepage) view puts
-  conveyed_facts seepage few is = canal_facts seepage few is

@@ -9,7 +9,8 @@ use Rattle.rw_method.proofs.Leaving.{DispatchFacts}
 use Rattle.rw_method.proofs.Netting.{net_zero, put_value, rest_value}
 use Rattle.rw_method.proofs.Among.{Among, among_left, among_right, contains}
 use Rattle.rw_method.proofs.PlainKinds.{base_in}
-use Rattle.rw_method.proofs.ReservoirFacts.{agreed, level_held, no_middle, past_elevation, reservoir_facts}
+use Rattle.rw_method.proofs.ReservoirFacts.{agreed, no_middle, past_elevation, reservoir_facts, storing}
+use Rattle.rw_method.proofs.Storing.{level_held}
 use Rattle.rw_method.proofs.Terms.{sort}
 
 both_of : (a b : Option ℤ) (d : ℤ) → difference a b ≡ Some d → (x : ℤ) × ((y : ℤ) × ((a ≡ Some x) × ((b ≡ Some y) × (x -ℤ y ≡ d))))
@@ -77,7 +78,7 @@ module _ (initial_storage : ℤ) (table : Option (List Row)) (local_inflow diver
   level_is : (found : Option (List Row)) → table ≡ found → (stores : ℤ) → IsHeld new 2 stores → IsLevel found new stores
   level_is None at stores held = tt
   level_is (Some rows) at stores held =
-      level_held initial_storage table local_inflow diversion return_flow evaporation max_release old puts sound is new after rows at stores held
+      level_held kind table old puts is (storing initial_storage table local_inflow diversion return_flow evaporation max_release old puts sound is) new after rows at stores held
 
   pub reservoir_balanced : IsBalanced kind new
   reservoir_balanced past inflow outflow stores side evaporates past_is held_in held_out held_storage sides evaporates_is =

@@ -1,8 +1,8 @@
 -- What a method puts stands in slots of its kind.
-use Rattle.rw_method.proofs.Common.{All, All-append, All-push, AllFit, Balanced, Bool, Conflicts, Given, Holds, Idle, IsSome, List, None, Option, Put, Solves, Some, Term, View, [], all_or_misfit, answer, ap, ap₂, arith, balanced_of, beside_basis, beside_given, evaporation_put, false, fault_of_contents, fault_of_past, first_misfit, fits, gives_way_before, if◌then◌else◌, inl, inr, int_eq, is_bounded, is_some, known_after, length, length-append, level_puts, missing, nat_le, net_of, none-some, not, or_else, pos, put_found, puts_of, refl, release_puts, same_Some, seepage_put, settled, settled_at, solve_of, solved_put, solves, subst, suc, true, user_puts, value_from_others, weakest, zero, ℕ, ℤ, ◌&&◌, ◌++◌, ◌+ℤ◌, ◌+◌, ◌<◌, ◌==◌, ◌∙◌, ◌∷◌, ◌≡◌, ◌≤◌, ◌⊎◌}
+use Rattle.rw_method.proofs.Common.{All, All-append, All-push, AllFit, Balanced, Bool, Conflicts, Given, Holds, Idle, IsSome, List, None, Option, Put, Solves, Some, Term, View, [], all_or_misfit, answer, ap, ap₂, arith, balanced_of, beside_basis, beside_given, content_before, content_put, evaporation_put, false, fault_of_contents, fault_of_past, first_misfit, fits, gives_way_before, if◌then◌else◌, inl, inr, int_eq, is_bounded, is_some, known_after, length, length-append, level_puts, missing, nat_le, net_of, none-some, not, or_else, pos, put_found, puts_of, refl, release_puts, same_Some, seepage_put, settled, settled_at, solve_of, solved_put, solves, subst, suc, true, user_puts, value_from_others, weakest, zero, ℕ, ℤ, ◌&&◌, ◌++◌, ◌+ℤ◌, ◌+◌, ◌<◌, ◌==◌, ◌∙◌, ◌∷◌, ◌≡◌, ◌≤◌, ◌⊎◌, asked_of, asked_put, energy_puts, fault_of_level, fault_of_request, first_fault, flow_puts, head_of, held_after, plant, Plant, power_balance, power_flows, release_for, request_of, unless_faulty, Content, put}
 use Rattle.rw_table.specs.Table.{Row}
 use Rattle.rw_model.specs.declared.kind.Kind.{Kind}
-use Rattle.rw_model.specs.declared.kind.Kind.TheVariants.{DataObject, Gage, Confluence, Bifurcation, Reach, Reservoir, WaterUser, Canal}
+use Rattle.rw_model.specs.declared.kind.Kind.TheVariants.{DataObject, Gage, Confluence, Bifurcation, Reach, Reservoir, WaterUser, Canal, RoutedReach, PowerReservoir}
 use Rattle.rw_model.specs.declared.kind.Supply.TheVariants.{Request, Rule}
 use Rattle.rw_model.proofs.Common.{IsKind, IsStored, Slot, where_chosen, slot_in}
 use Rattle.rw_method.specs.declared.basis.Basis.{Basis}
@@ -38,6 +38,9 @@ both_own kind m n xs ys x y = record {
   own = All-append (λ (p : Put). IsOwn kind p.place) xs ys x.own y.own;
   few = omega (arith, x.few, y.few, length-append xs ys);
 }
+
+more_room : (kind : Kind) (m n : ℕ) (puts : List Put) → m ≤ n → AreOwn kind m puts → AreOwn kind n puts
+more_room kind m n puts le own = record { own = own.own; few = omega (arith, own.few, le) }
 
 if_own : (kind : Kind) (most : ℕ) (test : Bool) (xs ys : List Put) → (test ≡ true → AreOwn kind most xs) → AreOwn kind most ys
     → AreOwn kind most (if test then xs else ys)
@@ -131,6 +134,18 @@ level_own kind table storage elevation (Solves place value number) two three =
     (λ e. elevation_own kind table value number three)
     (beside_given_own kind table storage elevation two three)
 
+-- of flows beside which one is asked for
+flows_own : (kind : Kind) (asking : Option Given) (terms : List Term) (balanced : Balanced) → SolvesOwn kind balanced → IsOwn kind 1 → AreOwn kind 2 (flow_puts asking terms balanced)
+flows_own kind None terms balanced own one = more_room kind 1 2 _ (omega arith) (solved_put_own kind balanced own)
+flows_own kind (Some asking) terms Idle own one = more_room kind 1 2 _ (omega arith) (one_own kind _ one)
+flows_own kind (Some asking) terms Holds own one = more_room kind 1 2 _ (omega arith) (one_own kind _ one)
+flows_own kind (Some asking) terms (Conflicts place held solved) own one = more_room kind 1 2 _ (omega arith) (one_own kind _ one)
+flows_own kind (Some asking) terms (Solves place value number) own one =
+    let solved : AreOwn kind 1 (put place value number ∷ []) = one_own kind _ own in
+    let asks : AreOwn kind 1 (asked_put terms (Solves place value number) asking ∷ []) = one_own kind _ one in
+    if_own kind 2 (place == 1) _ _ (λ e. more_room kind 1 2 _ (omega arith) solved)
+    (if_own kind 2 (place == 0) _ _ (λ e. both_own kind 1 1 (_ ∷ []) (_ ∷ []) solved asks) (both_own kind 1 1 (_ ∷ []) (_ ∷ []) asks solved))
+
 release_own : (kind : Kind) (most : Option ℤ) (outflow : Given) → (is_some most ≡ true → IsOwn kind 9 × IsOwn kind 10)
     → AreOwn kind 2 (release_puts most outflow)
 release_own kind None outflow own = none_own kind 2
@@ -140,9 +155,6 @@ release_own kind (Some most) outflow own = both_own kind 1 1 (_ ∷ []) (_ ∷ [
 
 own_at : (kind : Kind) (place : ℕ) (slot : Slot) → place < 12 → slot_in kind place ≡ Some slot → IsOwn kind place
 own_at kind place slot few there = record { few = few; slot = ap is_some there }
-
-more_room : (kind : Kind) (m n : ℕ) (puts : List Put) → m ≤ n → AreOwn kind m puts → AreOwn kind n puts
-more_room kind m n puts le own = record { own = own.own; few = omega (arith, own.few, le) }
 
 abbrev PutsOwn : Kind → View → Type 0
 PutsOwn kind view = AreOwn kind 8 (puts_of kind view (balanced_of kind view))
@@ -208,11 +220,31 @@ puts_own (WaterUser depletion Rule) view is =
     let used : AreOwn kind 2 (user_puts depletion (known_after view (balanced_of kind view) 1)) =
     both_own kind 1 1 (_ ∷ []) (_ ∷ []) (one_own kind _ (own_at _ 2 _ (omega arith) refl)) (one_own kind _ (own_at _ 3 _ (omega arith) refl)) in
     solved_beside kind view _ tt (more_room kind 2 7 _ (omega arith) used)
+puts_own (PowerReservoir initial_storage table max_release tailwater power) view is =
+    let kind : Kind = PowerReservoir initial_storage table max_release tailwater power in
+    let b = balanced_of kind view in
+    let of : Plant = plant table max_release tailwater power in
+    let zero_own : IsOwn kind 0 = own_at kind 0 _ (omega arith) refl in
+    let one : IsOwn kind 1 = own_at kind 1 _ (omega arith) refl in
+    let two : IsOwn kind 2 = own_at kind 2 _ (omega arith) refl in
+    let flows : AreOwn kind 2 (power_flows of view b) =
+    flows_own kind (asked_of of view) (power_balance of view).terms b (settled_own kind view.past (power_balance of view).terms (zero_own, (one, (two, tt)))) one in
+    let level : AreOwn kind 1 (level_puts (Some table) (given view 2) (given view 3) b) =
+    level_own kind (Some table) (given view 2) (given view 3) b two (λ e. own_at kind 3 _ (omega arith) refl) in
+    let energy : AreOwn kind 3 (energy_puts of (head_of of view) (held_after view (power_flows of view b) 1)) =
+    both_own kind 1 2 (_ ∷ []) (_ ∷ _ ∷ []) (one_own kind _ (own_at kind 5 _ (omega arith) refl))
+    (both_own kind 1 1 (_ ∷ []) (_ ∷ []) (one_own kind _ (own_at kind 6 _ (omega arith) refl)) (one_own kind _ (own_at kind 7 _ (omega arith) refl))) in
+    more_room kind 6 8 _ (omega arith) (both_own kind 3 3 _ _ (both_own kind 2 1 _ _ flows level) energy)
 puts_own (Canal seepage) view is =
     let kind : Kind = Canal seepage in
     let seeps : AreOwn kind 1 (seepage_put (known_after view (balanced_of kind view) 0) (known_after view (balanced_of kind view) 1)) =
     one_own kind _ (own_at _ 2 _ (omega arith) refl) in
     solved_beside kind view _ (own_at _ 0 _ (omega arith) refl, (own_at _ 1 _ (omega arith) refl, tt)) (more_room kind 1 7 _ (omega arith) seeps)
+puts_own (RoutedReach initial_content release) view is =
+    let kind : Kind = RoutedReach initial_content release in
+    let left : AreOwn kind 1 (content_put (content_before view) (known_after view (balanced_of kind view) 0) (known_after view (balanced_of kind view) 1)) =
+    one_own kind _ (own_at _ 2 _ (omega arith) refl) in
+    solved_beside kind view _ (own_at _ 0 _ (omega arith) refl, (own_at _ 1 _ (omega arith) refl, tt)) (more_room kind 1 7 _ (omega arith) left)
 
 -- ---- what is answered
 
@@ -255,12 +287,33 @@ disagreement_faulty table (Some storage) None = tt
 disagreement_faulty table (Some storage) (Some elevation) =
     if_faulty (storage.number == 0 && elevation.number == 0 && not (agree table storage.value elevation.value)) (Some (Conflict 3 elevation.value _)) None (omega arith) tt
 
+level_faulty : (table : Option (List Row)) (view : View) → IsFaulty (fault_of_level table view)
+level_faulty table view =
+    or_faulty (fault_of_basis table (basis_of (given view 2) (given view 3))) _ (basis_faulty table (basis_of (given view 2) (given view 3)))
+    (disagreement_faulty table (given view 2) (given view 3))
+
+request_faulty : (plant : Plant) (view : View) (request : Option Content) → IsFaulty (fault_of_request plant view request)
+request_faulty plant view None = tt
+request_faulty plant view (Some request) =
+    if_faulty (is_some (release_for plant view request)) None (Some (OutOfRange 4 request.value)) tt (omega arith)
+
+pub first_faulty : (kind : Kind) (view : View) → IsFaulty (first_fault kind view)
+first_faulty (PowerReservoir initial_storage table max_release tailwater power) view =
+    or_faulty (fault_of_past true (Some table) view.past) _ (past_faulty true (Some table) view.past)
+    (request_faulty (plant table max_release tailwater power) view (request_of view))
+first_faulty kind view = tt
+
 pub contents_faulty : (kind : Kind) (view : View) → IsFaulty (fault_of_contents kind view)
 contents_faulty (Reservoir initial_storage table local_inflow diversion return_flow evaporation max_release) view =
-    or_faulty (fault_of_past evaporation table view.past) _ (past_faulty evaporation table view.past)
-    (or_faulty (fault_of_basis table (basis_of (given view 2) (given view 3))) _ (basis_faulty table (basis_of (given view 2) (given view 3)))
-    (disagreement_faulty table (given view 2) (given view 3)))
+    or_faulty (fault_of_past evaporation table view.past) _ (past_faulty evaporation table view.past) (level_faulty table view)
+contents_faulty (PowerReservoir initial_storage table max_release tailwater power) view = level_faulty (Some table) view
 contents_faulty kind view = tt
+
+-- puts are answered where nothing is wrong before all else
+pub faultless : (first : Option Solved) (solved : Solved) (puts : List Put) → IsFaulty first → unless_faulty first solved ≡ Puts puts
+    → (first ≡ None) × (solved ≡ Puts puts)
+faultless None solved puts fine e = (refl, e)
+faultless (Some fault) solved puts fine e = absurd (let code = ap answer_code e in omega (arith, fine, code))
 
 by_misfit : (fit : Put → Bool) (judging puts : List Put) (misfit : Option Put) → first_misfit fit judging ≡ misfit → all_or_misfit judging misfit ≡ Puts puts
     → (judging ≡ puts) × AllFit fit puts
@@ -307,7 +360,8 @@ pub record IsPutOf (kind : Kind) (view : View) (put : Put) : Type 0 where
 pub solve-puts : (kind : Kind) (view : View) (puts : List Put) → IsKind kind → solve_of kind view ≡ Puts puts
     → All (IsPutOf kind view) puts × (length puts ≤ 8)
 solve-puts kind view puts is e =
-    let judging = judged (fits kind view) (puts_of kind view (balanced_of kind view)) puts (balanced_of kind view) (fault_of_contents kind view) (contents_faulty kind view) e in
+    let clean = faultless (first_fault kind view) _ puts (first_faulty kind view) e in
+    let judging = judged (fits kind view) (puts_of kind view (balanced_of kind view)) puts (balanced_of kind view) (fault_of_contents kind view) (contents_faulty kind view) clean.1 in
     let own : AreOwn kind 8 puts = subst (AreOwn kind 8) judging.same (puts_own kind view is) in
     let fit : All (λ (put : Put). fits kind view put ≡ true) puts = all_fit (fits kind view) puts judging.fit_all in
     (λ k d lt. record { own = own.own k d lt; bounded = and_second _ _ (fit k d lt) }, own.few)

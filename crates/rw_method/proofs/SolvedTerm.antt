@@ -1,7 +1,7 @@
 -- A solved term makes the balance true.
-use Rattle.rw_method.proofs.Common.{All, All-append, Balanced, Bool, Brings, Conflicts, Conveys, Given, GivesWay, Holds, Idle, IsGreatestBeside, IsNoWeaker, IsShare, IsSolved, IsSome, IsStronger, List, None, Option, Solves, Some, Takes, Term, [], ap, arith, both_ways, bringing, brought, brought_by, cases_Bool, false, if◌then◌else◌, inl, inr, int_eq, ints, is_some, missing, nat_le, neg_ℤ, net_of, pos, refl, rules, settled, settled_at, solves, suc, true, value_from_others, weakest, ℕ, ℤ, ◌++◌, ◌+ℤ◌, ◌+◌, ◌-ℤ◌, ◌==◌, ◌∷◌, ◌≡◌, ◌≤◌}
+use Rattle.rw_method.proofs.Common.{All, All-append, Balanced, Bool, Brings, Conflicts, Conveys, Given, GivesWay, Holds, Idle, IsGreatestBeside, IsNoWeaker, IsShare, IsSolved, IsSome, IsStronger, List, None, Option, Routes, Solves, Some, Takes, Term, [], ap, arith, both_ways, bringing, brought, brought_by, cases_Bool, false, if◌then◌else◌, inl, inr, int_eq, ints, is_some, missing, nat_le, neg_ℤ, net_of, pos, refl, rules, settled, settled_at, solves, suc, true, value_from_others, weakest, ℕ, ℤ, ◌++◌, ◌+ℤ◌, ◌+◌, ◌-ℤ◌, ◌==◌, ◌∷◌, ◌≡◌, ◌≤◌}
 use Rattle.rw_method.specs.declared.share.Share.{Share}
-use Rattle.rw_method.proofs.LeastInflow.{conveyed}
+use Rattle.rw_method.proofs.LeastInflow.{conveyed, routed}
 use Rattle.rw_method.proofs.GreatestBeside.{is_greatest_beside}
 use Rattle.rw_method.proofs.GivingWay.{and_pass, none_pass, gives_way}
 
@@ -49,6 +49,7 @@ brought_bringing : (share : Share) (amount : ℤ) → IsShare share → brought 
 brought_bringing Brings amount h = refl
 brought_bringing Takes amount h = omega (arith, ints)
 brought_bringing (Conveys seepage) amount h = conveyed seepage amount h
+brought_bringing (Routes content release) amount h = routed content release amount h.0 h.1
 
 balances : (steady : ℤ) (before after : List Term) (term : Term) → IsShare term.share
     → steady +ℤ (net_of before +ℤ brought term.share (value_from_others steady (before ++ term ∷ after) term) +ℤ net_of after) ≡ pos 0
@@ -62,7 +63,7 @@ abbrev is_solved : Balanced → Bool
 is_solved (Solves place value number) = true
 is_solved balanced = false
 
-abbrev place_of : Balanced → ℕ
+abbrev pub place_of : Balanced → ℕ
 place_of (Solves place value number) = place
 place_of balanced = 0
 
@@ -70,7 +71,7 @@ abbrev count_of : Balanced → ℕ
 count_of (Solves place value number) = number
 count_of balanced = 0
 
-abbrev value_of : Balanced → ℤ
+abbrev pub value_of : Balanced → ℤ
 value_of (Solves place value number) = value
 value_of balanced = pos 0
 
@@ -90,7 +91,7 @@ solves_at steady terms term (Some held) place number value is = elim (cases_Bool
   ]
 ]
 
-solves_of : (steady : ℤ) (first : Term) (rest : List Term) (place number : ℕ) (value : ℤ)
+pub solves_of : (steady : ℤ) (first : Term) (rest : List Term) (place number : ℕ) (value : ℤ)
     → settled (Some steady) (first ∷ rest) ≡ Solves place value number
     → (missing (first ∷ rest) ≤ 1) × (solves steady (first ∷ rest) (weakest first rest) ≡ Solves place value number)
 solves_of steady first rest place number value is = elim (cases_Bool (nat_le 2 (missing (first ∷ rest)))) [

@@ -1,32 +1,47 @@
 -- The terms of a balance, and by what each is given.
-use Rattle.rw_method.proofs.Common.{AllByRecursion, Bifurcation, Bool, Brings, ByObject, ByRule, Canal, Confluence, Content, Conveys, DataObject, Elevation, Gage, Given, Kind, List, None, ObjectNo, Option, Reach, Request, Reservoir, Row, Share, Some, Storage, Takes, Term, View, WaterUser, [], ap, arith, balance_of, basis_of, contents_by, false, given, given_by, if◌then◌else◌, inl, inr, is_same_object, known, map, nat_le, nat_tests, none-some, option_map, pos, refl, same_Some, subst, suc, sym, true, unwrap_or, volume_of, zero, ℕ, ℤ, ◌∙◌, ◌∷◌, ◌≡◌, ◌≤◌, ◌⊎◌}
-use Rattle.rw_method.specs.Left.{IsGivenUpTo, is_own}
+use Rattle.rw_method.proofs.Common.{AllByRecursion, Bifurcation, Bool, Brings, ByObject, ByRule, Canal, Confluence, Content, Conveys, DataObject, Elevation, Gage, Given, Kind, List, None, ObjectNo, Option, Plant, PowerReservoir, Reach, Request, Reservoir, RoutedReach, Routes, Row, Share, Some, Storage, Takes, Term, View, WaterUser, [], ap, arith, balance_of, basis_of, contents_by, false, given, given_by, if◌then◌else◌, inl, inr, is_same_object, is_some, known, map, nat_le, nat_tests, none-some, option_map, asked_of, outflow_of, plant, pos, refl, same_Some, subst, suc, sym, true, unwrap_or, volume_of, zero, ℕ, ℤ, ◌∙◌, ◌∷◌, ◌≡◌, ◌≤◌, ◌⊎◌}
+use Rattle.rw_method.specs.Left.{IsGivenUpTo, IsUpTo, is_own}
 use Rattle.rw_method.specs.Passing.{IsAfterOthers}
 use Rattle.rw_method.proofs.Among.{Among}
+use Rattle.rw_method.proofs.Counting.{from_asked, none_asked, to_asked}
 
--- ---- a term of a kind, apart from any view
+-- ---- a term of a kind, apart from any view; how it counts may go by the past value
 
 pub data Source : Type 0 where
   slot : Source
   contents : Option (List Row) → Source
+  asked : Plant → Source
 
 pub record Sort : Type 0 where
-  pub share : Share
+  pub share : Option ℤ → Share
   pub place : ℕ
   pub source : Source
 
 abbrev pub sort : Share → ℕ → Sort
-sort share place = record { share = share; place = place; source = slot }
+sort share place = record { share = λ past. share; place = place; source = slot }
 
 abbrev pub given_from : View → ℕ → Source → Option Given
 given_from view place slot = given view place
 given_from view place (contents table) = contents_by table (basis_of (given view 2) (given view 3))
+given_from view place (asked plant) = outflow_of plant view
 
 abbrev pub given_in : View → Sort → Option Given
 given_in view s = given_from view s.place s.source
 
 abbrev pub term_in : View → Sort → Term
-term_in view s = record { place = s.place; share = s.share; given = given_in view s }
+term_in view s = record { place = s.place; share = s.share view.past; given = given_in view s }
+
+-- the inflow of a reach that lets so much go of what it held and of what flows in
+abbrev pub routed : ℕ → Sort
+routed release = record { share = λ past. Routes (unwrap_or past (pos 0)) release; place = 0; source = slot }
+
+-- the contents, which take water and are put as the storage
+abbrev pub stored : Option (List Row) → Sort
+stored table = record { share = λ past. Takes; place = 2; source = contents table }
+
+-- the outflow, which a request may ask for
+abbrev pub let_out : Plant → Sort
+let_out plant = record { share = λ past. Takes; place = 1; source = asked plant }
 
 abbrev pub shape_of : Kind → List Sort
 shape_of (DataObject slots) = []
@@ -36,10 +51,13 @@ shape_of Bifurcation = sort Brings 0 ∷ sort Takes 1 ∷ sort Takes 2 ∷ []
 shape_of (Reach zero history local_inflow diversion return_flow) = sort Brings 0 ∷ sort Takes 1 ∷ []
 shape_of (Reach (suc lag) history local_inflow diversion return_flow) = sort Takes 1 ∷ []
 shape_of (Reservoir initial_storage table local_inflow diversion return_flow evaporation max_release) =
-    sort Brings 0 ∷ sort Takes 1 ∷ record { share = Takes; place = 2; source = contents table } ∷ []
+    sort Brings 0 ∷ sort Takes 1 ∷ stored table ∷ []
 shape_of (WaterUser depletion Request) = sort Takes 1 ∷ []
 shape_of (WaterUser depletion ByRule) = []
 shape_of (Canal seepage) = sort (Conveys seepage) 0 ∷ sort Takes 1 ∷ []
+shape_of (PowerReservoir initial_storage table max_release tailwater power) =
+    sort Brings 0 ∷ let_out (plant table max_release tailwater power) ∷ stored (Some table) ∷ []
+shape_of (RoutedReach initial_content release) = routed release ∷ sort Takes 1 ∷ []
 
 pub terms_are : (kind : Kind) (view : View) → (balance_of kind view).terms ≡ map (term_in view) (shape_of kind)
 terms_are (DataObject slots) view = refl
@@ -52,11 +70,14 @@ terms_are (Reservoir initial_storage table local_inflow diversion return_flow ev
 terms_are (WaterUser depletion Request) view = refl
 terms_are (WaterUser depletion ByRule) view = refl
 terms_are (Canal seepage) view = refl
+terms_are (PowerReservoir initial_storage table max_release tailwater power) view = refl
+terms_are (RoutedReach initial_content release) view = refl
 
--- contents are taken from storage and elevation, and count as a storage
+-- contents are taken from storage and elevation, and count as a storage; what is asked for is an outflow
 abbrev pub IsPlacedBy : ℕ → Source → Type 0
 IsPlacedBy place slot = Unit {0}
 IsPlacedBy place (contents table) = place ≡ 2
+IsPlacedBy place (asked plant) = place ≡ 1
 
 abbrev pub IsSorted : Sort → Type 0
 IsSorted s = IsPlacedBy s.place s.source
@@ -72,6 +93,8 @@ all_sorted (Reservoir initial_storage table local_inflow diversion return_flow e
 all_sorted (WaterUser depletion Request) = (tt, tt)
 all_sorted (WaterUser depletion ByRule) = tt
 all_sorted (Canal seepage) = (tt, (tt, tt))
+all_sorted (PowerReservoir initial_storage table max_release tailwater power) = (tt, (refl, (refl, tt)))
+all_sorted (RoutedReach initial_content release) = (tt, (tt, tt))
 
 -- the sorts whose terms these are
 pub record IsTermOf (view : View) (shape : List Sort) (term : Term) : Type 0 where
@@ -199,6 +222,8 @@ own_from : (view : View) (place : ℕ) (source : Source) (content : Content) →
 own_from view place slot content at none there = own_of view place content none there
 own_from view place (contents table) content at none there =
     own_of view 2 content (none_of table (given view 2) (given view 3) none) (ap (known view) (sym at) ∙ there)
+own_from view place (asked plant) content at none there =
+    own_of view 1 content (none_asked (asked_of plant view) (given view 1) none) (ap (known view) (sym at) ∙ there)
 
 pub own_in : (view : View) (s : Sort) (content : Content) → IsSorted s → given_in view s ≡ None → known view s.place ≡ Some content → is_own view content ≡ true
 own_in view s content sorted none there = own_from view s.place s.source content sorted none there
@@ -223,8 +248,20 @@ other_given old new passes place number is = elim (passes.slots place) [
       }
 ]
 
+-- what is known stays known
+pub up_to_passes : (old new : View) → IsAfterOthers old new → (place number : ℕ) → IsUpTo number (known old place) → IsUpTo number (known new place)
+up_to_passes old new passes place number is = elim (passes.slots place) [
+  | inl same ↦ record { content = is.content; is = same ∙ is.is; most = is.most }
+  | inr replaced ↦ let falls = replaced.falls is.content is.is in let most = is.most in record { content = replaced.content; is = replaced.is; most = omega (arith, falls, most) }
+]
+
 other_from : (old new : View) → IsAfterOthers old new → (place : ℕ) (source : Source) (number : ℕ) → IsGivenUpTo number (given_from old place source) → IsGivenUpTo number (given_from new place source)
 other_from old new passes place slot number is = other_given old new passes place number is
+other_from old new passes place (asked plant) number is =
+    to_asked plant new number (elim (from_asked plant old number is) [
+      | inl asks ↦ inl (ap is_some passes.past ∙ asks.0, up_to_passes old new passes 4 number asks.1)
+      | inr held ↦ inr (other_given old new passes 1 number held)
+    ])
 other_from old new passes place (contents table) number is =
     to_contents table (given new 2) (given new 3) number (elim (from_contents table (given old 2) (given old 3) number is) [
       | inl storage ↦ inl (other_given old new passes 2 number storage)

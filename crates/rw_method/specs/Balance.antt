@@ -2,16 +2,17 @@
 use Rattle.std.specs.Prelude.{ℕ, zero, suc, ◌+◌, if◌then◌else◌, ℤ, pos, ◌+ℤ◌, Bool, List, [], ◌∷◌, Option, None, Some, unwrap_or, option_map, option_and_then}
 use Rattle.rw_table.specs.Table.{Row}
 use Rattle.rw_model.specs.declared.kind.Kind.{Kind}
-use Rattle.rw_model.specs.declared.kind.Kind.TheVariants.{DataObject, Gage, Confluence, Bifurcation, Reach, Reservoir, WaterUser, Canal}
+use Rattle.rw_model.specs.declared.kind.Kind.TheVariants.{DataObject, Gage, Confluence, Bifurcation, Reach, Reservoir, WaterUser, Canal, PowerReservoir, RoutedReach}
 use Rattle.rw_model.specs.declared.kind.Supply.TheVariants.{Request, Rule}
 use Rattle.rw_method.specs.declared.given.Given.{Given}
 use Rattle.rw_method.specs.declared.places.TheConstants.{DIVERSION, DIVERSION_REQUEST, EVAPORATION_RATE, INFLOW, INFLOW_1, INFLOW_2, JOINED_OUTFLOW, OUTFLOW, OUTFLOW_1, OUTFLOW_2, POOL_ELEVATION, REACH_SIDE, RESERVOIR_SIDE, STORAGE}
 use Rattle.rw_method.specs.declared.share.Share.{Share}
-use Rattle.rw_method.specs.declared.share.Share.TheVariants.{Brings, Takes, Conveys}
+use Rattle.rw_method.specs.declared.share.Share.TheVariants.{Brings, Takes, Conveys, Routes}
 use Rattle.rw_method.specs.declared.term.Term.{Term}
 use Rattle.rw_method.specs.declared.view.View.{View}
 use Rattle.rw_method.specs.View.{known_value, given}
 use Rattle.rw_method.specs.Contents.{basis_of, contents_by, evaporated, difference}
+use Rattle.rw_method.specs.Power.{Plant, plant, outflow_of}
 
 -- what else is brought than by the terms, where all of it is known, and the terms that can be solved for, in order
 pub record Balance : Type 0 where
@@ -40,9 +41,20 @@ takes view place = term_at view Takes place
 abbrev pub conveys : View → ℕ → ℕ → Term
 conveys view seepage place = term_at view (Conveys seepage) place
 
+-- what a routed reach held a timestep ago. Where that isn't known it counts as empty, since the answer is then Idle
+abbrev pub content_before : View → ℤ
+content_before view = unwrap_or view.past (pos 0)
+
+abbrev pub routes : View → ℕ → ℕ → Term
+routes view release place = term_at view (Routes (content_before view) release) place
+
 -- the contents as a term, which takes water and is put as the storage
 abbrev pub stores : Option Given → Term
 stores contents = record { place = STORAGE; share = Takes; given = contents }
+
+-- the outflow as a term, which takes water
+abbrev pub lets_out : Option Given → Term
+lets_out outflow = record { place = OUTFLOW; share = Takes; given = outflow }
 
 -- the value in a place, and 0 where that slot isn't chosen
 abbrev pub chosen : Bool → View → ℕ → Option ℤ
@@ -64,6 +76,13 @@ abbrev pub evaporation_of : Bool → Option (List Row) → View → Option ℤ
 evaporation_of evaporation None view = Some (pos 0)
 evaporation_of evaporation (Some rows) view =
     if evaporation then evaporation_from rows view.past (known_value view EVAPORATION_RATE) else Some (pos 0)
+
+-- Contents = Storage(t - 1) + Inflow - Outflow
+abbrev pub power_balance : Plant → View → Balance
+power_balance plant view =
+    balance view.past
+    (brings view INFLOW ∷ lets_out (outflow_of plant view)
+    ∷ stores (contents_by (Some plant.table) (basis_of (given view STORAGE) (given view POOL_ELEVATION))) ∷ [])
 
 abbrev pub balance_of : Kind → View → Balance
 -- a data object has none
@@ -90,3 +109,8 @@ balance_of (WaterUser depletion Request) view = balance (known_value view DIVERS
 balance_of (WaterUser depletion Rule) view = balance (known_value view DIVERSION) []
 -- Outflow = Inflow - floor(Inflow * seepage / 1000)
 balance_of (Canal seepage) view = balance (Some (pos 0)) (conveys view seepage INFLOW ∷ takes view OUTFLOW ∷ [])
+balance_of (PowerReservoir initial_storage table max_release tailwater power) view =
+    power_balance (plant table max_release tailwater power) view
+-- Outflow = floor((Content(t - 1) + Inflow) * release / 1000)
+balance_of (RoutedReach initial_content release) view =
+    balance (option_map (λ content. pos 0) view.past) (routes view release INFLOW ∷ takes view OUTFLOW ∷ [])

@@ -4,12 +4,13 @@ use Rattle.std.specs.Int.{int_min}
 use Rattle.rw_table.specs.Table.{Row}
 use Rattle.rw_table.specs.Curve.{elev_of, vol_of}
 use Rattle.rw_model.specs.declared.kind.Kind.{Kind}
-use Rattle.rw_model.specs.declared.kind.Kind.TheVariants.{DataObject, Gage, Confluence, Bifurcation, Reach, Reservoir, WaterUser, Canal}
+use Rattle.rw_model.specs.declared.kind.Kind.TheVariants.{DataObject, Gage, Confluence, Bifurcation, Reach, Reservoir, WaterUser, Canal, PowerReservoir, RoutedReach}
 use Rattle.rw_model.specs.declared.kind.Supply.TheVariants.{Request, Rule}
-use Rattle.rw_method.specs.declared.places.TheConstants.{DEPLETION, DIVERSION, DIVERSION_REQUEST, EVAPORATION, EVAPORATION_RATE, INFLOW, INFLOW_1, INFLOW_2, JOINED_OUTFLOW, OUTFLOW, OUTFLOW_1, OUTFLOW_2, POOL_ELEVATION, REACH_SIDE, RELEASE, RESERVOIR_SIDE, RETURN_FLOW, SEEPAGE, SPILL, STORAGE}
+use Rattle.rw_method.specs.declared.places.TheConstants.{DEPLETION, DIVERSION, DIVERSION_REQUEST, ENERGY, EVAPORATION, EVAPORATION_RATE, INFLOW, INFLOW_1, INFLOW_2, JOINED_OUTFLOW, OUTFLOW, OUTFLOW_1, OUTFLOW_2, POOL_ELEVATION, POWER_RELEASE, POWER_SPILL, REACH_SIDE, RELEASE, RESERVOIR_SIDE, RETURN_FLOW, SEEPAGE, SPILL, STORAGE, CONTENT}
 use Rattle.rw_method.specs.declared.view.View.{View}
 use Rattle.rw_method.specs.Balance.{evaporation_of, side_flows}
 use Rattle.rw_method.specs.Contents.{evaporated}
+use Rattle.rw_method.specs.Power.{Plant, plant, energy_of, head_from}
 use Rattle.rw_method.specs.Term.{per_mille}
 use Rattle.rw_method.specs.View.{known_value}
 
@@ -39,10 +40,15 @@ abbrev pub IsLost : Bool → Option (List Row) → View → ℤ → ℤ → Type
 IsLost true (Some rows) view past evaporates = IsEvaporated rows view past evaporates
 IsLost evaporation table view past evaporates = Unit {0}
 
--- where there is a greatest release, the outflow is released up to it, and the rest spilled
+-- the outflow is released up to the greatest release, and the rest spilled, each in its place
+abbrev pub IsReleasedAt : ℕ → ℕ → ℤ → View → ℤ → Type 0
+IsReleasedAt release spill most view outflow =
+    IsHeld view release (int_min outflow most) × IsHeld view spill (outflow -ℤ int_min outflow most)
+
+-- where there is a greatest release
 abbrev pub IsReleased : Option ℤ → View → ℤ → Type 0
 IsReleased None view outflow = Unit {0}
-IsReleased (Some most) view outflow = IsHeld view RELEASE (int_min outflow most) × IsHeld view SPILL (outflow -ℤ int_min outflow most)
+IsReleased (Some most) view outflow = IsReleasedAt RELEASE SPILL most view outflow
 
 -- a reservoir's slots, where these are what is held
 pub record IsReservoirBalanced (table : Option (List Row)) (evaporation : Bool) (max_release : Option ℤ) (view : View) (past inflow outflow storage side evaporates : ℤ) : Type 0 where
@@ -51,6 +57,17 @@ pub record IsReservoirBalanced (table : Option (List Row)) (evaporation : Bool) 
   pub level : IsLevel table view storage
   pub evaporated : IsLost evaporation table view past evaporates
   pub released : IsReleased max_release view outflow
+
+-- a power reservoir's slots, where these are what is held
+pub record IsPowerBalanced (plant : Plant) (view : View) (past inflow outflow storage : ℤ) : Type 0 where
+  -- Storage = Storage(t - 1) + Inflow - Outflow
+  pub balance : storage ≡ past +ℤ inflow -ℤ outflow
+  pub level : IsLevel (Some plant.table) view storage
+  -- where the pool stood the timestep before
+  pub stood : ℤ
+  pub elevation : elev_of plant.table past ≡ Some stood
+  pub energy : IsHeld view ENERGY (energy_of plant.power (head_from stood plant.tailwater) (int_min outflow plant.max_release))
+  pub released : IsReleasedAt POWER_RELEASE POWER_SPILL plant.max_release view outflow
 
 -- where the solvable and fixed terms and the past value are known, with the storage in place of the contents, the balance is true, and each
 -- slot that is derived holds what is derived
@@ -85,3 +102,10 @@ IsBalanced (WaterUser depletion Rule) view = (diversion : ℤ) → IsHeld view D
 IsBalanced (Canal seepage) view =
     (inflow outflow : ℤ) → IsHeld view INFLOW inflow → IsHeld view OUTFLOW outflow
     → (outflow ≡ inflow -ℤ per_mille inflow seepage) × IsHeld view SEEPAGE (inflow -ℤ outflow)
+IsBalanced (PowerReservoir initial_storage table max_release tailwater power) view =
+    (past inflow outflow storage : ℤ) → view.past ≡ Some past → IsHeld view INFLOW inflow → IsHeld view OUTFLOW outflow → IsHeld view STORAGE storage
+    → IsPowerBalanced (plant table max_release tailwater power) view past inflow outflow storage
+-- Outflow = floor((Content(t - 1) + Inflow) * release / 1000), and Content = Content(t - 1) + Inflow - Outflow
+IsBalanced (RoutedReach initial_content release) view =
+    (past inflow outflow : ℤ) → view.past ≡ Some past → IsHeld view INFLOW inflow → IsHeld view OUTFLOW outflow
+    → (outflow ≡ per_mille (past +ℤ inflow) release) × IsHeld view CONTENT (past +ℤ inflow -ℤ outflow)

@@ -2,10 +2,12 @@ pub mod View
 pub mod Past
 pub mod Term
 pub mod Contents
+pub mod Power
 pub mod Balance
 pub mod Settling
 pub mod Puts
 pub mod Solve
+pub mod Asking
 pub mod Catalogue
 pub mod Left
 pub mod Passing

@@ -1,23 +1,26 @@
 -- What is put once a balance is settled.
-use Rattle.std.specs.Prelude.{ℕ, ◌==◌, if◌then◌else◌, ℤ, pos, ◌-ℤ◌, Bool, ◌&&◌, List, [], ◌∷◌, ◌++◌, Option, None, Some, unwrap_or}
+use Rattle.std.specs.Prelude.{ℕ, min, ◌==◌, if◌then◌else◌, ℤ, pos, ◌-ℤ◌, Bool, true, false, not, ◌&&◌, Contains, List, [], ◌∷◌, ◌++◌, Option, None, Some, unwrap_or, ◌+ℤ◌}
 use Rattle.std.specs.Int.{int_min}
 use Rattle.rw_table.specs.Table.{Row}
 use Rattle.rw_model.specs.declared.content.Content.{Content}
 use Rattle.rw_model.specs.declared.kind.Kind.{Kind}
-use Rattle.rw_model.specs.declared.kind.Kind.TheVariants.{Reservoir, WaterUser, Canal}
+use Rattle.rw_model.specs.declared.kind.Kind.TheVariants.{Reservoir, WaterUser, Canal, PowerReservoir, RoutedReach}
 use Rattle.rw_model.specs.Slot.{all_quantities}
 use Rattle.rw_method.specs.declared.basis.Basis.{Basis}
 use Rattle.rw_method.specs.declared.basis.Basis.TheVariants.{Nothing, Storage, Elevation}
 use Rattle.rw_method.specs.declared.given.Given.{Given}
-use Rattle.rw_method.specs.declared.places.TheConstants.{DEPLETION, DIVERSION, EVAPORATION, INFLOW, OUTFLOW, POOL_ELEVATION, RELEASE, RETURN_FLOW, SEEPAGE, SPILL, STORAGE}
+use Rattle.rw_method.specs.declared.places.TheConstants.{DEPLETION, DIVERSION, ENERGY, EVAPORATION, INFLOW, OUTFLOW, POOL_ELEVATION, POWER_RELEASE, POWER_SPILL, RELEASE, RETURN_FLOW, SEEPAGE, SPILL, STORAGE, CONTENT}
 use Rattle.rw_method.specs.declared.put.Put.{Put}
 use Rattle.rw_method.specs.declared.balanced.Balanced.{Balanced}
-use Rattle.rw_method.specs.declared.balanced.Balanced.TheVariants.{Solves}
+use Rattle.rw_method.specs.declared.balanced.Balanced.TheVariants.{Holds, Solves}
+use Rattle.rw_method.specs.declared.term.Term.{Term}
 use Rattle.rw_method.specs.declared.view.View.{View}
 use Rattle.rw_method.specs.View.{known, given, bounds_at, is_between}
 use Rattle.rw_method.specs.Term.{per_mille}
 use Rattle.rw_method.specs.Contents.{basis_of, elevation_of, volume_of, are_both_zero}
-use Rattle.rw_method.specs.Balance.{evaporation_of}
+use Rattle.rw_method.specs.Power.{IsLeastRelease, Plant, plant, asked_of, energy_of, head_of}
+use Rattle.rw_method.specs.Balance.{evaporation_of, power_balance, content_before}
+use Rattle.rw_method.specs.Settling.{greatest_beside}
 
 abbrev pub put : ℕ → ℤ → ℕ → Put
 put place value number = record { place = place; value = value; number = number }
@@ -31,16 +34,20 @@ abbrev pub held_by : Option Content → Given
 held_by None = record { value = pos 0; number = 0 }
 held_by (Some content) = record { value = content.value; number = content.number }
 
--- what a place holds once the balance is settled: what was just solved, or what is known
-abbrev pub known_after : View → Balanced → ℕ → Given
-known_after view (Solves solved value number) place =
-    if solved == place then record { value = value; number = number } else held_by (known view place)
-known_after view balanced place = held_by (known view place)
-
 -- the term that was solved
 abbrev pub solved_put : Balanced → List Put
 solved_put (Solves place value number) = put place value number ∷ []
 solved_put balanced = []
+
+-- what a place holds after these puts: what one of them puts there, or what is known
+abbrev pub held_after : View → List Put → ℕ → Given
+held_after view [] place = held_by (known view place)
+held_after view (put ∷ puts) place =
+    if put.place == place then record { value = put.value; number = put.number } else held_after view puts place
+
+-- what a place holds once the balance is settled: what was just solved, or what is known
+abbrev pub known_after : View → Balanced → ℕ → Given
+known_after view balanced place = held_after view (solved_put balanced) place
 
 -- the slot in a place gets the value that the table has, if it has one
 abbrev pub put_found : ℕ → Option ℤ → ℕ → List Put
@@ -68,13 +75,17 @@ level_puts table storage elevation balanced = beside_given table storage elevati
 abbrev pub evaporation_put : Bool → Option ℤ → List Put
 evaporation_put evaporation amount = if evaporation then put EVAPORATION (unwrap_or amount (pos 0)) 0 ∷ [] else []
 
--- of an outflow the release, up to the greatest one, and the spill above it
+-- of an outflow the release, up to the greatest one, and the spill above it, each in its place
+abbrev pub released_puts : ℕ → ℕ → ℤ → Given → List Put
+released_puts release spill most outflow =
+    put release (int_min outflow.value most) outflow.number ∷
+    put spill (outflow.value -ℤ int_min outflow.value most) outflow.number ∷
+    []
+
+-- where there is a greatest release
 abbrev pub release_puts : Option ℤ → Given → List Put
 release_puts None outflow = []
-release_puts (Some most) outflow =
-    put RELEASE (int_min outflow.value most) outflow.number ∷
-    put SPILL (outflow.value -ℤ int_min outflow.value most) outflow.number ∷
-    []
+release_puts (Some most) outflow = released_puts RELEASE SPILL most outflow
 
 -- of a diversion what is used up, and what flows back
 abbrev pub user_puts : ℕ → Given → List Put
@@ -87,6 +98,48 @@ user_puts depletion diversion =
 abbrev pub seepage_put : Given → Given → List Put
 seepage_put inflow outflow = put SEEPAGE (inflow.value -ℤ outflow.value) inflow.number ∷ []
 
+-- the number with which the outflow is put that a request asks for: the request's, but where the balance is true anyway no greater one than
+-- the other terms have
+abbrev pub asked_number : List Term → Balanced → ℕ → ℕ
+asked_number terms Holds number = min number (greatest_beside OUTFLOW terms)
+asked_number terms balanced number = number
+
+-- the outflow that a request asks for
+abbrev pub asked_put : List Term → Balanced → Given → Put
+asked_put terms balanced asked = put OUTFLOW asked.value (asked_number terms balanced asked.number)
+
+-- a flow that was solved and the outflow that a request asks for, in order of place: the former alone where that is the outflow
+abbrev pub beside_flow : Put → Put → List Put
+beside_flow asked solved =
+    if solved.place == OUTFLOW then solved ∷ [] else (if solved.place == INFLOW then solved ∷ asked ∷ [] else asked ∷ solved ∷ [])
+
+-- what was solved, and beside it the outflow that a request asks for, unless the outflow itself was solved
+abbrev pub flow_puts : Option Given → List Term → Balanced → List Put
+flow_puts None terms balanced = solved_put balanced
+flow_puts (Some asked) terms (Solves place value number) =
+    beside_flow (asked_put terms (Solves place value number) asked) (put place value number)
+flow_puts (Some asked) terms balanced = asked_put terms balanced asked ∷ []
+
+-- the energy of what is released of an outflow, the release, and the spill
+abbrev pub energy_puts : Plant → ℤ → Given → List Put
+energy_puts plant head outflow =
+    put ENERGY (energy_of plant.power head (int_min outflow.value plant.max_release)) outflow.number
+    ∷ released_puts POWER_RELEASE POWER_SPILL plant.max_release outflow
+
+-- the flows that a power reservoir puts, and all its puts
+abbrev pub power_flows : Plant → View → Balanced → List Put
+power_flows plant view balanced = flow_puts (asked_of plant view) (power_balance plant view).terms balanced
+
+abbrev pub power_puts : Plant → View → Balanced → List Put
+power_puts plant view balanced =
+    power_flows plant view balanced
+    ++ level_puts (Some plant.table) (given view STORAGE) (given view POOL_ELEVATION) balanced
+    ++ energy_puts plant (head_of plant view) (held_after view (power_flows plant view balanced) OUTFLOW)
+
+-- what is left of what was held and what flows in, once the outflow is let go
+abbrev pub content_put : ℤ → Given → Given → List Put
+content_put content inflow outflow = put CONTENT (content +ℤ inflow.value -ℤ outflow.value) outflow.number ∷ []
+
 -- all that the object puts, in order of place: what was solved, and what is derived from it
 abbrev pub puts_of : Kind → View → Balanced → List Put
 puts_of (Reservoir initial_storage table local_inflow diversion return_flow evaporation max_release) view balanced =
@@ -95,4 +148,24 @@ puts_of (Reservoir initial_storage table local_inflow diversion return_flow evap
 puts_of (WaterUser depletion supply) view balanced = solved_put balanced ++ user_puts depletion (known_after view balanced DIVERSION)
 puts_of (Canal seepage) view balanced =
     solved_put balanced ++ seepage_put (known_after view balanced INFLOW) (known_after view balanced OUTFLOW)
+puts_of (PowerReservoir initial_storage table max_release tailwater power) view balanced =
+    power_puts (plant table max_release tailwater power) view balanced
+puts_of (RoutedReach initial_content release) view balanced =
+    solved_put balanced ++ content_put (content_before view) (known_after view balanced INFLOW) (known_after view balanced OUTFLOW)
 puts_of kind view balanced = solved_put balanced
+
+-- ---- a request for energy
+
+-- where the balance is settled, and not by the outflow, a request that counts puts it
+abbrev pub is_put_by_request : Balanced → Bool
+is_put_by_request Holds = true
+is_put_by_request (Solves place value number) = not (place == OUTFLOW)
+is_put_by_request balanced = false
+
+-- the outflow is put as the least release that gives what is requested, and the energy as what that release gives
+pub record GivesRequest (plant : Plant) (view : View) (request : Content) (puts : List Put) : Type 0 where
+  pub release : ℕ
+  pub number : ℕ
+  pub least : IsLeastRelease plant.power (head_of plant view) plant.max_release request.value release
+  pub outflow : Contains puts (put OUTFLOW (pos release) number)
+  pub energy : Contains puts (put ENERGY (energy_of plant.power (head_of plant view) (pos release)) number)

@@ -4,7 +4,8 @@ use Rattle.rw_base.specs.declared.number.ObjectNo.{ObjectNo}
 use Rattle.rw_base.specs.declared.number.RuleNo.{RuleNo}
 use Rattle.rw_model.specs.declared.content.Content.{Content}
 use Rattle.rw_model.specs.declared.kind.Kind.{Kind}
-use Rattle.rw_model.specs.declared.writer.Writer.TheVariants.{Input, Rule}
+use Rattle.rw_model.specs.declared.kind.Kind.TheVariants.{PowerReservoir}
+use Rattle.rw_model.specs.declared.writer.Writer.TheVariants.{Input, Object, Rule}
 use Rattle.rw_model.specs.Slot.{Slot, Bounds}
 use Rattle.rw_model.specs.Slots.{slots_of}
 use Rattle.rw_table.specs.Table.{Row}
@@ -17,6 +18,13 @@ input value = Some (record { value = value; number = 0; writer = Input })
 -- set by a rule
 abbrev pub by_rule : RuleNo → ℤ → ℕ → Option Content
 by_rule rule value number = Some (record { value = value; number = number; writer = Rule rule })
+
+-- written by an object
+abbrev pub by_object : ObjectNo → ℤ → ℕ → Option Content
+by_object object value number = Some (record { value = value; number = number; writer = Object object })
+
+abbrev pub object : ℕ → ObjectNo
+object n = record { 0 = n }
 
 -- the bounds of a slot for which none are set
 abbrev pub usual_bounds : Option Slot → Bounds
@@ -39,3 +47,12 @@ view_with kind own past now = record {
 -- half a cubic metre to a millimetre up to the second row, and from there on a whole one
 abbrev pub worked_rows : List Row
 worked_rows = (pos 0, pos 0) ∷ (pos 1000, pos 500) ∷ (pos 3000, pos 2500) ∷ []
+
+-- a power reservoir of 10 m3 to each mm, up to 100 m, with a tailwater at 10 m, 2500 kWh for 10^9 m3 that fall by 1 mm, and 1000 m3/step to be
+-- released at most
+abbrev pub high_dam : Kind
+high_dam = PowerReservoir (pos 500000) ((pos 0, pos 0) ∷ (pos 100000, pos 1000000) ∷ []) (pos 1000) (pos 10000) 2500
+
+-- a low one, whose elevations can be counted out
+abbrev pub low_dam : Kind
+low_dam = PowerReservoir (pos 3000) ((pos 0, pos 0) ∷ (pos 500, pos 5000) ∷ []) (pos 1000) (pos 100) 10000

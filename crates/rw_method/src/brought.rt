@@ -1,14 +1,26 @@
-ghost use Rattle.std.specs.Prelude.{◌≡◌, ◌≤◌, ◌-◌, pos, ◌-ℤ◌, ◌*ℤ◌};
+ghost use Rattle.std.specs.Prelude.{◌≡◌, ◌≤◌, ◌-◌, pos, neg_ℤ, ◌+ℤ◌, ◌-ℤ◌, ◌*ℤ◌, ◌≤ℤ◌};
 ghost use Rattle.rw_base.specs.Quotient.{floor_div};
-ghost use Rattle.rw_method.specs.Term.{per_mille, least_inflow, brought, bringing, brought_by, IsWithin};
+ghost use Rattle.rw_method.specs.Term.{per_mille, least_inflow, least_routed, brought, bringing, brought_by, IsWithin};
 
-use crate::{Given, Seepage, Share};
+use crate::{Given, Release, Seepage, Share};
 
-fn times_share(amount: i64, share: u16) -> i128
+// The amount is a sum of two 64 bit numbers.
+fn times_share(amount: i128, share: u16) -> i128
+    requires low { neg_ℤ (pos 18446744073709551616) ≤ℤ amount }
+    requires high { amount ≤ℤ pos 18446744073709551616 }
     ensures amount { result ≡ amount *ℤ pos share }
-    ensures bound { IsWithin 7 result }
+    ensures bound { IsWithin 13 result }
 {
-    i128::from(amount) * i128::from(share)
+    amount * i128::from(share)
+}
+
+fn parts_of(amount: i128, share: u16) -> i128
+    requires low { neg_ℤ (pos 18446744073709551616) ≤ℤ amount }
+    requires high { amount ≤ℤ pos 18446744073709551616 }
+    ensures amount { result ≡ per_mille amount share }
+    ensures bound { IsWithin 1 result }
+{
+    times_share(amount, share).div_euclid(1000)
 }
 
 /// So many of a thousand parts of an amount, rounded down.
@@ -16,7 +28,7 @@ pub fn per_mille(amount: i64, share: u16) -> i128
     ensures amount { result ≡ per_mille amount share }
     ensures bound { IsWithin 1 result }
 {
-    times_share(amount, share).div_euclid(1000)
+    parts_of(i128::from(amount), share)
 }
 
 fn thousandfold(outflow: i128) -> i128
@@ -57,6 +69,48 @@ fn least_inflow(seepage: Seepage, outflow: i128) -> i128
     count + 1
 }
 
+fn held(content: i64, inflow: i64) -> i128
+    ensures amount { result ≡ content +ℤ inflow }
+    ensures low { neg_ℤ (pos 18446744073709551616) ≤ℤ result }
+    ensures high { result ≤ℤ pos 18446744073709551616 }
+{
+    i128::from(content) + i128::from(inflow)
+}
+
+// How much a reach lets go that holds so much when the inflow has come.
+fn let_go(content: i64, release: Release, inflow: i64) -> i128
+    ensures amount { result ≡ per_mille (content +ℤ inflow) release }
+    ensures bound { IsWithin 1 result }
+{
+    parts_of(held(content, inflow), release.get())
+}
+
+// A thousand times the outflow, turned.
+fn turned(outflow: i128) -> i128
+    requires { IsWithin 10 outflow }
+    ensures amount { result ≡ neg_ℤ (outflow *ℤ pos 1000) }
+    ensures bound { IsWithin 100000 result }
+{
+    -(outflow * 1000)
+}
+
+// The least content of which a reach lets the outflow go.
+fn least_content(release: Release, outflow: i128) -> i128
+    requires { IsWithin 10 outflow }
+    ensures amount { result ≡ neg_ℤ (floor_div (neg_ℤ (outflow *ℤ pos 1000)) (pos release)) }
+    ensures bound { IsWithin 100000 result }
+{
+    -quotient(turned(outflow), release.get())
+}
+
+// The least inflow with which a reach that holds so much lets the outflow go.
+fn least_routed(content: i64, release: Release, outflow: i128) -> i128
+    requires { IsWithin 10 outflow }
+    ensures { result ≡ least_routed content release outflow }
+{
+    least_content(release, outflow) - i128::from(content)
+}
+
 // How much a value brings.
 fn brought(share: Share, value: i64) -> i128
     ensures amount { result ≡ brought share value }
@@ -66,6 +120,7 @@ fn brought(share: Share, value: i64) -> i128
         Share::Brings => i128::from(value),
         Share::Takes => -i128::from(value),
         Share::Conveys(seepage) => i128::from(value) - per_mille(value, seepage.get()),
+        Share::Routes { content, release } => let_go(content, release, value),
     }
 }
 
@@ -89,5 +144,6 @@ pub(crate) fn bringing(share: Share, amount: i128) -> i128
         Share::Brings => amount,
         Share::Takes => -amount,
         Share::Conveys(seepage) => least_inflow(seepage, amount),
+        Share::Routes { content, release } => least_routed(content, release, amount),
     }
 }

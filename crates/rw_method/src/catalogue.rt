@@ -9,12 +9,12 @@ use crate::{Method, Solved, View};
 use rw_model::Kind;
 
 // How many kinds have a method.
-const KINDS: usize = 7;
+const KINDS: usize = 9;
 
 /// Why methods are no catalogue.
 #[derive(Clone, Copy, Debug, PartialEq, Eq)]
 pub enum CatalogueFault {
-    /// There aren't 7 methods, but so many.
+    /// There aren't 9 methods, but so many.
     WrongCount(usize),
     /// The method in this place, counted from 1, is of another kind.
     WrongPlace(u8),
@@ -25,7 +25,7 @@ pub enum CatalogueFault {
 pub struct Catalogue {
     /// The methods, in that order.
     pub methods: Vec<Box<dyn Method>>,
-    ghost whole: { length methods.items ≡ 7 },
+    ghost whole: { length methods.items ≡ 9 },
 }
 
 fn code_of(method: &Box<dyn Method>) -> u8
@@ -36,7 +36,7 @@ fn code_of(method: &Box<dyn Method>) -> u8
 
 // The first place, counted from 1, with a method of another kind.
 fn first_wrong(methods: &[Box<dyn Method>]) -> Option<u8>
-    requires { length methods.now ≤ 7 }
+    requires { length methods.now ≤ 9 }
     ensures { result ≡ first_wrong 1 (map (λ b. code b) methods.now) }
 {
     let mut place = 1u8;
@@ -58,17 +58,18 @@ fn solve_by(method: &Box<dyn Method>, kind: &Kind, view: &View) -> Solved
 }
 
 impl Catalogue {
-    /// The catalogue of these methods: gage, confluence, bifurcation, reach, reservoir, water user, canal.
+    /// The catalogue of these methods: gage, confluence, bifurcation, reach, reservoir, water user, canal, power
+    /// reservoir, routed reach.
     ///
     /// Their count is judged first. `WrongPlace` names the first method of another kind.
     pub fn of(methods: Vec<Box<dyn Method>>) -> Result<Catalogue, CatalogueFault>
         ensures methods { IfOk result (λ catalogue. catalogue.methods ≡ methods) }
         ensures order { IfOk result (λ catalogue. AreInOrder (map (λ b. code b) catalogue.methods.items)) }
-        ensures accepted { IsOk result ↔ ((length methods.items ≡ 7) × AreInOrder (map (λ b. code b) methods.items)) }
+        ensures accepted { IsOk result ↔ ((length methods.items ≡ 9) × AreInOrder (map (λ b. code b) methods.items)) }
         ensures count { (found : ℕ) → result ≡ Err (CatalogueFault.WrongCount found)
-            → (found ≡ length methods.items) × (found ≢ 7) }
+            → (found ≡ length methods.items) × (found ≢ 9) }
         ensures place { (place : ℕ) → result ≡ Err (CatalogueFault.WrongPlace place)
-            → (length methods.items ≡ 7) × (first_wrong 1 (map (λ b. code b) methods.items) ≡ Some place) }
+            → (length methods.items ≡ 9) × (first_wrong 1 (map (λ b. code b) methods.items) ≡ Some place) }
     {
         if methods.len() != KINDS {
             return Err(CatalogueFault::WrongCount(methods.len()));

@@ -1,5 +1,5 @@
 //! What the definitions of this crate come to. Each law is the `ensures` of a function that does nothing.
-ghost use Rattle.std.specs.Prelude.{◌≡◌, ◌≢◌, ◌≤◌, ◌<ℤ◌, ◌≤ℤ◌, ℕ, ℤ, pos, neg_ℤ, List, [], ◌∷◌, All, Option, true, false, Some, None};
+ghost use Rattle.std.specs.Prelude.{◌≡◌, ◌≢◌, ◌≤◌, ◌<ℤ◌, ◌≤ℤ◌, ◌+ℤ◌, ℕ, ℤ, pos, neg_ℤ, List, [], ◌∷◌, All, Option, true, false, Some, None};
 ghost use Rattle.rw_base.specs.declared.number.ObjectNo.{ObjectNo};
 ghost use Rattle.rw_base.specs.declared.number.RuleNo.{RuleNo};
 ghost use Rattle.rw_table.specs.Curve.{elev_of};
@@ -11,10 +11,14 @@ ghost use Rattle.rw_method.specs.declared.balanced.Balanced.TheVariants as Balan
 ghost use Rattle.rw_method.specs.declared.term.Term.{Term};
 ghost use Rattle.rw_method.specs.declared.share.Share.TheVariants as Share;
 ghost use Rattle.rw_method.specs.Contents.{evaporated};
-ghost use Rattle.rw_method.specs.Term.{IsShare, brought, least_inflow};
+ghost use Rattle.rw_method.specs.Term.{IsShare, brought, least_inflow, least_routed, per_mille};
 ghost use Rattle.rw_method.specs.Settling.{weakest, settled, GivesWay, IsSolved, IsGreatestBeside};
 ghost use Rattle.rw_method.specs.Puts.{put};
-ghost use Rattle.rw_method.specs.Solve.{solve_of};
+ghost use Rattle.rw_method.specs.Solve.{balanced_of, solve_of};
+ghost use Rattle.rw_method.specs.View.{given};
+ghost use Rattle.rw_method.specs.declared.given.Given.{Given};
+ghost use Rattle.rw_method.specs.declared.places.TheConstants.{INFLOW, OUTFLOW};
+ghost use Rattle.rw_method.specs.declared.view.View.{View};
 ghost use Rattle.rw_method.specs.Worked.{input, by_rule, view_with, worked_rows};
 
 /// The term that gives way is one that isn't given, or else one of the greatest number, and of several such the last.
@@ -44,6 +48,28 @@ pub fn least_inflow_of_a_canal()
     ensures least { (seepage : ℕ) (outflow inflow : ℤ) → seepage ≤ 999 → outflow ≢ pos 0
         → inflow <ℤ least_inflow seepage outflow → brought (Share.Conveys seepage) inflow <ℤ outflow }
     ensures dry { (seepage : ℕ) → least_inflow seepage (pos 0) ≡ pos 0 }
+{}
+
+/// The least inflow of a routed reach lets exactly the outflow go, and each lesser inflow lets less go.
+#[tactic(auto, using(crate::proofs::LeastInflow::routed, crate::proofs::LeastInflow::least_of_routed))]
+pub fn least_inflow_of_a_routed_reach()
+    ensures exact { (content : ℤ) (release : ℕ) (outflow : ℤ) → 1 ≤ release → release ≤ 1000
+        → brought (Share.Routes content release) (least_routed content release outflow) ≡ outflow }
+    ensures least { (content : ℤ) (release : ℕ) (outflow inflow : ℤ) → 1 ≤ release
+        → inflow <ℤ least_routed content release outflow → brought (Share.Routes content release) inflow <ℤ outflow }
+{}
+
+/// Where the inflow of a routed reach is solved, exactly the outflow that is given is let go, and with each lesser inflow less.
+#[tactic(auto, using(crate::proofs::SolvedInflow::solved_exactly, crate::proofs::SolvedInflow::solved_least_of_all))]
+pub fn solved_inflow_of_a_routed_reach()
+    ensures exact { (initial_content : ℤ) (release : ℕ) (view : View) (content : ℤ) (outflow : Given) (inflow : ℤ) (number : ℕ)
+        → 1 ≤ release → release ≤ 1000 → view.past ≡ Some content → given view OUTFLOW ≡ Some outflow
+        → balanced_of (Kind.RoutedReach initial_content release) view ≡ Balanced.Solves INFLOW inflow number
+        → per_mille (content +ℤ inflow) release ≡ outflow.value }
+    ensures least { (initial_content : ℤ) (release : ℕ) (view : View) (content : ℤ) (outflow : Given) (inflow : ℤ) (number : ℕ)
+        (other : ℤ) → 1 ≤ release → view.past ≡ Some content → given view OUTFLOW ≡ Some outflow
+        → balanced_of (Kind.RoutedReach initial_content release) view ≡ Balanced.Solves INFLOW inflow number
+        → other <ℤ inflow → per_mille (content +ℤ other) release <ℤ outflow.value }
 {}
 
 /// Worked values of a confluence with inflows of 5 and 6 m3/step and an outflow of 10, set by rules and given.
@@ -84,6 +110,31 @@ pub fn canal_and_user_values()
         → solve_of (Kind.WaterUser 333 Supply.Request)
         (view_with (Kind.WaterUser 333 Supply.Request) own None (input (pos 105) ∷ []))
         ≡ Solved.Puts (put 1 (pos 105) 0 ∷ put 2 (pos 34) 0 ∷ put 3 (pos 71) 0 ∷ []) }
+{}
+
+/// A routed reach that held 1000 m3 at first and lets a quarter go in each timestep. What is rounded off stays.
+pub fn routed_values()
+    ensures first { (own : ObjectNo)
+        → solve_of (Kind.RoutedReach (pos 1000) 250) (view_with (Kind.RoutedReach (pos 1000) 250) own (Some (pos 1000)) (input (pos 200) ∷ []))
+        ≡ Solved.Puts (put 1 (pos 300) 0 ∷ put 2 (pos 900) 0 ∷ []) }
+    ensures second { (own : ObjectNo)
+        → solve_of (Kind.RoutedReach (pos 1000) 250) (view_with (Kind.RoutedReach (pos 1000) 250) own (Some (pos 900)) (input (pos 0) ∷ []))
+        ≡ Solved.Puts (put 1 (pos 225) 0 ∷ put 2 (pos 675) 0 ∷ []) }
+    ensures third { (own : ObjectNo)
+        → solve_of (Kind.RoutedReach (pos 1000) 250) (view_with (Kind.RoutedReach (pos 1000) 250) own (Some (pos 675)) (input (pos 0) ∷ []))
+        ≡ Solved.Puts (put 1 (pos 168) 0 ∷ put 2 (pos 507) 0 ∷ []) }
+    ensures upstream { (own : ObjectNo)
+        → solve_of (Kind.RoutedReach (pos 1000) 250) (view_with (Kind.RoutedReach (pos 1000) 250) own (Some (pos 1000)) (None ∷ input (pos 300) ∷ []))
+        ≡ Solved.Puts (put 0 (pos 200) 0 ∷ put 2 (pos 900) 0 ∷ []) }
+    ensures no_past { (own : ObjectNo)
+        → solve_of (Kind.RoutedReach (pos 1000) 250) (view_with (Kind.RoutedReach (pos 1000) 250) own None (input (pos 200) ∷ []))
+        ≡ Solved.Idle }
+    ensures too_little { (own : ObjectNo)
+        → solve_of (Kind.RoutedReach (pos 1000) 250) (view_with (Kind.RoutedReach (pos 1000) 250) own (Some (pos 1000)) (None ∷ input (pos 100) ∷ []))
+        ≡ Solved.OutOfRange 0 (neg_ℤ (pos 600)) }
+    ensures conflict { (own : ObjectNo)
+        → solve_of (Kind.RoutedReach (pos 1000) 250) (view_with (Kind.RoutedReach (pos 1000) 250) own (Some (pos 1000)) (input (pos 200) ∷ input (pos 301) ∷ []))
+        ≡ Solved.Conflict 1 (pos 301) (pos 300) }
 {}
 
 /// A reservoir without a table that held 1000 m3.

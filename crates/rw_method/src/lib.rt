@@ -4,18 +4,24 @@
 //! balances that the methods share. No call takes memory. Laws say what dispatches leave in an object's slots.
 #![tactic(auto)]
 
+mod asking;
 mod balanced;
 mod basis;
 mod brought;
 mod catalogue;
+mod contents;
+mod fault;
 mod given;
 pub mod law;
+mod level;
 mod method;
 mod past;
 pub mod places;
+pub mod power_law;
 mod put;
 mod put_list;
 mod puts;
+mod releasing;
 mod settling;
 mod share;
 mod side;
@@ -24,18 +30,23 @@ mod solved;
 mod term;
 mod view;
 
+pub use asking::{ask, ask_solved};
 pub use balanced::Balanced;
 pub use basis::Basis;
 pub use brought::per_mille;
 pub use catalogue::{Catalogue, CatalogueFault};
+pub use contents::stores;
+pub use fault::{fault_of_level, fault_of_past};
 pub use given::Given;
+pub use level::ask_level;
 pub use method::Method;
 pub use past::past_in;
 pub use put::Put;
 pub use put_list::PutList;
-pub use puts::{add_put, begin_puts, known_after, put_solved};
-pub use settling::settle;
-pub use share::{Seepage, Share};
+pub use puts::{add_put, begin_puts, ended, held_after, known_after, put_solved};
+pub use releasing::{ask_released, released};
+pub use settling::{greatest_beside, settle};
+pub use share::{Release, Seepage, Share};
 pub use side::side_flows;
 pub use solved::Solved;
 pub use term::Term;

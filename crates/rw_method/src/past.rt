@@ -1,11 +1,12 @@
 ghost use Rattle.std.specs.Prelude.{◌≡◌};
 ghost use Rattle.rw_method.specs.Past.{past_in};
 
-use crate::places::{INFLOW, STORAGE};
+use crate::places::{CONTENT, INFLOW, STORAGE};
 use rw_model::Kind;
 
 /// The place of the slot whose earlier value an object of a kind looks at, and how many timesteps ago, 1 or more: the storage
-/// of a reservoir a timestep ago, and the inflow of a reach as many timesteps ago as its lag. `None` where it looks at none.
+/// of a reservoir and the content of a routed reach a timestep ago, and the inflow of a reach as many timesteps ago as its lag.
+/// `None` where it looks at none.
 pub fn past_in(kind: &Kind) -> Option<(u8, u16)>
     ensures { result ≡ past_in kind.now }
 {
@@ -17,7 +18,8 @@ pub fn past_in(kind: &Kind) -> Option<(u8, u16)>
                 Some((INFLOW, u16::from(*lag)))
             }
         }
-        Kind::Reservoir { .. } => Some((STORAGE, 1)),
+        Kind::Reservoir { .. } | Kind::PowerReservoir { .. } => Some((STORAGE, 1)),
+        Kind::RoutedReach { .. } => Some((CONTENT, 1)),
         _ => None,
     }
 }

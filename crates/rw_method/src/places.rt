@@ -1,8 +1,8 @@
 //! Where the slots that a balance speaks of stand among those of their kind (`docs/DEFINITIONS.md`, "Slots").
 
-/// What flows into a gage, a bifurcation, a reach, a reservoir or a canal.
+/// What flows into a gage, a bifurcation, a reach, a reservoir, a canal or a routed reach.
 pub const INFLOW: u8 = 0;
-/// What flows out of a gage, a reach, a reservoir or a canal.
+/// What flows out of a gage, a reach, a reservoir, a canal or a routed reach.
 pub const OUTFLOW: u8 = 1;
 
 /// The two that flow into a confluence.
@@ -22,9 +22,9 @@ pub const REACH_SIDE: u8 = 2;
 /// A reservoir's LocalInflow, with its Diversion and ReturnFlow in the next two places.
 pub const RESERVOIR_SIDE: u8 = 4;
 
-/// A reservoir's Storage.
+/// A reservoir's Storage, and a power reservoir's.
 pub const STORAGE: u8 = 2;
-/// A reservoir's PoolElevation.
+/// A reservoir's PoolElevation, and a power reservoir's.
 pub const POOL_ELEVATION: u8 = 3;
 /// A reservoir's EvaporationRate.
 pub const EVAPORATION_RATE: u8 = 7;
@@ -34,6 +34,15 @@ pub const EVAPORATION: u8 = 8;
 pub const RELEASE: u8 = 9;
 /// A reservoir's Spill.
 pub const SPILL: u8 = 10;
+
+/// A power reservoir's EnergyRequest.
+pub const ENERGY_REQUEST: u8 = 4;
+/// A power reservoir's Energy.
+pub const ENERGY: u8 = 5;
+/// A power reservoir's Release.
+pub const POWER_RELEASE: u8 = 6;
+/// A power reservoir's Spill.
+pub const POWER_SPILL: u8 = 7;
 
 /// A water user's DiversionRequest.
 pub const DIVERSION_REQUEST: u8 = 0;
@@ -46,3 +55,6 @@ pub const RETURN_FLOW: u8 = 3;
 
 /// A canal's Seepage.
 pub const SEEPAGE: u8 = 2;
+
+/// A routed reach's Content.
+pub const CONTENT: u8 = 2;

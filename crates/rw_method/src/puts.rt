@@ -1,9 +1,9 @@
-ghost use Rattle.std.specs.Prelude.{◌≡◌, ◌<◌, Bool, List, [], ◌∷◌, ◌++◌, length, None, IsTrue, IsOk, ◌↔◌, OnOk, OnErr, IfOk, IfErr};
+ghost use Rattle.std.specs.Prelude.{◌≡◌, ◌<◌, MatchOption, Bool, List, [], ◌∷◌, ◌++◌, length, None, IsTrue, IsOk, ◌↔◌, OnOk, OnErr, IfOk, IfErr};
 ghost use Rattle.rw_method.specs.declared.solved.Solved.TheVariants as Solved;
 ghost use Rattle.rw_model.specs.Slot.{all_quantities};
 ghost use Rattle.rw_method.specs.View.{bounds_at, is_between};
 ghost use Rattle.std.specs.List.{All};
-ghost use Rattle.rw_method.specs.Puts.{put, is_bounded, solved_put, held_by, known_after};
+ghost use Rattle.rw_method.specs.Puts.{put, is_bounded, solved_put, held_by, held_after, known_after};
 ghost use Rattle.rw_method.specs.Solve.{AllFit, answer_of_puts, answer};
 ghost use Rattle.rw_method.specs.declared.put.Put.{Put};
 
@@ -111,6 +111,31 @@ pub fn begin_puts(view: &View, balanced: Balanced) -> Result<PutList, Solved>
     Ok(puts)
 }
 
+/// What is answered before puts are judged: too little is known, something is wrong with what is held, or the terms conflict.
+pub fn ended(balanced: Balanced, fault: Option<Solved>) -> Option<Solved>
+    ensures { MatchOption result
+        ((fit : Put → Bool) (puts : List Put) → answer fit puts balanced fault ≡ answer_of_puts fit puts)
+        (λ ended. (fit : Put → Bool) (puts : List Put) → answer fit puts balanced fault ≡ ended) }
+{
+    match (balanced, fault) {
+        (Balanced::Idle, _) => Some(Solved::Idle),
+        (_, Some(fault)) => Some(fault),
+        (
+            Balanced::Conflicts {
+                place,
+                held,
+                solved,
+            },
+            None,
+        ) => Some(Solved::Conflict {
+            place,
+            held,
+            solved,
+        }),
+        (Balanced::Holds | Balanced::Solves { .. }, None) => None,
+    }
+}
+
 /// What an object answers that puts the solved term and nothing else.
 #[inline(always)]
 pub fn put_solved(view: &View, balanced: Balanced) -> Solved
@@ -153,4 +178,26 @@ pub fn known_after(view: &View, balanced: Balanced, place: u8) -> Given
         },
         _ => held_by(view.known(place)),
     }
+}
+
+// What a put gives its slot.
+fn given_by(put: Put) -> Given
+    ensures { result ≡ record { value = put.value; number = put.number } }
+{
+    Given {
+        value: put.value.get(),
+        number: put.number,
+    }
+}
+
+/// What a place holds after these puts: what one of them puts there, or what is known, and 0 where nothing is.
+pub fn held_after(view: &View, puts: &[Put], place: u8) -> Given
+    ensures { result ≡ held_after view.entry.now puts.now place }
+{
+    for put in puts {
+        if put.place == place {
+            return given_by(*put);
+        }
+    }
+    held_by(view.known(place))
 }

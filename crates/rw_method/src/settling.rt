@@ -52,9 +52,9 @@ fn number_of(given: Option<Given>) -> u16
     }
 }
 
-// The greatest number of the given terms but the one of this place.
+/// The greatest number of the given terms but the one of this place, 0 where there is none.
 #[inline(always)]
-fn greatest_beside(place: u8, terms: &[Term]) -> u16
+pub fn greatest_beside(place: u8, terms: &[Term]) -> u16
     ensures { result ≡ greatest_beside place terms.now }
 {
     let mut greatest = 0;

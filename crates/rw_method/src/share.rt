@@ -38,6 +38,44 @@ impl Seepage {
     }
 }
 
+/// How much of what is held is let go: 1 to 1000 of a thousand parts.
+#[derive(Clone, Copy, Debug, PartialEq, Eq, Drop)]
+pub struct Release {
+    parts: u16,
+}
+
+impl Model for Release {
+    ghost use Rattle.std.specs.Prelude.{ℕ, ◌≤◌};
+
+    ghost Value = { ℕ };
+
+    ghost view = { λ r. r.parts };
+
+    ghost invariant = { λ r. (1 ≤ r.parts) × (r.parts ≤ 1000) };
+
+    ghost inverse = { λ n. record { parts = n } };
+}
+
+impl Release {
+    /// So many of a thousand parts.
+    pub fn of(parts: u16) -> Release
+        requires some { 1 ≤ parts }
+        requires most { parts ≤ 1000 }
+        ensures { result ≡ parts }
+    {
+        Release { parts }
+    }
+
+    /// How many of a thousand parts.
+    pub fn get(self) -> u16
+        ensures value { result ≡ self }
+        ensures some { 1 ≤ result }
+        ensures most { result ≤ 1000 }
+    {
+        self.parts
+    }
+}
+
 /// How a term counts in its object's balance.
 #[derive(Clone, Copy, Debug, PartialEq, Eq)]
 pub enum Share {
@@ -47,4 +85,11 @@ pub enum Share {
     Takes,
     /// It brings water, of which so much of a thousand parts seeps away, rounded down.
     Conveys(Seepage),
+    /// It joins what is held, and of both so much of a thousand parts is let go, rounded down.
+    Routes {
+        /// What is held without it, in m3.
+        content: i64,
+        /// How much is let go.
+        release: Release,
+    },
 }

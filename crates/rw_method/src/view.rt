@@ -13,7 +13,7 @@ pub struct View {
     pub own: ObjectNo,
     /// What stands in its slots at this timestep, by place. `None` where nothing does, and where it has no slot.
     pub now: [Option<Content>; 12],
-    /// Its storage at the timestep before, or a reach's inflow as many timesteps ago as its lag.
+    /// Its storage or content at the timestep before, or a reach's inflow as many timesteps ago as its lag.
     pub past: Option<Qty>,
     /// The least and the greatest value of each slot, by place.
     pub bounds: [(i64, i64); 12],

@@ -7,7 +7,7 @@ use Rattle.rw_base.specs.Unit.{units, unit_in}
 use Rattle.rw_table.specs.Table.{Row, table_of}
 use Rattle.rw_model.specs.declared.data_slots.DataSlot.{DataSlot}
 use Rattle.rw_model.specs.declared.kind.Kind.{Kind}
-use Rattle.rw_model.specs.declared.kind.Kind.TheVariants.{DataObject, Gage, Confluence, Bifurcation, Reach, Reservoir, WaterUser, Canal}
+use Rattle.rw_model.specs.declared.kind.Kind.TheVariants.{DataObject, Gage, Confluence, Bifurcation, Reach, Reservoir, WaterUser, Canal, PowerReservoir, RoutedReach}
 use Rattle.rw_model.specs.declared.kind.Supply.{Supply}
 use Rattle.rw_model_toml.specs.declared.options.Options.{Options}
 use Rattle.rw_model_toml.specs.Refusal.{ModelRefusal, ◌>>=◌, refused_as, wrong_kind, unknown_kind, bad_table, out_of_range}
@@ -107,29 +107,46 @@ row_of path (array pair) = row_or path (row_in pair)
 row_of path _ = Err (wrong_kind path)
 
 -- the table that rows make
-abbrev pub rated : List ℕ → List Row → Result (Option (List Row)) ModelRefusal
-rated path rows = refused_as (bad_table path) (table_of rows) >>= λ table. Ok (Some table)
+abbrev pub rated : List ℕ → List Row → Result (List Row) ModelRefusal
+rated path rows = refused_as (bad_table path) (table_of rows)
 
 -- the table of elevations and volumes
-abbrev pub rating_in : List ℕ → Data → Result (Option (List Row)) ModelRefusal
-rating_in path value = do
+abbrev pub rating_of : List ℕ → Data → Result (List Row) ModelRefusal
+rating_of path value = do
   items ← items_of path value
   rows ← list_of row_of path 1 items
   rated path rows
 
--- the same, if there is one
-abbrev pub rating_of : List ℕ → Members → Result (Option (List Row)) ModelRefusal
-rating_of at table = optional None rating_in at (codes "table") table
+-- the same, of a key that may be left out
+abbrev pub given_rating : List ℕ → Data → Result (Option (List Row)) ModelRefusal
+given_rating path value = rating_of path value >>= λ rows. Ok (Some rows)
 
 unfoldable pub reservoir_of : List ℕ → Members → Result Kind ModelRefusal
 reservoir_of at table = do
   initial_storage ← required (number_of (pos 0) quantity_max) at (codes "initial_storage") table
-  rows ← rating_of at table
+  rows ← optional None given_rating at (codes "table") table
   options ← options_of at table
   evaporation ← optional false truth_of at (codes "evaporation") table
   max_release ← optional None (given_number (pos 0) quantity_max) at (codes "max_release") table
   listed ← only_listed (object_keys (codes "initial_storage" ∷ codes "table" ∷ codes "local_inflow" ∷ codes "diversion" ∷ codes "return_flow" ∷ codes "evaporation" ∷ codes "max_release" ∷ [])) at table
   Ok (Reservoir initial_storage rows options.local_inflow options.diversion options.return_flow evaporation max_release)
+
+unfoldable pub power_reservoir_of : List ℕ → Members → Result Kind ModelRefusal
+power_reservoir_of at table = do
+  initial_storage ← required (number_of (pos 0) quantity_max) at (codes "initial_storage") table
+  rows ← required rating_of at (codes "table") table
+  max_release ← required (number_of (pos 0) quantity_max) at (codes "max_release") table
+  tailwater ← optional (pos 0) (number_of (pos 0) (pos 10000000)) at (codes "tailwater") table
+  power ← required (count_of 1 10000) at (codes "power") table
+  listed ← only_listed (object_keys (codes "initial_storage" ∷ codes "table" ∷ codes "max_release" ∷ codes "tailwater" ∷ codes "power" ∷ [])) at table
+  Ok (PowerReservoir initial_storage rows max_release tailwater power)
+
+unfoldable pub routed_reach_of : List ℕ → Members → Result Kind ModelRefusal
+routed_reach_of at table = do
+  initial_content ← required (number_of (pos 0) quantity_max) at (codes "initial_content") table
+  release ← required (count_of 1 1000) at (codes "release") table
+  listed ← only_listed (object_keys (codes "initial_content" ∷ codes "release" ∷ [])) at table
+  Ok (RoutedReach initial_content release)
 
 -- ---- water users and canals
 
@@ -163,4 +180,6 @@ kind_of at word table =
     else (if bytes_eq (codes "reservoir") word then reservoir_of at table
     else (if bytes_eq (codes "water_user") word then water_user_of at table
     else (if bytes_eq (codes "canal") word then canal_of at table
-    else Err (unknown_kind (key_path at (codes "kind"))))))))))
+    else (if bytes_eq (codes "power_reservoir") word then power_reservoir_of at table
+    else (if bytes_eq (codes "routed_reach") word then routed_reach_of at table
+    else Err (unknown_kind (key_path at (codes "kind"))))))))))))

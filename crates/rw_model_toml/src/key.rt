@@ -144,6 +144,24 @@ pub fn required_number(
     }
 }
 
+/// The whole number from low to high at a key, or the default.
+pub fn optional_number(
+    alloc: Global,
+    at: &str,
+    key: &str,
+    members: &Table,
+    default: i64,
+    low: i64,
+    high: i64,
+) -> Result<i64, ModelFault>
+    ensures { Gives (λ z. z) result (optional default (number_of low high) at.now key.now (table_view members.now)) }
+{
+    match member(members, key) {
+        Some(value) => number(key_path(alloc, at, key)?, value, low, high),
+        None => Ok(default),
+    }
+}
+
 /// The count from low to high at a key that has to be there.
 pub fn required_count(
     alloc: Global,

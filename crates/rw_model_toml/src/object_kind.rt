@@ -2,18 +2,19 @@ ghost use Rattle.std.specs.Prelude.{pos};
 ghost use Rattle.toml.specs.View.{table_view};
 ghost use Rattle.rw_model.specs.declared.kind.Kind.TheVariants as Kind;
 ghost use Rattle.rw_model_toml.specs.Fault.{Gives};
-ghost use Rattle.rw_model_toml.specs.Kinds.{bare_of, reach_of, reservoir_of, supply_of, water_user_of, canal_of, kind_of};
+ghost use Rattle.rw_model_toml.specs.Kinds.{bare_of, reach_of, reservoir_of, power_reservoir_of, routed_reach_of, supply_of, water_user_of, canal_of, kind_of};
 
 use crate::ModelFault;
 use crate::data::read_data;
 use crate::history::read_history;
 use crate::key::{
-    choice, number_if_given, optional_count, optional_text, required_count, required_number,
+    choice, number_if_given, optional_count, optional_number, optional_text, required_count,
+    required_number,
 };
 use crate::listed::only_listed;
 use crate::options::read_options;
 use crate::path::key_path;
-use crate::rating::read_rating;
+use crate::rating::{rating_if_given, required_rating};
 use crate::word::supply_in;
 use rw_base::QUANTITY_MAX;
 use rw_model::{BuildFault, History, Kind, Supply};
@@ -42,6 +43,17 @@ const RESERVOIR_KEYS: [&str; 9] = [
     "return_flow",
     "evaporation",
     "max_release",
+];
+
+// The keys of a power reservoir.
+const POWER_RESERVOIR_KEYS: [&str; 7] = [
+    "name",
+    "kind",
+    "initial_storage",
+    "table",
+    "max_release",
+    "tailwater",
+    "power",
 ];
 
 fn read_bare(alloc: Global, kind: Kind, at: &str, table: &Table) -> Result<Kind, ModelFault>
@@ -73,7 +85,7 @@ fn read_reservoir(alloc: Global, at: &str, table: &Table) -> Result<Kind, ModelF
     ensures { Gives (λ kind. kind) result (reservoir_of at.now (table_view table.now)) }
 {
     let initial_storage = required_number(alloc, at, "initial_storage", table, 0, QUANTITY_MAX)?;
-    let rating = read_rating(alloc, at, table)?;
+    let rating = rating_if_given(alloc, at, table)?;
     let options = read_options(alloc, at, table)?;
     let evaporation = choice(alloc, at, "evaporation", table)?;
     let max_release = number_if_given(alloc, at, "max_release", table, 0, QUANTITY_MAX)?;
@@ -86,6 +98,43 @@ fn read_reservoir(alloc: Global, at: &str, table: &Table) -> Result<Kind, ModelF
         return_flow: options.return_flow,
         evaporation,
         max_release,
+    })
+}
+
+#[tactic(auto, unfolding(crate::specs::Kinds::power_reservoir_of))]
+fn read_power_reservoir(alloc: Global, at: &str, table: &Table) -> Result<Kind, ModelFault>
+    ensures { Gives (λ kind. kind) result (power_reservoir_of at.now (table_view table.now)) }
+{
+    let initial_storage = required_number(alloc, at, "initial_storage", table, 0, QUANTITY_MAX)?;
+    let rating = required_rating(alloc, at, table)?;
+    let max_release = required_number(alloc, at, "max_release", table, 0, QUANTITY_MAX)?;
+    let tailwater = optional_number(alloc, at, "tailwater", table, 0, 0, 10_000_000)?;
+    let power = required_count(alloc, at, "power", table, 1, 10_000)?;
+    only_listed(alloc, &POWER_RESERVOIR_KEYS, at, table)?;
+    Ok(Kind::PowerReservoir {
+        initial_storage,
+        table: rating,
+        max_release,
+        tailwater,
+        power,
+    })
+}
+
+#[tactic(auto, unfolding(crate::specs::Kinds::routed_reach_of))]
+fn read_routed_reach(alloc: Global, at: &str, table: &Table) -> Result<Kind, ModelFault>
+    ensures { Gives (λ kind. kind) result (routed_reach_of at.now (table_view table.now)) }
+{
+    let initial_content = required_number(alloc, at, "initial_content", table, 0, QUANTITY_MAX)?;
+    let release = required_count(alloc, at, "release", table, 1, 1000)?;
+    only_listed(
+        alloc,
+        &["name", "kind", "initial_content", "release"],
+        at,
+        table,
+    )?;
+    Ok(Kind::RoutedReach {
+        initial_content,
+        release,
     })
 }
 
@@ -132,6 +181,8 @@ pub fn read_kind(alloc: Global, at: &str, word: &str, table: &Table) -> Result<K
         "reservoir" => read_reservoir(alloc, at, table),
         "water_user" => read_water_user(alloc, at, table),
         "canal" => read_canal(alloc, at, table),
+        "power_reservoir" => read_power_reservoir(alloc, at, table),
+        "routed_reach" => read_routed_reach(alloc, at, table),
         _ => Err(ModelFault::UnknownKind(key_path(alloc, at, "kind")?)),
     }
 }

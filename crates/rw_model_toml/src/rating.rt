@@ -1,9 +1,9 @@
-ghost use Rattle.std.specs.Prelude.{◌≡◌, Ok, Err, IfOk, None, Some, MatchResult, string_bytes};
+ghost use Rattle.std.specs.Prelude.{◌≡◌, codes, None, string_bytes};
 ghost use Rattle.toml.specs.View.{view, items_view, table_view};
 ghost use Rattle.rw_model_toml.specs.Fault.{Gives};
-ghost use Rattle.rw_model_toml.specs.Key.{optional};
+ghost use Rattle.rw_model_toml.specs.Key.{required, optional};
 ghost use Rattle.rw_model_toml.specs.ListOf.{list_of};
-ghost use Rattle.rw_model_toml.specs.Kinds.{row_in, row_of, rated, rating_of};
+ghost use Rattle.rw_model_toml.specs.Kinds.{row_in, row_of, rated, rating_of, given_rating};
 
 use crate::ModelFault;
 use crate::key::member;
@@ -52,7 +52,7 @@ fn read_rows(alloc: Global, path: &str, items: &[Value]) -> Result<Vec<(i64, i64
 
 // The table of these rows.
 fn rate(alloc: Global, path: String, rows: &[(i64, i64)]) -> Result<Rating, ModelFault>
-    ensures { Gives (λ rating. Some rating) result (rated (string_bytes path) rows.now) }
+    ensures { Gives (λ rating. rating) result (rated (string_bytes path) rows.now) }
 {
     let fault = match Rating::of(alloc, rows) {
         Ok(rating) => return Ok(rating),
@@ -64,16 +64,36 @@ fn rate(alloc: Global, path: String, rows: &[(i64, i64)]) -> Result<Rating, Mode
     }
 }
 
-/// The table of elevations and volumes, if there is one.
-pub fn read_rating(alloc: Global, at: &str, table: &Table) -> Result<Option<Rating>, ModelFault>
-    ensures { Gives (λ rating. rating) result (rating_of at.now (table_view table.now)) }
+// The table of elevations and volumes that the value is.
+fn rating(alloc: Global, path: String, value: &Value) -> Result<Rating, ModelFault>
+    ensures { Gives (λ rating. rating) result (rating_of (string_bytes path) (view value.now)) }
 {
-    let Some(value) = member(table, "table") else {
-        return Ok(None);
-    };
-    let path = key_path(alloc, at, "table")?;
     let items = items(path.clone()?, value)?;
     let rows = read_rows(alloc, path.as_str(), items)?;
-    let rating = rate(alloc, path, rows.as_slice())?;
-    Ok(Some(rating))
+    rate(alloc, path, rows.as_slice())
+}
+
+/// The table of elevations and volumes, which has to be there.
+pub fn required_rating(alloc: Global, at: &str, table: &Table) -> Result<Rating, ModelFault>
+    ensures { Gives (λ rating. rating) result (required rating_of at.now (codes "table") (table_view table.now)) }
+{
+    let path = key_path(alloc, at, "table")?;
+    match member(table, "table") {
+        Some(value) => rating(alloc, path, value),
+        None => Err(ModelFault::Missing(path)),
+    }
+}
+
+/// The table of elevations and volumes, if there is one.
+pub fn rating_if_given(alloc: Global, at: &str, table: &Table) -> Result<Option<Rating>, ModelFault>
+    ensures { Gives (λ rating. rating) result
+        (optional None given_rating at.now (codes "table") (table_view table.now)) }
+{
+    match member(table, "table") {
+        Some(value) => {
+            let rating = rating(alloc, key_path(alloc, at, "table")?, value)?;
+            Ok(Some(rating))
+        }
+        None => Ok(None),
+    }
 }

@@ -1,5 +1,6 @@
 -- What else is brought: the same wherever it is known, and known where more is.
-use Rattle.rw_order.proofs.Common.{Bool, ByRule, IsSome, Kind, List, None, Option, Reach, Request, Reservoir, Row, Some, View, WaterUser, agree, ap, ap₂, balance_of, both_ways, chosen, difference, evaporation_from, evaporation_of, false, known_value, pos, refl, same_Some, side_flows, subst, suc, sum_of, sym, true, zero, ℕ, ℤ, ◌+◌, ◌∙◌, ◌≡◌}
+use Rattle.rw_order.proofs.Common.{Bool, ByRule, IsSome, Kind, List, None, Option, PowerReservoir, Reach, Request, Reservoir, RoutedReach, Row, Some, View, WaterUser, agree, ap, ap₂, balance_of, both_ways, chosen, difference, evaporation_from, evaporation_of, false, known_value, pos, refl, same_Some, side_flows, subst, suc, sum_of, sym, true, zero, ℕ, ℤ, ◌+◌, ◌∙◌, ◌≡◌}
+use Rattle.rw_order.specs.Free.{is_free}
 use Rattle.rw_order.proofs.Held.{IsSeenOf, IsWhole, Values, known_stands}
 
 -- what is made of two values is there where both are
@@ -48,15 +49,17 @@ module _ (R : Option ℤ → Option ℤ → Type 0) (same : (a : Option ℤ) →
   of_evaporation true (Some rows) = both (evaporation_from rows) (strict_lost rows) _ _ _ _ past (knows 7)
   of_evaporation false (Some rows) = same (Some (pos 0))
 
-  of_steady : (kind : Kind) → R (balance_of kind one).steady (balance_of kind other).steady
-  of_steady (Reach zero history local_inflow diversion return_flow) = of_sides 2 local_inflow diversion return_flow
-  of_steady (Reach (suc lag) history local_inflow diversion return_flow) = both sum_of strict_sum _ _ _ _ past (of_sides 2 local_inflow diversion return_flow)
-  of_steady (Reservoir initial_storage table local_inflow diversion return_flow evaporation max_release) =
+  of_steady : (kind : Kind) → is_free kind ≡ true → R (balance_of kind one).steady (balance_of kind other).steady
+  of_steady (Reach zero history local_inflow diversion return_flow) free = of_sides 2 local_inflow diversion return_flow
+  of_steady (Reach (suc lag) history local_inflow diversion return_flow) free = both sum_of strict_sum _ _ _ _ past (of_sides 2 local_inflow diversion return_flow)
+  of_steady (Reservoir initial_storage table local_inflow diversion return_flow evaporation max_release) free =
       both difference strict_difference _ _ _ _
       (both sum_of strict_sum _ _ _ _ past (of_sides 4 local_inflow diversion return_flow)) (of_evaporation evaporation table)
-  of_steady (WaterUser depletion Request) = knows 0
-  of_steady (WaterUser depletion ByRule) = knows 1
-  of_steady kind = same (Some (pos 0))
+  of_steady (WaterUser depletion Request) free = knows 0
+  of_steady (WaterUser depletion ByRule) free = knows 1
+  of_steady (PowerReservoir initial_storage table max_release tailwater power) free = absurd (both_ways false refl free)
+  of_steady (RoutedReach initial_content release) free = absurd (both_ways false refl free)
+  of_steady kind free = same (Some (pos 0))
 
 -- ---- both are the same where both are there
 
@@ -104,7 +107,7 @@ module _ (values : Values) (past : Option ℤ) (one other : View) (seen_one : Is
   pub agree_evaporation : (evaporation : Bool) (table : Option (List Row)) → Agree (evaporation_of evaporation table one) (evaporation_of evaporation table other)
   agree_evaporation = of_evaporation Agree agree_same agree_both one other agree_known agree_past
 
-  pub agree_steady : (kind : Kind) → Agree (balance_of kind one).steady (balance_of kind other).steady
+  pub agree_steady : (kind : Kind) → is_free kind ≡ true → Agree (balance_of kind one).steady (balance_of kind other).steady
   agree_steady = of_steady Agree agree_same agree_both one other agree_known agree_past
 
 -- ---- what is there is there in the other too
@@ -127,7 +130,7 @@ carry_found None b f = tt
 carry_found (Some a) b f = f a refl
 
 -- to the view that knows all that another one does
-pub carry_steady : (values : Values) (past : Option ℤ) (one other : View) → IsWhole values past one → IsSeenOf values past other → (kind : Kind)
+pub carry_steady : (values : Values) (past : Option ℤ) (one other : View) → IsWhole values past one → IsSeenOf values past other → (kind : Kind) → is_free kind ≡ true
     → Carries (balance_of kind other).steady (balance_of kind one).steady
 carry_steady values past one other whole seen =
     of_steady Carries carry_same carry_both other one

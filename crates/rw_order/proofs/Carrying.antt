@@ -1,10 +1,11 @@
 -- An object that has nothing to put, where all that stands in its places is given to it, has nothing to put where less is known.
 use Rattle.rw_order.proofs.Common.{Bool, Given, Holds, Idle, IdleAnswer, IsSome, Kind, None, Option, Reservoir, Some, View, [], answer, ap, ap₂, arith, balance_of, balanced_of, basis_of, both_ways, contents_by, false, fault_of_contents, fits, given, if◌then◌else◌, is_some, missing, nat_le, nat_tests, puts_of, refl, settled, settled_at, solve_of, subst, sym, true, weakest, ℕ, ℤ, ◌+◌, ◌==◌, ◌∙◌, ◌∷◌, ◌≡◌, ◌≤◌}
+use Rattle.rw_order.specs.Free.{is_free}
 use Rattle.rw_order.proofs.Held.{IsSeenOf, IsWhole, Sight, Values, given_stands}
 use Rattle.rw_order.proofs.Terms.{Comes, Parts, balanced_is, comes, parts_of, sight_of, term_in, terms_of}
 use Rattle.rw_order.proofs.Agreeing.{Carries, carry_steady}
 use Rattle.rw_order.proofs.Missing.{is_idle}
-use Rattle.rw_order.proofs.Judged.{idle_by}
+use Rattle.rw_order.proofs.Judged.{plain_solve, idle_by}
 use Rattle.rw_order.proofs.AllKinds.{AreLevelledOf}
 
 -- ---- a balance of which less is given comes to nothing more
@@ -56,10 +57,10 @@ module _ (values : Values) (past : Option ℤ) (one other : View) (whole : IsWho
   more_in kind levelled place some = more_given place some
 
   -- where all that stands in the places is given to one view and it has nothing to put, no other view of these values has
-  pub answers_idle : (kind : Kind) → AreLevelledOf kind one other → solve_of kind one ≡ IdleAnswer → solve_of kind other ≡ IdleAnswer
-  answers_idle kind levelled e =
+  pub answers_idle : (kind : Kind) → is_free kind ≡ true → AreLevelledOf kind one other → solve_of kind one ≡ IdleAnswer → solve_of kind other ≡ IdleAnswer
+  answers_idle kind free levelled e =
       let idle : balanced_of kind other ≡ Idle =
-      balanced_is kind other
+      balanced_is kind other free
       ∙ stays_idle (balance_of kind one).steady (balance_of kind other).steady (sight_of kind one) (sight_of kind other) (parts_of kind)
-      (carry_steady values past one other whole seen kind) (more_in kind levelled) (sym (balanced_is kind one) ∙ idle_by kind one e) in
-      ap (λ balanced. answer (fits kind other) (puts_of kind other balanced) balanced (fault_of_contents kind other)) idle
+      (carry_steady values past one other whole seen kind free) (more_in kind levelled) (sym (balanced_is kind one free) ∙ idle_by kind one free e) in
+      plain_solve kind other free ∙ ap (λ balanced. answer (fits kind other) (puts_of kind other balanced) balanced (fault_of_contents kind other)) idle

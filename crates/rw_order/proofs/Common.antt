@@ -28,11 +28,12 @@ pub use Rattle.rw_model.specs.declared.control.AgendaOrder.{AgendaOrder}
 pub use Rattle.rw_model.specs.declared.control.AgendaOrder.TheVariants.{HighFirst, LowFirst}
 pub use Rattle.rw_model.specs.declared.data_slots.DataSlot.{DataSlot}
 pub use Rattle.rw_model.specs.declared.kind.Kind.{Kind}
-pub use Rattle.rw_model.specs.declared.kind.Kind.TheVariants.{Bifurcation, Canal, Confluence, DataObject, Gage, Reach, Reservoir, WaterUser}
+pub use Rattle.rw_model.specs.declared.kind.Kind.TheVariants.{Bifurcation, Canal, Confluence, DataObject, Gage, PowerReservoir, Reach, Reservoir, RoutedReach, WaterUser}
 pub use Rattle.rw_model.specs.declared.kind.Supply.TheVariants.{Request, Rule as ByRule}
 pub use Rattle.rw_model.specs.declared.put.PutEnd.TheVariants.{Denied, Kept}
 pub use Rattle.rw_model.specs.declared.role.Role.TheVariants.{Derived, Fixed, Neither}
 pub use Rattle.rw_model.specs.declared.writer.Writer.TheVariants.{Input, Object as ByObject}
+pub use Rattle.rw_method.proofs.Earlier.{some_ago}
 pub use Rattle.rw_method.proofs.PutFacts.{first_fits}
 pub use Rattle.rw_method.proofs.SolvedPuts.{IsPutOf, solve-puts}
 pub use Rattle.rw_method.proofs.SolvedTerm.{solved_term}
@@ -40,7 +41,7 @@ pub use Rattle.rw_method.specs.Balance.{balance_of, chosen, evaporation_from, ev
 pub use Rattle.rw_method.specs.Contents.{agree, are_both_zero, basis_of, can_hold, contents_by, difference, disagreement, elevation_of, fault_of_basis, volume_of}
 pub use Rattle.rw_method.specs.Puts.{beside_basis, beside_given, evaporation_put, held_by, is_bounded, known_after, level_puts, put, put_found, puts_of, release_puts, seepage_put, solved_put, user_puts}
 pub use Rattle.rw_method.specs.Settling.{IsSolved, gives_way_before, greatest_beside, missing, net_of, number_of, settled, settled_at, solves, value_from_others, weakest}
-pub use Rattle.rw_method.specs.Solve.{AllFit, all_or_misfit, answer, answer_of_puts, balanced_of, fault_of_contents, fault_of_past, first_misfit, fits, or_else, solve_of}
+pub use Rattle.rw_method.specs.Solve.{AllFit, all_or_misfit, answer, answer_of_puts, balanced_of, fault_of_contents, fault_of_past, first_fault, first_misfit, fits, or_else, solve_of, unless_faulty}
 pub use Rattle.rw_method.specs.Term.{IsShare, brought, brought_by, per_mille}
 pub use Rattle.rw_method.specs.View.{given, given_by, is_between, known, known_value}
 pub use Rattle.rw_method.specs.declared.balanced.Balanced.{Balanced}
@@ -50,7 +51,7 @@ pub use Rattle.rw_method.specs.declared.basis.Basis.TheVariants.{Elevation, Noth
 pub use Rattle.rw_method.specs.declared.given.Given.{Given}
 pub use Rattle.rw_method.specs.declared.put.Put.{Put}
 pub use Rattle.rw_method.specs.declared.share.Share.{Share}
-pub use Rattle.rw_method.specs.declared.share.Share.TheVariants.{Brings, Conveys, Takes}
+pub use Rattle.rw_method.specs.declared.share.Share.TheVariants.{Brings, Conveys, Routes, Takes}
 pub use Rattle.rw_method.specs.declared.solved.Solved.{Solved}
 pub use Rattle.rw_method.specs.declared.solved.Solved.TheVariants.{Conflict, Idle as IdleAnswer, OutOfRange, Puts}
 pub use Rattle.rw_method.specs.declared.term.Term.{Term}

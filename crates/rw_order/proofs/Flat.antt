@@ -1,6 +1,6 @@
--- Which slots measure no flow: of objects with a method, levels alone.
-use Rattle.rw_order.proofs.Common.{Bifurcation, Bool, ByRule, Canal, Confluence, DataObject, Derived, Dimension, Fixed, Gage, Kind, List, None, Option, Reach, Request, Reservoir, Row, Slot, Some, WaterUser, [], ap₂, arith, both_ways, code_of, codes, false, flow, int_eq, is_some, lengths, nat_tests, none-some, of_range, pos, rate_unit, refl, same_Some, slice_index_or, slot_in, slots_of, subst, suc, true, where_chosen, zero, ℕ, ℤ, ◌&&◌, ◌==◌, ◌||◌, ◌∷◌, ◌≡◌}
-use Rattle.rw_order.specs.Free.{has_level_in}
+-- Which slots measure no flow: of objects with a method that are free, levels alone.
+use Rattle.rw_order.proofs.Common.{Bifurcation, Bool, ByRule, Canal, Confluence, DataObject, Derived, Dimension, Fixed, Gage, Kind, List, None, Option, PowerReservoir, Reach, Request, Reservoir, RoutedReach, Row, Slot, Some, WaterUser, [], ap₂, arith, both_ways, code_of, codes, false, flow, int_eq, is_some, lengths, nat_tests, none-some, of_range, pos, rate_unit, refl, same_Some, slice_index_or, slot_in, slots_of, subst, suc, true, where_chosen, zero, ℕ, ℤ, ◌&&◌, ◌==◌, ◌||◌, ◌∷◌, ◌≡◌}
+use Rattle.rw_order.specs.Free.{has_level_in, is_free}
 
 abbrev pub is_flat : Dimension → Bool
 is_flat dim = int_eq dim.step (pos 0)
@@ -36,29 +36,31 @@ behind_contents table local_inflow diversion return_flow evaporation max_release
     where_chosen (is_some max_release) (flow (codes "Spill") Derived) ∷
     []
 
--- a slot of a method's object that measures no flow is a level
-pub level_of : (kind : Kind) (place : ℕ) (slot : Slot) → (code_of kind == 0) ≡ false → slot_in kind place ≡ Some slot → is_flat slot.dim ≡ true → has_level_in place kind ≡ true
-level_of (DataObject slots) place slot ready is flat = absurd (both_ways true ready refl)
-level_of Gage place slot ready is flat = no_flat (slots_of Gage) place slot _ (refl, (refl, tt)) is flat
-level_of Confluence place slot ready is flat = no_flat (slots_of Confluence) place slot _ (refl, (refl, (refl, tt))) is flat
-level_of Bifurcation place slot ready is flat = no_flat (slots_of Bifurcation) place slot _ (refl, (refl, (refl, tt))) is flat
-level_of (Reach lag history local_inflow diversion return_flow) place slot ready is flat =
+-- a slot of a method's object that is free, if it measures no flow, is a level
+pub level_of : (kind : Kind) (place : ℕ) (slot : Slot) → is_free kind ≡ true → (code_of kind == 0) ≡ false → slot_in kind place ≡ Some slot → is_flat slot.dim ≡ true → has_level_in place kind ≡ true
+level_of (DataObject slots) place slot free ready is flat = absurd (both_ways true ready refl)
+level_of Gage place slot free ready is flat = no_flat (slots_of Gage) place slot _ (refl, (refl, tt)) is flat
+level_of Confluence place slot free ready is flat = no_flat (slots_of Confluence) place slot _ (refl, (refl, (refl, tt))) is flat
+level_of Bifurcation place slot free ready is flat = no_flat (slots_of Bifurcation) place slot _ (refl, (refl, (refl, tt))) is flat
+level_of (Reach lag history local_inflow diversion return_flow) place slot free ready is flat =
     no_flat (slots_of (Reach lag history local_inflow diversion return_flow)) place slot _
     (refl, (refl, chosen_flat local_inflow _ _ refl (chosen_flat diversion _ _ refl (chosen_flat return_flow _ _ refl tt)))) is flat
-level_of (WaterUser depletion Request) place slot ready is flat = no_flat (slots_of (WaterUser depletion Request)) place slot _ (refl, (refl, (refl, (refl, tt)))) is flat
-level_of (WaterUser depletion ByRule) place slot ready is flat = no_flat (slots_of (WaterUser depletion ByRule)) place slot _ (refl, (refl, (refl, (refl, tt)))) is flat
-level_of (Canal seepage) place slot ready is flat = no_flat (slots_of (Canal seepage)) place slot _ (refl, (refl, (refl, tt))) is flat
-level_of (Reservoir initial_storage table local_inflow diversion return_flow evaporation max_release) zero slot ready is flat =
+level_of (WaterUser depletion Request) place slot free ready is flat = no_flat (slots_of (WaterUser depletion Request)) place slot _ (refl, (refl, (refl, (refl, tt)))) is flat
+level_of (WaterUser depletion ByRule) place slot free ready is flat = no_flat (slots_of (WaterUser depletion ByRule)) place slot _ (refl, (refl, (refl, (refl, tt)))) is flat
+level_of (Canal seepage) place slot free ready is flat = no_flat (slots_of (Canal seepage)) place slot _ (refl, (refl, (refl, tt))) is flat
+level_of (Reservoir initial_storage table local_inflow diversion return_flow evaporation max_release) zero slot free ready is flat =
     absurd (both_ways (is_flat slot.dim) (subst (λ (s : Slot). is_flat s.dim ≡ false) (same_Some _ _ is) refl) flat)
-level_of (Reservoir initial_storage table local_inflow diversion return_flow evaporation max_release) (suc zero) slot ready is flat =
+level_of (Reservoir initial_storage table local_inflow diversion return_flow evaporation max_release) (suc zero) slot free ready is flat =
     absurd (both_ways (is_flat slot.dim) (subst (λ (s : Slot). is_flat s.dim ≡ false) (same_Some _ _ is) refl) flat)
-level_of (Reservoir initial_storage table local_inflow diversion return_flow evaporation max_release) (suc (suc zero)) slot ready is flat = refl
-level_of (Reservoir initial_storage table local_inflow diversion return_flow evaporation max_release) (suc (suc (suc zero))) slot ready is flat = refl
-level_of (Reservoir initial_storage table local_inflow diversion return_flow evaporation max_release) (suc (suc (suc (suc place)))) slot ready is flat =
+level_of (Reservoir initial_storage table local_inflow diversion return_flow evaporation max_release) (suc (suc zero)) slot free ready is flat = refl
+level_of (Reservoir initial_storage table local_inflow diversion return_flow evaporation max_release) (suc (suc (suc zero))) slot free ready is flat = refl
+level_of (Reservoir initial_storage table local_inflow diversion return_flow evaporation max_release) (suc (suc (suc (suc place)))) slot free ready is flat =
     no_flat (behind_contents table local_inflow diversion return_flow evaporation max_release) place slot _
     (chosen_flat local_inflow _ _ refl (chosen_flat diversion _ _ refl (chosen_flat return_flow _ _ refl (chosen_flat evaporation _ _ refl
     (chosen_flat (evaporation && is_some table) _ _ refl (chosen_flat (is_some max_release) _ _ refl (chosen_flat (is_some max_release) _ _ refl tt)))))))
     is flat
+level_of (PowerReservoir initial_storage table max_release tailwater power) place slot free ready is flat = absurd (both_ways false refl free)
+level_of (RoutedReach initial_content release) place slot free ready is flat = absurd (both_ways false refl free)
 
 pub level_flat : (kind : Kind) (place : ℕ) (slot : Slot) → has_level_in place kind ≡ true → slot_in kind place ≡ Some slot → is_flat slot.dim ≡ true
 level_flat (Reservoir initial_storage table local_inflow diversion return_flow evaporation max_release) (suc (suc zero)) slot level is =

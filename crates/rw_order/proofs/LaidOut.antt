@@ -1,6 +1,6 @@
 -- A basin of which the order of dispatches is free is laid out so.
-use Rattle.rw_order.proofs.Common.{All, AllByRecursion, Bool, Bounds, ByRule, Cells, DataObject, DataSlot, Draft, IsBasin, IsKind, IsPutOf, IsSome, IsSoundObject, Kind, List, Neither, None, Object, Option, Past, Placed, Put, Puts, Reach, Request, Reservoir, Shared-of, Slot, Some, View, WaterUser, [], all_quantities, and_parts, ap, ap₂, arith, both_ways, bounds-slot, bounds_at-view, cases_eq, cases_lt, cell_at, code_of, dim_of, dimension, false, get_or_from_slice_get, get_or_past, group_of, has_slot, if◌then◌else◌, inl, inr, is_among, is_at, is_between, is_bounded, is_data, known_in_place, known_number, length, length-map, list_all, map, nat_tests, none-some, not, not-true, numbered-found, object_at, of_range, option_and_then, option_map, owner_of, past_at, past_in, past_of, pos, put, recursion_from_All, refl, same_Some, slice_get, slice_get_within, slot_in, slot_in_place, slot_numbers, slots_of, solve-puts, solve_of, stands_in, subst, suc, sym, true, unwrap_or, view_of, zero, ℕ, ℤ, ◌&&◌, ◌-◌, ◌<◌, ◌==◌, ◌∙◌, ◌∷◌, ◌≡◌, ◌≢◌, ◌≤◌}
-use Rattle.rw_order.specs.Free.{has_level_in, has_other_level, is_level, joins_levels, keeps_water, order_free}
+use Rattle.rw_order.proofs.Common.{All, AllByRecursion, Bool, Bounds, ByRule, Cells, DataObject, DataSlot, Draft, IsBasin, IsKind, IsPutOf, IsSome, IsSoundObject, Kind, List, Neither, None, Object, Option, Past, Placed, Put, Puts, Request, Shared-of, Slot, Some, View, WaterUser, [], all_quantities, and_parts, ap, ap₂, arith, both_ways, bounds-slot, bounds_at-view, cases_eq, cases_lt, cell_at, code_of, dim_of, dimension, false, get_or_from_slice_get, get_or_past, group_of, has_slot, inl, inr, is_among, is_at, is_between, is_bounded, is_data, known_in_place, known_number, length, length-map, list_all, map, nat_tests, none-some, not, not-true, numbered-found, object_at, of_range, option_and_then, option_map, owner_of, past_at, past_in, past_of, pos, put, recursion_from_All, refl, same_Some, slice_get, slice_get_within, slot_in, slot_in_place, slot_numbers, slots_of, solve-puts, solve_of, some_ago, stands_in, subst, suc, sym, true, unwrap_or, view_of, zero, ℕ, ℤ, ◌&&◌, ◌-◌, ◌<◌, ◌==◌, ◌∙◌, ◌∷◌, ◌≡◌, ◌≢◌, ◌≤◌}
+use Rattle.rw_order.specs.Free.{has_level_in, has_other_level, is_level, joins_levels, is_free, order_free}
 use Rattle.rw_order.proofs.Lists.{all_weaker}
 use Rattle.rw_order.proofs.Places.{HaveSlots}
 use Rattle.rw_order.proofs.Sounds.{IsLaidOut, in_bounds}
@@ -71,18 +71,6 @@ module _ (basin : Draft) (valid : IsBasin basin) where
 
   -- ---- a past value
 
-  ago_of : (kind : Kind) (past : ℕ × ℕ) → past_in kind ≡ Some past → 1 ≤ past.1
-  ago_of (Reach lag history local_inflow diversion return_flow) past e = by (lag == 0) refl e
-    where
-      by : (test : Bool) → (lag == 0) ≡ test → (if test then None else Some (0, lag)) ≡ Some past → 1 ≤ past.1
-      by true same e = absurd (none-some _ e)
-      by false other e =
-          let here : lag ≡ past.1 = ap (λ (p : ℕ × ℕ). p.1) (same_Some _ _ e) in
-          let some : 1 ≤ lag = grind (arith, nat_tests, other) in omega (arith, here, some)
-  ago_of (Reservoir initial_storage table local_inflow diversion return_flow evaporation max_release) past e =
-      let here : 1 ≡ past.1 = ap (λ (p : ℕ × ℕ). p.1) (same_Some _ _ e) in omega (arith, here)
-  ago_of kind past e = absurd (none-some _ e)
-
   ago : (object : ℕ) (past : Past) → past_of basin object ≡ Some past → 1 ≤ past.ago
   ago object past e = by (object_at basin.objects object) e
     where
@@ -96,7 +84,7 @@ module _ (basin : Draft) (valid : IsBasin basin) where
 
       by : (found : Option Object) → option_and_then (past_at basin object) (option_and_then (λ (o : Object). past_in o.kind) found) ≡ Some past → 1 ≤ past.ago
       by None e = absurd (none-some _ e)
-      by (Some found) e = past_by (past_in found.kind) (λ p is. ago_of found.kind p is) e
+      by (Some found) e = past_by (past_in found.kind) (λ p is. some_ago found.kind p is) e
 
   -- ---- no canal loses water, and no link joins levels
 
@@ -105,10 +93,10 @@ module _ (basin : Draft) (valid : IsBasin basin) where
   list_at (first ∷ objects) test zero found all is = subst (λ o. test o ≡ true) (same_Some _ _ is) (and_parts (test first) (list_all test objects) all).0
   list_at (first ∷ objects) test (suc k) found all is = list_at objects test k found (and_parts (test first) (list_all test objects) all).1 is
 
-  keeps : order_free basin ≡ true → (object : ℕ) (found : Object) → object_at basin.objects object ≡ Some found → keeps_water found.kind ≡ true
+  keeps : order_free basin ≡ true → (object : ℕ) (found : Object) → object_at basin.objects object ≡ Some found → is_free found.kind ≡ true
   keeps free object found is =
-      list_at basin.objects (λ (o : Object). keeps_water o.kind) (object - 1) found
-      (and_parts (list_all (λ (o : Object). keeps_water o.kind) basin.objects) (not (joins_levels basin)) free).0 (numbered-found basin.objects object found is)
+      list_at basin.objects (λ (o : Object). is_free o.kind) (object - 1) found
+      (and_parts (list_all (λ (o : Object). is_free o.kind) basin.objects) (not (joins_levels basin)) free).0 (numbered-found basin.objects object found is)
 
   level_slot : (object place slot : ℕ) (found : Object) → object_at basin.objects object ≡ Some found → slot_in_place basin.objects object place ≡ Some slot
       → has_level_in place found.kind ≡ true → is_level basin.objects slot ≡ true
@@ -147,7 +135,7 @@ module _ (basin : Draft) (valid : IsBasin basin) where
             let flat : is_flat its.0.dim ≡ true = ap is_flat (sym its.2 ∙ sym alike ∙ mine.2) ∙ level_flat found.kind place mine.0 level mine.1 in
             let ready_kind : (code_of there.0.kind == 0) ≡ false =
             sym (ap (λ (o : Option Object). unwrap_or (option_map (λ (f : Object). code_of f.kind) o) 0 == 0) there.1) ∙ ready in
-            let its_level = level_slot other hit.0 hit.1 there.0 there.1 hit.2 (level_of there.0.kind hit.0 its.0 ready_kind its.1 flat) in
+            let its_level = level_slot other hit.0 hit.1 there.0 there.1 hit.2 (level_of there.0.kind hit.0 its.0 (keeps free other there.0 there.1) ready_kind its.1 flat) in
             elim (cases_eq other object) [
               | inl one ↦ one
               | inr two ↦ absurd (joined slot hit.1 (λ same. two (sym owns_other ∙ ap (owner_of basin.objects) (sym same) ∙ owns)) (level_slot object place slot found is at level) its_level
@@ -163,7 +151,7 @@ module _ (basin : Draft) (valid : IsBasin basin) where
           any_there (λ other. not (other == one) && is_level basin.objects other) (group_of basin.objects basin.links one) two among (ap₂ (λ a b. not a && b) apart_two second) in
           let joins : joins_levels basin ≡ true =
           any_there (λ slot. is_level basin.objects slot && has_other_level basin slot) (slot_numbers basin.objects) one known_one (ap₂ (λ a b. a && b) first beside) in
-          both_ways (joins_levels basin) (not-true (joins_levels basin) (and_parts (list_all (λ (o : Object). keeps_water o.kind) basin.objects) (not (joins_levels basin)) free).1) joins
+          both_ways (joins_levels basin) (not-true (joins_levels basin) (and_parts (list_all (λ (o : Object). is_free o.kind) basin.objects) (not (joins_levels basin)) free).1) joins
 
 pub laid_out : (basin : Draft) → IsBasin basin → order_free basin ≡ true → IsLaidOut basin
 laid_out basin valid free = record {

@@ -191,7 +191,7 @@ module _ (basin : Draft) (start : Cells) (step object : ℕ) (found : Object) (l
       let asked = asked_for basin object step puts in
       let made = dispatch_of cells looked object step asked in
       let is_made : made ≡ event = sym (all_pass_rest cells object asked made (all_pass cells object asked made event e fine)) ∙ e in
-      let plain = answers_plain found.kind view puts (known_zero basin cells object step sound.zeros) answer in
+      let plain = answers_plain found.kind view puts (known_zero basin cells object step sound.zeros) (laid.keeps object found is_object) answer in
       let slots = laid.slots object found view puts is_object answer in
       let of = asked_of puts plain.0 slots (laid.answers cells object step found puts is_object answer) in
       let find = find_all looked puts event answer e fine said of in

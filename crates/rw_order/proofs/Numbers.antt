@@ -1,5 +1,6 @@
 -- The numbers and the places of what is put, where all numbers are 0.
-use Rattle.rw_order.proofs.Common.{AllByRecursion, Balanced, Bifurcation, Bool, ByRule, Canal, Conflicts, Confluence, Content, DataObject, Gage, Given, Holds, Idle, Kind, List, None, Option, Put, Puts, Reach, Request, Reservoir, Row, Share, Solves, Some, Term, View, WaterUser, [], ap₂, are_both_zero, arith, balance_of, balanced_of, basis_of, beside_basis, beside_given, elevation_of, evaporation_of, evaporation_put, false, given, gives_way_before, greatest_beside, held_by, if◌then◌else◌, int_eq, known, known_after, level_puts, max, missing, nat_le, nat_tests, net_of, number_of, pos, put, put_found, puts_of, refl, release_puts, seepage_put, settled, settled_at, solve_of, solved_put, solves, subst, suc, sym, true, unwrap_or, user_puts, value_from_others, volume_of, weakest, zero, ℕ, ℤ, ◌++◌, ◌+ℤ◌, ◌<◌, ◌==◌, ◌∙◌, ◌∷◌, ◌≡◌, ◌≤◌}
+use Rattle.rw_order.proofs.Common.{AllByRecursion, Balanced, Bifurcation, Bool, ByRule, Canal, Conflicts, Confluence, Content, DataObject, Gage, Given, Holds, Idle, Kind, List, None, Option, PowerReservoir, Put, Puts, Reach, Request, Reservoir, RoutedReach, Row, Share, Solves, Some, Term, View, WaterUser, [], ap₂, are_both_zero, arith, balance_of, balanced_of, basis_of, beside_basis, beside_given, both_ways, elevation_of, evaporation_of, evaporation_put, false, given, gives_way_before, greatest_beside, held_by, if◌then◌else◌, int_eq, known, known_after, level_puts, max, missing, nat_le, nat_tests, net_of, number_of, pos, put, put_found, puts_of, refl, release_puts, seepage_put, settled, settled_at, solve_of, solved_put, solves, subst, suc, sym, true, unwrap_or, user_puts, value_from_others, volume_of, weakest, zero, ℕ, ℤ, ◌++◌, ◌+ℤ◌, ◌<◌, ◌==◌, ◌∙◌, ◌∷◌, ◌≡◌, ◌≤◌}
+use Rattle.rw_order.specs.Free.{is_free}
 use Rattle.rw_order.proofs.Lists.{all_joined}
 use Rattle.rw_order.proofs.Held.{AreZero, Sight, given_known}
 use Rattle.rw_order.proofs.Terms.{Parts, balanced_is, parts_of, sight_of, term_in, terms_of}
@@ -158,10 +159,10 @@ after_zero most view (Solves solved_place value number) place is zeros = by (sol
     by false = held_zero (known view place) (zeros place)
 after_zero most view balanced place is zeros = held_zero (known view place) (zeros place)
 
-module _ (kind : Kind) (view : View) (zeros : KnownZero view) where
+module _ (kind : Kind) (view : View) (zeros : KnownZero view) (free : is_free kind ≡ true) where
   solves_below : (most : ℕ) → PartsBelow most (parts_of kind) → SolvesBelow most (balanced_of kind view)
   solves_below most below =
-      subst (SolvesBelow most) (sym (balanced_is kind view))
+      subst (SolvesBelow most) (sym (balanced_is kind view free))
       (settled_below most (balance_of kind view).steady (sight_of kind view) (parts_of kind) (sight_zero kind view zeros) below)
 
   -- the solved term alone
@@ -169,36 +170,36 @@ module _ (kind : Kind) (view : View) (zeros : KnownZero view) where
   alone below = solved_plain 12 12 (balanced_of kind view) (omega arith) (solves_below 12 below)
 
 -- what a water user puts
-user_plain : (depletion : ℕ) (kind : Kind) (view : View) → KnownZero view → PartsBelow 2 (parts_of kind)
+user_plain : (depletion : ℕ) (kind : Kind) (view : View) → KnownZero view → is_free kind ≡ true → PartsBelow 2 (parts_of kind)
     → ArePlain 0 (solved_put (balanced_of kind view) ++ user_puts depletion (known_after view (balanced_of kind view) 1)) 12
-user_plain depletion kind view zeros below =
+user_plain depletion kind view zeros free below =
     let balanced = balanced_of kind view in
-    let solved_one = solves_below kind view zeros 2 below in
+    let solved_one = solves_below kind view zeros free 2 below in
     let used : (known_after view balanced 1).number ≡ 0 = after_zero 2 view balanced 1 solved_one zeros in
     plain_both 0 2 12 (solved_put balanced) (user_puts depletion (known_after view balanced 1)) (solved_plain 2 2 balanced (omega arith) solved_one)
     ((used, (used, tt)), (omega arith, (omega arith, omega arith)))
 
-puts_plain : (kind : Kind) (view : View) → KnownZero view → ArePlain 0 (puts_of kind view (balanced_of kind view)) 12
-puts_plain (DataObject slots) view zeros = (tt, omega arith)
-puts_plain Gage view zeros = alone Gage view zeros (omega arith, (omega arith, tt))
-puts_plain Confluence view zeros = alone Confluence view zeros (omega arith, (omega arith, (omega arith, tt)))
-puts_plain Bifurcation view zeros = alone Bifurcation view zeros (omega arith, (omega arith, (omega arith, tt)))
-puts_plain (Reach zero history local_inflow diversion return_flow) view zeros =
-    alone (Reach zero history local_inflow diversion return_flow) view zeros (omega arith, (omega arith, tt))
-puts_plain (Reach (suc lag) history local_inflow diversion return_flow) view zeros =
-    alone (Reach (suc lag) history local_inflow diversion return_flow) view zeros (omega arith, tt)
-puts_plain (WaterUser depletion Request) view zeros = user_plain depletion (WaterUser depletion Request) view zeros (omega arith, tt)
-puts_plain (WaterUser depletion ByRule) view zeros = user_plain depletion (WaterUser depletion ByRule) view zeros tt
-puts_plain (Canal seepage) view zeros =
+puts_plain : (kind : Kind) (view : View) → KnownZero view → is_free kind ≡ true → ArePlain 0 (puts_of kind view (balanced_of kind view)) 12
+puts_plain (DataObject slots) view zeros free = (tt, omega arith)
+puts_plain Gage view zeros free = alone Gage view zeros free (omega arith, (omega arith, tt))
+puts_plain Confluence view zeros free = alone Confluence view zeros free (omega arith, (omega arith, (omega arith, tt)))
+puts_plain Bifurcation view zeros free = alone Bifurcation view zeros free (omega arith, (omega arith, (omega arith, tt)))
+puts_plain (Reach zero history local_inflow diversion return_flow) view zeros free =
+    alone (Reach zero history local_inflow diversion return_flow) view zeros free (omega arith, (omega arith, tt))
+puts_plain (Reach (suc lag) history local_inflow diversion return_flow) view zeros free =
+    alone (Reach (suc lag) history local_inflow diversion return_flow) view zeros free (omega arith, tt)
+puts_plain (WaterUser depletion Request) view zeros free = user_plain depletion (WaterUser depletion Request) view zeros free (omega arith, tt)
+puts_plain (WaterUser depletion ByRule) view zeros free = user_plain depletion (WaterUser depletion ByRule) view zeros free tt
+puts_plain (Canal seepage) view zeros free =
     let kind : Kind = Canal seepage in
     let balanced = balanced_of kind view in
-    let solved_one = solves_below kind view zeros 2 (omega arith, (omega arith, tt)) in
+    let solved_one = solves_below kind view zeros free 2 (omega arith, (omega arith, tt)) in
     plain_both 0 2 12 (solved_put balanced) (seepage_put (known_after view balanced 0) (known_after view balanced 1)) (solved_plain 2 2 balanced (omega arith) solved_one)
     ((after_zero 2 view balanced 0 solved_one zeros, tt), (omega arith, omega arith))
-puts_plain (Reservoir initial_storage table local_inflow diversion return_flow evaporation max_release) view zeros =
+puts_plain (Reservoir initial_storage table local_inflow diversion return_flow evaporation max_release) view zeros free =
     let kind : Kind = Reservoir initial_storage table local_inflow diversion return_flow evaporation max_release in
     let balanced = balanced_of kind view in
-    let solved_one = solves_below kind view zeros 3 (omega arith, (omega arith, (omega arith, tt))) in
+    let solved_one = solves_below kind view zeros free 3 (omega arith, (omega arith, (omega arith, tt))) in
     let level = level_puts table (given view 2) (given view 3) balanced in
     let lost = evaporation_put evaporation (evaporation_of evaporation table view) in
     plain_both 0 9 12 ((solved_put balanced ++ level) ++ lost) (release_puts max_release (known_after view balanced 1))
@@ -206,7 +207,9 @@ puts_plain (Reservoir initial_storage table local_inflow diversion return_flow e
     (level_plain table (given view 2) (given view 3) balanced (zero_at (given view) 2 (given_zero view zeros)) (zero_at (given view) 3 (given_zero view zeros)) solved_one)
     (plain_if 4 9 evaporation (put 8 (unwrap_or (evaporation_of evaporation table view) (pos 0)) 0 ∷ []) [] ((refl, tt), (omega arith, omega arith)) (tt, omega arith)))
     (release_plain max_release (known_after view balanced 1) (after_zero 3 view balanced 1 solved_one zeros))
+puts_plain (PowerReservoir initial_storage table max_release tailwater power) view zeros free = absurd (both_ways false refl free)
+puts_plain (RoutedReach initial_content release) view zeros free = absurd (both_ways false refl free)
 
 -- where all numbers are 0, those of the puts are, and their places rise
-pub answers_plain : (kind : Kind) (view : View) (puts : List Put) → KnownZero view → solve_of kind view ≡ Puts puts → ArePlain 0 puts 12
-answers_plain kind view puts zeros e = subst (λ xs. ArePlain 0 xs 12) (answered_puts kind view puts e) (puts_plain kind view zeros)
+pub answers_plain : (kind : Kind) (view : View) (puts : List Put) → KnownZero view → is_free kind ≡ true → solve_of kind view ≡ Puts puts → ArePlain 0 puts 12
+answers_plain kind view puts zeros free e = subst (λ xs. ArePlain 0 xs 12) (answered_puts kind view puts free e) (puts_plain kind view zeros free)

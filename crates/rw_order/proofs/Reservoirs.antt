@@ -81,7 +81,7 @@ module _ (initial_storage : ℤ) (table : Option (List Row)) (local_inflow diver
 
   module _ (answered : Answered kind values one) where
     is_settled : settled (balance_of kind one).steady (terms_of (store_sight table one) store_parts) ≡ balanced_of kind one
-    is_settled = sym (balanced_is kind one)
+    is_settled = sym (balanced_is kind one refl)
 
     level_held : AreHeld values (level_puts table (given one 2) (given one 3) (balanced_of kind one))
     level_held = all_left is_there (level_puts table (given one 2) (given one 3) (balanced_of kind one)) _ answered.held
@@ -143,7 +143,7 @@ module _ (initial_storage : ℤ) (table : Option (List Row)) (local_inflow diver
         ap₂ (λ a b. contents_by table (basis_of a b)) (sym levelled.storage) (sym levelled.elevation) in
         let level = level_stays table (given one 2) (given one 3) (zero_at (given one) 2 zeros_one) values (store_sight table one) (store_sight table other)
         (balance_of kind one).steady (balance_of kind other).steady (balanced_of kind one) (balanced_of kind other) (store_zero table one zeros_one) (store_zero table other zeros_other)
-        refl third_other is_settled (sym (balanced_is kind other)) answered.stands within level_held in
+        refl third_other is_settled (sym (balanced_is kind other refl)) answered.stands within level_held in
         let level_other : AreHeld values (level_puts table (given other 2) (given other 3) (balanced_of kind other)) =
         subst (λ a. AreHeld values (level_puts table a (given other 3) (balanced_of kind other))) levelled.storage
         (subst (λ b. AreHeld values (level_puts table (given one 2) b (balanced_of kind other))) levelled.elevation level) in

@@ -1,6 +1,6 @@
 -- An object at rest, and what any other dispatch of it comes to from less than the cells hold.
 use Rattle.rw_order.proofs.Common.{Asked, Bool, Cell, Cells, Content, Draft, Event, IdleAnswer, IsFault, Kind, List, Look, None, Object, Option, Past, Put, Puts, Reservoir, Solved, Some, View, [], answer, answered, ap, asked_for, before_of, cell_at, cell_in, content_in, dispatch_of, dispatched, end_in, false, given, held_after, if◌then◌else◌, inl, inr, is_bounded, is_written, looks_of, nat_lt, none-some, object_at, option_and_then, option_map, past_of, past_value, pos, puts_written, refl, solve_of, solved_by, subst, sym, true, unwrap_or, value_in, value_of_past, view_of, ℕ, ℤ, ◌-ℤ◌, ◌-◌, ◌∙◌, ◌≡◌, ◌⊎◌}
-use Rattle.rw_order.specs.Free.{keeps_water}
+use Rattle.rw_order.specs.Free.{is_free}
 use Rattle.rw_order.proofs.Lists.{all_kept, all_weaker}
 use Rattle.rw_order.proofs.Held.{AnswersWithin, AreHeld, AreZero, FitsThere, IsSeenOf, IsWhole}
 use Rattle.rw_order.proofs.AllKinds.{AreLevelledOf, answers_within}
@@ -95,7 +95,7 @@ levelled_both kind one other start a b = tt
 
 module _ (basin : Draft) (start low high : Cells) (object step : ℕ) where
   -- what an object at rest would answer from less than the cells hold
-  pub rest_within : (kind : Kind) → keeps_water kind ≡ true → IsAtRest basin start high object step kind → AreBelow low high → HaveZeros low
+  pub rest_within : (kind : Kind) → is_free kind ≡ true → IsAtRest basin start high object step kind → AreBelow low high → HaveZeros low
       → AreLevelledOf kind (view_of basin low object step) (view_of basin start object step)
       → FitsThere (values_at basin high object step) (is_bounded (view_of basin low object step))
       → AnswersWithin (values_at basin high object step) (solve_of kind (view_of basin low object step))
@@ -106,12 +106,12 @@ module _ (basin : Draft) (start low high : Cells) (object step : ℕ) where
   rest_within kind keeps (inr silent) below zeros levelled can =
       subst (AnswersWithin (values_at basin high object step))
       (sym (answers_idle (values_at basin high object step) (past_value basin high object step) (view_of basin high object step) (view_of basin low object step)
-      silent.whole (seen_below basin low high object step below) kind
+      silent.whole (seen_below basin low high object step below) kind keeps
       (levelled_both kind (view_of basin high object step) (view_of basin low object step) (view_of basin start object step) silent.levelled levelled) silent.answer))
       tt
 
   -- so a dispatch of it, in any order, is no fault, and leaves nothing but what the cells hold at rest
-  pub stays_within : (found : Object) → object_at basin.objects object ≡ Some found → keeps_water found.kind ≡ true → IsAtRest basin start high object step found.kind
+  pub stays_within : (found : Object) → object_at basin.objects object ≡ Some found → is_free found.kind ≡ true → IsAtRest basin start high object step found.kind
       → AreBelow low high → HaveZeros low → AreShared basin high → AreLevelledOf found.kind (view_of basin low object step) (view_of basin start object step)
       → FitsThere (values_at basin high object step) (is_bounded (view_of basin low object step)) → StaysWithin basin low high (dispatched basin low object step)
   stays_within found is keeps rest below zeros shared levelled can =

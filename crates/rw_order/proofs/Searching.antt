@@ -1,13 +1,13 @@
 -- The basin is gone through: what was looked at, and what is left.
 use Rattle.rw_order.proofs.Common.{Bool, Kind, List, None, Object, Option, Placed, Reservoir, Some, [], ap, ap₂, arith, both_ways, cases_Bool, drop, drop-cons, false, get_or_from_slice_get, inl, inr, is_number, list_all, nat_eq_equiv, nat_tests, none-some, numbered-known, object_at, option_and_then, option_map, refl, same_Some, slice_get, slice_get_within, slot_at, slot_in_place, suc, sym, true, unwrap_or, ℕ, ◌&&◌, ◌+◌, ◌-◌, ◌==◌, ◌||◌, ◌∙◌, ◌∷◌, ◌≡◌, ◌≤◌}
-use Rattle.rw_order.specs.Free.{has_level_in, is_level, keeps_water}
+use Rattle.rw_order.specs.Free.{has_level_in, is_level, is_free}
 use Rattle.rw_order.proofs.Slots.{in_its_place, placed_in}
 use Rattle.rw_order.proofs.Links.{apart, owner}
 
 -- ---- objects
 
 abbrev pub AllKeep : List Object → Bool
-AllKeep objects = list_all (λ (object : Object). keeps_water object.kind) objects
+AllKeep objects = list_all (λ (object : Object). is_free object.kind) objects
 
 front : (objects : List Object) (k : ℕ) (object : Object) → slice_get objects k ≡ Some object → drop k objects ≡ object ∷ drop (k + 1) objects
 front objects k object at =
@@ -16,28 +16,28 @@ front objects k object at =
     ∙ ap (λ (n : ℕ). object ∷ drop n objects) next
 
 looked : (objects : List Object) (k : ℕ) (kind : Kind) (found : Option Object) → slice_get objects k ≡ found → option_map (λ (o : Object). o.kind) found ≡ Some kind
-    → AllKeep (drop k objects) ≡ (keeps_water kind && AllKeep (drop (k + 1) objects))
+    → AllKeep (drop k objects) ≡ (is_free kind && AllKeep (drop (k + 1) objects))
 looked objects k kind None at seen = absurd (none-some _ seen)
 looked objects k kind (Some object) at seen =
-    ap AllKeep (front objects k object at) ∙ ap (λ kind_is. keeps_water kind_is && AllKeep (drop (k + 1) objects)) (same_Some _ _ seen)
+    ap AllKeep (front objects k object at) ∙ ap (λ kind_is. is_free kind_is && AllKeep (drop (k + 1) objects)) (same_Some _ _ seen)
 
 look : (objects : List Object) (k : ℕ) (kind : Kind) → option_map (λ (o : Object). o.kind) (object_at objects (k + 1)) ≡ Some kind
-    → AllKeep (drop k objects) ≡ (keeps_water kind && AllKeep (drop (k + 1) objects))
+    → AllKeep (drop k objects) ≡ (is_free kind && AllKeep (drop (k + 1) objects))
 look objects k kind seen =
     let before : k + 1 - 1 ≡ k = omega arith in
     let at : slice_get objects k ≡ object_at objects (k + 1) =
     sym (numbered-known objects (k + 1) (omega arith) ∙ ap (λ (n : ℕ). slice_get objects n) before) in
     looked objects k kind (object_at objects (k + 1)) at seen
 
-pub keeps_on : (objects : List Object) (k : ℕ) (kind : Kind) → option_map (λ (o : Object). o.kind) (object_at objects (k + 1)) ≡ Some kind → keeps_water kind ≡ true
-    → list_all (λ (object : Object). keeps_water object.kind) (drop k objects) ≡ list_all (λ (object : Object). keeps_water object.kind) (drop (k + 1) objects)
+pub keeps_on : (objects : List Object) (k : ℕ) (kind : Kind) → option_map (λ (o : Object). o.kind) (object_at objects (k + 1)) ≡ Some kind → is_free kind ≡ true
+    → list_all (λ (object : Object). is_free object.kind) (drop k objects) ≡ list_all (λ (object : Object). is_free object.kind) (drop (k + 1) objects)
 keeps_on objects k kind seen keeps = look objects k kind seen ∙ ap (λ test. test && AllKeep (drop (k + 1) objects)) keeps
 
-pub loses : (objects : List Object) (k : ℕ) (kind : Kind) → option_map (λ (o : Object). o.kind) (object_at objects (k + 1)) ≡ Some kind → keeps_water kind ≡ false
-    → list_all (λ (object : Object). keeps_water object.kind) (drop k objects) ≡ false
+pub loses : (objects : List Object) (k : ℕ) (kind : Kind) → option_map (λ (o : Object). o.kind) (object_at objects (k + 1)) ≡ Some kind → is_free kind ≡ false
+    → list_all (λ (object : Object). is_free object.kind) (drop k objects) ≡ false
 loses objects k kind seen keeps = look objects k kind seen ∙ ap (λ test. test && AllKeep (drop (k + 1) objects)) keeps
 
-pub all_keep : (objects : List Object) → objects ≡ [] → list_all (λ (object : Object). keeps_water object.kind) objects ≡ true
+pub all_keep : (objects : List Object) → objects ≡ [] → list_all (λ (object : Object). is_free object.kind) objects ≡ true
 all_keep objects none = ap AllKeep none
 
 -- ---- a slot

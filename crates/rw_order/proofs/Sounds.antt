@@ -1,6 +1,6 @@
 -- What a basin's slots and links come to, and what holds of the cells of each log in any order.
 use Rattle.rw_order.proofs.Common.{AllByRecursion, Bool, ByObject, Cell, Cells, Content, Draft, Kind, List, None, Object, Option, Past, Put, Puts, Reservoir, Some, View, all_quantities, ap, arith, bounds_in, cell_at, content_in, false, given, given_by, if◌then◌else◌, inl, inr, is_at, is_between, is_bounded, is_data, is_same_object, is_shared, nat_tests, none-some, object_at, option_map, past_of, put, refl, same_Some, slot_in_place, solve_of, subst, sym, true, view_of, ℕ, ℤ, ◌&&◌, ◌<◌, ◌==◌, ◌∙◌, ◌≡◌, ◌≤◌, ◌⊎◌}
-use Rattle.rw_order.specs.Free.{has_level_in, keeps_water}
+use Rattle.rw_order.specs.Free.{has_level_in, is_free}
 use Rattle.rw_order.proofs.Held.{FitsThere}
 use Rattle.rw_order.proofs.AllKinds.{AreLevelledOf}
 use Rattle.rw_order.proofs.Writing.{AreShared, Grow, HaveZeros}
@@ -28,7 +28,7 @@ pub record IsLaidOut (basin : Draft) : Type 0 where
       → HaveSlots basin object puts
   pub levels : (object other place slot : ℕ) (found : Object) → object_at basin.objects object ≡ Some found → has_level_in place found.kind ≡ true
       → slot_in_place basin.objects object place ≡ Some slot → is_at basin other slot ≡ true → is_data basin other ≡ false → other ≡ object
-  pub keeps : (object : ℕ) (found : Object) → object_at basin.objects object ≡ Some found → keeps_water found.kind ≡ true
+  pub keeps : (object : ℕ) (found : Object) → object_at basin.objects object ≡ Some found → is_free found.kind ≡ true
   pub bounds : (cells : Cells) (object step place slot number : ℕ) (value : ℤ) (found : Object) → object_at basin.objects object ≡ Some found → slot_in_place basin.objects object place ≡ Some slot
       → is_bounded (view_of basin cells object step) (put place value number) ≡ in_bounds basin slot value
   pub same_bounds : (cell other : Cell) (value : ℤ) → is_shared basin cell other ≡ true → in_bounds basin cell.slot.0 value ≡ in_bounds basin other.slot.0 value

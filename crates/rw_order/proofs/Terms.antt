@@ -1,5 +1,6 @@
 -- The terms of a balance, each of a share in a place, and what stands in these places all together.
-use Rattle.rw_order.proofs.Common.{AllByRecursion, Balanced, Bifurcation, Bool, Brings, ByRule, Canal, Conflicts, Confluence, Conveys, DataObject, Gage, Given, Holds, Idle, IsSome, Kind, List, None, Option, Reach, Request, Reservoir, Row, Share, Solves, Some, Takes, Term, View, WaterUser, [], ap, ap₂, arith, balance_of, balanced_of, basis_of, both_ways, brought, brought_by, contents_by, false, given, gives_way_before, if◌then◌else◌, int_eq, ints, is_some, map, missing, nat_le, net_of, option_map, pos, refl, settled, settled_at, solves, suc, sum_of, true, value_from_others, weakest, zero, ℕ, ℤ, ◌++◌, ◌+ℤ◌, ◌==◌, ◌∙◌, ◌∷◌, ◌≡◌}
+use Rattle.rw_order.proofs.Common.{AllByRecursion, Balanced, Bifurcation, Bool, Brings, ByRule, Canal, Conflicts, Confluence, Conveys, Gage, Given, Holds, Idle, IsSome, Kind, List, None, Option, PowerReservoir, Reach, Request, Reservoir, RoutedReach, Row, Share, Solves, Some, Takes, Term, View, WaterUser, [], ap, ap₂, arith, balance_of, balanced_of, basis_of, both_ways, brought, brought_by, contents_by, false, given, gives_way_before, if◌then◌else◌, int_eq, ints, is_some, map, missing, nat_le, net_of, option_map, pos, refl, settled, settled_at, solves, suc, sum_of, true, value_from_others, weakest, zero, ℕ, ℤ, ◌++◌, ◌+ℤ◌, ◌==◌, ◌∙◌, ◌∷◌, ◌≡◌}
+use Rattle.rw_order.specs.Free.{is_free}
 use Rattle.rw_order.proofs.Held.{Sight, Stands, Values}
 
 abbrev pub Parts : Type 0
@@ -19,10 +20,9 @@ brought_in values (part ∷ parts) = sum_of (option_map (brought part.0) (values
 abbrev pub AreGiven : List Term → Type 0
 AreGiven terms = AllByRecursion (λ (term : Term). IsSome term.given) terms
 
--- ---- the terms of each kind
+-- ---- the terms of each kind that is free
 
 abbrev pub parts_of : Kind → Parts
-parts_of (DataObject slots) = []
 parts_of Gage = (Brings, 0) ∷ (Takes, 1) ∷ []
 parts_of Confluence = (Brings, 0) ∷ (Brings, 1) ∷ (Takes, 2) ∷ []
 parts_of Bifurcation = (Brings, 0) ∷ (Takes, 1) ∷ (Takes, 2) ∷ []
@@ -30,8 +30,8 @@ parts_of (Reach zero history local_inflow diversion return_flow) = (Brings, 0) �
 parts_of (Reach (suc lag) history local_inflow diversion return_flow) = (Takes, 1) ∷ []
 parts_of (Reservoir initial_storage table local_inflow diversion return_flow evaporation max_release) = (Brings, 0) ∷ (Takes, 1) ∷ (Takes, 2) ∷ []
 parts_of (WaterUser depletion Request) = (Takes, 1) ∷ []
-parts_of (WaterUser depletion ByRule) = []
 parts_of (Canal seepage) = (Conveys seepage, 0) ∷ (Takes, 1) ∷ []
+parts_of kind = []
 
 -- a reservoir's contents are given by its storage or its elevation
 abbrev pub store_sight : Option (List Row) → View → Sight
@@ -41,15 +41,17 @@ abbrev pub sight_of : Kind → View → Sight
 sight_of (Reservoir initial_storage table local_inflow diversion return_flow evaporation max_release) view = store_sight table view
 sight_of kind view = given view
 
-terms_are : (kind : Kind) (view : View) → (balance_of kind view).terms ≡ terms_of (sight_of kind view) (parts_of kind)
-terms_are (Reach zero history local_inflow diversion return_flow) view = refl
-terms_are (Reach (suc lag) history local_inflow diversion return_flow) view = refl
-terms_are (WaterUser depletion Request) view = refl
-terms_are (WaterUser depletion ByRule) view = refl
-terms_are kind view = refl
+terms_are : (kind : Kind) (view : View) → is_free kind ≡ true → (balance_of kind view).terms ≡ terms_of (sight_of kind view) (parts_of kind)
+terms_are (Reach zero history local_inflow diversion return_flow) view free = refl
+terms_are (Reach (suc lag) history local_inflow diversion return_flow) view free = refl
+terms_are (WaterUser depletion Request) view free = refl
+terms_are (WaterUser depletion ByRule) view free = refl
+terms_are (PowerReservoir initial_storage table max_release tailwater power) view free = absurd (both_ways false refl free)
+terms_are (RoutedReach initial_content release) view free = absurd (both_ways false refl free)
+terms_are kind view free = refl
 
-pub balanced_is : (kind : Kind) (view : View) → balanced_of kind view ≡ settled (balance_of kind view).steady (terms_of (sight_of kind view) (parts_of kind))
-balanced_is kind view = ap (settled (balance_of kind view).steady) (terms_are kind view)
+pub balanced_is : (kind : Kind) (view : View) → is_free kind ≡ true → balanced_of kind view ≡ settled (balance_of kind view).steady (terms_of (sight_of kind view) (parts_of kind))
+balanced_is kind view free = ap (settled (balance_of kind view).steady) (terms_are kind view free)
 
 -- ---- the term that gives way is given where all are
 

@@ -1,6 +1,6 @@
 -- What a balance comes to from less than stands in the places: nothing, or what stands there.
-use Rattle.rw_order.proofs.Common.{*ℤ-zero, All, All-from_recursion, AllByRecursion, Balanced, Brings, ByRule, Canal, Conflicts, Conveys, DataObject, Decides-int_eq, Gage, Holds, Idle, IsShare, IsSolved, IsSome, Kind, List, None, Option, Reach, Request, Share, Solves, Some, Takes, Term, WaterUser, [], agree, ap, arith, both_ways, brought, int_eq, ints, nat_tests, net_of, none-some, option_map, pos, recursion_from_All, refl, same_Some, settled, solved_term, subst, suc, sym, true, zero, ℕ, ℤ, ◌++◌, ◌+ℤ◌, ◌∙◌, ◌∷◌, ◌≡◌}
-use Rattle.rw_order.specs.Free.{keeps_water}
+use Rattle.rw_order.proofs.Common.{*ℤ-zero, All, All-from_recursion, AllByRecursion, Balanced, Brings, ByRule, Canal, Conflicts, Conveys, DataObject, Decides-int_eq, Gage, Holds, Idle, IsShare, IsSolved, IsSome, Kind, List, None, Option, PowerReservoir, Reach, Request, RoutedReach, Routes, Share, Solves, Some, Takes, Term, WaterUser, [], agree, ap, arith, both_ways, brought, int_eq, ints, nat_tests, net_of, none-some, option_map, pos, recursion_from_All, refl, same_Some, settled, solved_term, subst, suc, sym, true, zero, ℕ, ℤ, ◌++◌, ◌+ℤ◌, ◌∙◌, ◌∷◌, ◌≡◌}
+use Rattle.rw_order.specs.Free.{is_free}
 use Rattle.rw_order.proofs.Lists.{all_left, all_mapped, all_right, all_weaker}
 use Rattle.rw_order.proofs.Held.{Sight, Stands, Values}
 use Rattle.rw_order.proofs.Terms.{Comes, Parts, all_in, brought_in, brought_with, but_one, comes, parts_of, term_in, terms_of}
@@ -11,6 +11,7 @@ use Rattle.rw_order.proofs.Agreeing.{Agree}
 -- all that a term conveys arrives
 abbrev pub KeepsAll : Share → Type 0
 KeepsAll (Conveys seepage) = seepage ≡ 0
+KeepsAll (Routes content release) = ⊥
 KeepsAll share = Unit {0}
 
 abbrev pub KeepAll : Parts → Type 0
@@ -23,9 +24,11 @@ brought_once : (share : Share) (one other : ℤ) → KeepsAll share → brought 
 brought_once Brings one other keeps same = same
 brought_once Takes one other keeps same = omega (arith, ints, same)
 brought_once (Conveys seepage) one other keeps same = sym (conveyed_all one) ∙ (rw keeps at same) ∙ conveyed_all other
+brought_once (Routes content release) one other keeps same = absurd keeps
 
 share_of : (share : Share) → KeepsAll share → IsShare share
 share_of (Conveys seepage) keeps = omega (arith, keeps)
+share_of (Routes content release) keeps = absurd keeps
 share_of share keeps = tt
 
 pub shares_of : (sight : Sight) (parts : Parts) → KeepAll parts → All (λ (term : Term). IsShare term.share) (terms_of sight parts)
@@ -40,8 +43,8 @@ kept_of sight parts before term after keep among =
     (all_right (λ (t : Term). KeepsAll t.share) before (term ∷ after)
     (subst (AllByRecursion (λ (t : Term). KeepsAll t.share)) among (all_mapped (λ (t : Term). KeepsAll t.share) (term_in sight) parts keep))).0
 
--- no kind but a canal with seepage loses anything
-pub keep_parts : (kind : Kind) → keeps_water kind ≡ true → KeepAll (parts_of kind)
+-- a kind that is free loses nothing
+pub keep_parts : (kind : Kind) → is_free kind ≡ true → KeepAll (parts_of kind)
 keep_parts (Canal seepage) keeps = (grind (arith, nat_tests, keeps), (tt, tt))
 keep_parts (DataObject slots) keeps = tt
 keep_parts Gage keeps = (tt, (tt, tt))
@@ -49,6 +52,8 @@ keep_parts (Reach zero history local_inflow diversion return_flow) keeps = (tt, 
 keep_parts (Reach (suc lag) history local_inflow diversion return_flow) keeps = (tt, tt)
 keep_parts (WaterUser depletion Request) keeps = (tt, tt)
 keep_parts (WaterUser depletion ByRule) keeps = tt
+keep_parts (PowerReservoir initial_storage table max_release tailwater power) keeps = tt
+keep_parts (RoutedReach initial_content release) keeps = tt
 keep_parts kind keeps = (tt, (tt, (tt, tt)))
 
 -- ---- the balance is true of what stands in the places

@@ -2,16 +2,18 @@
 use Rattle.std.specs.Prelude.{ℕ, ◌==◌, Bool, true, false, ◌&&◌, ◌||◌, not, List, option_map, option_and_then, unwrap_or}
 use Rattle.std.specs.List.{list_all, list_any}
 use Rattle.rw_model.specs.declared.kind.Kind.{Kind}
-use Rattle.rw_model.specs.declared.kind.Kind.TheVariants.{Reservoir, Canal}
+use Rattle.rw_model.specs.declared.kind.Kind.TheVariants.{Reservoir, Canal, PowerReservoir, RoutedReach}
 use Rattle.rw_model.specs.Draft.{Draft}
 use Rattle.rw_model.specs.Links.{group_of, slot_numbers}
 use Rattle.rw_model.specs.Objects.{Object, Placed, object_at, slot_at}
 use Rattle.rw_method.specs.declared.places.TheConstants.{POOL_ELEVATION, STORAGE}
 
--- no water is lost between the terms of its balance
-abbrev pub keeps_water : Kind → Bool
-keeps_water (Canal seepage) = seepage == 0
-keeps_water kind = true
+-- what its terms are solved as is the same in any order: no water is lost between them or held back, and none is asked for
+abbrev pub is_free : Kind → Bool
+is_free (Canal seepage) = seepage == 0
+is_free (PowerReservoir initial_storage table max_release tailwater power) = false
+is_free (RoutedReach initial_content release) = false
+is_free kind = true
 
 -- a level is a reservoir's Storage or PoolElevation
 abbrev pub has_level_in : ℕ → Kind → Bool
@@ -32,6 +34,6 @@ has_other_level basin slot =
 abbrev pub joins_levels : Draft → Bool
 joins_levels basin = list_any (λ slot. is_level basin.objects slot && has_other_level basin slot) (slot_numbers basin.objects)
 
--- no canal loses water, and no link joins levels
+-- no canal loses water, there is no power reservoir and no routed reach, and no link joins levels
 abbrev pub order_free : Draft → Bool
-order_free basin = list_all (λ (object : Object). keeps_water object.kind) basin.objects && not (joins_levels basin)
+order_free basin = list_all (λ (object : Object). is_free object.kind) basin.objects && not (joins_levels basin)

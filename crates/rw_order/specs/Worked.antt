@@ -184,9 +184,9 @@ valley_links =
 abbrev pub valley : Draft
 valley = record { control = (basin_of HighFirst 365).control; objects = valley_objects; links = valley_links; bounds = [] }
 
--- with a canal, of which a tenth seeps away, below the bifurcation
-abbrev pub valley_canal : Draft
-valley_canal = record valley {
-  objects = valley_objects ++ object (codes "K") (Canal 100) ∷ [];
+-- with an object of this kind below the bifurcation
+abbrev pub valley_with : Kind → Draft
+valley_with kind = record valley {
+  objects = valley_objects ++ object (codes "K") kind ∷ [];
   links = valley_links ++ (21 ∷ 25 ∷ []) ∷ [];
 }

@@ -3,37 +3,38 @@ ghost use Rattle.std.specs.List.{list_all};
 ghost use Rattle.rw_model.specs.Draft.{IsObject, IsSlot};
 ghost use Rattle.rw_model.specs.Objects.{Object, slot_in_place};
 ghost use Rattle.rw_run.specs.Log.{is_number};
-ghost use Rattle.rw_order.specs.Free.{has_level_in, has_other_level, is_level, joins_levels, keeps_water, order_free};
+ghost use Rattle.rw_order.specs.Free.{has_level_in, has_other_level, is_level, joins_levels, is_free, order_free};
 
 use rw_base::{ObjectNo, SlotNo};
 use rw_method::places::{POOL_ELEVATION, STORAGE};
 use rw_model::{Basin, Kind};
 
-/// Whether the order of dispatches is free in a basin: no canal loses water, and no link joins a Storage or a PoolElevation of
-/// two reservoirs. Where it is, every order settles where one does, with the same values (law `any_order`). No memory is taken.
+/// Whether the order of dispatches is free in a basin: no canal loses water, there is no power reservoir and no routed reach, and
+/// no link joins a Storage or a PoolElevation of two reservoirs. Where it is, every order settles where one does, with the same values (law `any_order`). No memory is taken.
 pub fn order_free(basin: &Basin) -> bool
     ensures { result ≡ order_free basin.now }
 {
-    all_keep_water(basin) && !joins_levels(basin)
+    all_are_free(basin) && !joins_levels(basin)
 }
 
-// Whether no water is lost between the terms of its balance.
-fn keeps_water(kind: &Kind) -> bool
-    ensures { result ≡ keeps_water kind.now }
+// Whether its terms are solved alike in any order.
+fn is_free(kind: &Kind) -> bool
+    ensures { result ≡ is_free kind.now }
 {
     match kind {
         Kind::Canal { seepage } => *seepage == 0,
+        Kind::PowerReservoir { .. } | Kind::RoutedReach { .. } => false,
         _ => true,
     }
 }
 
-// Whether no object loses water.
+// Whether each object is of a kind that is free.
 #[tactic(auto, using(crate::proofs::Searching::keeps_on, crate::proofs::Searching::loses, crate::proofs::Searching::all_keep))]
-fn all_keep_water(basin: &Basin) -> bool
-    ensures { result ≡ list_all (λ (object : Object). keeps_water object.kind) basin.now.objects }
+fn all_are_free(basin: &Basin) -> bool
+    ensures { result ≡ list_all (λ (object : Object). is_free object.kind) basin.now.objects }
 {
     for before in 0..basin.object_count() {
-        if !keeps_water(basin.kind(ObjectNo(before + 1))) {
+        if !is_free(basin.kind(ObjectNo(before + 1))) {
             return false;
         }
     }

@@ -1,8 +1,9 @@
 //! The laws. Each is the `ensures` of a function that does nothing.
-ghost use Rattle.std.specs.Prelude.{◌≡◌, ◌⊎◌, ℕ, ℤ, pos, List, [], Contains, Some, true, false};
+ghost use Rattle.std.specs.Prelude.{◌≡◌, ◌⊎◌, ℕ, ℤ, pos, List, [], Contains, Some, true, false, ◌∷◌};
 ghost use Rattle.rw_base.specs.declared.number.Cell.{Cell};
 ghost use Rattle.rw_model.specs.Basin.{IsBasin};
 ghost use Rattle.rw_model.specs.Draft.{Draft};
+ghost use Rattle.rw_model.specs.declared.kind.Kind.TheVariants as Kind;
 ghost use Rattle.rw_series.specs.Series.{held};
 ghost use Rattle.rw_inputs.specs.Givens.{givens};
 ghost use Rattle.rw_inputs.specs.Inputs.{Inputs, IsInputsOf};
@@ -18,7 +19,7 @@ ghost use Rattle.rw_run.specs.declared.run.RunEnd.TheVariants.{Settled, Fault};
 ghost use Rattle.rw_order.specs.AnyRun.{IsAnyRun, IsPickedRun, IsSettledLog, Picking, PicksOne, WaitsBefore, newest, oldest, picked};
 ghost use Rattle.rw_order.specs.Free.{order_free};
 ghost use Rattle.rw_order.specs.Inside.{AreInside};
-ghost use Rattle.rw_order.specs.Worked.{chain, chain_inputs, chain_newest, chain_oldest, dry, gauged, losing, losing_fault, losing_inputs, losing_newest, losing_oldest, newest_first, pools, pools_fault, pools_inputs, pools_newest, pools_oldest, stores, stores_fault, stores_inputs, stores_newest, stores_oldest, valley, valley_canal};
+ghost use Rattle.rw_order.specs.Worked.{chain, chain_inputs, chain_newest, chain_oldest, dry, gauged, losing, losing_fault, losing_inputs, losing_newest, losing_oldest, newest_first, pools, pools_fault, pools_inputs, pools_newest, pools_oldest, stores, stores_fault, stores_inputs, stores_newest, stores_oldest, valley, valley_with};
 
 /// Where one order of dispatches settles, every order does: all timesteps are closed, with the same values in the same cells.
 /// Who wrote a value may differ. The basin's order has to be free, and the inputs are of values that their slots can have.
@@ -96,12 +97,15 @@ pub fn a_chain()
 {}
 
 /// Which basins are free: one with a canal is where nothing seeps away, and one with a level that a link joins to what is no
-/// level. A valley is, and isn't with a canal that loses a tenth.
+/// level. A valley is, and isn't with a canal that loses a tenth, with a power reservoir, or with a routed reach.
 pub fn free_basins()
     ensures dry { order_free dry ≡ true }
     ensures gauged { order_free gauged ≡ true }
     ensures valley { order_free valley ≡ true }
-    ensures canal { order_free valley_canal ≡ false }
+    ensures canal { order_free (valley_with (Kind.Canal 100)) ≡ false }
+    ensures power { order_free (valley_with (Kind.PowerReservoir (pos 10) ((pos 0, pos 0) ∷ (pos 20, pos 20) ∷ []) (pos 5) (pos 0) 1))
+        ≡ false }
+    ensures routed { order_free (valley_with (Kind.RoutedReach (pos 1000) 250)) ≡ false }
 {}
 
 /// Each premise is needed. A canal that loses half gives 1 of 2 and of 1: the gage above it first, all agree; the canal first,

@@ -1,5 +1,5 @@
 -- Cells that are the same, and lists that have them.
-use Rattle.rw_record.proofs.Common.{Asked, Cell, Contains, Contains-append_cases, Contains-append_left, Contains-append_right, Contains-from_any, Contains-push_cases, Draft, Held, IsEquivalence, List, [], and_parts, ap, ap₂, arith, cell_at, cells_asked, cells_noted, cells_reached, cells_with, group_of, is_among, is_same_cell, is_shared, list_any-from_Contains, map, nat_eq_equiv, nat_tests, refl, subst, sym, true, ℕ, ◌&&◌, ◌++◌, ◌<◌, ◌==◌, ◌∙◌, ◌∷◌, ◌≡◌, ◌⊎◌, inl, inr}
+use Rattle.rw_record.proofs.Common.{Asked, Cell, Contains, Contains-append_cases, Contains-append_left, Contains-append_right, Contains-from_any, Contains-push_cases, Draft, IsEquivalence, List, [], and_parts, ap, ap₂, arith, cell_at, cells_reached, cells_with, group_of, is_among, is_same_cell, is_shared, map, nat_eq_equiv, nat_tests, refl, subst, sym, true, ℕ, ◌&&◌, ◌==◌, ◌∷◌, ◌≡◌, ◌⊎◌, inl, inr}
 
 pub same_cell : (one other : Cell) → is_same_cell one other ≡ true → one ≡ other
 same_cell one other same =

@@ -1,5 +1,5 @@
 -- How many cells are noted.
-use Rattle.rw_record.proofs.Common.{AreLooked, AreOnce, Bool, Cell, Cells, Contains, Contains-from_any, Draft, Event, Held, IsTrue, List, [], ap, cell_count, cells_noted, distinct, flat_map, if◌then◌else◌, is_noted, is_same_cell, length, length-map, list_any, list_any-from_Contains, reached_by, refl, subst, sym, true, false, ℕ, ◌↔◌, ◌∙◌, ◌∷◌, ◌≡◌}
+use Rattle.rw_record.proofs.Common.{AreLooked, AreOnce, Cell, Cells, Contains, Contains-from_any, Draft, Event, Held, IsTrue, List, [], ap, cell_count, cells_noted, distinct, flat_map, if◌then◌else◌, is_noted, is_same_cell, length, length-map, list_any, list_any-from_Contains, reached_by, refl, subst, sym, ℕ, ◌↔◌, ◌∙◌, ◌∷◌, ◌≡◌}
 use Rattle.std.proofs.lemmas.Map.Made.{length-from_keys}
 use Rattle.std.specs.Cmp.{both_ways}
 use Rattle.std.specs.Set.{unique_keys}

@@ -1,12 +1,12 @@
 -- Marks of cells.
-use Rattle.rw_record.proofs.Common.{AreOnce, Bool, Cell, Cells, Held, IsTrue, List, [], and_parts, ap, arith, cells_noted, false, false≢true, get_or-set_other, get_or-set_same, if◌then◌else◌, is_noted, is_same_cell, length, list_any, list_any-append, map-append, nat_tests, noted_after, refl, replicate, set, slice_index_or, subst, suc, sym, true, zero, ℕ, ◌&&◌, ◌*◌, ◌++◌, ◌<◌, ◌==◌, ◌||◌, ◌∙◌, ◌∷◌, ◌≡◌, ◌≢◌}
+use Rattle.rw_record.proofs.Common.{Bool, Cell, Cells, Held, IsTrue, List, [], ap, arith, cells_noted, false, false≢true, get_or-set_other, get_or-set_same, if◌then◌else◌, is_noted, is_same_cell, length, length-replicate, list_any, list_any-append, map-append, nat_tests, noted_after, refl, replicate, set, slice_index_or, subst, suc, sym, true, zero, ℕ, ◌*◌, ◌++◌, ◌<◌, ◌||◌, ◌∙◌, ◌∷◌, ◌≡◌, ◌≢◌}
 use Rattle.std.specs.List.{IsDistinct}
 use Rattle.std.proofs.lemmas.List.Elements.{All-from_recursion}
 use Rattle.std.proofs.lemmas.List.Folds.{list_any_none}
 use Rattle.std.proofs.lemmas.List.Sorted.{IsPermutation-to_front}
 use Rattle.std.proofs.lemmas.Map.Keys.{IsDistinct-IsPermutation, IsDistinct-head, IsDistinct-tail}
 use Rattle.rw_series.specs.Cells.{position_of}
-use Rattle.rw_series.proofs.Places.{Kept, Kept-of, same_slot, same_step, within}
+use Rattle.rw_series.proofs.Places.{Kept-of, same_slot, same_step, within}
 use Rattle.rw_record.specs.Marks.{KeepsMarks, has_mark, is_marked}
 use Rattle.rw_record.proofs.Cells.{cells_equiv, same_cell}
 use Rattle.rw_record.proofs.Noting.{noted_is, once}
@@ -45,11 +45,11 @@ none_marked zero k = refl
 none_marked (suc n) zero = refl
 none_marked (suc n) (suc k) = none_marked n k
 
-pub no_marks : (slots steps n : ℕ) → n ≡ slots * steps → length (replicate n false) ≡ n → KeepsMarks slots steps (replicate n false) []
+pub no_marks : (slots steps : ℕ) → KeepsMarks slots steps (replicate (slots * steps) false) []
 unfolding IsDistinct
-no_marks slots steps n many all = record {
-  many = all ∙ many;
-  marked = λ cell there. none_marked n (position_of slots cell.slot.0 cell.step.0);
+no_marks slots steps = record {
+  many = length-replicate (slots * steps) false;
+  marked = λ cell there. none_marked (slots * steps) (position_of slots cell.slot.0 cell.step.0);
   once = tt;
 }
 

@@ -1,6 +1,6 @@
 -- Cells in order.
-use Rattle.rw_record.proofs.Common.{All, AreOnce, Bool, Cell, Contains, Held, List, [], ap, arith, cells_noted, false, false≢true, inl, inr, is_same_cell, length, length-map, map, nat_tests, refl, slice_index_or, subst, suc, sym, true, zero, ℕ, ◌&&◌, ◌+◌, ◌<◌, ◌==◌, ◌↔◌, ◌∙◌, ◌∷◌, ◌≡◌, ◌≤◌, ◌⊎◌}
-use Rattle.rw_base.proofs.Common.{All-get_or, get_or-map, nat_cmp, nat_lt}
+use Rattle.rw_record.proofs.Common.{AreOnce, Bool, Cell, Contains, Held, List, [], arith, cells_noted, false, false≢true, inl, inr, is_same_cell, length, length-map, nat_tests, refl, slice_index_or, subst, suc, sym, true, ℕ, ◌<◌, ◌==◌, ◌↔◌, ◌∙◌, ◌∷◌, ◌≡◌, ◌≤◌, ◌⊎◌}
+use Rattle.rw_base.proofs.Common.{get_or-map, nat_cmp, nat_lt}
 use Rattle.std.proofs.lemmas.Bool.{cases_order}
 use Rattle.std.proofs.lemmas.Cmp.{nat_cmp_total, on_total, then_total}
 use Rattle.std.proofs.lemmas.List.Elements.{All-from_recursion}

@@ -1,5 +1,5 @@
 -- What can be taken back, and what is noted of a timestep.
-use Rattle.rw_record.proofs.Common.{AreHeld, AreLooked, AreOnce, Asked, Bool, Cell, Cells, Contains, Contains-append_cases, Contains-append_left, Contains-append_right, Draft, Event, Held, IsTrue, List, None, [], ap, append-nil, arith, asked_in, cells_looked, cells_reached, false, false≢true, flat_map, flat_map-append, held_after, if◌then◌else◌, inl, inr, is_noted, is_shared, last_put, looks_in, noted_after, option_or, reached_by, refl, subst, sym, true, written_by, ◌++◌, ◌∙◌, ◌∷◌, ◌≡◌, ◌⊎◌}
+use Rattle.rw_record.proofs.Common.{Asked, Bool, Cell, Cells, Contains, Contains-append_cases, Contains-append_left, Contains-append_right, Draft, Event, Held, IsTrue, List, None, [], ap, append-nil, arith, asked_in, cells_looked, cells_reached, false, false≢true, flat_map, flat_map-append, held_after, inl, inr, is_noted, is_shared, last_put, looks_in, noted_after, option_or, reached_by, refl, subst, sym, true, written_by, ◌++◌, ◌∙◌, ◌∷◌, ◌≡◌, ◌⊎◌}
 use Rattle.std.specs.List.{IsDistinct}
 use Rattle.rw_record.specs.Notes.{CanTakeBack, Notes}
 use Rattle.rw_record.proofs.Cells.{first_of, reached_at, shared_in}

@@ -3,3 +3,4 @@ pub mod Notes
 pub mod Marks
 pub mod Record
 pub mod Back
+pub mod Worked

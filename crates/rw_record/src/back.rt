@@ -1,6 +1,6 @@
-ghost use Rattle.std.specs.Prelude.{◌≡◌};
+ghost use Rattle.std.specs.Prelude.{◌≡◌, IsFalse, IsTrue};
 ghost use Rattle.rw_base.specs.declared.number.Cell.{Cell};
-ghost use Rattle.rw_series.specs.Series.{Series, IsSeriesOf, held};
+ghost use Rattle.rw_series.specs.Series.{Series, IsSeriesOf, Sets, held};
 ghost use Rattle.rw_record.specs.Back.{is_cell};
 ghost use Rattle.rw_record.specs.Noted.{noted_in};
 ghost use Rattle.rw_record.specs.Notes.{CanTakeBack};
@@ -8,6 +8,7 @@ ghost use Rattle.rw_record.specs.Notes.{CanTakeBack};
 use crate::Noted;
 use rw_base::Cell;
 use rw_model::Basin;
+use rw_run::Held;
 use rw_series::Series;
 
 // Whether there is such a slot, and such a timestep in the run.
@@ -28,9 +29,31 @@ pub fn take_back(basin: &Basin, series: &mut Series, noted: &Noted)
         → CanTakeBack (held before) (held series.old) (noted_in noted.now)
         → (cell : Cell) → held series.new cell ≡ held before cell }
 {
-    for one in noted.as_slice() {
-        if is_cell(basin, one.cell) {
-            series.hold(basin, one.cell, one.content);
-        }
+    put_back(basin, series, noted.as_slice());
+}
+
+// Puts back what these cells held.
+fn put_back(basin: &Basin, series: &mut Series, items: &[Held])
+    requires made { IsSeriesOf basin.now series.old }
+    ensures made { IsSeriesOf basin.now series.new }
+    ensures back { (before : Series) → IsSeriesOf basin.now before
+        → CanTakeBack (held before) (held series.old) items.now
+        → (cell : Cell) → held series.new cell ≡ held before cell }
+{
+    for one in items {
+        put_one(basin, series, one);
+    }
+}
+
+// Puts back what a cell held, if it is one of the basin. Any other holds nothing.
+fn put_one(basin: &Basin, series: &mut Series, one: &Held)
+    requires made { IsSeriesOf basin.now series.old }
+    ensures made { IsSeriesOf basin.now series.new }
+    ensures put { IsTrue (is_cell basin.now one.now.cell)
+        → Sets basin.now one.now.cell one.now.content series.old series.new }
+    ensures passed { IsFalse (is_cell basin.now one.now.cell) → series.new ≡ series.old }
+{
+    if is_cell(basin, one.cell) {
+        series.hold(basin, one.cell, one.content);
     }
 }

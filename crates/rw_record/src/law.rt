@@ -1,7 +1,7 @@
 //! What is noted, in plain words. Each law is the `ensures` of a function that does nothing.
 ghost use Rattle.std.specs.List.{flat_map};
 ghost use Rattle.std.specs.Option.{option_or};
-ghost use Rattle.std.specs.Prelude.{◌≡◌, ◌↔◌, ◌⊎◌, ℕ, IsTrue, IsFalse, List, [], ◌∷◌, ◌++◌, Contains, Option, length};
+ghost use Rattle.std.specs.Prelude.{◌≡◌, ◌↔◌, ◌⊎◌, ℕ, IsTrue, IsFalse, List, [], ◌∷◌, ◌++◌, Contains, Option, length, pos};
 ghost use Rattle.rw_base.specs.declared.number.Cell.{Cell};
 ghost use Rattle.rw_model.specs.Draft.{Draft};
 ghost use Rattle.rw_run.specs.Log.{Asked, Cells, Event, asked_in, held_after, last_put, written_by};
@@ -11,7 +11,10 @@ ghost use Rattle.rw_run.specs.declared.held.Held.{Held};
 ghost use Rattle.rw_run.specs.declared.trace.TraceEvent.{TraceEvent};
 ghost use Rattle.rw_record.specs.Noted.{AreOnce, is_noted, noted_after};
 ghost use Rattle.rw_record.specs.Notes.{CanTakeBack, Notes};
-ghost use Rattle.rw_record.specs.Record.{IsRecordOf, StepRecord};
+ghost use Rattle.rw_record.specs.Record.{AreRisingCells, IsRecordOf, StepRecord};
+ghost use Rattle.rw_record.specs.Worked.{all_hold, held_at, none_holds, unknown_at};
+ghost use Rattle.rw_run.specs.Dispatch.{cell_at};
+ghost use Rattle.rw_run.specs.Worked.{linked_basin, one_end_run};
 
 /// What is noted after some cells: what was noted before, and each of them that was new, with what it holds. Each cell stands
 /// there once, and it is one whether cells are noted together or one after the other.
@@ -65,8 +68,21 @@ pub fn how_many()
 
 /// The record of a timestep has what was noted of it.
 pub fn recorded()
-    ensures { (basin : Draft) (before : Cells) (events : List Event) (step : ℕ) (noted : List Held)
-        (lines : List TraceEvent) (kept : StepRecord)
+    ensures { (basin : Draft) (before : Cells) (events : List Event) (step : ℕ)
+        (noted : List Held) (lines : List TraceEvent) (kept : StepRecord)
         → AreLooked basin before events noted → IsRecordOf step noted lines kept
         → AreLooked basin before events kept.looked }
+{}
+
+/// Small lists of cells, worked out by hand. A cell that is named again isn't noted again, and keeps what it held first. A put to
+/// one end of a link reaches the other. Cells rise by slot, and of one slot by timestep.
+pub fn worked_notes()
+    ensures again { noted_after (all_hold (pos 5)) [] (cell_at 1 1 ∷ cell_at 2 1 ∷ cell_at 1 1 ∷ [])
+        ≡ held_at 1 1 (pos 5) ∷ held_at 2 1 (pos 5) ∷ [] }
+    ensures first { noted_after (all_hold (pos 7)) (held_at 1 1 (pos 5) ∷ []) (cell_at 1 1 ∷ cell_at 1 2 ∷ [])
+        ≡ held_at 1 1 (pos 5) ∷ held_at 1 2 (pos 7) ∷ [] }
+    ensures both { noted_after none_holds [] (flat_map (reached_by linked_basin) one_end_run)
+        ≡ unknown_at 1 1 ∷ unknown_at 2 1 ∷ [] }
+    ensures rising { AreRisingCells (held_at 1 2 (pos 5) ∷ held_at 2 1 (pos 5) ∷ []) }
+    ensures falling { ¬ AreRisingCells (held_at 2 1 (pos 5) ∷ held_at 1 2 (pos 5) ∷ []) }
 {}

@@ -1,6 +1,8 @@
-ghost use Rattle.std.specs.Prelude.{◌≡◌, ◌*◌, ◌∷◌, [], All, IfOk, IfErr, IsTrue, Some, None, if◌then◌else◌, is_some, option_map, vec_len};
+ghost use Rattle.std.specs.Prelude.{◌≡◌, ◌*◌, ◌∷◌, [], All, IfOk, IfErr, IsTrue, Some, None, if◌then◌else◌, is_some, map, option_map, vec_len};
 ghost use Rattle.rw_base.specs.declared.number.Cell.{Cell};
 ghost use Rattle.rw_model.specs.Draft.{IsSlot};
+ghost use Rattle.rw_model.specs.Kept.{numbers_of};
+ghost use Rattle.rw_run.specs.Dispatch.{cell_at};
 ghost use Rattle.rw_series.specs.Series.{held};
 ghost use Rattle.rw_run.specs.Frame.{cells_looked};
 ghost use Rattle.rw_run.specs.Step.{cells_reached, cells_with, is_same_cell};
@@ -9,7 +11,7 @@ ghost use Rattle.rw_record.specs.Marks.{KeepsMarks, has_mark, is_marked};
 ghost use Rattle.rw_record.specs.Noted.{AddsNotes, AreOnce, is_noted, noted_after, noted_in};
 
 use crate::marks::{has_mark, is_marked, set_mark};
-use rw_base::{Cell, NoMemory};
+use rw_base::{Cell, NoMemory, SlotNo, StepNo};
 use rw_model::Basin;
 use rw_run::{Held, Write};
 use rw_series::{Look, Series};
@@ -142,14 +144,21 @@ impl Noted {
         ensures { AddsNotes (held series.now) (cells_with basin.now cell) self.old self.new result }
     {
         self.note(series, cell)?;
-        for slot in basin.group(cell.slot) {
-            self.note(
-                series,
-                Cell {
-                    slot: *slot,
-                    step: cell.step,
-                },
-            )?;
+        self.note_slots(series, basin.group(cell.slot), cell.step)
+    }
+
+    // Notes the cells of these slots at a timestep.
+    fn note_slots(
+        &mut self,
+        series: &Series,
+        slots: &[SlotNo],
+        step: StepNo,
+    ) -> Result<(), NoMemory>
+        ensures { AddsNotes (held series.now)
+            (map (λ slot. cell_at slot step.0) (numbers_of slots.now)) self.old self.new result }
+    {
+        for slot in slots {
+            self.note(series, Cell { slot: *slot, step })?;
         }
         Ok(())
     }

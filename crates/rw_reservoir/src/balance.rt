@@ -1,4 +1,4 @@
-ghost use Rattle.std.specs.Prelude.{◌≡◌, ◌+ℤ◌, ◌-ℤ◌, ◌∷◌, []};
+ghost use Rattle.std.specs.Prelude.{◌≡◌, option_map, ◌+ℤ◌, ◌-ℤ◌, ◌∷◌, []};
 ghost use Rattle.std.specs.Option.{ForSome};
 ghost use Rattle.rw_method.specs.declared.places.TheConstants.{INFLOW, OUTFLOW, POOL_ELEVATION, STORAGE};
 ghost use Rattle.rw_method.specs.View.{given};
@@ -7,11 +7,9 @@ ghost use Rattle.rw_method.specs.Contents.{basis_of, contents_by, difference};
 ghost use Rattle.rw_method.specs.Balance.{sum_of, brings, takes, stores};
 ghost use Rattle.rw_method.specs.Settling.{settled};
 
-use crate::basis::basis_of;
-use crate::contents::contents_by;
 use rw_base::Qty;
-use rw_method::places::{INFLOW, OUTFLOW, POOL_ELEVATION, STORAGE};
-use rw_method::{Balanced, Given, Share, Term, View, settle};
+use rw_method::places::{INFLOW, OUTFLOW};
+use rw_method::{Balanced, Share, View, settle, stores};
 use rw_table::Rating;
 
 fn with_side(past: Qty, side: i128) -> i128
@@ -46,21 +44,10 @@ fn steady(past: Option<Qty>, side: Option<i128>, evaporation: Option<i128>) -> O
     }
 }
 
-// The contents as a term, which takes water and is put as the storage.
-fn stores(contents: Option<Given>) -> Term
-    ensures { result ≡ stores contents }
-{
-    Term {
-        place: STORAGE,
-        share: Share::Takes,
-        given: contents,
-    }
-}
-
 /// What the balance comes to, beside what flows by the side and what evaporates.
 pub(crate) fn balance(
     view: &View,
-    table: &Option<Rating>,
+    table: Option<&Rating>,
     side: Option<i128>,
     evaporated: Option<i128>,
 ) -> Balanced
@@ -68,17 +55,13 @@ pub(crate) fn balance(
     requires evaporated { ForSome evaporated (IsWithin 1) }
     ensures { result ≡ settled (difference (sum_of view.entry.now.past side) evaporated)
         (brings view.entry.now INFLOW ∷ takes view.entry.now OUTFLOW
-        ∷ stores (contents_by table.now
+        ∷ stores (contents_by (option_map (λ rating. rating.now) table.entry)
         (basis_of (given view.entry.now STORAGE) (given view.entry.now POOL_ELEVATION))) ∷ []) }
 {
-    let contents = contents_by(
-        table,
-        basis_of(view.given(STORAGE), view.given(POOL_ELEVATION)),
-    );
     let terms = [
         view.term(Share::Brings, INFLOW),
         view.term(Share::Takes, OUTFLOW),
-        stores(contents),
+        stores(view, table),
     ];
     settle(steady(view.past, side, evaporated), &terms)
 }

@@ -1,4 +1,4 @@
-ghost use Rattle.std.specs.Prelude.{◌≡◌, pos, ◌-ℤ◌, ◌≤ℤ◌};
+ghost use Rattle.std.specs.Prelude.{◌≡◌, option_map, pos, ◌-ℤ◌, ◌≤ℤ◌};
 ghost use Rattle.std.specs.Int.{int_max};
 ghost use Rattle.std.specs.Option.{ForSome};
 ghost use Rattle.rw_method.specs.declared.places.TheConstants.{EVAPORATION_RATE};
@@ -75,8 +75,8 @@ fn rate(view: &View) -> Option<Qty>
 
 /// How much evaporates, in m3/step, which is 0 where evaporation isn't chosen. `None` where the rate or the storage before
 /// is unknown.
-pub(crate) fn evaporation_of(evaporation: bool, table: &Option<Rating>, view: &View) -> Option<i128>
-    ensures amount { result ≡ evaporation_of evaporation table.now view.entry.now }
+pub(crate) fn evaporation_of(evaporation: bool, table: Option<&Rating>, view: &View) -> Option<i128>
+    ensures amount { result ≡ evaporation_of evaporation (option_map (λ rating. rating.now) table.entry) view.entry.now }
     ensures bound { ForSome result (IsWithin 1) }
 {
     match table {

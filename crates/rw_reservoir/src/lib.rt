@@ -3,13 +3,8 @@
 //! derived. No call takes memory.
 #![tactic(auto)]
 
-mod asking;
 mod balance;
-mod basis;
-mod contents;
 mod evaporation;
-mod fault;
-mod level;
 mod puts;
 mod release;
 mod reservoir;

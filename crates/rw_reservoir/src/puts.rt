@@ -1,52 +1,26 @@
-ghost use Rattle.std.specs.Prelude.{◌≡◌, ◌<◌, ◌+◌, ◌≤◌, ◌++◌, length, OnOk, IfErr};
+ghost use Rattle.std.specs.Prelude.{◌≡◌, option_map, ◌<◌, ◌+◌, ◌≤◌, ◌++◌, length, OnOk, IfErr};
 ghost use Rattle.rw_method.specs.declared.places.TheConstants.{OUTFLOW, POOL_ELEVATION, STORAGE};
 ghost use Rattle.rw_method.specs.View.{given};
 ghost use Rattle.rw_method.specs.Puts.{solved_put, level_puts, evaporation_put, release_puts, known_after, is_bounded};
 ghost use Rattle.rw_method.specs.Solve.{AllFit, answer_of_puts};
-ghost use Rattle.rw_reservoir.specs.Asking.{Asks, can_get};
+ghost use Rattle.rw_method.specs.Asking.{Asks, can_get};
 
-use crate::asking::ask;
-use crate::level::ask_level;
 use crate::release::{ask_evaporation, ask_release};
 use rw_method::places::{OUTFLOW, POOL_ELEVATION, STORAGE};
-use rw_method::{Balanced, Given, PutList, Solved, View, known_after};
+use rw_method::{Balanced, Given, PutList, Solved, View, ask_level, ask_solved, known_after};
 use rw_table::Rating;
-
-// Puts the term that was solved.
-fn ask_solved(
-    view: &View,
-    table: &Option<Rating>,
-    puts: &mut PutList,
-    balanced: Balanced,
-) -> Result<(), Solved>
-    requires { length puts.old < 8 }
-    ensures asks { Asks (can_get table.now view.entry.now)
-        (solved_put balanced)
-        puts.old puts.new result }
-    ensures bounded { OnOk result (AllFit (is_bounded view.entry.now) (solved_put balanced)) }
-    ensures room { OnOk result (length puts.new ≤ length puts.old + 1) }
-{
-    match balanced {
-        Balanced::Solves {
-            place,
-            value,
-            number,
-        } => ask(view, table, puts, place, value, number),
-        _ => Ok(()),
-    }
-}
 
 // Puts the term that was solved, and what is known of the contents by it.
 fn ask_contents(
     view: &View,
-    table: &Option<Rating>,
+    table: Option<&Rating>,
     puts: &mut PutList,
     balanced: Balanced,
 ) -> Result<(), Solved>
     requires { length puts.old < 7 }
-    ensures asks { Asks (can_get table.now view.entry.now)
+    ensures asks { Asks (can_get (option_map (λ rating. rating.now) table.entry) view.entry.now)
         (solved_put balanced
-        ++ level_puts table.now (given view.entry.now STORAGE) (given view.entry.now POOL_ELEVATION) balanced)
+        ++ level_puts (option_map (λ rating. rating.now) table.entry) (given view.entry.now STORAGE) (given view.entry.now POOL_ELEVATION) balanced)
         puts.old puts.new result }
     ensures bounded { OnOk result (AllFit (is_bounded view.entry.now) (solved_put balanced)) }
     ensures room { OnOk result (length puts.new ≤ length puts.old + 2) }
@@ -67,7 +41,7 @@ fn ask_contents(
 // Puts how much evaporates, and the parts of the outflow.
 fn ask_derived(
     view: &View,
-    table: &Option<Rating>,
+    table: Option<&Rating>,
     puts: &mut PutList,
     evaporation: bool,
     evaporated: Option<i128>,
@@ -75,7 +49,7 @@ fn ask_derived(
     outflow: Given,
 ) -> Result<(), Solved>
     requires { length puts.old < 6 }
-    ensures asks { Asks (can_get table.now view.entry.now)
+    ensures asks { Asks (can_get (option_map (λ rating. rating.now) table.entry) view.entry.now)
         (evaporation_put evaporation evaporated ++ release_puts max_release outflow)
         puts.old puts.new result }
 {
@@ -88,14 +62,14 @@ fn ask_derived(
 /// What is answered once the balance is settled: all that is put, or the first put that its slot can't get.
 pub(crate) fn put_all(
     view: &View,
-    table: &Option<Rating>,
+    table: Option<&Rating>,
     evaporation: bool,
     evaporated: Option<i128>,
     max_release: Option<i64>,
     balanced: Balanced,
 ) -> Solved
-    ensures { result ≡ answer_of_puts (can_get table.now view.entry.now) (solved_put balanced
-        ++ level_puts table.now (given view.entry.now STORAGE) (given view.entry.now POOL_ELEVATION) balanced
+    ensures { result ≡ answer_of_puts (can_get (option_map (λ rating. rating.now) table.entry) view.entry.now) (solved_put balanced
+        ++ level_puts (option_map (λ rating. rating.now) table.entry) (given view.entry.now STORAGE) (given view.entry.now POOL_ELEVATION) balanced
         ++ evaporation_put evaporation evaporated ++ release_puts max_release
         (known_after view.entry.now balanced OUTFLOW)) }
 {

@@ -1,4 +1,4 @@
-ghost use Rattle.std.specs.Prelude.{◌≡◌, ◌++◌, ℤ, Bool};
+ghost use Rattle.std.specs.Prelude.{◌≡◌, option_map, ◌++◌, ℤ, Bool};
 ghost use Rattle.std.specs.Option.{ForSome};
 ghost use Rattle.rw_model.specs.declared.kind.Kind.TheVariants as Kind;
 ghost use Rattle.rw_method.specs.declared.places.TheConstants.{OUTFLOW, POOL_ELEVATION, RESERVOIR_SIDE, STORAGE};
@@ -6,15 +6,14 @@ ghost use Rattle.rw_method.specs.View.{given};
 ghost use Rattle.rw_method.specs.Term.{IsWithin};
 ghost use Rattle.rw_method.specs.Balance.{side_flows};
 ghost use Rattle.rw_method.specs.Puts.{solved_put, level_puts, evaporation_put, release_puts, known_after};
-ghost use Rattle.rw_method.specs.Solve.{answer, solve_of};
-ghost use Rattle.rw_reservoir.specs.Asking.{can_get};
+ghost use Rattle.rw_method.specs.Solve.{answer, fault_of_level, fault_of_past, or_else, solve_of};
+ghost use Rattle.rw_method.specs.Asking.{can_get};
 
 use crate::balance::balance;
 use crate::evaporation::evaporation_of;
-use crate::fault::fault_of_contents;
 use crate::puts::put_all;
-use rw_method::places::{POOL_ELEVATION, RESERVOIR_SIDE, STORAGE};
-use rw_method::{Balanced, Method, Solved, View, side_flows};
+use rw_method::places::RESERVOIR_SIDE;
+use rw_method::{Balanced, Method, Solved, View, ended, fault_of_level, fault_of_past, side_flows};
 use rw_model::Kind;
 use rw_table::Rating;
 
@@ -22,47 +21,43 @@ use rw_table::Rating;
 #[derive(Debug, Drop)]
 pub struct ReservoirMethod;
 
+// What is wrong with what the reservoir holds: with the storage before, or with what is given.
+fn fault_of_contents(view: &View, table: Option<&Rating>, evaporation: bool) -> Option<Solved>
+    ensures { result ≡ or_else (fault_of_past evaporation (option_map (λ rating. rating.now) table.entry) view.entry.now.past)
+        (fault_of_level (option_map (λ rating. rating.now) table.entry) view.entry.now) }
+{
+    if let Some(fault) = fault_of_past(evaporation, table, view.past) {
+        return Some(fault);
+    }
+    fault_of_level(view, table)
+}
+
 // What is answered, by what the balance comes to and what is wrong with the contents.
 fn answer_by(
     view: &View,
-    table: &Option<Rating>,
+    table: Option<&Rating>,
     evaporation: bool,
     evaporated: Option<i128>,
     max_release: Option<i64>,
     balanced: Balanced,
     fault: Option<Solved>,
 ) -> Solved
-    ensures { result ≡ answer (can_get table.now view.entry.now) (solved_put balanced
-        ++ level_puts table.now (given view.entry.now STORAGE) (given view.entry.now POOL_ELEVATION) balanced
+    ensures { result ≡ answer (can_get (option_map (λ rating. rating.now) table.entry) view.entry.now) (solved_put balanced
+        ++ level_puts (option_map (λ rating. rating.now) table.entry) (given view.entry.now STORAGE) (given view.entry.now POOL_ELEVATION) balanced
         ++ evaporation_put evaporation evaporated ++ release_puts max_release
         (known_after view.entry.now balanced OUTFLOW))
         balanced fault }
 {
-    match (balanced, fault) {
-        (Balanced::Idle, _) => Solved::Idle,
-        (_, Some(fault)) => fault,
-        (
-            Balanced::Conflicts {
-                place,
-                held,
-                solved,
-            },
-            None,
-        ) => Solved::Conflict {
-            place,
-            held,
-            solved,
-        },
-        (Balanced::Holds | Balanced::Solves { .. }, None) => {
-            put_all(view, table, evaporation, evaporated, max_release, balanced)
-        }
+    match ended(balanced, fault) {
+        Some(answer) => answer,
+        None => put_all(view, table, evaporation, evaporated, max_release, balanced),
     }
 }
 
 // What a dispatch of a reservoir answers, beside what flows by the side.
 pub(crate) fn solve_reservoir(
     view: &View,
-    table: &Option<Rating>,
+    table: Option<&Rating>,
     side: Option<i128>,
     evaporation: bool,
     max_release: Option<i64>,
@@ -70,13 +65,12 @@ pub(crate) fn solve_reservoir(
     requires { ForSome side (IsWithin 3) }
     ensures { (initial_storage : ℤ) (local_inflow diversion return_flow : Bool)
         → side ≡ side_flows view.entry.now RESERVOIR_SIDE local_inflow diversion return_flow
-        → result ≡ solve_of (Kind.Reservoir initial_storage table.now local_inflow diversion return_flow evaporation
+        → result ≡ solve_of (Kind.Reservoir initial_storage (option_map (λ rating. rating.now) table.entry) local_inflow diversion return_flow evaporation
         max_release) view.entry.now }
 {
     let evaporated = evaporation_of(evaporation, table, view);
     let balanced = balance(view, table, side, evaporated);
-    let (storage, elevation) = (view.given(STORAGE), view.given(POOL_ELEVATION));
-    let fault = fault_of_contents(table, evaporation, view.past, storage, elevation);
+    let fault = fault_of_contents(view, table, evaporation);
     answer_by(
         view,
         table,
@@ -113,7 +107,7 @@ impl Method for ReservoirMethod {
                     *diversion,
                     *return_flow,
                 );
-                solve_reservoir(view, table, side, *evaporation, *max_release)
+                solve_reservoir(view, table.as_ref(), side, *evaporation, *max_release)
             }
             _ => unreachable!(),
         }

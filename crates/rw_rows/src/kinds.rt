@@ -1,22 +1,28 @@
 //! The methods of kinds by the kinds' numbers.
 use rw_method::Method;
+use rw_power::PowerReservoirMethod;
 use rw_reservoir::ReservoirMethod;
+use rw_routing::RoutedReachMethod;
 use rw_stream::{BifurcationMethod, ConfluenceMethod, GageMethod, ReachMethod};
 use rw_users::{CanalMethod, WaterUserMethod};
 use std::alloc::{AllocError, Global};
 
 /// The numbers of the kinds that have a method.
-pub(crate) const ALL: &[u8] = &[1, 2, 3, 4, 5, 6, 7];
+pub(crate) const ALL: &[u8] = &[1, 2, 3, 4, 5, 6, 7, 8, 9];
 
-fn method(alloc: Global, number: u8) -> Result<Box<dyn Method>, AllocError> {
+// The method of the kind with this number, if it has one.
+fn method(alloc: Global, number: u8) -> Result<Option<Box<dyn Method>>, AllocError> {
     match number {
-        1 => Ok(Box::new(alloc, GageMethod)?),
-        2 => Ok(Box::new(alloc, ConfluenceMethod)?),
-        3 => Ok(Box::new(alloc, BifurcationMethod)?),
-        4 => Ok(Box::new(alloc, ReachMethod)?),
-        5 => Ok(Box::new(alloc, ReservoirMethod)?),
-        6 => Ok(Box::new(alloc, WaterUserMethod)?),
-        _ => Ok(Box::new(alloc, CanalMethod)?),
+        1 => Ok(Some(Box::new(alloc, GageMethod)?)),
+        2 => Ok(Some(Box::new(alloc, ConfluenceMethod)?)),
+        3 => Ok(Some(Box::new(alloc, BifurcationMethod)?)),
+        4 => Ok(Some(Box::new(alloc, ReachMethod)?)),
+        5 => Ok(Some(Box::new(alloc, ReservoirMethod)?)),
+        6 => Ok(Some(Box::new(alloc, WaterUserMethod)?)),
+        7 => Ok(Some(Box::new(alloc, CanalMethod)?)),
+        8 => Ok(Some(Box::new(alloc, PowerReservoirMethod)?)),
+        9 => Ok(Some(Box::new(alloc, RoutedReachMethod)?)),
+        _ => Ok(None),
     }
 }
 
@@ -24,7 +30,9 @@ fn method(alloc: Global, number: u8) -> Result<Box<dyn Method>, AllocError> {
 pub(crate) fn methods(alloc: Global, numbers: &[u8]) -> Result<Vec<Box<dyn Method>>, AllocError> {
     let mut methods = Vec::new(alloc);
     for number in numbers {
-        methods.push(method(alloc, *number)?)?;
+        if let Some(method) = method(alloc, *number)? {
+            methods.push(method)?;
+        }
     }
     Ok(methods)
 }

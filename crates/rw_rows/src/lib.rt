@@ -18,6 +18,8 @@ mod objects;
 #[cfg(test)]
 mod pools;
 #[cfg(test)]
+mod powers;
+#[cfg(test)]
 mod reservoirs;
 #[cfg(test)]
 mod rules;

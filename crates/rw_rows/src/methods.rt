@@ -4,11 +4,14 @@ ghost use Rattle.rw_method.specs.Catalogue.{AreInOrder};
 
 use crate::dispatch::{Table, first_unmet};
 use crate::kinds::{ALL, methods};
+use crate::powers::{POWERS, POWERS_OUTSIDE_THE_TABLE};
 use crate::reservoirs::{
     CONTENTS, EVAPORATION, GIVEN_LEVELS, LEVELS_OUTSIDE_THE_TABLE, PASTS_OUTSIDE_THE_TABLE,
     RELEASES, SIDE_FLOWS, STORAGES, UNKNOWN_PASTS,
 };
-use crate::streams::{BIFURCATIONS, CONFLUENCES, GAGES, GIVEN_REACHES, LAGGED_REACHES, REACHES};
+use crate::streams::{
+    BIFURCATIONS, CONFLUENCES, GAGES, GIVEN_REACHES, LAGGED_REACHES, REACHES, ROUTED_REACHES,
+};
 use crate::users::{CANALS, DIVERSIONS_BY_RULE, REQUESTS};
 use rw_method::{Catalogue, CatalogueFault};
 use rw_model::{History, Kind, Supply};
@@ -49,6 +52,16 @@ fn reservoir(rt: &impl Abort, alloc: Global, evaporation: bool, max_release: Opt
         return_flow: false,
         evaporation,
         max_release,
+    }
+}
+
+fn power_reservoir(rt: &impl Abort, alloc: Global) -> Kind {
+    Kind::PowerReservoir {
+        initial_storage: 3000,
+        table: Rating::of(alloc, &[(0, 0), (500, 5000)]).expect(rt, "a table"),
+        max_release: 1000,
+        tailwater: 100,
+        power: 10_000,
     }
 }
 
@@ -100,6 +113,15 @@ fn check_reservoirs(rt: &impl Abort, alloc: Global, catalogue: &Catalogue)
     );
 }
 
+const POWER: &[Table<'static>] = &[POWERS, POWERS_OUTSIDE_THE_TABLE, UNKNOWN_PASTS];
+
+const ROUTED: &[Table<'static>] = &[ROUTED_REACHES, UNKNOWN_PASTS];
+
+const QUARTER: Kind = Kind::RoutedReach {
+    initial_content: 1000,
+    release: 250,
+};
+
 fn check_others(rt: &impl Abort, catalogue: &Catalogue)
     requires { AreInOrder (map (λ b. code (b.vtable, b.value)) catalogue.now.methods.items) }
 {
@@ -117,6 +139,8 @@ fn each_kind_is_solved_by_its_rules(rt: HostRuntime) -> Result<(), Fail> {
     check_others(&rt, &catalogue);
     check_reaches(&rt, rt.alloc(), &catalogue);
     check_reservoirs(&rt, rt.alloc(), &catalogue);
+    check(&rt, &catalogue, power_reservoir(&rt, rt.alloc()), POWER);
+    check(&rt, &catalogue, QUARTER, ROUTED);
     Ok(())
 }
 
@@ -127,14 +151,14 @@ fn fault_of(alloc: Global, numbers: &[u8]) -> Result<Option<CatalogueFault>, All
 
 #[test]
 fn gage_and_confluence_are_exchanged(rt: HostRuntime) -> Result<(), Fail> {
-    let fault = fault_of(rt.alloc(), &[2, 1, 3, 4, 5, 6, 7])?;
+    let fault = fault_of(rt.alloc(), &[2, 1, 3, 4, 5, 6, 7, 8, 9])?;
     assert!(rt; matches!(fault, Some(CatalogueFault::WrongPlace(1))));
     Ok(())
 }
 
 #[test]
-fn six_methods_are_too_few(rt: HostRuntime) -> Result<(), Fail> {
-    let fault = fault_of(rt.alloc(), &[1, 2, 3, 4, 5, 6])?;
-    assert!(rt; matches!(fault, Some(CatalogueFault::WrongCount(6))));
+fn eight_methods_are_too_few(rt: HostRuntime) -> Result<(), Fail> {
+    let fault = fault_of(rt.alloc(), &[1, 2, 3, 4, 5, 6, 7, 8])?;
+    assert!(rt; matches!(fault, Some(CatalogueFault::WrongCount(8))));
     Ok(())
 }

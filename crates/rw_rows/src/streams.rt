@@ -1,4 +1,4 @@
-//! Gages, confluences, bifurcations and reaches: in each table stand the values that are known, and then the answer.
+//! Gages, confluences, bifurcations, reaches and routed reaches: in each table stand the values that are known, and then the answer.
 use crate::dispatch::By::{Input, Own, Rule};
 use crate::dispatch::Want::{Conflict, Idle, OutOfRange, Puts};
 use crate::dispatch::{Table, TableRow};
@@ -129,5 +129,26 @@ pub(crate) const GIVEN_REACHES: Table<'static> = Table {
             ],
             Conflict(1, 8, 7),
         ),
+    ],
+};
+
+/// A quarter of the 1000 that it held and of what flows in is let go, rounded down: of 1203 as of 1200 flow out 300. It holds at
+/// most 905.
+pub(crate) const ROUTED_REACHES: Table<'static> = Table {
+    past: Some(1000),
+    bounds: &[(2, 0, 905)],
+    rows: &[
+        TableRow(&[(0, 200, Input)], Puts(&[(1, 300, 0), (2, 900, 0)])),
+        TableRow(&[(0, 203, Rule(2))], Puts(&[(1, 300, 2), (2, 903, 2)])),
+        TableRow(&[(1, 300, Input)], Puts(&[(0, 200, 0), (2, 900, 0)])),
+        TableRow(&[], Idle),
+        TableRow(&[(0, 200, Input), (1, 300, Rule(3))], Puts(&[(2, 900, 3)])),
+        TableRow(
+            &[(0, 200, Rule(5)), (1, 301, Rule(2))],
+            Puts(&[(0, 204, 2), (2, 903, 2)]),
+        ),
+        TableRow(&[(0, 200, Input), (1, 301, Input)], Conflict(1, 301, 300)),
+        TableRow(&[(1, 100, Input)], OutOfRange(0, -600)),
+        TableRow(&[(0, 207, Input)], OutOfRange(2, 906)),
     ],
 };

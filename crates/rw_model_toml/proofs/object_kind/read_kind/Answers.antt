@@ -16,6 +16,8 @@ returns-in_ok-key_path-in_default c = (
       ∙ unless _ _ _ (other-word (codes "reservoir") c.args.word.now c.in_default.not-reservoir)
       ∙ unless _ _ _ (other-word (codes "water_user") c.args.word.now c.in_default.not-water_user)
       ∙ unless _ _ _ (other-word (codes "canal") c.args.word.now c.in_default.not-canal)
+      ∙ unless _ _ _ (other-word (codes "power_reservoir") c.args.word.now c.in_default.not-power_reservoir)
+      ∙ unless _ _ _ (other-word (codes "routed_reach") c.args.word.now c.in_default.not-routed_reach)
       ∙ cc c.in_ok-key_path-in_default.ensures,
   λ none. absurd cc,
 )

@@ -1,8 +1,8 @@
 use Rattle.rw_method.specs.declared.places.TheConstants.{POOL_ELEVATION, STORAGE}
 use Rattle.rw_method.specs.View.{given}
 use Rattle.rw_method.specs.Puts.{solved_put, level_puts}
-use Rattle.rw_reservoir.specs.Asking.{can_get}
-use Rattle.rw_reservoir.proofs.Misfits.{asks_at_once, asks_then}
+use Rattle.rw_method.specs.Asking.{can_get}
+use Rattle.rw_method.proofs.Misfits.{asks_at_once, asks_then}
 use Rattle.rw_reservoir.proofs.puts.ask_contents.Goals as goal
 
 pub returns-in-Ok-clause-asks : goal.returns-in-Ok-clause-asks
@@ -13,5 +13,5 @@ returns-in-Ok-clause-asks c =
 pub returns-in-Err-clause-asks : goal.returns-in-Err-clause-asks
 returns-in-Err-clause-asks c =
     let view = c.args.view.now in
-    asks_at_once (can_get c.args.table.now view) (solved_put c.args.balanced)
-    (level_puts c.args.table.now (given view STORAGE) (given view POOL_ELEVATION) c.args.balanced) _ _ c.in-Err.answer c.in-Err.ensures.asks.refused
+    asks_at_once (can_get (option_map (λ rating. rating.now) c.args.table) view) (solved_put c.args.balanced)
+    (level_puts (option_map (λ rating. rating.now) c.args.table) (given view STORAGE) (given view POOL_ELEVATION) c.args.balanced) _ _ c.in-Err.answer c.in-Err.ensures.asks.refused

@@ -2,13 +2,13 @@ use Rattle.std.proofs.Common.{sym}
 use Rattle.rw_method.specs.declared.places.TheConstants.{OUTFLOW, POOL_ELEVATION, STORAGE}
 use Rattle.rw_method.specs.View.{given}
 use Rattle.rw_method.specs.Puts.{solved_put, level_puts, evaporation_put, release_puts, known_after}
-use Rattle.rw_reservoir.specs.Asking.{can_get}
-use Rattle.rw_reservoir.proofs.Misfits.{refused_in_front, refused_behind, four_fit}
+use Rattle.rw_method.specs.Asking.{can_get}
+use Rattle.rw_method.proofs.Misfits.{refused_in_front, refused_behind, four_fit}
 use Rattle.rw_reservoir.proofs.puts.put_all.Goals as goal
 
 pub returns-in-Err : goal.returns-in-Err
 returns-in-Err c =
-    let table = c.args.table.now in
+    let table = (option_map (λ rating. rating.now) c.args.table) in
     let view = c.args.view.now in
     let balanced = c.args.balanced in
     sym (refused_in_front (can_get table view) (solved_put balanced) (level_puts table (given view STORAGE) (given view POOL_ELEVATION) balanced)
@@ -17,7 +17,7 @@ returns-in-Err c =
 
 pub returns-in-Ok-ask_derived : goal.returns-in-Ok-ask_derived
 returns-in-Ok-ask_derived c =
-    let table = c.args.table.now in
+    let table = (option_map (λ rating. rating.now) c.args.table) in
     let view = c.args.view.now in
     let balanced = c.args.balanced in
     let outflow = c.known_after-outflow.ensures in
@@ -29,7 +29,7 @@ returns-in-Ok-ask_derived c =
 
 pub returns-in-Err-ask_derived : goal.returns-in-Err-ask_derived
 returns-in-Err-ask_derived c =
-    let table = c.args.table.now in
+    let table = (option_map (λ rating. rating.now) c.args.table) in
     let view = c.args.view.now in
     let balanced = c.args.balanced in
     let outflow = c.known_after-outflow.ensures in

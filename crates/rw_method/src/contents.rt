@@ -1,0 +1,102 @@
+ghost use Rattle.std.specs.Prelude.{◌≡◌, Some, option_map};
+ghost use Rattle.rw_method.specs.declared.basis.Basis.TheVariants as Basis;
+ghost use Rattle.rw_method.specs.declared.places.TheConstants.{POOL_ELEVATION, STORAGE};
+ghost use Rattle.rw_method.specs.View.{given};
+ghost use Rattle.rw_method.specs.Contents.{basis_of, are_both_zero, elevation_of, volume_of, can_hold, contents_by};
+ghost use Rattle.rw_method.specs.Balance.{stores};
+
+use crate::places::{POOL_ELEVATION, STORAGE};
+use crate::{Basis, Given, Share, Term, View};
+use rw_table::Rating;
+
+/// Of a storage and an elevation that are both given, the one of the lesser number, and in a tie the storage.
+pub(crate) fn basis_of(storage: Option<Given>, elevation: Option<Given>) -> Basis
+    ensures { result ≡ basis_of storage elevation }
+{
+    match (storage, elevation) {
+        (None, None) => Basis::Nothing,
+        (Some(storage), None) => Basis::Storage(storage),
+        (None, Some(elevation)) => Basis::Elevation(elevation),
+        (Some(storage), Some(elevation)) => {
+            if storage.number <= elevation.number {
+                Basis::Storage(storage)
+            } else {
+                Basis::Elevation(elevation)
+            }
+        }
+    }
+}
+
+/// Whether both are given with number 0.
+pub(crate) fn are_both_zero(storage: Option<Given>, elevation: Option<Given>) -> bool
+    ensures { result ≡ are_both_zero storage elevation }
+{
+    match (storage, elevation) {
+        (Some(storage), Some(elevation)) => storage.number == 0 && elevation.number == 0,
+        _ => false,
+    }
+}
+
+/// The elevation at a storage, where there is a table that has it.
+pub(crate) fn elevation_of(table: Option<&Rating>, storage: i64) -> Option<i64>
+    ensures { result ≡ elevation_of (option_map (λ rating. rating.now) table.entry) storage }
+{
+    match table {
+        Some(rating) => rating.elev(storage),
+        None => None,
+    }
+}
+
+/// The volume at an elevation, where there is a table that has it.
+pub(crate) fn volume_of(table: Option<&Rating>, elevation: i64) -> Option<i64>
+    ensures { result ≡ volume_of (option_map (λ rating. rating.now) table.entry) elevation }
+{
+    match table {
+        Some(rating) => rating.vol(elevation),
+        None => None,
+    }
+}
+
+/// Whether the reservoir can hold so much: the table, if there is one, has an elevation for it.
+pub(crate) fn can_hold(table: Option<&Rating>, storage: i64) -> bool
+    ensures { result ≡ can_hold (option_map (λ rating. rating.now) table.entry) storage }
+{
+    match table {
+        Some(rating) => rating.elev(storage).is_some(),
+        None => true,
+    }
+}
+
+// The contents by an elevation. They are 0 where the table doesn't have it: the answer is then that it is out of range.
+fn contents_at(table: Option<&Rating>, elevation: Given) -> Given
+    ensures { Some result ≡ contents_by (option_map (λ rating. rating.now) table.entry) (Basis.Elevation elevation) }
+{
+    Given {
+        value: volume_of(table, elevation.value).unwrap_or(0),
+        number: elevation.number,
+    }
+}
+
+// The contents that are given.
+fn contents_by(table: Option<&Rating>, basis: Basis) -> Option<Given>
+    ensures { result ≡ contents_by (option_map (λ rating. rating.now) table.entry) basis }
+{
+    match basis {
+        Basis::Nothing => None,
+        Basis::Storage(storage) => Some(storage),
+        Basis::Elevation(elevation) => Some(contents_at(table, elevation)),
+    }
+}
+
+/// The contents as a term, which takes water and is put as the storage: what a storage or an elevation that is given gives.
+pub fn stores(view: &View, table: Option<&Rating>) -> Term
+    ensures { result ≡ stores (contents_by (option_map (λ rating. rating.now) table.entry)
+        (basis_of (given view.entry.now STORAGE) (given view.entry.now POOL_ELEVATION))) }
+{
+    let basis = basis_of(view.given(STORAGE), view.given(POOL_ELEVATION));
+    Term {
+        place: STORAGE,
+        share: Share::Takes,
+        given: contents_by(table, basis),
+    }
+}

@@ -1,8 +1,0 @@
-use Rattle.rw_base.proofs.Common.{◌≡◌, drop, list_all}
-use Rattle.rw_model.specs.Objects.{Object}
-use Rattle.rw_order.specs.Free.{keeps_water}
-use Rattle.rw_order.proofs.free.all_keep_water.Given as goal
-
-abbrev pub invariant-loop-before : goal.invariant-loop-before
-invariant-loop-before l =
-    list_all (λ (object : Object). keeps_water object.kind) (drop l.before l.basin.objects) ≡ list_all (λ (object : Object). keeps_water object.kind) l.basin.objects
