@@ -1,5 +1,6 @@
 -- What a run comes to for its session.
-use Rattle.rw_base.proofs.Common.{◌≡◌, ◌≤◌, ◌+◌, ◌∙◌, ℕ, zero, suc, Bool, false, false≢true, List, [], ◌∷◌, Contains, Option, Some, None, IsSome, length, refl, sym, ap, subst, arith, replicate, same_Some, none-some, slice_get}
+use Rattle.rw_base.proofs.Common.{◌≡◌, ◌<◌, ◌≤◌, ◌+◌, ◌∙◌, ℕ, zero, suc, Bool, false, false≢true, List, [], ◌∷◌, Contains, Option, Some, None, IsSome, IfSome, get_or, length, refl, sym, ap, subst, arith, replicate, same_Some, none-some, slice_get}
+use Rattle.std.proofs.lemmas.Option.{slice_get_read}
 use Rattle.rw_model.specs.Draft.{Draft}
 use Rattle.rw_inputs.specs.Edits.{Batch, after_batch}
 use Rattle.rw_inputs.specs.Givens.{givens}
@@ -15,9 +16,9 @@ use Rattle.rpl_verify.specs.Verified.{Accepted}
 use Rattle.rw_rules.specs.Rules.{policy_in}
 use Rattle.rw_rerun.specs.Kept.{AreKept, IsKept, IsKeepable, changed}
 use Rattle.rw_rerun.specs.Session.{Applies, IsSessionOf, IsStarted, Session, numbers_of}
-use Rattle.rw_rerun.specs.UnderWay.{CanReplay, CanReplayAll, IsPassOf, IsUnderWay}
+use Rattle.rw_rerun.specs.UnderWay.{CanReplay, CanReplayAll, IsEntry, IsPassOf, IsUnderWay}
 use Rattle.rw_rerun.specs.declared.pass.Pass.{Pass}
-use Rattle.rw_rerun.proofs.Keeping.{length_changed}
+use Rattle.rw_rerun.proofs.Keeping.{kept_there, length_changed}
 use Rattle.rw_rerun.proofs.Ways.{whole_way}
 
 -- the session once its run has passed all timesteps
@@ -103,3 +104,21 @@ applies basin policy batch inputs old pass session values given made way = recor
       subst (λ log. AreRerun basin log way.log (numbers_of pass.reran.items))
       (one_run basin (policy_in basin policy) (givens basin old.inputs) session.log earlier session.whole run') way.rerun;
 }
+
+-- ---- one timestep of those that are kept
+
+pub entry_there : (was : List (Option StepRecord)) (place from count : ℕ) (entry : Option StepRecord) → from ≡ place → place < count → length was ≡ count
+    → entry ≡ get_or was from entry → slice_get was place ≡ Some entry
+entry_there was place from count entry at near many is =
+    ap (slice_get was) (sym at) ∙ slice_get_read was count from entry (sym many) (omega (arith, at, near)) is
+
+pub replayed_here : (basin : Draft) (was : List (Option StepRecord)) (place : ℕ) (entry : Option StepRecord) → CanReplayAll basin was
+    → slice_get was place ≡ Some entry → IfSome entry (CanReplay basin (place + 1))
+replayed_here basin was place None all there = tt
+replayed_here basin was place (Some kept) all there = all place kept there
+
+pub entry_is : (basin : Draft) (policy : Policy) (earlier : Log) (was : List (Option StepRecord)) (place : ℕ) (entry : Option StepRecord)
+    → AreKept basin policy earlier 1 was → slice_get was place ≡ Some entry → IsEntry basin policy earlier was place entry
+entry_is basin policy earlier was place entry are there =
+    let here : 1 + place ≡ place + 1 = omega arith in
+    record { there = there; kept = subst (λ step. IsKept basin policy earlier step entry) here (kept_there basin policy earlier 1 place was entry are there) }

@@ -1,7 +1,4 @@
-use Rattle.rw_base.proofs.Common.{IfSome, Option, subst, sym}
-use Rattle.rw_record.specs.Noted.{AreHeld}
-use Rattle.rw_record.specs.Record.{StepRecord}
-use Rattle.rw_series.specs.Series.{held}
+use Rattle.rw_base.proofs.Common.{◌∙◌}
 use Rattle.rw_rerun.proofs.Counted.{weaker}
 use Rattle.rw_rerun.proofs.passing.pass_step.Goals as goal
 
@@ -10,4 +7,6 @@ returns-then-pass g c =
     weaker c.args.setup.now.basin.now c.args.setup.now.policy.now c.args.step.0 _ _ c.args.pass.now _ _ _ _ (λ entry is. tt) (c.skip.ensures c.args.steps.now)
 
 pub returns-then-alike : goal.returns-then-alike
-returns-then-alike g c = ?
+returns-then-alike g c =
+    weaker c.args.setup.now.basin.now c.args.setup.now.policy.now c.args.step.0 _ _ c.args.pass.now _ _ _ _ (λ entry is. is ∙ c.in-Some.is)
+    (c.take_over.ensures c.args.steps.now)
