@@ -6,6 +6,8 @@ use Rattle.rw_model.specs.Draft.{Draft}
 use Rattle.rw_inputs.specs.Inputs.{Inputs}
 use Rattle.rw_record.specs.Record.{StepRecord}
 use Rattle.rpl_verify.specs.Verified.{Accepted}
+use Rattle.rw_base.specs.declared.number.StepNo.{StepNo}
+use Rattle.rw_rerun.specs.Session.{CountsRuns}
 use Rattle.rw_rerun.specs.UnderWay.{GoesOn, PassesAll}
 use Rattle.rw_rerun.specs.declared.pass.Pass.{Pass}
 
@@ -45,3 +47,8 @@ weaker basin policy step Fits Known old new before after result known on = recor
   rises = on.rises;
   few = on.few;
 }
+
+pub wants_runs : {A : Type 0} (basin : Draft) (before after : ℕ) (result : Result A NoMemory) (reran : A → List StepNo) (why : NoMemory)
+    → IsErrAnd result (λ fault. fault ≡ why) → before ≤ after → after ≤ before + basin.control.stamps.count → CountsRuns basin before after result reran
+wants_runs basin before after (Ok done) reran why is rises few = absurd is
+wants_runs basin before after (Err fault) reran why is rises few = record { each = tt; rises = rises; few = few }
