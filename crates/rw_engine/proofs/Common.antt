@@ -14,9 +14,7 @@ pub use Rattle.rw_engine.specs.Lines.{Grows, fault_by, fault_of_rule, lines_by, 
 pub use Rattle.rw_engine.specs.Passing.{ComesTo, Passes, Stands}
 pub use Rattle.rw_engine.specs.Shows.{IsBefore, IsEngineOf, Shows, closed_by}
 pub use Rattle.rw_engine.specs.State.{Does, Goes, GoesTo, HoldsWithin, IsOnTheWay, IsRevocable, IsStill, IsWithinStep, Keeps, Reached, ended_by, ending, left, seen}
-pub use Rattle.rw_engine.specs.Undone.{AreCells, taken_back, undone_of}
 pub use Rattle.rw_engine.specs.declared.state.State.{State}
-pub use Rattle.rw_engine.specs.declared.undo.Undone.{Undone}
 pub use Rattle.rw_inputs.specs.Inputs.{Inputs, IsInputsOf, value_at}
 pub use Rattle.rw_method.specs.declared.put.Put.{Put}
 pub use Rattle.rw_model.specs.Draft.{Draft, IsObject}

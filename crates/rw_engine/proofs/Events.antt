@@ -116,7 +116,7 @@ pub record Went (basin : Draft) (old new : State) (looked : List Look) (step obj
 
 -- the timestep goes on, or the run ends by the fault
 pub goes_to : (basin : Draft) (policy : Accepted) (old new : State) (looked : List Look) (step object : ℕ) (rest : List ℕ) (log : Log) (event : Event) (ended : DispatchEnd)
-    → HoldsWithin basin policy old step (object ∷ rest) log → Went basin old new looked step object rest event ended → new.end ≡ old.end
+    → HoldsWithin basin policy old step (object ∷ rest) log → Went basin old new looked step object rest event ended → new.run.end ≡ old.run.end
     → (why : Option RunFault) → fault_by object step ended ≡ why → GoesTo basin policy (ending (ended_by why new) (is_some why)) (ended_by why new) step log event
 goes_to basin policy old new looked step object rest log event ended holds went end None is =
     let tells = says basin looked step object rest log event ended went.told.is in
@@ -136,7 +136,7 @@ goes_to basin policy old new looked step object rest log event ended holds went 
 goes_to basin policy old new looked step object rest log event ended holds went end (Some why) is =
     let faulted = (says basin looked step object rest log event ended went.told.is).faulted why is in (
       faulted,
-      shown basin looked step object rest log (seen old) (seen (record new { end = Fault why })) event ended holds.shows
+      shown basin looked step object rest log (seen old) (seen (record new { run = record new.run { end = Fault why } })) event ended holds.shows
           (record { is = went.told.is; cells = went.told.cells; trace = went.told.trace; closed_steps = went.told.closed_steps })
           (ap (λ e. end_of (e ∷ log)) (sym faulted)),
     )

@@ -71,24 +71,24 @@ module _ (basin : Draft) (policy : Policy) (cells : Cells) (step : ℕ) (log : L
 
 -- what was made where a rule fired so, and writes these and tells these lines
 pub record MadeSo (basin : Draft) (policy : Accepted) (old new : State) (rule step : ℕ) (log : Log) (fire : Fire) (written : List Asked) (more : List TraceEvent) : Type 0 where
-  pub cells : (cell : Cell) → held new.series cell ≡ option_or (last_put basin written cell) (held old.series cell)
-  pub trace : new.trace ≡ told old.trace more
-  pub closed_steps : new.closed ≡ old.closed
+  pub cells : (cell : Cell) → held new.run.series cell ≡ option_or (last_put basin written cell) (held old.run.series cell)
+  pub trace : new.run.trace ≡ told old.run.trace more
+  pub closed_steps : new.run.closed ≡ old.run.closed
   pub counted : IsCounted old.firings rule
   pub firings : new.firings ≡ raised old.firings rule
   pub counts : new.counts ≡ old.counts
   pub queue : new.queue.waiting ≡ old.queue.waiting ++ woken basin None old.queue.waiting (slots_at step written)
-  pub looks : (firing : Firing) → firing.rule ≡ rule → firing.looked ≡ looks_at (held old.series) fire.looked → ShowsLooks policy new.rules (fired firing ∷ log)
+  pub looks : (firing : Firing) → firing.rule ≡ rule → firing.looked ≡ looks_at (held old.run.series) fire.looked → ShowsLooks policy new.rules (fired firing ∷ log)
 
 module _ (basin : Draft) (policy : Accepted) (old new : State) (rule step : ℕ) (log : Log) (fire : Fire) (holds : HoldsWithin basin policy old step old.queue.waiting log)
-    (end : new.end ≡ old.end) where
+    (end : new.run.end ≡ old.run.end) where
   goes_on : (is_done : Bool) (asked written : List Asked)
       → MadeSo basin policy old new rule step log fire written (FireLine (record { 0 = rule }) is_done fire.count ∷ map line_of written)
       → HoldsWithin basin policy new step new.queue.waiting (fired (record {
         rule = rule;
         step = step;
         is_done = is_done;
-        looked = looks_at (held old.series) fire.looked;
+        looked = looks_at (held old.run.series) fire.looked;
         asked = asked;
         written = written;
         count = fire.count;
@@ -98,7 +98,7 @@ module _ (basin : Draft) (policy : Accepted) (old new : State) (rule step : ℕ)
         rule = rule;
         step = step;
         is_done = is_done;
-        looked = looks_at (held old.series) fire.looked;
+        looked = looks_at (held old.run.series) fire.looked;
         asked = asked;
         written = written;
         count = fire.count;
@@ -106,7 +106,7 @@ module _ (basin : Draft) (policy : Accepted) (old new : State) (rule step : ℕ)
         open_step = refl;
         shows = record {
           cells = λ cell. made.cells cell ∙ ap (λ z. option_or (last_put basin written cell) z) (holds.shows.cells cell);
-          trace = shown_more old.trace new.trace (trace_of log) (FireLine (record { 0 = rule }) is_done fire.count ∷ map line_of written) made.trace holds.shows.trace;
+          trace = shown_more old.run.trace new.run.trace (trace_of log) (FireLine (record { 0 = rule }) is_done fire.count ∷ map line_of written) made.trace holds.shows.trace;
           closed_steps = made.closed_steps ∙ holds.shows.closed_steps;
           end = end ∙ holds.shows.end ∙ settled_inside log step holds.open_step;
         };
@@ -119,19 +119,19 @@ module _ (basin : Draft) (policy : Accepted) (old new : State) (rule step : ℕ)
             ∙ ap (count_if (rule == other)) (holds.firings other first);
       }
 
-  ends_by : (why : RunFault) → MadeSo basin policy old new rule step log fire [] (FaultLine why ∷ []) → Shows basin (seen (record new { end = Fault why })) (fault why ∷ log)
+  ends_by : (why : RunFault) → MadeSo basin policy old new rule step log fire [] (FaultLine why ∷ []) → Shows basin (seen (record new { run = record new.run { end = Fault why } })) (fault why ∷ log)
   ends_by why made = record {
     cells = λ cell. made.cells cell ∙ holds.shows.cells cell;
-    trace = shown_more old.trace new.trace (trace_of log) (FaultLine why ∷ []) made.trace holds.shows.trace;
+    trace = shown_more old.run.trace new.run.trace (trace_of log) (FaultLine why ∷ []) made.trace holds.shows.trace;
     closed_steps = made.closed_steps ∙ holds.shows.closed_steps;
     end = refl;
   }
 
   -- the timestep goes on, or the run ends by the fault
   pub fired_to : (so : FireEnd)
-      → MadeSo basin policy old new rule step log fire (written_by (ended basin (held old.series) rule step fire so))
-      (lines_of_rule rule step so fire.count (written_by (ended basin (held old.series) rule step fire so)))
-      → GoesTo basin policy (ending (ended_by (fault_of_rule rule step so) new) (is_some (fault_of_rule rule step so))) (ended_by (fault_of_rule rule step so) new) step log (ended basin (held old.series) rule step fire so)
+      → MadeSo basin policy old new rule step log fire (written_by (ended basin (held old.run.series) rule step fire so))
+      (lines_of_rule rule step so fire.count (written_by (ended basin (held old.run.series) rule step fire so)))
+      → GoesTo basin policy (ending (ended_by (fault_of_rule rule step so) new) (is_some (fault_of_rule rule step so))) (ended_by (fault_of_rule rule step so) new) step log (ended basin (held old.run.series) rule step fire so)
   fired_to Done made = goes_on true _ _ made
   fired_to Unknown made = goes_on false _ _ made
   fired_to DividesByZero made = (refl, ends_by _ made)
@@ -139,12 +139,12 @@ module _ (basin : Draft) (policy : Accepted) (old new : State) (rule step : ℕ)
 
 -- the same, of an end that is told and its fault
 pub fired_on : (basin : Draft) (policy : Accepted) (old new : State) (rule step : ℕ) (log : Log) (fire : Fire) → HoldsWithin basin policy old step old.queue.waiting log
-    → new.end ≡ old.end → (so : FireEnd) → so ≡ fire.end → (why : Option RunFault) → why ≡ fault_of_rule rule step so
-    → MadeSo basin policy old new rule step log fire (written_by (ended basin (held old.series) rule step fire fire.end))
-    (lines_of_rule rule step fire.end fire.count (written_by (ended basin (held old.series) rule step fire fire.end)))
-    → GoesTo basin policy (ending (ended_by why new) (is_some why)) (ended_by why new) step log (ended basin (held old.series) rule step fire fire.end)
+    → new.run.end ≡ old.run.end → (so : FireEnd) → so ≡ fire.end → (why : Option RunFault) → why ≡ fault_of_rule rule step so
+    → MadeSo basin policy old new rule step log fire (written_by (ended basin (held old.run.series) rule step fire fire.end))
+    (lines_of_rule rule step fire.end fire.count (written_by (ended basin (held old.run.series) rule step fire fire.end)))
+    → GoesTo basin policy (ending (ended_by why new) (is_some why)) (ended_by why new) step log (ended basin (held old.run.series) rule step fire fire.end)
 fired_on basin policy old new rule step log fire holds end so same why is made =
-    subst (λ w. GoesTo basin policy (ending (ended_by w new) (is_some w)) (ended_by w new) step log (ended basin (held old.series) rule step fire fire.end))
+    subst (λ w. GoesTo basin policy (ending (ended_by w new) (is_some w)) (ended_by w new) step log (ended basin (held old.run.series) rule step fire fire.end))
     (sym (is ∙ ap (fault_of_rule rule step) same)) (fired_to basin policy old new rule step log fire holds end fire.end made)
 
 -- looks of rules whose marks alone changed

@@ -1,10 +1,12 @@
 mod Common
 pub mod Raises
 pub mod Places
-pub mod TakenBack
+pub mod Notings
 pub mod Events
 pub mod Traces
 pub mod Steps
 pub mod After
 pub mod Firings
+pub mod Records
+pub mod Again
 pub mod Runs

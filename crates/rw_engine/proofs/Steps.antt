@@ -1,15 +1,28 @@
 -- A timestep of the engine, over the log that it shows.
-use Rattle.rw_engine.proofs.Common.{Bool, Draft, Event, Goes, Grows, HoldsWithin, IsBefore, IsStill, Leads, List, Log, None, Passes, Policy, Reached, Series, Settled, Shows, Some, State, [], all_waiting, ap, arith, count_of, false, follows, follows_in, held, if◌then◌else◌, lines, nat_lt, nat_tests, next, Option, trace_of, opened, opens, refl, seen, subst, sym, true, ℕ, ◌++◌, ◌+◌, ◌∙◌, ◌∷◌, ◌≡◌, ◌≤◌}
+use Rattle.rw_engine.proofs.Common.{Bool, Cell, Cells, Draft, Engine, Event, Goes, Grows, HoldsWithin, IsBefore, IsSome, IsStill, Leads, List, Log, None, Option, Passes, Policy, Reached, Series, Settled, Shows, Some, State, [], all_waiting, ap, append-nil, append_assoc, ap₂, arith, cells_of, closed, count_of, fault, false, follows, follows_in, given, held, held_after, if◌then◌else◌, inside, last_put, length, lines, nat_lt, nat_tests, next, opened, opens, option_or, refl, seen, standing, subst, sym, trace_of, true, written_by, ℕ, ◌++◌, ◌+◌, ◌∙◌, ◌∷◌, ◌≡◌, ◌≤◌}
+use Rattle.std.specs.Prelude.{Err, IfSome, IsErrAnd, Ok, Result, drop, is_some}
+use Rattle.std.specs.List.{flat_map}
+use Rattle.rw_base.proofs.Common.{All-push}
+use Rattle.rw_base.specs.declared.memory.NoMemory.{NoMemory}
+use Rattle.rw_dispatch.specs.Writes.{AreWrites}
+use Rattle.rw_run.specs.Frame.{IsFault, IsStepFrom, log_after}
+use Rattle.rw_run.specs.Log.{fired, idle, solved}
+use Rattle.rw_run.specs.Timestep.{AreLooked}
+use Rattle.rw_run.specs.Trace.{lines_in, told}
+use Rattle.rw_run.specs.declared.held.Held.{Held}
 use Rattle.rw_run.specs.declared.trace.TraceEvent.{TraceEvent}
-use Rattle.rw_run.specs.Trace.{told}
+use Rattle.rw_record.specs.Noted.{AreOnce}
+use Rattle.rw_record.specs.Notes.{Notes}
 use Rattle.rpl_verify.specs.Verified.{Accepted}
 use Rattle.rw_rules.specs.Rules.{ShowsLooks, policy_in}
-use Rattle.std.specs.Prelude.{Result, Ok, Err, IsErrAnd, IsSome}
-use Rattle.rw_base.specs.declared.memory.NoMemory.{NoMemory}
-use Rattle.rw_engine.specs.Passing.{steps_of}
-use Rattle.rw_engine.specs.State.{HasPassed, IsRevocable, IsStateOf, Keeps}
+use Rattle.rw_engine.specs.Passing.{Closes, steps_of}
+use Rattle.rw_engine.specs.Records.{CanWriteLines, HasNoted, lines_of_step}
+use Rattle.rw_engine.specs.State.{AreInside, CanGoBack, HasPassed, IsStateOf, Keeps}
 use Rattle.rw_engine.specs.declared.step_end.StepEnd.{StepEnd}
-use Rattle.rw_engine.proofs.Traces.{kept_on, shown_more, told_more}
+use Rattle.rw_engine.specs.declared.step_end.StepEnd.TheVariants.{Closed as IsClosed, Fault as IsFaulted}
+use Rattle.rw_engine.proofs.Notings.{notes_more}
+use Rattle.rw_engine.proofs.Records.{can_step}
+use Rattle.rw_engine.proofs.Traces.{kept_before, shown_more, told_more}
 
 pub leads_more : (basin : Draft) (policy : Policy) (old : Log) (events : List Event) (event : Event) (new : Log) → Leads basin policy old events new
     → follows basin policy new ≡ Some event → Leads basin policy old (events ++ event ∷ []) (event ∷ new)
@@ -26,15 +39,15 @@ follows_inside : (basin : Draft) (policy : Accepted) (state : State) (step : ℕ
     → follows basin (policy_in basin policy) log ≡ next basin (policy_in basin policy) step log
 follows_inside basin policy state step log waits holds = ap (follows_in basin (policy_in basin policy) log) holds.open_step
 
-pub opens_step : (basin : Draft) (policy : Accepted) (old new : State) (step : ℕ) (log : Log) → Shows basin (seen old) log → new.series ≡ old.series
+pub opens_step : (basin : Draft) (policy : Accepted) (old new : State) (step : ℕ) (log : Log) → Shows basin (seen old) log → new.run.series ≡ old.run.series
     → new.queue.waiting ≡ all_waiting basin → ((object : ℕ) → count_of new.counts object ≡ 0) → ((rule : ℕ) → count_of new.firings rule ≡ 0)
-    → ShowsLooks policy new.rules (opened step ∷ log) → new.trace ≡ told old.trace (lines (opened step))
-    → new.closed ≡ old.closed → new.end ≡ Settled → HoldsWithin basin policy new step new.queue.waiting (opened step ∷ log)
+    → ShowsLooks policy new.rules (opened step ∷ log) → new.run.trace ≡ told old.run.trace (lines (opened step))
+    → new.run.closed ≡ old.run.closed → new.run.end ≡ Settled → HoldsWithin basin policy new step new.queue.waiting (opened step ∷ log)
 opens_step basin policy old new step log shows series queue counts firings looks trace last end = record {
   open_step = refl;
   shows = record {
     cells = λ cell. ap (λ (s : Series). held s cell) series ∙ shows.cells cell;
-    trace = shown_more old.trace new.trace (trace_of log) (lines (opened step)) trace shows.trace;
+    trace = shown_more old.run.trace new.run.trace (trace_of log) (lines (opened step)) trace shows.trace;
     closed_steps = last ∙ shows.closed_steps;
     end = end;
   };
@@ -44,15 +57,50 @@ opens_step basin policy old new step log shows series queue counts firings looks
   firings = λ rule first. firings rule;
 }
 
+-- ---- events within a timestep
+
+-- what stands inside a timestep is no fault, whatever is before it
+calm_inside : (event : Event) (log : Log) (step : ℕ) → standing (event ∷ log) ≡ inside step → ¬ IsFault event
+calm_inside (fault why) log step is = absurd (cc)
+calm_inside event log step is = λ faulty. faulty
+
+pub alone : (event : Event) (log : Log) → standing (event ∷ []) ≡ standing (event ∷ log)
+alone (given cell value) log = refl
+alone (opened step) log = refl
+alone (closed step) log = refl
+alone (idle object step looked) log = refl
+alone (solved dispatch) log = refl
+alone (fired firing) log = refl
+alone (fault why) log = refl
+
+inside_more : (step : ℕ) (events : List Event) (event : Event) → AreInside step events → standing (event ∷ []) ≡ inside step → AreInside step (events ++ event ∷ [])
+inside_more step [] event within at = (at, tt)
+inside_more step (first ∷ events) event within at = (within.0, inside_more step events event within.1 at)
+
+leads_after : (basin : Draft) (policy : Policy) (old : Log) (events : List Event) (new : Log) → Leads basin policy old events new → new ≡ log_after events old
+leads_after basin policy old [] new leads = leads
+leads_after basin policy old (event ∷ events) new leads = leads_after basin policy (event ∷ old) events new leads.1
+
+-- what an event made of the cells, by what both states show
+made_by : (basin : Draft) (old new : State) (event : Event) (log : Log) → Shows basin (seen old) log → Shows basin (seen new) (event ∷ log) → (cell : Cell)
+    → held new.run.series cell ≡ held_after basin event (held old.run.series) cell
+made_by basin old new event log was is cell =
+    is.cells cell ∙ ap (λ z. option_or (last_put basin (written_by event) cell) z) (sym (was.cells cell))
+
 pub reached_more : (basin : Draft) (policy : Accepted) (start : Log) (old new : State) (step : ℕ) → Reached basin policy start old step
-    → ((log : Log) → HoldsWithin basin policy old step old.queue.waiting log → Goes basin policy None new step log) → Reached basin policy start new step
+    → ((log : Log) → HoldsWithin basin policy old step old.queue.waiting log → Goes basin policy None (held old.run.series) old.noted new step log) → Reached basin policy start new step
 reached_more basin policy start old new step reached goes =
-    let went = goes reached.log reached.holds in record {
+    let went = goes reached.now reached.holds in
+    let calm = calm_inside went.event reached.now step went.goes.open_step in record {
       events = reached.events ++ went.event ∷ [];
-      log = went.event ∷ reached.log;
-      leads = leads_more basin (policy_in basin policy) start reached.events went.event reached.log reached.leads
-          (follows_inside basin policy old step reached.log old.queue.waiting reached.holds ∙ went.follows);
+      now = went.event ∷ reached.now;
+      leads = leads_more basin (policy_in basin policy) (opened step ∷ start) reached.events went.event reached.now reached.leads
+          (follows_inside basin policy old step reached.now old.queue.waiting reached.holds ∙ went.follows);
       holds = went.goes;
+      inside_step = inside_more step reached.events went.event reached.inside_step (alone went.event reached.now ∙ went.goes.open_step);
+      notes = notes_more basin (cells_of basin start) (held old.run.series) (held new.run.series) reached.events went.event old.noted new.noted
+          (went.notes calm) went.asks (made_by basin old new went.event reached.now reached.holds.shows went.goes.shows) reached.notes;
+      can = All-push (λ (event : Event). AreWrites basin (written_by event)) reached.events went.event reached.can went.can;
     }
 
 opened_next : (basin : Draft) (step last : ℕ) (test : Bool) → nat_lt last basin.control.stamps.count ≡ test → step ≡ last + 1 → step ≤ basin.control.stamps.count
@@ -60,25 +108,115 @@ opened_next : (basin : Draft) (step last : ℕ) (test : Bool) → nat_lt last ba
 opened_next basin step last true test is exists = ap (λ n. Some (opened n)) (sym is)
 opened_next basin step last false test is exists = absurd (grind (arith, nat_tests))
 
-pub ends_step : (basin : Draft) (policy : Accepted) (log : Log) (old new : State) (step : ℕ) (end : StepEnd) → Reached basin policy (opened step ∷ log) old step
-    → ((l : Log) → HoldsWithin basin policy old step old.queue.waiting l → Goes basin policy (Some end) new step l) → IsBefore basin step log → Passes basin (policy_in basin policy) log end (seen new) step
-ends_step basin policy log old new step end reached goes before =
-    let went = goes reached.log reached.holds in
-    let first : follows basin (policy_in basin policy) log ≡ Some (opened step) =
-    ap (follows_in basin (policy_in basin policy) log) before.rest ∙ opened_next basin step before.last (nat_lt before.last basin.control.stamps.count) refl before.next_one before.exists in
+-- ---- the end of a timestep
+
+-- events and one more, as the first of them and what comes behind it
+abbrev first_in : List Event → Event → Event
+first_in [] last = last
+first_in (event ∷ events) last = event
+
+abbrev behind_in : List Event → Event → List Event
+behind_in [] last = []
+behind_in (event ∷ events) last = events ++ last ∷ []
+
+all_in : (events : List Event) (last : Event) → first_in events last ∷ behind_in events last ≡ events ++ last ∷ []
+all_in [] last = refl
+all_in (event ∷ events) last = refl
+
+step_from : (step : ℕ) (events : List Event) (last : Event) → AreInside step events → last ≡ closed step → IsStepFrom step (first_in events last) (behind_in events last)
+step_from step [] last within is = is
+step_from step (event ∷ []) last within is = (within.0, is)
+step_from step (event ∷ next ∷ events) last within is = (within.0, step_from step (next ∷ events) last within.1 is)
+
+pub trace_after : (events : List Event) (log : Log) → trace_of (log_after events log) ≡ trace_of log ++ flat_map lines events
+trace_after [] log = sym (append-nil (trace_of log))
+trace_after (event ∷ events) log = trace_after events (event ∷ log) ∙ append_assoc (trace_of log) (lines event) (flat_map lines events)
+
+drop_front : {A : Type 0} (xs ys : List A) → drop (length xs) (xs ++ ys) ≡ ys
+drop_front [] ys = refl
+drop_front (x ∷ xs) ys = drop_front xs ys
+
+-- what an engine that keeps a trace has noted of a timestep
+pub has_noted : (basin : Draft) (step : ℕ) (old : Log) (events : List Event) (engine : Engine) (noted : Option (List Held)) (before trace : Option (List TraceEvent))
+    → engine.noted ≡ noted → engine.trace ≡ trace → is_some noted ≡ is_some trace
+    → IfSome noted (λ cells. AreLooked basin (cells_of basin old) events cells × AreOnce cells)
+    → IfSome trace (λ told. told ≡ trace_of (log_after events (opened step ∷ old)))
+    → IfSome before (λ told. told ≡ trace_of old) → engine.lines_before ≡ length (lines_in before) → IsSome before
+    → CanWriteLines basin (lines_of_step step events) → IsSome trace → HasNoted basin step old events engine
+has_noted basin step old events engine None before trace is told alike notes shows was many had can kept = absurd (cc)
+has_noted basin step old events engine (Some cells) before None is told alike notes shows was many had can kept = absurd (cc)
+has_noted basin step old events engine (Some cells) None (Some ls) is told alike notes shows was many had can kept = absurd (cc)
+has_noted basin step old events engine (Some cells) (Some first) (Some ls) is told alike notes shows was many had can kept = record {
+  cells = cells;
+  cells_are = is;
+  looked = notes.0;
+  once = notes.1;
+  trace = ls;
+  trace_is = told;
+  lines_are = ap₂ (λ n xs. drop n xs) (many ∙ ap length was) (shows ∙ trace_after events (opened step ∷ old) ∙ append_assoc (trace_of old) (lines (opened step)) (flat_map lines events))
+      ∙ drop_front (trace_of old) (lines_of_step step events);
+  can = can;
+}
+
+looked_once : (basin : Draft) (before now : Cells) (events : List Event) (noted : Option (List Held)) → IfSome noted (Notes basin before now events)
+    → IfSome noted (λ cells. AreLooked basin before events cells × AreOnce cells)
+looked_once basin before now events None notes = tt
+looked_once basin before now events (Some noted) notes = (notes.looked, notes.once)
+
+-- the timestep after the last closed one is opened
+pub begins_step : (basin : Draft) (policy : Policy) (log : Log) (step : ℕ) → IsBefore basin step log → follows basin policy log ≡ Some (opened step)
+begins_step basin policy log step before =
+    ap (follows_in basin policy log) before.rest ∙ opened_next basin step before.last (nat_lt before.last basin.control.stamps.count) refl before.next_one before.exists
+
+pub ends_step : (basin : Draft) (policy : Accepted) (log : Log) (first old new : State) (step : ℕ) (end : StepEnd) → Reached basin policy log old step
+    → ((l : Log) → HoldsWithin basin policy old step old.queue.waiting l → Goes basin policy (Some end) (held old.run.series) old.noted new step l) → Shows basin (seen first) log → IsBefore basin step log
+    → Grows first.run.trace new.run.trace → is_some new.noted ≡ is_some new.run.trace → new.lines_before ≡ length (lines_in first.run.trace)
+    → Passes basin (policy_in basin policy) log end (seen new) step
+ends_step basin policy log first old new step end reached goes shows before grows notes many =
+    let went = goes reached.now reached.holds in
+    let code = policy_in basin policy in
+    let leads = leads_more basin code (opened step ∷ log) reached.events went.event reached.now reached.leads
+    (follows_inside basin policy old step reached.now old.queue.waiting reached.holds ∙ went.follows) in
     record {
       events = opened step ∷ (reached.events ++ went.event ∷ []);
       last = went.event;
-      before = reached.log;
+      before = reached.now;
       within = reached.holds.open_step;
-      leads = (
-        first,
-        leads_more basin (policy_in basin policy) (opened step ∷ log) reached.events went.event reached.log reached.leads
-            (follows_inside basin policy old step reached.log old.queue.waiting reached.holds ∙ went.follows),
-      );
+      leads = (begins_step basin code log step before, leads);
       ends = went.goes.0;
       shows = went.goes.1;
+      closes = closes end went leads;
     }
+  where
+    closes : (e : StepEnd) (went : Goes basin policy (Some e) (held old.run.series) old.noted new step reached.now)
+        → Leads basin (policy_in basin policy) (opened step ∷ log) (reached.events ++ went.event ∷ []) (went.event ∷ reached.now)
+        → Closes basin (policy_in basin policy) e step log (went.event ∷ reached.now) (seen new)
+    closes (IsFaulted why) went leads = tt
+    closes IsClosed went leads =
+        let is = went.goes.0 in
+        let events = reached.events ++ went.event ∷ [] in
+        let split = all_in reached.events went.event in
+        let whole : went.event ∷ reached.now ≡ log_after events (opened step ∷ log) = leads_after basin (policy_in basin policy) (opened step ∷ log) events (went.event ∷ reached.now) leads in
+        let calm : ¬ IsFault went.event = subst (λ (event : Event). ¬ IsFault event) (sym is) (λ faulty. faulty) in
+        let noted = notes_more basin (cells_of basin log) (held old.run.series) (held new.run.series) reached.events went.event old.noted new.noted
+        (went.notes calm) went.asks (made_by basin old new went.event reached.now reached.holds.shows went.goes.1) reached.notes in
+        let can = All-push (λ (event : Event). AreWrites basin (written_by event)) reached.events went.event reached.can went.can in record {
+          first = first_in reached.events went.event;
+          events = behind_in reached.events went.event;
+          timestep = record {
+            last = before.last;
+            rest = before.rest;
+            next_one = before.next_one;
+            goes = step_from step reached.events went.event reached.inside_step is;
+            leads = subst (λ these. Leads basin (policy_in basin policy) (opened step ∷ log) these (log_after these (opened step ∷ log))) (sym split)
+                (subst (Leads basin (policy_in basin policy) (opened step ∷ log) events) whole leads);
+          };
+          is = whole ∙ ap (λ these. log_after these (opened step ∷ log)) (sym split);
+          noted = λ kept. subst (λ these. HasNoted basin step log these (seen new)) (sym split)
+              (has_noted basin step log events (seen new) new.noted first.run.trace new.run.trace refl refl notes (looked_once basin (cells_of basin log) (held new.run.series) events new.noted noted)
+              (subst (λ l. IfSome new.run.trace (λ told. told ≡ trace_of l)) whole went.goes.1.trace)
+              shows.trace many (kept_before first.run.trace new.run.trace grows kept) (can_step basin step events can) kept);
+        }
 
 pub grows_more : (x y z : Option (List TraceEvent)) → Grows x y → Grows y z → Grows x z
 grows_more x y z one other = (one.0 ++ other.0, other.1 ∙ ap (λ t. told t other.0) one.1 ∙ told_more x one.0 other.0)
@@ -88,21 +226,21 @@ still_more one other last before after =
     record { closed_steps = after.closed_steps ∙ before.closed_steps; end = after.end ∙ before.end }
 
 -- what was done can be taken back, and then what an event did
-pub revocable_more : (basin : Draft) (policy : Accepted) (first old new : State) → IsRevocable basin first old → Keeps basin policy old new → IsRevocable basin first new
-revocable_more basin policy first old new before keeps = record {
-  cells = keeps.within.undo;
-  undo = λ kept. keeps.undo (kept_on first.trace old.trace before.grows kept) _ (before.undo kept);
-  grows = grows_more first.trace old.trace new.trace before.grows keeps.grows;
+pub goes_back_more : (basin : Draft) (policy : Accepted) (first old new : State) → CanGoBack first old → Keeps basin policy old new → CanGoBack first new
+goes_back_more basin policy first old new before keeps = record {
+  revocable = keeps.revocable (held first.run.series) before.revocable;
+  lines_before = keeps.lines_before ∙ before.lines_before;
+  grows = grows_more first.run.trace old.run.trace new.run.trace before.grows keeps.grows;
 }
 
 -- memory wants within the timestep
 pub unpassed : (basin : Draft) (policy : Accepted) (step : ℕ) (old new : State) (result : Result StepEnd NoMemory) (why : NoMemory)
-    → IsErrAnd result (λ fault. fault ≡ why) → IsStateOf basin policy new → IsRevocable basin old new → IsStill old new → IsSome old.trace
+    → IsErrAnd result (λ fault. fault ≡ why) → IsStateOf basin policy new → CanGoBack old new → IsStill old new → IsSome old.run.trace
     → HasPassed basin policy step old new result
-unpassed basin policy step old new (Ok end) why is made revocable still kept = absurd is
-unpassed basin policy step old new (Err fault) why is made revocable still kept = record {
+unpassed basin policy step old new (Ok end) why is made back still kept = absurd is
+unpassed basin policy step old new (Err want) why is made back still kept = record {
   made = made;
-  revocable = revocable;
+  back = back;
   still = still;
   passes = λ log shows before. tt;
   closed_steps = tt;
@@ -112,4 +250,4 @@ unpassed basin policy step old new (Err fault) why is made revocable still kept 
 -- no timestep is counted where memory wants
 pub none_counted : (result : Result StepEnd NoMemory) (why : NoMemory) → IsErrAnd result (λ fault. fault ≡ why) → steps_of result ≡ 0
 none_counted (Ok end) why is = absurd is
-none_counted (Err fault) why is = refl
+none_counted (Err want) why is = refl

@@ -1,6 +1,6 @@
 -- Traces that are kept or aren't, and the lines that are told to them.
 use Rattle.rw_engine.proofs.Common.{Grows, List, None, Option, Some, [], ap, append-nil, append_assoc, length, refl, subst, sym, take, ◌++◌, ◌∙◌, ◌≡◌}
-use Rattle.std.specs.Prelude.{IfSome, IsSome, option_map}
+use Rattle.std.specs.Prelude.{IfSome, IsSome, is_some, option_map}
 use Rattle.std.proofs.Math.Seq.{take-append_seam}
 use Rattle.rw_run.specs.declared.trace.TraceEvent.{TraceEvent}
 use Rattle.rw_run.specs.Trace.{lines_in, told}
@@ -43,6 +43,13 @@ kept_on (Some lines) new grows kept = subst (λ t. IsSome t) (sym grows.1) refl
 pub kept_before : (old new : Option (List TraceEvent)) → Grows old new → IsSome new → IsSome old
 kept_before None new grows kept = subst (λ t. IsSome t) grows.1 kept
 kept_before (Some lines) new grows kept = refl
+
+pub grows_some : (old new : Option (List TraceEvent)) → Grows old new → is_some new ≡ is_some old
+grows_some old new grows = ap is_some grows.1 ∙ by old
+  where
+    by : (trace : Option (List TraceEvent)) → is_some (told trace grows.0) ≡ is_some trace
+    by None = refl
+    by (Some lines) = refl
 
 -- a line more, or lines more
 pub told_on : (first old new : Option (List TraceEvent)) (one more all : List TraceEvent) → new ≡ told old more → old ≡ told first one → one ++ more ≡ all

@@ -1,5 +1,5 @@
 -- What an engine has noted of a timestep, and the record that it makes of it.
-use Rattle.std.specs.Prelude.{◌≡◌, ℕ, ◌<◌, List, [], ◌∷◌, All, Option, Some, None, drop, length}
+use Rattle.std.specs.Prelude.{◌≡◌, ◌⊎◌, ℕ, ◌<◌, List, [], ◌∷◌, All, Option, Some, None, drop, length}
 use Rattle.std.specs.List.{flat_map}
 use Rattle.rw_model.specs.Draft.{Draft}
 use Rattle.rw_dispatch.specs.Writes.{AreWrites}
@@ -49,7 +49,7 @@ pub record HasNoted (basin : Draft) (step : ℕ) (old : Log) (events : List Even
   pub trace : List TraceEvent
   pub trace_is : engine.trace ≡ Some trace
   pub lines_are : drop engine.lines_before trace ≡ lines_of_step step events
-  pub can : CanWriteAll basin events
+  pub can : CanWriteLines basin (lines_of_step step events)
 
 -- a record has the same cells, rising, with what they held, and the same lines, and what they say may be written
 pub record RecordsThese (basin : Draft) (step : ℕ) (old : Log) (events : List Event) (kept : StepRecord) : Type 0 where

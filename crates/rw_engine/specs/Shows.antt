@@ -25,6 +25,11 @@ pub record IsEngineOf (basin : Draft) (policy : Accepted) (engine : Engine) : Ty
   -- it notes what timesteps look at exactly where it keeps a trace
   pub notes : is_some engine.noted ≡ is_some engine.trace
 
+-- for whatever policy it was made, it can pass a timestep again by its record
+pub record CanReplay (basin : Draft) (engine : Engine) : Type 0 where
+  pub series : IsHeldIn basin engine.series
+  pub notes : is_some engine.noted ≡ is_some engine.trace
+
 -- what an engine shows of a log: what the cells hold, its trace, if that is kept, the last closed timestep, and the fault if there is one
 pub record Shows (basin : Draft) (engine : Engine) (log : Log) : Type 0 where
   pub cells : (cell : Cell) → held engine.series cell ≡ cells_of basin log cell

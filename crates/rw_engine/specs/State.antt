@@ -1,20 +1,19 @@
 -- The state of an engine, and what it has within a timestep.
-use Rattle.std.specs.Prelude.{◌≡◌, ℕ, ◌<◌, Bool, false, if◌then◌else◌, List, [], ◌∷◌, ◌+◌, ◌≤◌, length, map, All, Option, Some, None, IsSome, IfSome, Result, Ok, Err, IfOk, IfErr, is_some, option_map}
+use Rattle.std.specs.Prelude.{◌≡◌, ℕ, ◌<◌, Bool, false, if◌then◌else◌, List, [], ◌∷◌, ◌+◌, ◌≤◌, length, All, Contains, Option, Some, None, IsSome, IfSome, Result, Ok, Err, IfOk, IfErr, is_some}
 use Rattle.rw_base.specs.declared.memory.NoMemory.{NoMemory}
 use Rattle.rw_model.specs.Draft.{Draft, IsObject}
-use Rattle.rw_series.specs.Series.{Series, held}
+use Rattle.rw_series.specs.Series.{held}
 use Rattle.rw_run.specs.Frame.{IsFault}
-use Rattle.rw_run.specs.Log.{Cells, Event, Log, cells_of, last_put, opened, written_by}
+use Rattle.rw_run.specs.Log.{Asked, Cells, Event, Log, asked_in, cells_of, last_put, opened, written_by}
 use Rattle.rw_run.specs.Step.{reached_by}
 use Rattle.rw_run.specs.Trace.{lines_in, told}
 use Rattle.rw_run.specs.declared.held.Held.{Held}
-use Rattle.rw_run.specs.declared.trace.TraceEvent.{TraceEvent}
 use Rattle.std.specs.Option.{option_or}
 use Rattle.rw_base.specs.declared.number.Cell.{Cell}
 use Rattle.rw_dispatch.specs.Stage.{IsHeldIn}
 use Rattle.rw_record.specs.Record.{StepRecord}
 use Rattle.rw_dispatch.specs.Writes.{AreWrites}
-use Rattle.rw_record.specs.Noted.{noted_after, with_noted}
+use Rattle.rw_record.specs.Noted.{cells_noted, with_noted}
 use Rattle.rw_record.specs.Notes.{CanTakeBack, Notes}
 use Rattle.rw_model.specs.Turn.{is_data}
 use Rattle.rw_run.specs.Waiting.{waiting}
@@ -51,6 +50,12 @@ seen state = record {
   lines_before = state.lines_before;
 }
 
+-- a state has a count for each object and each rule, and keeps what is asked for where it notes it
+pub record IsSound (state : State) : Type 0 where
+  pub counts : length state.counts ≡ state.queue.objects
+  pub firings : length state.firings ≡ length state.rules.agenda.rules
+  pub keeps : state.work.keeps ≡ is_some state.noted
+
 -- a state made for the basin and the policy, with a count for each object and each rule, that keeps what is asked for where it notes it
 pub record IsStateOf (basin : Draft) (policy : Accepted) (state : State) : Type 0 where
   pub engine : IsEngineOf basin policy (seen state)
@@ -78,16 +83,21 @@ abbrev pub GoesTo : Draft → Accepted → Option StepEnd → State → ℕ → 
 GoesTo basin policy None state step log event = HoldsWithin basin policy state step state.queue.waiting (event ∷ log)
 GoesTo basin policy (Some end) state step log event = EndsBy end step event × Shows basin (seen state) (event ∷ log)
 
--- what an event looks at and reaches is noted, with what is held before it
-abbrev pub NotesThat : Draft → State → State → Event → Type 0
-NotesThat basin old new event = new.noted ≡ with_noted (held old.run.series) (reached_by basin event) old.noted
+-- what an event looks at and reaches is noted, with what cells hold before it, behind what was noted
+abbrev pub NotesThat : Draft → Cells → Option (List Held) → State → Event → Type 0
+NotesThat basin cells noted state event = state.noted ≡ with_noted cells (reached_by basin event) noted
+
+-- what an event writes it asked for
+abbrev pub WritesAsked : Event → Type 0
+WritesAsked event = (put : Asked) → Contains (written_by event) put → Contains (asked_in event) put
 
 -- after the event that follows, which is noted unless it is a fault
-pub record Goes (basin : Draft) (policy : Accepted) (end : Option StepEnd) (old new : State) (step : ℕ) (log : Log) : Type 0 where
+pub record Goes (basin : Draft) (policy : Accepted) (end : Option StepEnd) (cells : Cells) (noted : Option (List Held)) (state : State) (step : ℕ) (log : Log) : Type 0 where
   pub event : Event
   pub follows : next basin (policy_in basin policy) step log ≡ Some event
-  pub goes : GoesTo basin policy end new step log event
-  pub noted : (¬ IsFault event) → NotesThat basin old new event
+  pub goes : GoesTo basin policy end state step log event
+  pub notes : (¬ IsFault event) → NotesThat basin cells noted state event
+  pub asks : WritesAsked event
   pub can : AreWrites basin (written_by event)
 
 -- events within the timestep
@@ -170,7 +180,7 @@ IsOnTheWay basin step (Err fault) old new = IsStill old new
 pub record Does (basin : Draft) (policy : Accepted) (step : ℕ) (old new : State) (given : Log → Type 0) (result : Result Bool NoMemory) : Type 0 where
   pub keeps : Keeps basin policy old new
   pub on_the_way : IsOnTheWay basin step (seen_end new result) old new
-  pub goes : (log : Log) → given log → IfOk (seen_end new result) (λ end. Goes basin policy end old new step log)
+  pub goes : (log : Log) → given log → IfOk (seen_end new result) (λ end. Goes basin policy end (held old.run.series) old.noted new step log)
   -- memory wants only where a trace is kept
   pub wants : IfErr result (λ fault. IsSome old.run.trace)
 
@@ -186,10 +196,6 @@ pub record IsFresh (basin : Draft) (policy : Accepted) (state : State) : Type 0 
   pub made : IsStateOf basin policy state
   pub cleared : IfSome state.noted (λ noted. noted ≡ [])
   pub lines_before : state.lines_before ≡ length (lines_in state.run.trace)
-
--- a timestep is to begin: nothing else has changed
-pub record Clears (old new : State) : Type 0 where
-  pub cleared : new ≡ record old { noted = option_map (λ noted. []) old.noted; lines_before = length (lines_in old.run.trace) }
 
 -- the timestep is opened
 pub record IsOpened (basin : Draft) (policy : Accepted) (step : ℕ) (old new : State) : Type 0 where
@@ -208,35 +214,24 @@ pub record HasPassed (basin : Draft) (policy : Accepted) (step : ℕ) (old new :
 
 -- ---- what passing a timestep again does
 
--- the cells of the record are noted and its lines are told, or memory wants for it; nothing else has changed
-pub record Retells (kept : StepRecord) (old new : State) (result : Result (Unit {0}) NoMemory) : Type 0 where
-  pub noted : Option (List Held)
-  pub trace : Option (List TraceEvent)
-  pub is : new ≡ record old { noted = noted; run = record old.run { trace = trace } }
-  pub notes : is_some noted ≡ is_some old.noted
-  pub grows : Grows old.run.trace trace
-  pub noted_is : IfOk result (λ done. noted ≡ with_noted (held old.run.series) (map (λ (one : Held). one.cell) kept.looked) old.noted)
-  pub trace_is : IfOk result (λ done. trace ≡ told old.run.trace kept.lines)
+abbrev pub cleared : Option (List Held) → Option (List Held)
+cleared None = None
+cleared (Some noted) = Some []
 
--- what its lines say to be written is, and its timestep is closed; nothing else has changed
-pub record Remakes (basin : Draft) (kept : StepRecord) (old new : State) : Type 0 where
-  pub series : Series
-  pub is : new ≡ record old { run = record { end = Settled; closed = kept.step; series = series; trace = old.run.trace } }
-  pub made : IsHeldIn basin series
-  pub cells : (cell : Cell) → held series cell ≡ option_or (last_put basin (puts_in kept.lines) cell) (held old.run.series cell)
-
--- both, after the new timestep has begun. Where memory wants, the lines are those that there were
+-- the cells of the record are noted, its lines are told, what they say to be written is, and its timestep is closed. Where memory wants,
+-- the run is as it was
 pub record HasReplayed (basin : Draft) (kept : StepRecord) (old new : State) (result : Result (Unit {0}) NoMemory) : Type 0 where
   pub rules : new.rules ≡ old.rules
   pub queue : new.queue ≡ old.queue
   pub work : new.work ≡ old.work
-  pub counts : (new.counts ≡ old.counts) × (new.firings ≡ old.firings)
+  pub counts : new.counts ≡ old.counts
+  pub firings : new.firings ≡ old.firings
   pub made : IsHeldIn basin new.run.series
   pub notes : is_some new.noted ≡ is_some old.noted
   pub keeps_trace : is_some new.run.trace ≡ is_some old.run.trace
   pub lines_before : new.lines_before ≡ length (lines_in old.run.trace)
-  pub unchanged : IfErr result (λ fault. new.run ≡ old.run)
-  pub noted : IfOk result (λ done. new.noted ≡ option_map (λ (none : List Held). noted_after (held old.run.series) [] (map (λ (one : Held). one.cell) kept.looked)) old.noted)
+  pub unchanged : IfErr result (λ want. new.run ≡ old.run)
+  pub noted : IfOk result (λ done. new.noted ≡ with_noted (held old.run.series) (cells_noted kept.looked) (cleared old.noted))
   pub trace : IfOk result (λ done. new.run.trace ≡ told old.run.trace kept.lines)
   pub ends : IfOk result (λ done. (new.run.end ≡ Settled) × (new.run.closed ≡ kept.step))
   pub cells : IfOk result (λ done. (cell : Cell) → held new.run.series cell

@@ -9,9 +9,8 @@ ghost use Rattle.rw_run.specs.RunOf.{IsRunOf};
 ghost use Rattle.rw_model.specs.Turn.{IsStep};
 ghost use Rattle.rw_inputs.specs.Givens.{givens};
 ghost use Rattle.rw_series.specs.Series.{held};
-ghost use Rattle.rw_dispatch.specs.Stage.{IsHeldIn};
 ghost use Rattle.rw_record.specs.Noted.{AreHeld};
-ghost use Rattle.rw_engine.specs.Shows.{IsEngineOf, Shows};
+ghost use Rattle.rw_engine.specs.Shows.{CanReplay, IsEngineOf, Shows};
 ghost use Rattle.rw_engine.specs.Passing.{Replays, RunsStep, steps_of};
 ghost use Rattle.rw_engine.specs.Records.{CanWriteLines, HasNoted, RecordsOrNot};
 
@@ -37,7 +36,7 @@ pub struct Engine {
 }
 
 impl Model for Engine {
-    ghost use Rattle.std.specs.Prelude.{◌≡◌, length};
+    ghost use Rattle.std.specs.Prelude.{◌≡◌, is_some, length};
     ghost use Rattle.rw_engine.specs.Engine as specs;
     ghost use Rattle.rw_engine.specs.State.{seen};
 
@@ -46,7 +45,8 @@ impl Model for Engine {
     ghost view = { λ engine. seen engine.state };
 
     ghost invariant = { λ engine. (length engine.state.counts ≡ engine.state.queue.objects)
-        × (length engine.state.firings ≡ length engine.state.rules.agenda.rules) };
+        × (length engine.state.firings ≡ length engine.state.rules.agenda.rules)
+        × (engine.state.work.keeps ≡ is_some engine.state.noted) };
 }
 
 impl Engine {
@@ -65,9 +65,10 @@ impl Engine {
             (λ engine. Shows basin.now engine (placed [] (givens basin.now inputs.now))) }
         ensures kept { IfOk result (λ engine. IsSome engine.trace) }
     {
+        let trace = Trace::new(alloc);
         let noted = Noted::for_basin(alloc, basin)?;
         Ok(Engine {
-            state: State::for_run(alloc, basin, policy, inputs, Trace::new(alloc), noted)?,
+            state: State::for_run(alloc, basin, policy, inputs, trace, noted)?,
         })
     }
 
@@ -84,9 +85,10 @@ impl Engine {
         ensures shows { IfOk result
             (λ engine. Shows basin.now engine (placed [] (givens basin.now inputs.now))) }
     {
+        let trace = Trace::unkept(alloc);
         let noted = Noted::unkept(alloc);
         Ok(Engine {
-            state: State::for_run(alloc, basin, policy, inputs, Trace::unkept(alloc), noted)?,
+            state: State::for_run(alloc, basin, policy, inputs, trace, noted)?,
         })
     }
 
@@ -149,7 +151,7 @@ impl Engine {
     pub fn replay(&mut self, basin: &Basin, kept: &StepRecord) -> Result<(), NoMemory>
         requires step { IsStep basin.now kept.now.step }
         requires can { CanWriteLines basin.now kept.now.lines }
-        requires made { IsHeldIn basin.now self.old.series }
+        requires made { CanReplay basin.now self.old }
         ensures { Replays basin.now kept.now self.old self.new result }
     {
         self.state.replay(basin, kept)

@@ -1,11 +1,15 @@
 //! What else holds of runs, as laws: functions that do nothing, and whose contract is the law.
-ghost use Rattle.std.specs.Prelude.{[]};
+ghost use Rattle.std.specs.Prelude.{◌≡◌, [], ◌∷◌, pos};
+ghost use Rattle.std.specs.List.{flat_map};
 ghost use Rattle.rw_inputs.specs.Inputs.{Inputs};
 ghost use Rattle.rw_model.specs.Draft.{Draft};
-ghost use Rattle.rw_run.specs.Next.{no_rules};
+ghost use Rattle.rw_run.specs.Next.{asked_by_rule, no_rules};
+ghost use Rattle.rw_run.specs.RunOf.{lines};
+ghost use Rattle.rw_run.specs.Worked.{followed_run, put_of};
 ghost use Rattle.rw_run.specs.declared.run.Run.{Run};
 ghost use Rattle.rw_rules.specs.Rules.{policy_in};
 ghost use Rattle.rw_engine.specs.Passing.{ComesTo};
+ghost use Rattle.rw_engine.specs.Records.{puts_in};
 
 /// What a run of code without rules comes to is what a run of no rules does.
 #[tactic(auto, using(crate::proofs::Runs::without_rules))]
@@ -14,4 +18,11 @@ pub fn without_rules()
         → ComesTo basin (policy_in basin (record { blocks = []; budgets = []; resolved = [] }))
         inputs run
         → ComesTo basin no_rules inputs run }
+{}
+
+/// What the lines of a worked timestep say to be written is what its firings wrote, in order: the first of its lines tells of a
+/// firing that came to an unknown value.
+pub fn worked_lines()
+    ensures { puts_in (flat_map lines followed_run)
+        ≡ asked_by_rule 2 1 (put_of 2 0 (pos 4)) ∷ asked_by_rule 1 1 (put_of 1 0 (pos 4)) ∷ [] }
 {}

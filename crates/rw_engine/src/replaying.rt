@@ -1,32 +1,28 @@
 //! Passing a timestep again, by its record.
-ghost use Rattle.std.specs.Prelude.{◌≡◌, [], IfErr, IfOk, IfSome, map};
+ghost use Rattle.std.specs.Prelude.{◌≡◌, [], IfErr, IfOk, is_some};
 ghost use Rattle.std.specs.List.{cons_option};
 ghost use Rattle.std.specs.Option.{option_or};
 ghost use Rattle.rw_base.specs.declared.number.Cell.{Cell as Place};
 ghost use Rattle.rw_series.specs.Series.{held};
 ghost use Rattle.rw_dispatch.specs.Stage.{IsHeldIn};
+ghost use Rattle.rw_dispatch.specs.Writes.{AreWrites};
 ghost use Rattle.rw_run.specs.Log.{last_put};
 ghost use Rattle.rw_run.specs.Trace.{lines_in, told};
-ghost use Rattle.rw_run.specs.declared.held.Held.{Held as WasHeld};
+ghost use Rattle.rw_record.specs.Noted.{cells_noted, with_noted};
 ghost use Rattle.rw_engine.specs.Lines.{Grows};
 ghost use Rattle.rw_engine.specs.Noting.{NotesAll};
-ghost use Rattle.rw_engine.specs.Records.{CanWriteLine, CanWriteLines, puts_in, puts_of_line};
+ghost use Rattle.rw_engine.specs.Records.{CanWriteLines, puts_in};
 
 use rw_base::{Cell, NoMemory};
 use rw_dispatch::make;
 use rw_model::Basin;
-use rw_record::{Held, Noted};
+use rw_record::{Held, Noted, StepRecord};
 use rw_run::{Trace, TraceEvent, Write};
 use rw_series::Series;
 
-/// Notes these cells, with what they hold now.
-pub(crate) fn note_again(
-    noted: &mut Noted,
-    series: &Series,
-    looked: &[Held],
-) -> Result<(), NoMemory>
-    ensures { NotesAll (held series.now) (map (λ (one : WasHeld). one.cell) looked.now)
-        noted.old noted.new result }
+// Notes these cells, with what they hold now.
+fn note_again(noted: &mut Noted, series: &Series, looked: &[Held]) -> Result<(), NoMemory>
+    ensures { NotesAll (held series.now) (cells_noted looked.now) noted.old noted.new result }
 {
     for one in looked {
         noted.note(series, one.cell)?;
@@ -45,8 +41,8 @@ fn tell_line(trace: &mut Trace, line: Option<TraceEvent>) -> Result<(), NoMemory
     }
 }
 
-/// Tells these lines.
-pub(crate) fn tell_again(trace: &mut Trace, lines: &Trace) -> Result<(), NoMemory>
+// Tells these lines.
+fn tell_again(trace: &mut Trace, lines: &Trace) -> Result<(), NoMemory>
     ensures told { IfOk result (λ _. trace.new ≡ told trace.old (lines_in lines.now)) }
     ensures grows { Grows trace.old trace.new }
 {
@@ -56,24 +52,53 @@ pub(crate) fn tell_again(trace: &mut Trace, lines: &Trace) -> Result<(), NoMemor
     Ok(())
 }
 
-// Writes what a line says to be written, if there is one that does.
-fn write_line(basin: &Basin, series: &mut Series, line: Option<TraceEvent>)
-    requires can { IfSome line (CanWriteLine basin.now) }
+/// Notes the cells of a record, and tells its lines: all that takes memory where its timestep is passed again.
+pub(crate) fn retell(
+    noted: &mut Noted,
+    trace: &mut Trace,
+    series: &Series,
+    kept: &StepRecord,
+) -> Result<(), NoMemory>
+    ensures kept { is_some noted.new ≡ is_some noted.old }
+    ensures noted { IfOk result (λ _. noted.new
+        ≡ with_noted (held series.now) (cells_noted kept.now.looked) noted.old) }
+    ensures told { IfOk result (λ _. trace.new ≡ told trace.old kept.now.lines) }
+    ensures grows { Grows trace.old trace.new }
+{
+    note_again(noted, series, kept.looked())?;
+    tell_again(trace, kept.lines())
+}
+
+// What a line says to be written, if there is one that does.
+fn put_of(line: Option<TraceEvent>) -> Option<Write>
+    ensures { cons_option result [] ≡ puts_in (cons_option line []) }
+{
+    match line {
+        Some(
+            TraceEvent::Written {
+                slot,
+                step,
+                content,
+            },
+        ) => {
+            let cell = Cell { slot, step };
+            Some(Write { cell, content })
+        }
+        _ => None,
+    }
+}
+
+// Writes it.
+fn write_put(basin: &Basin, series: &mut Series, put: Option<Write>)
+    requires can { AreWrites basin.now (cons_option put []) }
     requires made { IsHeldIn basin.now series.old }
     ensures made { IsHeldIn basin.now series.new }
     ensures cells { (cell : Place) → held series.new cell
-        ≡ option_or (last_put basin.now (puts_in (cons_option line [])) cell) (held series.old cell) }
+        ≡ option_or (last_put basin.now (cons_option put []) cell) (held series.old cell) }
 {
-    match line {
-        Some(TraceEvent::Written {
-            slot,
-            step,
-            content,
-        }) => {
-            let cell = Cell { slot, step };
-            make(basin, series, &[Write { cell, content }]);
-        }
-        _ => {}
+    match put {
+        Some(write) => make(basin, series, &[write]),
+        None => {}
     }
 }
 
@@ -87,6 +112,6 @@ pub(crate) fn write_again(basin: &Basin, series: &mut Series, lines: &Trace)
         (held series.old cell) }
 {
     for place in 0..lines.len() {
-        write_line(basin, series, lines.line(place));
+        write_put(basin, series, put_of(lines.line(place)));
     }
 }

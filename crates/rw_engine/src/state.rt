@@ -1,26 +1,23 @@
-ghost use Rattle.std.specs.Prelude.{◌≡◌, ◌<◌, ◌∷◌, [], ℕ, List, map, Some, None, Ok, IfOk, IfErr, IfSome, IsSome, MatchOption, drop, is_some};
+ghost use Rattle.std.specs.Prelude.{◌≡◌, ◌<◌, ◌∷◌, [], ℕ, List, map, Some, None, Ok, IfOk, IfErr, IfSome, IsSome, is_some};
 ghost use Rattle.rw_model.specs.Draft.{Draft};
 ghost use Rattle.rw_method.specs.Catalogue.{AreInOrder};
 ghost use Rattle.rw_inputs.specs.Inputs.{IsInputsOf};
-ghost use Rattle.rw_run.specs.Log.{Log, fault};
+ghost use Rattle.rw_run.specs.Log.{Event, Log, fault};
 ghost use Rattle.rpl_verify.specs.Verified.{Accepted, verified};
 ghost use Rattle.rw_rules.specs.Firing.{IsRuleTurn};
 ghost use Rattle.rw_run.specs.RunOf.{IsRunOf};
 ghost use Rattle.rw_model.specs.Turn.{IsStep, IsTurn};
 ghost use Rattle.rw_engine.specs.Counts.{count_of};
-ghost use Rattle.rw_engine.specs.Passing.{RunsStep};
-ghost use Rattle.rw_engine.specs.Shows.{IsEngineOf, Shows};
-ghost use Rattle.rw_engine.specs.State.{seen, Begins, Clears, Does, HasPassed, HasReplayed, HoldsBefore, HoldsDue, HoldsWithin, IsFresh, IsOpened, IsStateOf, IsWithinStep, OnlyTells, Remakes, Retells, ended_by, step_end};
+ghost use Rattle.rw_engine.specs.Passing.{Replays, RunsStep};
+ghost use Rattle.rw_engine.specs.Shows.{CanReplay, IsEngineOf, Shows};
+ghost use Rattle.rw_engine.specs.State.{seen, Begins, Does, HasPassed, HasReplayed, HoldsBefore, HoldsDue, HoldsWithin, IsFresh, IsOpened, IsSound, IsStateOf, IsWithinStep, OnlyTells, ended_by, step_end};
 ghost use Rattle.rw_dispatch.specs.Stage.{IsHeldIn};
-ghost use Rattle.rw_run.specs.Trace.{lines_in};
-ghost use Rattle.rw_record.specs.Noted.{noted_in};
-ghost use Rattle.rw_record.specs.Record.{IsLarge, IsRecordOf};
-ghost use Rattle.rw_engine.specs.Records.{CanWriteLines};
+ghost use Rattle.rw_engine.specs.Records.{CanWriteLines, HasNoted, RecordsOrNot};
 
 use crate::counts::Counts;
 use crate::noting::{note_dispatch, note_firing};
 use crate::placing::place;
-use crate::replaying::{note_again, tell_again, write_again};
+use crate::replaying::{retell, write_again};
 use crate::setup::RunSetup;
 use crate::step_end::StepEnd;
 use crate::trace_lines::{tell, tell_firing};
@@ -31,6 +28,7 @@ use rw_inputs::Inputs;
 use rw_model::Basin;
 use rw_record::{Noted, StepRecord, take_back};
 use rw_rules::Rules;
+use rw_run::law::again;
 use rw_run::{Run, RunEnd, RunFault, Trace, TraceEvent};
 use rw_series::Series;
 use std::alloc::Global;
@@ -304,14 +302,6 @@ impl State {
         }
     }
 
-    // Nothing is noted yet of a timestep, and its lines come behind those that there are.
-    fn begin_step(&mut self)
-        ensures { Clears self.old self.new }
-    {
-        self.noted.begin_step();
-        self.lines_before = self.run.trace.len();
-    }
-
     // The events of a timestep, of which the first opens it.
     fn pass(&mut self, setup: &RunSetup, step: StepNo) -> Result<StepEnd, NoMemory>
         requires fresh { IsFresh setup.now.basin.now setup.now.policy.now self.old }
@@ -340,7 +330,8 @@ impl State {
         ensures runs { RunsStep setup.now.basin.now setup.now.policy.now step.0
             (seen self.old) (seen self.new) result }
     {
-        self.begin_step();
+        self.noted.begin_step();
+        self.lines_before = self.run.trace.len();
         match self.pass(setup, step) {
             Ok(end) => Ok(end),
             Err(NoMemory) => {
@@ -363,10 +354,9 @@ impl State {
 
     /// The record of the timestep that was closed last, if it isn't too large.
     pub(crate) fn last_record(&self, alloc: Global) -> Result<Option<StepRecord>, NoMemory>
-        ensures { IfOk result (λ kept. MatchOption kept
-            (IsLarge (noted_in self.now.noted) (drop self.now.lines_before (lines_in self.now.run.trace)))
-            (IsRecordOf self.now.run.closed (noted_in self.now.noted)
-            (drop self.now.lines_before (lines_in self.now.run.trace)))) }
+        ensures { (basin : Draft) (step : ℕ) (old : Log) (events : List Event)
+            → HasNoted basin step old events (seen self.now) → self.now.run.closed ≡ step
+            → IfOk result (RecordsOrNot basin step old events) }
     {
         StepRecord::of(
             alloc,
@@ -377,35 +367,19 @@ impl State {
         )
     }
 
-    // Notes the cells of a record and tells its lines: all that takes memory when it is passed again.
-    fn tell_record(&mut self, kept: &StepRecord) -> Result<(), NoMemory>
-        ensures { Retells kept.now self.old self.new result }
-    {
-        note_again(&mut self.noted, &self.run.series, kept.looked())?;
-        tell_again(&mut self.run.trace, kept.lines())
-    }
-
-    // Makes what a record's lines say to be written, and closes its timestep.
-    fn make_record(&mut self, basin: &Basin, kept: &StepRecord)
-        requires can { CanWriteLines basin.now kept.now.lines }
-        requires made { IsHeldIn basin.now self.old.run.series }
-        ensures { Remakes basin.now kept.now self.old self.new }
-    {
-        write_again(basin, &mut self.run.series, kept.lines());
-        self.run.closed = kept.step().0;
-        self.run.end = RunEnd::Settled;
-    }
-
-    /// Passes a timestep again, by its record, and takes back what was told of it where memory wants for the rest.
-    pub(crate) fn replay(&mut self, basin: &Basin, kept: &StepRecord) -> Result<(), NoMemory>
+    // Passes a timestep again, and takes back what was told of it where memory wants for the rest.
+    fn pass_again(&mut self, basin: &Basin, kept: &StepRecord) -> Result<(), NoMemory>
         requires can { CanWriteLines basin.now kept.now.lines }
         requires made { IsHeldIn basin.now self.old.run.series }
         ensures { HasReplayed basin.now kept.now self.old self.new result }
     {
-        self.begin_step();
-        match self.tell_record(kept) {
+        self.noted.begin_step();
+        self.lines_before = self.run.trace.len();
+        match retell(&mut self.noted, &mut self.run.trace, &self.run.series, kept) {
             Ok(()) => {
-                self.make_record(basin, kept);
+                write_again(basin, &mut self.run.series, kept.lines());
+                self.run.closed = kept.step().0;
+                self.run.end = RunEnd::Settled;
                 Ok(())
             }
             Err(NoMemory) => {
@@ -415,9 +389,24 @@ impl State {
         }
     }
 
+    /// Passes a timestep again, by its record.
+    pub(crate) fn replay(&mut self, basin: &Basin, kept: &StepRecord) -> Result<(), NoMemory>
+        requires step { IsStep basin.now kept.now.step }
+        requires can { CanWriteLines basin.now kept.now.lines }
+        requires made { CanReplay basin.now (seen self.old) }
+        ensures replays { Replays basin.now kept.now (seen self.old) (seen self.new) result }
+        ensures sound { IsSound self.old → IsSound self.new }
+    {
+        again();
+        self.pass_again(basin, kept)
+    }
+
     /// What the run comes to so far.
     pub(crate) fn run(&self) -> &Run
-        ensures { result.now ≡ self.now.run }
+        ensures is { result.now ≡ self.now.run }
+        ensures run { (basin : Draft) (policy : Accepted) (log : Log)
+            → IsEngineOf basin policy (seen self.now) → Shows basin (seen self.now) log
+            → IsRunOf basin log result.now }
     {
         &self.run
     }

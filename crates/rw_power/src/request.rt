@@ -54,6 +54,16 @@ fn requested(
     }
 }
 
+// No release gives what is requested.
+fn no_release(request: Content) -> Solved
+    ensures { result ≡ Solved.OutOfRange ENERGY_REQUEST request.value }
+{
+    Solved::OutOfRange {
+        place: ENERGY_REQUEST,
+        value: i128::from(request.value.get()),
+    }
+}
+
 /// The outflow that is asked for, where a request counts. Otherwise that is the answer: the storage before has no elevation,
 /// or no release gives what is requested.
 pub(crate) fn asked(
@@ -81,9 +91,6 @@ pub(crate) fn asked(
     };
     match requested(view, rating, max_release, tailwater, power, head, request) {
         Some(asked) => Ok(Some(asked)),
-        None => Err(Solved::OutOfRange {
-            place: ENERGY_REQUEST,
-            value: i128::from(request.value.get()),
-        }),
+        None => Err(no_release(request)),
     }
 }

@@ -107,7 +107,8 @@ impl Method for ReservoirMethod {
                     *diversion,
                     *return_flow,
                 );
-                solve_reservoir(view, table.as_ref(), side, *evaporation, *max_release)
+                let rating = table.as_ref();
+                solve_reservoir(view, rating, side, *evaporation, *max_release)
             }
             _ => unreachable!(),
         }

@@ -1,3 +1,4 @@
+use Rattle.rw_base.proofs.Common.{option_map}
 use Rattle.rw_method.specs.declared.places.TheConstants.{POOL_ELEVATION, STORAGE}
 use Rattle.rw_method.specs.View.{given}
 use Rattle.rw_method.specs.Puts.{solved_put, level_puts}

@@ -1,3 +1,4 @@
+use Rattle.rw_base.proofs.Common.{option_map}
 use Rattle.rw_method.specs.Puts.{evaporation_put, release_puts}
 use Rattle.rw_method.specs.Asking.{can_get}
 use Rattle.rw_method.proofs.Misfits.{asks_at_once, asks_then}

@@ -1,51 +1,55 @@
-use Rattle.rw_engine.proofs.Common.{Leaves, [], ap, held, lines_by, refl, stage, subst, sym, take, ◌∙◌}
+use Rattle.rw_engine.proofs.Common.{Leaves, [], ap, held, lines_by, refl, stage, subst, sym, ◌++◌, ◌∙◌}
 use Rattle.rw_run.specs.Trace.{told}
-use Rattle.rw_run.specs.Dispatch.{dispatched, looks_of}
+use Rattle.rw_run.specs.Dispatch.{dispatched, looked_cells, looks_of}
+use Rattle.rw_run.specs.Step.{cells_reached, reached_by}
 use Rattle.rw_dispatch.proofs.Waking.{leaves_written}
 use Rattle.rw_dispatch.specs.Answer.{answer_of}
-use Rattle.rw_dispatch.specs.Writes.{AreWrites, CanWrite}
+use Rattle.rw_dispatch.specs.Writes.{AreWrites}
 use Rattle.rw_engine.proofs.After.{counted, keeps_noted, keeps_done, keeps_ended, on_the_way_object, rules_on, wanted, stays_counted}
 use Rattle.rw_engine.proofs.Events.{next_is, goes_to}
-use Rattle.rw_engine.proofs.TakenBack.{all_take, noted}
+use Rattle.rw_engine.proofs.Notings.{dispatch_asks, dispatch_reached, ended_noted, notes_same, written_reached}
 use Rattle.rw_engine.proofs.Traces.{told_none}
 use Rattle.rw_rules.specs.Rules.{policy_in}
 use Rattle.rw_engine.proofs.state.State.act.Goals as goal
 
-pub returns-in_err-note : goal.returns-in_err-note
-returns-in_err-note g c =
+pub note_dispatch-requires-clause-can : goal.note_dispatch-requires-clause-can
+note_dispatch-requires-clause-can g c kept =
+    subst (AreWrites c.args.setup.now.basin.now) (sym c.as_slice-asked.ensures) (c.judge_dispatch-end.ensures.work.can_ask (c.requires.within.made.keeps ∙ kept))
+
+pub returns-in_err-note_dispatch : goal.returns-in_err-note_dispatch
+returns-in_err-note_dispatch g c =
     let basin = c.args.setup.now.basin.now in
-    let writes = c.as_slice-writes.result.now in
-    let can = subst (AreWrites basin) (sym c.as_slice-writes.ensures) c.judge_dispatch-end.ensures.can in
-    wanted basin c.args.setup.now.policy.now c.args.step.0 c.args.self.now _ _ c.from_residual.result _ c.from_residual.ensures.1
-    (keeps_noted basin c.args.setup.now.policy.now c.args.self.now _ c.requires.within
-    (stays_counted basin c.args.setup.now.policy.now c.args.self.now _ c.args.object.0 c.raise.ensures refl c.requires.within.made.engine.rules refl)
-    (take c.note.ensures.some.0 writes) (all_take (CanWrite basin) c.note.ensures.some.0 writes can) c.requires.within.indexed refl refl
-    ([], sym (told_none _)) c.note.ensures.some.1)
-    (record { closed_steps = refl; end = refl }) c.in_err-note.ensures.wants
+    let policy = c.args.setup.now.policy.now in
+    let old = c.args.self.now in
+    wanted basin policy c.args.step.0 old _ _ c.from_residual.result _ c.from_residual.ensures.1
+    (keeps_noted basin policy old _ c.requires.within
+    (stays_counted basin policy old _ c.args.object.0 c.raise.ensures refl c.requires.within.made.engine.rules refl c.judge_dispatch-end.ensures.work.keeps refl)
+    c.requires.within.indexed refl refl ([], sym (told_none _)) c.in_err-note_dispatch.ensures.1)
+    (record { closed_steps = refl; end = refl }) (sym c.requires.within.made.engine.notes ∙ c.in_err-note_dispatch.ensures.0)
 
 pub returns-in_err-fault : goal.returns-in_err-fault
 returns-in_err-fault g c =
     let basin = c.args.setup.now.basin.now in
-    let writes = c.as_slice-writes.result.now in
-    let can = subst (AreWrites basin) (sym c.as_slice-writes.ensures) c.judge_dispatch-end.ensures.can in
-    wanted basin c.args.setup.now.policy.now c.args.step.0 c.args.self.now _ _ c.from_residual-in_err-fault.result _ c.from_residual-in_err-fault.ensures.1
-    (keeps_noted basin c.args.setup.now.policy.now c.args.self.now _ c.requires.within
-    (stays_counted basin c.args.setup.now.policy.now c.args.self.now _ c.args.object.0 c.raise.ensures refl c.requires.within.made.engine.rules refl)
-    (take c.note.ensures.some.0 writes) (all_take (CanWrite basin) c.note.ensures.some.0 writes can) c.requires.within.indexed refl refl
-    c.tell.ensures.grows c.note.ensures.some.1)
+    let policy = c.args.setup.now.policy.now in
+    let old = c.args.self.now in
+    wanted basin policy c.args.step.0 old _ _ c.from_residual-in_err-fault.result _ c.from_residual-in_err-fault.ensures.1
+    (keeps_noted basin policy old _ c.requires.within
+    (stays_counted basin policy old _ c.args.object.0 c.raise.ensures refl c.requires.within.made.engine.rules refl c.judge_dispatch-end.ensures.work.keeps refl)
+    c.requires.within.indexed refl refl c.tell.ensures.grows
+    (looked_cells basin c.args.object.0 c.args.step.0 ++ cells_reached basin c.as_slice-asked.result.now, c.in_ok-note_dispatch.ensures))
     (record { closed_steps = refl; end = refl }) c.in_err-fault.ensures.wants
 
-leaves : (g : _) (c : goal.After-end_by g) → Leaves c.args.setup.now.basin.now (dispatched c.args.setup.now.basin.now (held c.args.self.now.series) c.args.object.0 c.args.step.0)
-    (stage c.args.self.now.series c.args.self.now.queue) (stage c.make.new.series c.wake_written.new.self)
+leaves : (g : _) (c : goal.After-end_by g) → Leaves c.args.setup.now.basin.now (dispatched c.args.setup.now.basin.now (held c.args.self.now.run.series) c.args.object.0 c.args.step.0)
+    (stage c.args.self.now.run.series c.args.self.now.queue) (stage c.make.new.series c.wake_written.new.self)
 leaves g c =
     let basin = c.args.setup.now.basin.now in
     let object = c.args.object.0 in
     let step = c.args.step.0 in
-    let cells = held c.args.self.now.series in
+    let cells = held c.args.self.now.run.series in
     leaves_written basin (looks_of basin cells object step) object step (dispatched basin cells object step)
     (answer_of c.judge_dispatch-end.result c.judge_dispatch-end.ensures.ends.asked c.judge_dispatch-end.ensures.ends.written)
-    c.as_slice-writes.result.now (stage c.args.self.now.series c.args.self.now.queue) (stage c.make.new.series c.wake_written.new.self)
-    c.judge_dispatch-end.ensures.ends.is (c.as_slice-writes.ensures ∙ c.judge_dispatch-end.ensures.writes) c.make.ensures.cells
+    c.as_slice-writes.result.now (stage c.args.self.now.run.series c.args.self.now.queue) (stage c.make.new.series c.wake_written.new.self)
+    c.judge_dispatch-end.ensures.ends.is (c.as_slice-writes.ensures ∙ c.judge_dispatch-end.ensures.work.writes) c.make.ensures.cells
     c.wake_written.ensures.woken
 
 pub returns : goal.returns
@@ -55,22 +59,24 @@ returns g c =
     let old = c.args.self.now in
     let object = c.args.object.0 in
     let step = c.args.step.0 in
-    let cells = held old.series in
+    let cells = held old.run.series in
     let event = dispatched basin cells object step in
-    let writes = c.as_slice-writes.result.now in
     let known = c.requires.turn.known in
     let within = c.requires.within in
-    let can = subst (AreWrites basin) (sym c.as_slice-writes.ensures) c.judge_dispatch-end.ensures.can in
-    let noted_cells = noted basin cells old.undo.items c.note.new.undo.items (take c.note.ensures.some.0 writes) c.note.ensures.some.1
-    (all_take (CanWrite basin) c.note.ensures.some.0 writes can) within.undo in
+    let work = c.judge_dispatch-end.ensures.work in
+    let asked = c.as_slice-asked.result.now in
+    let reached = looked_cells basin object step ++ cells_reached basin asked in
+    let asks = dispatch_asks basin cells object step in
     let on = c.touched.ensures cells (held c.make.new.series) c.make.ensures.cells in
     let made = leaves g c in
     rw (c.end_by.ensures.state, c.end_by.ensures.end) (record {
       keeps = keeps_ended basin policy old _ c.in_ok-fault.fault
           (keeps_done basin policy old _ within
-          (stays_counted basin policy old _ object c.raise.ensures refl (rules_on basin policy cells (held c.make.new.series) old.rules c.touched.new.self on within.made.engine.rules) refl)
-          event writes (c.as_slice-writes.ensures ∙ c.judge_dispatch-end.ensures.writes) can (on.indexed within.indexed)
-          (record { series = c.make.ensures.made; queue = c.wake_written.ensures.made }) made c.tell.ensures.grows noted_cells c.in_ok-note.ensures.all);
+          (stays_counted basin policy old _ object c.raise.ensures refl (rules_on basin policy cells (held c.make.new.series) old.rules c.touched.new.self on within.made.engine.rules) refl work.keeps refl)
+          event reached (on.indexed within.indexed)
+          (record { series = c.make.ensures.made; queue = c.wake_written.ensures.made }) made c.tell.ensures.grows c.in_ok-note_dispatch.ensures
+          (λ kept. written_reached basin event reached
+          (dispatch_reached basin cells object step asked (λ calm. c.as_slice-asked.ensures ∙ work.asked (within.made.keeps ∙ kept) calm)) asks));
       on_the_way = on_the_way_object basin step old _ c.in_ok-fault.fault object (counted basin policy old object within known) c.requires.below c.raise.ensures refl refl refl;
       goes = λ log holds. record {
         event = event;
@@ -81,7 +87,7 @@ returns g c =
             is = c.judge_dispatch-end.ensures.ends;
             cells = made.cells;
             trace = c.in_ok-fault.ensures.told
-                ∙ ap (λ writes. told old.trace (lines_by object step c.judge_dispatch-end.result writes)) (c.as_slice-writes.ensures ∙ c.judge_dispatch-end.ensures.writes);
+                ∙ ap (λ writes. told old.run.trace (lines_by object step c.judge_dispatch-end.result writes)) (c.as_slice-writes.ensures ∙ work.writes);
             closed_steps = refl;
           };
           counted = counted basin policy old object within known;
@@ -90,6 +96,10 @@ returns g c =
           rules = on.rules;
           firings = refl;
         }) refl c.in_ok-fault.fault (sym c.in_ok-fault.ensures.fault);
+        notes = λ calm. ended_noted c.in_ok-fault.fault _ ∙ notes_same cells reached (reached_by basin event) old.noted _ c.in_ok-note_dispatch.ensures
+            (λ kept. dispatch_reached basin cells object step asked (λ calm. c.as_slice-asked.ensures ∙ work.asked (within.made.keeps ∙ kept) calm) calm);
+        asks = asks;
+        can = subst (AreWrites basin) work.writes work.can;
       };
       wants = tt;
     })

@@ -13,12 +13,13 @@ ask-requires-clause-within g c =
           rules = within.made.engine.rules;
           series = within.made.engine.series;
           closed_steps = within.made.engine.closed_steps;
+          notes = within.made.engine.notes;
         };
+        keeps = within.made.keeps;
         counts = within.made.counts;
         firings = within.made.firings;
       };
       ready = All-rest (λ object. is_data c.args.setup.now.basin.now object ≡ false) c.in-Some.object.0 c.next.new.self.waiting c.args.self.now.queue.waiting c.in-Some.ensures.taken within.ready;
-      undo = within.undo;
       indexed = within.indexed;
     }
 

@@ -1,13 +1,16 @@
-use Rattle.rw_engine.proofs.Common.{IsCounted, None, Some, [], ap, held, last_put, lines_of_rule, option_or, refl, subst, sym, take, true, written_by, ◌++◌, ◌∙◌, ◌∷◌, ◌≤◌}
+use Rattle.rw_engine.proofs.Common.{Cell, IsCounted, None, Some, [], ap, held, last_put, lines_of_rule, option_or, refl, subst, sym, true, written_by, ◌++◌, ◌∙◌, ◌∷◌, ◌≤◌}
 use Rattle.rw_run.specs.Log.{Firing, fired}
 use Rattle.rw_run.specs.Next.{ended}
 use Rattle.rw_run.specs.Trace.{told}
 use Rattle.rw_run.specs.Waiting.{slots_at, woken}
-use Rattle.rw_dispatch.specs.Writes.{AreWrites, CanWrite}
+use Rattle.rw_dispatch.specs.Writes.{AreWrites}
+use Rattle.rw_run.specs.Frame.{cells_looked}
+use Rattle.rw_run.specs.Step.{cells_reached, reached_by}
+use Rattle.std.specs.Prelude.{Contains, unwrap_or}
 use Rattle.rw_rules.specs.Rules.{policy_in}
 use Rattle.rw_engine.proofs.After.{keeps_noted, keeps_done, keeps_ended, on_the_way_rule, rules_on, wanted, stays_fired}
 use Rattle.rw_engine.proofs.Firings.{after_all, fired_on, looks_on, rule_fires}
-use Rattle.rw_engine.proofs.TakenBack.{all_take, noted}
+use Rattle.rw_engine.proofs.Notings.{ended_noted, firing_asks, firing_reached, notes_same, written_reached}
 use Rattle.rw_engine.proofs.Traces.{told_none}
 use Rattle.rw_engine.proofs.state.State.fire.Goals as goal
 
@@ -17,28 +20,35 @@ raise-requires-clause-known g c =
     let turn = c.requires.turn in
     record { first = turn.first; last = subst (λ n. c.args.rule.0 ≤ n) (sym (made.firings ∙ made.engine.rules.many)) turn.last }
 
-pub returns-in_err-note : goal.returns-in_err-note
-returns-in_err-note g c =
+pub looked-looked-requires : goal.looked-looked-requires
+looked-looked-requires g c =
+    let turn = c.requires.turn in
+    record { first = turn.first; last = subst (λ n. c.args.rule.0 ≤ n) (sym c.fire-fired.ensures.made.many) turn.last }
+
+pub note_firing-requires : goal.note_firing-requires
+note_firing-requires g c = subst (AreWrites c.args.setup.now.basin.now) (sym c.asked-asked.ensures) c.fire-fired.ensures.told.can_ask
+
+pub returns-in_err-note_firing : goal.returns-in_err-note_firing
+returns-in_err-note_firing g c =
     let basin = c.args.setup.now.basin.now in
-    let writes = c.written-writes.result.now in
-    let can = subst (AreWrites basin) (sym c.written-writes.ensures) c.fire-fired.ensures.can in
-    wanted basin c.args.setup.now.policy.now c.args.step.0 c.args.self.now _ _ c.from_residual.result _ c.from_residual.ensures.1
-    (keeps_noted basin c.args.setup.now.policy.now c.args.self.now _ c.requires.within
-    (stays_fired basin c.args.setup.now.policy.now c.args.self.now _ c.args.rule.0 c.raise.ensures refl c.fire-fired.ensures.made refl)
-    (take c.note.ensures.some.0 writes) (all_take (CanWrite basin) c.note.ensures.some.0 writes can)
-    (c.fire-fired.ensures.keeps.indexed c.requires.within.indexed) refl refl ([], sym (told_none _)) c.note.ensures.some.1)
-    (record { closed_steps = refl; end = refl }) c.in_err-note.ensures.wants
+    let policy = c.args.setup.now.policy.now in
+    let old = c.args.self.now in
+    wanted basin policy c.args.step.0 old _ _ c.from_residual.result _ c.from_residual.ensures.1
+    (keeps_noted basin policy old _ c.requires.within
+    (stays_fired basin policy old _ c.args.rule.0 c.raise.ensures refl c.fire-fired.ensures.made refl refl refl)
+    (c.fire-fired.ensures.keeps.indexed c.requires.within.indexed) refl refl ([], sym (told_none _)) c.in_err-note_firing.ensures.1)
+    (record { closed_steps = refl; end = refl }) (sym c.requires.within.made.engine.notes ∙ c.in_err-note_firing.ensures.0)
 
 pub returns-in_err-fault : goal.returns-in_err-fault
 returns-in_err-fault g c =
     let basin = c.args.setup.now.basin.now in
-    let writes = c.written-writes.result.now in
-    let can = subst (AreWrites basin) (sym c.written-writes.ensures) c.fire-fired.ensures.can in
-    wanted basin c.args.setup.now.policy.now c.args.step.0 c.args.self.now _ _ c.from_residual-in_err-fault.result _ c.from_residual-in_err-fault.ensures.1
-    (keeps_noted basin c.args.setup.now.policy.now c.args.self.now _ c.requires.within
-    (stays_fired basin c.args.setup.now.policy.now c.args.self.now _ c.args.rule.0 c.raise.ensures refl c.fire-fired.ensures.made refl)
-    (take c.note.ensures.some.0 writes) (all_take (CanWrite basin) c.note.ensures.some.0 writes can)
-    (c.fire-fired.ensures.keeps.indexed c.requires.within.indexed) refl refl c.tell_firing.ensures.grows c.note.ensures.some.1)
+    let policy = c.args.setup.now.policy.now in
+    let old = c.args.self.now in
+    wanted basin policy c.args.step.0 old _ _ c.from_residual-in_err-fault.result _ c.from_residual-in_err-fault.ensures.1
+    (keeps_noted basin policy old _ c.requires.within
+    (stays_fired basin policy old _ c.args.rule.0 c.raise.ensures refl c.fire-fired.ensures.made refl refl refl)
+    (c.fire-fired.ensures.keeps.indexed c.requires.within.indexed) refl refl c.tell_firing.ensures.grows
+    (cells_looked c.looked-looked.result.now ++ cells_reached basin c.asked-asked.result.now, c.in_ok-note_firing.ensures))
     (record { closed_steps = refl; end = refl }) c.in_err-fault.ensures.wants
 
 pub returns : goal.returns
@@ -48,26 +58,30 @@ returns g c =
     let old = c.args.self.now in
     let rule = c.args.rule.0 in
     let step = c.args.step.0 in
-    let cells = held old.series in
-    let writes = c.written-writes.result.now in
+    let cells = held old.run.series in
     let within = c.requires.within in
     let turn = c.requires.turn in
     let tells = c.fire-fired.ensures.told in
     let fire = tells.fire in
     let event = ended basin cells rule step fire fire.end in
-    let can = subst (AreWrites basin) (sym c.written-writes.ensures) c.fire-fired.ensures.can in
     let known : IsCounted old.firings rule = record { first = turn.first; last = subst (λ n. rule ≤ n) (sym (within.made.firings ∙ within.made.engine.rules.many)) turn.last } in
-    let noted_cells = noted basin cells old.undo.items c.note.new.undo.items (take c.note.ensures.some.0 writes) c.note.ensures.some.1
-    (all_take (CanWrite basin) c.note.ensures.some.0 writes can) within.undo in
+    let asked = c.asked-asked.result.now in
+    let looked = c.looked-looked.result.now in
+    let reached = cells_looked looked ++ cells_reached basin asked in
+    let asks = firing_asks basin cells rule step fire fire.end in
+    let reaches = firing_reached basin cells rule step fire fire.end looked asked
+    (c.looked-looked.ensures ∙ ap (λ looks. unwrap_or looks []) tells.looked) (c.asked-asked.ensures ∙ tells.asked) in
     let on = c.write.ensures.keeps in
     let firing : Firing = record { rule = rule; step = step; is_done = true; looked = []; asked = []; written = c.fire-fired.new.self.written; count = 0 } in
     let made = c.write.ensures.leaves firing refl refl in
     rw (c.end_by.ensures.state, c.end_by.ensures.end) (record {
       keeps = keeps_ended basin policy old _ c.in_ok-fault.fault
           (keeps_done basin policy old _ within
-          (stays_fired basin policy old _ rule c.raise.ensures refl (rules_on basin policy cells (held c.write.new.series) c.fire-fired.new.self c.write.new.self on c.fire-fired.ensures.made) refl)
-          (fired firing) writes c.written-writes.ensures can (on.indexed (c.fire-fired.ensures.keeps.indexed within.indexed))
-          c.write.ensures.made made c.tell_firing.ensures.grows noted_cells c.in_ok-note.ensures.all);
+          (stays_fired basin policy old _ rule c.raise.ensures refl (rules_on basin policy cells (held c.write.new.series) c.fire-fired.new.self c.write.new.self on c.fire-fired.ensures.made) refl refl refl)
+          (fired firing) reached (on.indexed (c.fire-fired.ensures.keeps.indexed within.indexed))
+          c.write.ensures.made made c.tell_firing.ensures.grows c.in_ok-note_firing.ensures
+          (λ kept. subst (λ puts. (cell : Cell) → Contains (cells_reached basin puts) cell → Contains reached cell) (sym tells.written)
+          (written_reached basin event reached reaches asks)));
       on_the_way = on_the_way_rule basin step old _ c.in_ok-fault.fault rule known c.requires.below c.raise.ensures refl refl refl;
       goes = λ log given.
           let holds = given.0 in
@@ -79,9 +93,9 @@ returns g c =
             goes = fired_on basin policy old _ rule step log fire holds refl c.fire-fired.result.end tells.end c.in_ok-fault.fault c.in_ok-fault.ensures.fault (record {
               cells = λ cell. made.cells cell ∙ ap (λ puts. option_or (last_put basin puts cell) (cells cell)) written;
               trace = c.in_ok-fault.ensures.told
-                  ∙ ap (λ writes. told old.trace (lines_of_rule rule step c.fire-fired.result.end c.fire-fired.result.count writes)) (c.written-writes.ensures ∙ written)
-                  ∙ ap (λ count. told old.trace (lines_of_rule rule step c.fire-fired.result.end count (written_by event))) tells.count
-                  ∙ ap (λ so. told old.trace (lines_of_rule rule step so fire.count (written_by event))) tells.end;
+                  ∙ ap (λ writes. told old.run.trace (lines_of_rule rule step c.fire-fired.result.end c.fire-fired.result.count writes)) (c.written-writes.ensures ∙ written)
+                  ∙ ap (λ count. told old.run.trace (lines_of_rule rule step c.fire-fired.result.end count (written_by event))) tells.count
+                  ∙ ap (λ so. told old.run.trace (lines_of_rule rule step so fire.count (written_by event))) tells.end;
               closed_steps = refl;
               counted = known;
               firings = c.raise.ensures;
@@ -90,6 +104,9 @@ returns g c =
               looks = λ firing same looked. looks_on policy c.fire-fired.new.self c.write.new.self (fired firing ∷ log) on.rules
                   (c.fire-fired.ensures.keeps.shows log firing same (tells.looked ∙ ap (λ looks. Some looks) (sym looked)) holds.looks);
             });
+            notes = λ calm. ended_noted c.in_ok-fault.fault _ ∙ notes_same cells reached (reached_by basin event) old.noted _ c.in_ok-note_firing.ensures (λ kept. reaches calm);
+            asks = asks;
+            can = subst (AreWrites basin) written c.fire-fired.ensures.can;
           };
       wants = tt;
     })

@@ -1,19 +1,48 @@
-use Rattle.rw_engine.proofs.Common.{ap, closed_by, ◌∙◌}
+use Rattle.rw_engine.proofs.Common.{All-nil, Event, [], ap, cells_of, closed_by, held, opened, refl, written_by, ◌∙◌, ◌∷◌}
+use Rattle.rw_dispatch.specs.Writes.{AreWrites}
 use Rattle.rw_engine.specs.State.{step_end}
-use Rattle.rw_engine.proofs.Steps.{ends_step, reached_more, revocable_more, still_more, unpassed}
+use Rattle.rw_engine.proofs.Notings.{notes_first, revocable_first}
+use Rattle.rw_engine.proofs.Steps.{ends_step, goes_back_more, reached_more, still_more, unpassed}
 use Rattle.rw_engine.proofs.Traces.{kept_before}
 use Rattle.rw_engine.proofs.state.State.pass.Goals as goal
 
+pub loop-ended-init : goal.loop-ended-init
+loop-ended-init g c =
+    let tells = c.open.ensures.tells in
+    let old = c.args.self.now in
+    let new = c.open.new.self in
+    let same = ap held tells.series in record {
+      within = c.in_ok-open.ensures.opened.within;
+      reached = λ log shows before. record {
+        events = [];
+        now = opened c.args.step.0 ∷ log;
+        leads = refl;
+        holds = c.in_ok-open.ensures.opened.holds log shows before;
+        inside_step = tt;
+        notes = notes_first c.args.setup.now.basin.now (cells_of c.args.setup.now.basin.now log) (held new.run.series) new.noted
+            (rw tells.noted c.requires.fresh.cleared) (λ cell. ap (λ cells. cells cell) same ∙ shows.cells cell);
+        can = All-nil (λ (event : Event). AreWrites c.args.setup.now.basin.now (written_by event));
+      };
+      back = record {
+        revocable = revocable_first (held old.run.series) (held new.run.series) new.noted (rw tells.noted c.requires.fresh.cleared) (λ cell. ap (λ cells. cells cell) same);
+        lines_before = tells.lines_before;
+        grows = tells.grows;
+      };
+      still = record { closed_steps = tells.closed_steps; end = tells.end };
+    }
+
 pub returns-then-ended : goal.returns-then-ended
 returns-then-ended g c =
-    let end = step_end c.event.new.self.end in
+    let end = step_end c.event.new.self.run.end in
+    let back = goes_back_more c.args.setup.now.basin.now c.args.setup.now.policy.now c.args.self.now c.loop-ended.self c.event.new.self c.loop-ended.invariant.back c.event.ensures.keeps in
     rw c.step_end.ensures (record {
       made = c.event.ensures.keeps.within.made;
-      revocable = revocable_more c.args.setup.now.basin.now c.args.setup.now.policy.now c.args.self.now c.loop-ended.self c.event.new.self c.loop-ended.invariant.revocable c.event.ensures.keeps;
+      back = back;
       still = tt;
       passes = λ log shows before.
-          ends_step c.args.setup.now.basin.now c.args.setup.now.policy.now log c.loop-ended.self c.event.new.self c.args.step.0 end (c.loop-ended.invariant.reached log shows before)
-          (λ l holds. rw c.if-ended.true at c.in_ok-ended.ensures.goes l holds) before;
+          ends_step c.args.setup.now.basin.now c.args.setup.now.policy.now log c.args.self.now c.loop-ended.self c.event.new.self c.args.step.0 end
+          (c.loop-ended.invariant.reached log shows before) (λ l holds. rw c.if-ended.true at c.in_ok-ended.ensures.goes l holds) shows before
+          back.grows c.event.ensures.keeps.within.made.engine.notes (back.lines_before ∙ c.requires.fresh.lines_before);
       closed_steps = (rw c.if-ended.true at c.in_ok-ended.ensures.on_the_way) ∙ ap (closed_by end c.args.step.0) c.loop-ended.invariant.still.closed_steps;
       wants = tt;
     })
@@ -22,15 +51,15 @@ pub returns-in_err-ended : goal.returns-in_err-ended
 returns-in_err-ended g c =
     unpassed c.args.setup.now.basin.now c.args.setup.now.policy.now c.args.step.0 c.args.self.now c.event.new.self c.from_residual-in_err-ended.result _
     c.from_residual-in_err-ended.ensures.1 c.event.ensures.keeps.within.made
-    (revocable_more c.args.setup.now.basin.now c.args.setup.now.policy.now c.args.self.now c.loop-ended.self c.event.new.self c.loop-ended.invariant.revocable c.event.ensures.keeps)
+    (goes_back_more c.args.setup.now.basin.now c.args.setup.now.policy.now c.args.self.now c.loop-ended.self c.event.new.self c.loop-ended.invariant.back c.event.ensures.keeps)
     (still_more c.args.self.now c.loop-ended.self c.event.new.self c.loop-ended.invariant.still c.in_err-ended.ensures.on_the_way)
-    (kept_before c.args.self.now.trace c.loop-ended.self.trace c.loop-ended.invariant.revocable.grows c.in_err-ended.ensures.wants)
+    (kept_before c.args.self.now.run.trace c.loop-ended.self.run.trace c.loop-ended.invariant.back.grows c.in_err-ended.ensures.wants)
 
 pub loop-ended-preserved : goal.loop-ended-preserved
 loop-ended-preserved g c = record {
   within = c.event.ensures.keeps.within;
-  reached = λ log shows before. reached_more c.args.setup.now.basin.now c.args.setup.now.policy.now _ c.loop-ended.self c.event.new.self c.args.step.0 (c.loop-ended.invariant.reached log shows before)
+  reached = λ log shows before. reached_more c.args.setup.now.basin.now c.args.setup.now.policy.now log c.loop-ended.self c.event.new.self c.args.step.0 (c.loop-ended.invariant.reached log shows before)
       (λ l holds. rw c.if-ended.false at c.in_ok-ended.ensures.goes l holds);
-  revocable = revocable_more c.args.setup.now.basin.now c.args.setup.now.policy.now c.args.self.now c.loop-ended.self c.event.new.self c.loop-ended.invariant.revocable c.event.ensures.keeps;
+  back = goes_back_more c.args.setup.now.basin.now c.args.setup.now.policy.now c.args.self.now c.loop-ended.self c.event.new.self c.loop-ended.invariant.back c.event.ensures.keeps;
   still = still_more c.args.self.now c.loop-ended.self c.event.new.self c.loop-ended.invariant.still (rw c.if-ended.false at c.in_ok-ended.ensures.on_the_way).0;
 }

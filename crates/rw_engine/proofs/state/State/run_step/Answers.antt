@@ -1,7 +1,48 @@
-use Rattle.std.proofs.Common.{IfSome, IsSome, ap, option_map, subst, sym, take, ◌∙◌, ◌≡◌}
+use Rattle.std.proofs.Common.{IfSome, IsSome, ap, is_some, option_map, subst, sym, take, ◌∙◌, ◌≡◌}
 use Rattle.rw_run.specs.RunOf.{trace_of}
-use Rattle.rw_engine.proofs.Traces.{kept_on, shortened}
+use Rattle.rw_series.specs.Series.{held}
+use Rattle.rw_base.specs.declared.number.Cell.{Cell}
+use Rattle.rw_record.specs.Noted.{noted_in}
+use Rattle.rw_record.specs.Notes.{CanTakeBack}
+use Rattle.rw_engine.proofs.Notings.{cleared_none, cleared_some, in_some}
+use Rattle.rw_engine.proofs.Traces.{grows_some, kept_on, shortened}
 use Rattle.rw_engine.proofs.state.State.run_step.Goals as goal
+
+pub pass-requires-clause-fresh : goal.pass-requires-clause-fresh
+pass-requires-clause-fresh g c =
+    let made = c.requires.made in
+    let old = c.args.self.now in
+    let kept = ap is_some c.begin_step.ensures ∙ cleared_some old.noted in record {
+      made = record {
+        engine = record {
+          valid = made.engine.valid;
+          fits = made.engine.fits;
+          objects = made.engine.objects;
+          rules = made.engine.rules;
+          series = made.engine.series;
+          closed_steps = made.engine.closed_steps;
+          notes = kept ∙ made.engine.notes;
+        };
+        keeps = made.keeps ∙ sym kept;
+        counts = made.counts;
+        firings = made.firings;
+      };
+      cleared = rw c.begin_step.ensures (cleared_none old.noted);
+      lines_before = c.len-self.ensures;
+    }
+
+module _ (g : _) (c : goal.After-take_back g) where
+  can : CanTakeBack (held c.args.self.now.run.series) (held c.pass.new.self.run.series) (noted_in c.pass.new.self.noted)
+  can = in_some c.pass.new.self.noted (CanTakeBack (held c.args.self.now.run.series) (held c.pass.new.self.run.series))
+      (c.pass.ensures.made.engine.notes ∙ kept_on c.args.self.now.run.trace c.pass.new.self.run.trace c.pass.ensures.back.grows c.in-Err.ensures.wants)
+      c.pass.ensures.back.revocable
+
+  back : (cell : Cell) → held c.take_back.new.series cell ≡ held c.args.self.now.run.series cell
+  back = c.take_back.ensures.back c.args.self.now.run.series c.requires.made.engine.series.made can
+
+  same : c.truncate.new.self ≡ c.args.self.now.run.trace
+  same = c.truncate.ensures ∙ ap (λ count. option_map (take count) c.pass.new.self.run.trace) (c.pass.ensures.back.lines_before ∙ c.len-self.ensures)
+      ∙ shortened c.args.self.now.run.trace c.pass.new.self.run.trace c.pass.ensures.back.grows
 
 pub returns-in-Err-clause-made : goal.returns-in-Err-clause-made
 returns-in-Err-clause-made g c = record {
@@ -12,10 +53,12 @@ returns-in-Err-clause-made g c = record {
     rules = c.pass.ensures.made.engine.rules;
     series = record {
       made = c.take_back.ensures.made;
-      bounded = λ cell content known is. c.requires.made.engine.series.bounded cell content known (sym (c.take_back.ensures.back cell ∙ c.pass.ensures.revocable.undo c.in-Err.ensures.wants cell) ∙ is);
+      bounded = λ cell content known is. c.requires.made.engine.series.bounded cell content known (sym (back g c cell) ∙ is);
     };
     closed_steps = c.pass.ensures.made.engine.closed_steps;
+    notes = c.pass.ensures.made.engine.notes ∙ grows_some c.args.self.now.run.trace c.pass.new.self.run.trace c.pass.ensures.back.grows ∙ ap is_some (sym (same g c));
   };
+  keeps = c.pass.ensures.made.keeps;
   counts = c.pass.ensures.made.counts;
   firings = c.pass.ensures.made.firings;
 }
@@ -23,25 +66,22 @@ returns-in-Err-clause-made g c = record {
 pub returns-in-Ok-clause-runs : goal.returns-in-Ok-clause-runs
 returns-in-Ok-clause-runs g c = record {
   made = c.pass.ensures.made.engine;
-  passes = c.in-Ok.ensures.passes;
+  passes = λ log shows. c.in-Ok.ensures.passes log (record { cells = shows.cells; trace = shows.trace; closed_steps = shows.closed_steps; end = shows.end });
   before = λ log shows. tt;
-  kept = kept_on c.args.self.now.trace c.pass.new.self.trace c.pass.ensures.revocable.grows;
+  kept = kept_on c.args.self.now.run.trace c.pass.new.self.run.trace c.pass.ensures.back.grows;
   closed_steps = c.in-Ok.ensures.closed_steps;
 }
 
 pub returns-in-Err-clause-runs : goal.returns-in-Err-clause-runs
-returns-in-Err-clause-runs g c =
-    let old = c.args.self.now in
-    let same = c.truncate.ensures ∙ ap (λ count. option_map (take count) c.pass.new.self.trace) c.len-mark.ensures
-    ∙ shortened old.trace c.pass.new.self.trace c.pass.ensures.revocable.grows in record {
-      made = (returns-in-Err-clause-made g c).engine;
-      passes = λ log shows before. tt;
-      before = λ log shows. record {
-        cells = λ cell. c.take_back.ensures.back cell ∙ c.pass.ensures.revocable.undo c.in-Err.ensures.wants cell ∙ shows.cells cell;
-        trace = subst (λ trace. IfSome trace (λ lines. lines ≡ trace_of log)) (sym same) shows.trace;
-        closed_steps = c.in-Err.ensures.still.closed_steps ∙ shows.closed_steps;
-        end = c.in-Err.ensures.still.end ∙ shows.end;
-      };
-      kept = subst (λ trace. IsSome trace) (sym same);
-      closed_steps = tt;
-    }
+returns-in-Err-clause-runs g c = record {
+  made = (returns-in-Err-clause-made g c).engine;
+  passes = λ log shows before. tt;
+  before = λ log shows. record {
+    cells = λ cell. back g c cell ∙ shows.cells cell;
+    trace = subst (λ trace. IfSome trace (λ lines. lines ≡ trace_of log)) (sym (same g c)) shows.trace;
+    closed_steps = c.in-Err.ensures.still.closed_steps ∙ shows.closed_steps;
+    end = c.in-Err.ensures.still.end ∙ shows.end;
+  };
+  kept = subst (λ trace. IsSome trace) (sym (same g c));
+  closed_steps = tt;
+}

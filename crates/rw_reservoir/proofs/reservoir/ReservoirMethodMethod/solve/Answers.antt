@@ -3,4 +3,5 @@ use Rattle.rw_reservoir.proofs.reservoir.ReservoirMethodMethod.solve.Goals as go
 pub returns : goal.returns
 returns c =
     let kind = c.in-Reservoir in
-    rw kind.is (c.solve_reservoir.ensures kind.initial_storage kind.local_inflow kind.diversion kind.return_flow c.side_flows-side.ensures.flow)
+    let solved = c.solve_reservoir.ensures kind.initial_storage kind.local_inflow kind.diversion kind.return_flow c.side_flows-side.ensures.flow in
+    rw kind.is (rw c.as_ref-rating.ensures.value at solved)
