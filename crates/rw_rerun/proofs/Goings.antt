@@ -28,7 +28,7 @@ use Rattle.rpl_verify.specs.Verified.{Accepted}
 use Rattle.rw_rules.specs.Rules.{policy_in}
 use Rattle.rw_rerun.specs.Kept.{IsKept, IsKeptAs}
 use Rattle.rw_rerun.specs.Session.{numbers_of}
-use Rattle.rw_rerun.specs.UnderWay.{CanReplay, GoesOn, IsEntry, IsPassOf, IsUnderWay, IsUnlike, stands_at}
+use Rattle.rw_rerun.specs.UnderWay.{IsReplayable, GoesOn, IsEntry, IsPassOf, IsUnderWay, IsUnlike, stands_at}
 use Rattle.rw_rerun.specs.declared.pass.Pass.{Pass}
 use Rattle.rw_rerun.proofs.Anew.{IsClosedIn, kept_again, kept_anew, record_stands}
 use Rattle.rw_rerun.proofs.Reusing.{is_reused, not_reused, run_again, taken_over}
@@ -56,7 +56,7 @@ module _ (basin : Draft) (policy : Accepted) (step : ℕ) (old new : Pass) (made
     few = omega arith;
   }
 
-  pub take_goes : (steps : ℕ) (done : Unit {0}) (kept : StepRecord) → old.over ≡ false → new.over ≡ false → IsStep basin step → CanReplay basin step kept
+  pub take_goes : (steps : ℕ) (done : Unit {0}) (kept : StepRecord) → old.over ≡ false → new.over ≡ false → IsStep basin step → IsReplayable basin step kept
       → AreHeld (held old.engine.series) kept.looked → Replays basin kept old.engine new.engine (Ok done) → new.reran.items ≡ old.reran.items
       → new.changes.items ≡ old.changes.items ++ None ∷ [] → GoesOn basin policy step (λ entry. entry ≡ Some kept) old new steps steps (Ok done)
   take_goes steps done kept goes still_goes exists can alike replays reran changes = record {

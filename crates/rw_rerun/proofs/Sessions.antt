@@ -1,10 +1,11 @@
 -- What a run comes to for its session.
-use Rattle.rw_base.proofs.Common.{◌≡◌, ◌<◌, ◌≤◌, ◌+◌, ◌∙◌, ℕ, zero, suc, Bool, false, false≢true, List, [], ◌∷◌, Contains, Option, Some, None, IsSome, IfSome, get_or, length, refl, sym, ap, subst, arith, replicate, same_Some, none-some, slice_get}
+use Rattle.rw_base.proofs.Common.{◌≡◌, ◌<◌, ◌≤◌, ◌+◌, ◌∙◌, ℕ, zero, suc, Bool, false, false≢true, List, [], ◌∷◌, Contains, Option, Some, None, Ok, IsSome, IfSome, get_or, length, refl, sym, ap, subst, arith, replicate, same_Some, none-some, slice_get}
 use Rattle.std.proofs.lemmas.Option.{slice_get_read}
 use Rattle.rw_model.specs.Draft.{Draft}
 use Rattle.rw_inputs.specs.Edits.{Batch, after_batch}
 use Rattle.rw_inputs.specs.Givens.{givens}
 use Rattle.rw_inputs.specs.Inputs.{Inputs, IsInputsOf, value_at}
+use Rattle.rw_run.specs.Frame.{IsFramed}
 use Rattle.rw_run.specs.Log.{Log}
 use Rattle.rw_run.specs.Next.{Policy}
 use Rattle.rw_run.specs.Reuse.{AreOpened, AreRerun, IsReused}
@@ -16,7 +17,7 @@ use Rattle.rpl_verify.specs.Verified.{Accepted}
 use Rattle.rw_rules.specs.Rules.{policy_in}
 use Rattle.rw_rerun.specs.Kept.{AreKept, IsKept, IsKeepable, changed}
 use Rattle.rw_rerun.specs.Session.{Applies, IsSessionOf, IsStarted, Session, numbers_of}
-use Rattle.rw_rerun.specs.UnderWay.{CanReplay, CanReplayAll, IsEntry, IsPassOf, IsUnderWay}
+use Rattle.rw_rerun.specs.UnderWay.{AreReplayable, GoesOn, IsEntry, IsReplayable, IsPassOf, IsUnderWay}
 use Rattle.rw_rerun.specs.declared.pass.Pass.{Pass}
 use Rattle.rw_rerun.proofs.Keeping.{kept_there, length_changed}
 use Rattle.rw_rerun.proofs.Ways.{whole_way}
@@ -33,7 +34,7 @@ session_behind inputs was pass = record {
 module _ (basin : Draft) (policy : Accepted) (inputs : Inputs) (earlier : Log) (was : List (Option StepRecord)) (pass : Pass) (given : IsInputsOf basin inputs)
     (made : IsPassOf basin policy pass) (many : length was ≡ basin.control.stamps.count)
     (way : IsUnderWay basin (policy_in basin policy) inputs earlier was pass basin.control.stamps.count) where
-  pub is_session : IsSessionOf basin policy (session_behind inputs was pass)
+  abbrev pub is_session : IsSessionOf basin policy (session_behind inputs was pass)
   is_session = record {
     given = given;
     made = made.made;
@@ -58,7 +59,7 @@ none_there zero place kept there = absurd (none-some _ there)
 none_there (suc count) zero kept there = absurd (none-some _ (same_Some None (Some kept) there))
 none_there (suc count) (suc place) kept there = none_there count place kept there
 
-pub none_replayed : (basin : Draft) (count : ℕ) → CanReplayAll basin (replicate count None)
+pub none_replayed : (basin : Draft) (count : ℕ) → AreReplayable basin (replicate count None)
 none_replayed basin count = λ place kept there. absurd (none_there count place kept there)
 
 pub starts : (basin : Draft) (policy : Accepted) (inputs : Inputs) (was : List (Option StepRecord)) (pass : Pass) → IsInputsOf basin inputs
@@ -79,19 +80,19 @@ starts basin policy inputs was pass given made many way = record {
 -- ---- and a later one
 
 replayed_from : (basin : Draft) (policy : Policy) (log : Log) (first place : ℕ) (was : List (Option StepRecord)) (kept : StepRecord) → AreKept basin policy log first was
-    → slice_get was place ≡ Some (Some kept) → CanReplay basin (first + place) kept
+    → slice_get was place ≡ Some (Some kept) → IsReplayable basin (first + place) kept
 replayed_from basin policy log first place [] kept are there = absurd (none-some _ there)
 replayed_from basin policy log first zero (entry ∷ was) kept are there =
     let is = subst (IsKept basin policy log first) (same_Some entry (Some kept) there) are.0 in
     let here : first ≡ first + zero = omega arith in record { step_is = is.these.step_is ∙ here; can = is.these.can }
 replayed_from basin policy log first (suc place) (entry ∷ was) kept are there =
     let here : (first + 1) + place ≡ first + suc place = omega arith in
-    subst (λ step. CanReplay basin step kept) here (replayed_from basin policy log (first + 1) place was kept are.1 there)
+    subst (λ step. IsReplayable basin step kept) here (replayed_from basin policy log (first + 1) place was kept are.1 there)
 
-pub all_replayed : (basin : Draft) (policy : Policy) (log : Log) (was : List (Option StepRecord)) → AreKept basin policy log 1 was → CanReplayAll basin was
+pub all_replayed : (basin : Draft) (policy : Policy) (log : Log) (was : List (Option StepRecord)) → AreKept basin policy log 1 was → AreReplayable basin was
 all_replayed basin policy log was are = λ place kept there.
     let here : 1 + place ≡ place + 1 = omega arith in
-    subst (λ step. CanReplay basin step kept) here (replayed_from basin policy log 1 place was kept are there)
+    subst (λ step. IsReplayable basin step kept) here (replayed_from basin policy log 1 place was kept are there)
 
 pub applies : (basin : Draft) (policy : Accepted) (batch : Batch) (inputs : Inputs) (old : Session) (pass : Pass) (session : IsSessionOf basin policy old)
     → value_at inputs ≡ after_batch batch (value_at old.inputs) → IsInputsOf basin inputs → IsPassOf basin policy pass
@@ -112,8 +113,8 @@ pub entry_there : (was : List (Option StepRecord)) (place from count : ℕ) (ent
 entry_there was place from count entry at near many is =
     ap (slice_get was) (sym at) ∙ slice_get_read was count from entry (sym many) (omega (arith, at, near)) is
 
-pub replayed_here : (basin : Draft) (was : List (Option StepRecord)) (place : ℕ) (entry : Option StepRecord) → CanReplayAll basin was
-    → slice_get was place ≡ Some entry → IfSome entry (CanReplay basin (place + 1))
+pub replayed_here : (basin : Draft) (was : List (Option StepRecord)) (place : ℕ) (entry : Option StepRecord) → AreReplayable basin was
+    → slice_get was place ≡ Some entry → IfSome entry (IsReplayable basin (place + 1))
 replayed_here basin was place None all there = tt
 replayed_here basin was place (Some kept) all there = all place kept there
 
@@ -122,3 +123,12 @@ pub entry_is : (basin : Draft) (policy : Policy) (earlier : Log) (was : List (Op
 entry_is basin policy earlier was place entry are there =
     let here : 1 + place ≡ place + 1 = omega arith in
     record { there = there; kept = subst (λ step. IsKept basin policy earlier step entry) here (kept_there basin policy earlier 1 place was entry are there) }
+
+-- a call that comes behind it
+pub passes_on : (basin : Draft) (policy : Accepted) (inputs : Inputs) (earlier : Log) (was : List (Option StepRecord)) (place : ℕ) (entry : Option StepRecord)
+    (old new : Pass) (before after : ℕ) (done : Unit {0}) → IsFramed (policy_in basin policy) → slice_get was place ≡ Some entry
+    → AreKept basin (policy_in basin policy) earlier 1 was → GoesOn basin policy (place + 1) (λ kept. kept ≡ entry) old new before after (Ok done)
+    → IsUnderWay basin (policy_in basin policy) inputs earlier was old place
+    → IsUnderWay basin (policy_in basin policy) inputs earlier was new (place + 1)
+passes_on basin policy inputs earlier was place entry old new before after done framed there are on way =
+    on.goes inputs earlier was place entry framed (entry_is basin (policy_in basin policy) earlier was place entry are there) refl refl way

@@ -45,7 +45,7 @@ pub record IsPassOf (basin : Draft) (policy : Accepted) (pass : Pass) : Type 0 w
   pub traced : IsSome pass.engine.trace
 
 -- a record of this timestep, of which what was written can be written
-pub record CanReplay (basin : Draft) (step : ℕ) (kept : StepRecord) : Type 0 where
+pub record IsReplayable (basin : Draft) (step : ℕ) (kept : StepRecord) : Type 0 where
   pub step_is : kept.step ≡ step
   pub can : CanWriteLines basin kept.lines
 
@@ -70,8 +70,8 @@ abbrev pub IsUnlike : Pass → Option StepRecord → Type 0
 IsUnlike pass entry = IfSome entry (λ kept. ¬ AreHeld (held pass.engine.series) kept.looked)
 
 -- each record is of its timestep
-abbrev pub CanReplayAll : Draft → List (Option StepRecord) → Type 0
-CanReplayAll basin was = (place : ℕ) (kept : StepRecord) → slice_get was place ≡ Some (Some kept) → CanReplay basin (place + 1) kept
+abbrev pub AreReplayable : Draft → List (Option StepRecord) → Type 0
+AreReplayable basin was = (place : ℕ) (kept : StepRecord) → slice_get was place ≡ Some (Some kept) → IsReplayable basin (place + 1) kept
 
 -- a call comes behind all timesteps, with what was kept of an earlier run to go by, and counts those that it runs
 pub record PassesAll (basin : Draft) (policy : Accepted) (inputs : Inputs) (was : List (Option StepRecord)) (before after : ℕ) (result : Result Pass NoMemory) : Type 0 where

@@ -6,7 +6,7 @@ ghost use Rattle.rw_method.specs.Catalogue.{AreInOrder};
 ghost use Rattle.rw_model.specs.Turn.{IsStep};
 ghost use Rattle.rw_record.specs.Noted.{AreHeld};
 ghost use Rattle.rw_series.specs.Series.{held};
-ghost use Rattle.rw_rerun.specs.UnderWay.{CanReplay, CanReplayAll, GoesOn, IsPassOf, IsUnlike, PassesAll};
+ghost use Rattle.rw_rerun.specs.UnderWay.{IsReplayable, AreReplayable, GoesOn, IsPassOf, IsUnlike, PassesAll};
 
 use crate::pass::Pass;
 use crate::setup::Setup;
@@ -38,7 +38,7 @@ fn take_over(
 ) -> Result<(), NoMemory>
     requires made { IsPassOf setup.now.basin.now setup.now.policy.now pass.old }
     requires step { IsStep setup.now.basin.now step.0 }
-    requires can { CanReplay setup.now.basin.now step.0 kept.now }
+    requires can { IsReplayable setup.now.basin.now step.0 kept.now }
     requires alike { AreHeld (held pass.old.engine.series) kept.now.looked }
     requires goes { pass.old.over ≡ false }
     ensures { (steps : ℕ) → GoesOn setup.now.basin.now setup.now.policy.now step.0
@@ -102,7 +102,7 @@ fn pass_step<L: Ledger>(
         (map (λ b. code (b.vtable, b.value)) setup.now.methods.now.methods.items) }
     requires made { IsPassOf setup.now.basin.now setup.now.policy.now pass.old }
     requires step { IsStep setup.now.basin.now step.0 }
-    requires can { IfSome entry.now (CanReplay setup.now.basin.now step.0) }
+    requires can { IfSome entry.now (IsReplayable setup.now.basin.now step.0) }
     ensures { GoesOn setup.now.basin.now setup.now.policy.now step.0 (λ kept. kept ≡ entry.now)
         pass.old pass.new steps.old steps.new result }
 {
@@ -133,7 +133,7 @@ pub(crate) fn pass_all<L: Ledger>(
         (map (λ b. code (b.vtable, b.value)) setup.now.methods.now.methods.items) }
     requires inputs { IsInputsOf setup.now.basin.now inputs.now }
     requires many { length kept.now ≡ setup.now.basin.now.control.stamps.count }
-    requires can { CanReplayAll setup.now.basin.now kept.now }
+    requires can { AreReplayable setup.now.basin.now kept.now }
     ensures { PassesAll setup.now.basin.now setup.now.policy.now inputs.now kept.now
         steps.old steps.new result }
 {

@@ -3,11 +3,12 @@ use Rattle.rw_model.specs.declared.control.RunControl.{RunControl}
 use Rattle.rw_inputs.specs.Givens.{givens}
 use Rattle.rw_run.proofs.Passings.{begun, nothing_of}
 use Rattle.rw_run.proofs.Placed.{standing-placed}
+use Rattle.rw_run.specs.Frame.{IsFramed}
 use Rattle.rw_run.specs.Runs.{placed}
 use Rattle.rw_rules.specs.Rules.{policy_in}
 use Rattle.rw_rerun.specs.UnderWay.{IsUnderWay}
 use Rattle.rw_rerun.proofs.Counted.{wants_all}
-use Rattle.rw_rerun.proofs.Sessions.{entry_is, entry_there, replayed_here}
+use Rattle.rw_rerun.proofs.Sessions.{entry_there, passes_on, replayed_here}
 use Rattle.rw_rerun.proofs.Ways.{first_way}
 use Rattle.rw_rerun.proofs.passing.pass_all.Goals as goal
 
@@ -53,7 +54,7 @@ loop-before-preserved g c =
     let there : slice_get c.args.kept.now c.loop-before.before ≡ Some c.index-kept-from.result =
     entry_there c.args.kept.now c.loop-before.before c.from.result basin.control.stamps.count c.index-kept-from.result c.from.ensures near c.requires.many
     c.index-kept-from.is in
-    let framed =
+    let framed : IsFramed (policy_in basin policy) =
     (c.code_keeps_promises.ensures basin policy.blocks policy.budgets (c.answered_code_is_safe.ensures.accepted basin policy.blocks policy c.requires.fits)).framed in
     let was = c.loop-before.invariant.each in
     let most = c.loop-before.invariant.few in
@@ -61,9 +62,8 @@ loop-before-preserved g c =
     let few = c.in_ok-pass_step.ensures.few in record {
       made = c.in_ok-pass_step.ensures.made;
       way = λ earlier kept.
-          c.in_ok-pass_step.ensures.goes c.args.inputs.now earlier c.args.kept.now c.loop-before.before c.index-kept-from.result framed
-          (entry_is basin (policy_in basin policy) earlier c.args.kept.now c.loop-before.before c.index-kept-from.result kept there) refl refl
-          (c.loop-before.invariant.way earlier kept);
+          passes_on basin policy c.args.inputs.now earlier c.args.kept.now c.loop-before.before c.index-kept-from.result c.loop-before.pass c.pass_step.new.pass
+          c.loop-before.steps c.pass_step.new.steps _ framed there kept c.in_ok-pass_step.ensures (c.loop-before.invariant.way earlier kept);
       each = omega (arith, was, more);
       few = omega (arith, most, few);
     }
