@@ -1,4 +1,6 @@
-use Rattle.rw_base.proofs.Common.{List, Option, [], length, rules, subst, sym, ◌∙◌, ◌≡◌}
+use Rattle.rw_base.proofs.Common.{List, None, Option, [], ap, arith, length, subst, sym, ◌∙◌, ◌≡◌}
+use Rattle.std.proofs.lemmas.List.{length-replicate}
+use Rattle.rw_model.specs.declared.control.RunControl.{RunControl}
 use Rattle.rw_record.specs.Record.{StepRecord}
 use Rattle.rw_rules.specs.Rules.{policy_in}
 use Rattle.rw_rerun.specs.Kept.{AreKept}
@@ -7,11 +9,17 @@ use Rattle.rw_rerun.specs.UnderWay.{IsUnderWay}
 use Rattle.rw_rerun.proofs.Sessions.{none_kept, starts}
 use Rattle.rw_rerun.proofs.state.State.start.Goals as goal
 
+abbrev nothing : Option StepRecord
+nothing = None
+
 pub exchange-requires : goal.exchange-requires
 exchange-requires g c =
     let basin = c.args.setup.now.basin.now in
     let policy = policy_in basin c.args.setup.now.policy.now in
-    let many : length c.in_ok-kept.kept.items ≡ basin.control.stamps.count = search rules in
+    let many : length c.in_ok-kept.kept.items ≡ basin.control.stamps.count =
+    let all = ap length c.in_ok-kept.ensures in
+    let each = length-replicate c.count.result nothing in
+    let steps = ap (λ (k : RunControl). k.stamps.count) c.control.ensures in let value = c.count.ensures.value in omega (arith, all, each, steps, value) in
     let none : AreKept basin policy [] 1 c.deref.result.now =
     subst (AreKept basin policy [] 1) (sym (c.deref.ensures.value ∙ c.in_ok-kept.ensures)) (none_kept basin policy 1 c.count.result) in
     (c.in_ok-pass.ensures.goes [] none).many ∙ sym many
@@ -21,7 +29,10 @@ returns-clause-started g c =
     let basin = c.args.setup.now.basin.now in
     let policy = policy_in basin c.args.setup.now.policy.now in
     let pass = c.in_ok-pass.pass in
-    let many : length c.in_ok-kept.kept.items ≡ basin.control.stamps.count = search rules in
+    let many : length c.in_ok-kept.kept.items ≡ basin.control.stamps.count =
+    let all = ap length c.in_ok-kept.ensures in
+    let each = length-replicate c.count.result nothing in
+    let steps = ap (λ (k : RunControl). k.stamps.count) c.control.ensures in let value = c.count.ensures.value in omega (arith, all, each, steps, value) in
     let none : AreKept basin policy [] 1 c.deref.result.now =
     subst (AreKept basin policy [] 1) (sym (c.deref.ensures.value ∙ c.in_ok-kept.ensures)) (none_kept basin policy 1 c.count.result) in
     let way : IsUnderWay basin policy c.args.inputs [] c.in_ok-kept.kept.items pass basin.control.stamps.count =
