@@ -1,0 +1,80 @@
+-- What is kept of timesteps stays so behind a longer log, and what a run changes of it.
+use Rattle.rw_base.proofs.Common.{◌≡◌, ◌≢◌, ◌<◌, ◌≤◌, ◌+◌, ◌∙◌, ℕ, zero, suc, List, [], ◌∷◌, ◌++◌, Option, Some, None, IsSome, unwrap_or, length, refl, sym, ap, subst, arith, same_Some, none-some, slice_get}
+use Rattle.std.specs.List.{flat_map}
+use Rattle.rw_model.specs.Draft.{Draft}
+use Rattle.rw_run.specs.Behind.{IsBehind}
+use Rattle.rw_run.specs.Log.{Event, Log}
+use Rattle.rw_run.specs.Next.{Policy}
+use Rattle.rw_run.specs.Reuse.{most_kept}
+use Rattle.rw_run.specs.RunOf.{lines}
+use Rattle.rw_run.specs.Step.{before_closing, before_opening, cell_count, events_of, reached_by}
+use Rattle.rw_record.specs.Record.{StepRecord}
+use Rattle.rw_rerun.specs.Kept.{AreKept, IsKept, IsKeptAs, IsKeepable, changed}
+
+-- by what it closed and its events
+pub keepable_same : (basin : Draft) (step : ℕ) (log other : Log) → before_closing step other ≡ before_closing step log → events_of step other ≡ events_of step log
+    → IsKeepable basin log step → IsKeepable basin other step
+keepable_same basin step log other closings events is = record {
+  closing = subst IsSome (sym closings) is.closing;
+  few_cells = subst (λ es. cell_count (flat_map (reached_by basin) es) ≤ most_kept) (sym events) is.few_cells;
+  few_lines = subst (λ es. length (flat_map lines es) ≤ most_kept) (sym events) is.few_lines;
+}
+
+kept_same : (basin : Draft) (policy : Policy) (step : ℕ) (log other : Log) (entry : Option StepRecord) → before_opening step other ≡ before_opening step log
+    → before_closing step other ≡ before_closing step log → events_of step other ≡ events_of step log → IsKept basin policy log step entry
+    → IsKept basin policy other step entry
+kept_same basin policy step log other None openings closings events is =
+    λ keepable. is (keepable_same basin step other log (sym closings) (sym events) keepable)
+kept_same basin policy step log other (Some kept) openings closings events is = record {
+  keepable = keepable_same basin step log other closings events is.keepable;
+  old = is.old;
+  first = is.first;
+  events = is.events;
+  opening = openings ∙ is.opening;
+  own = events ∙ is.own;
+  timestep = is.timestep;
+  these = is.these;
+}
+
+-- each timestep before the one that was passed
+pub still_kept : (basin : Draft) (policy : Policy) (step first : ℕ) (log other : Log) (kept : List (Option StepRecord)) → IsBehind step log other
+    → first + length kept ≤ step → AreKept basin policy log first kept → AreKept basin policy other first kept
+still_kept basin policy step first log other [] behind near are = tt
+still_kept basin policy step first log other (entry ∷ kept) behind near are =
+    let differ : step ≢ first = λ same. absurd (omega (arith, near, same)) in (
+      kept_same basin policy first log other entry (behind.openings first differ) (behind.closings first differ) (behind.events first differ) are.0,
+      still_kept basin policy step (first + 1) log other kept behind (omega (arith, near)) are.1,
+    )
+
+pub kept_more : (basin : Draft) (policy : Policy) (step first : ℕ) (log : Log) (kept : List (Option StepRecord)) (entry : Option StepRecord)
+    → step ≡ first + length kept → AreKept basin policy log first kept → IsKept basin policy log step entry
+    → AreKept basin policy log first (kept ++ entry ∷ [])
+kept_more basin policy step first log [] entry at are is =
+    let here : step ≡ first = omega (arith, at) in (subst (λ k. IsKept basin policy log k entry) here is, tt)
+kept_more basin policy step first log (one ∷ kept) entry at are is =
+    (are.0, kept_more basin policy step (first + 1) log kept entry (omega (arith, at)) are.1 is)
+
+-- ---- changes
+
+pub changed_more : (was : List (Option StepRecord)) (changes : List (Option (Option StepRecord))) (entry : Option StepRecord) (change : Option (Option StepRecord))
+    → slice_get was (length changes) ≡ Some entry → changed was (changes ++ change ∷ []) ≡ changed was changes ++ unwrap_or change entry ∷ []
+changed_more [] changes entry change there = absurd (none-some _ there)
+changed_more (one ∷ was) [] entry change there = ap (λ (e : Option StepRecord). unwrap_or change e ∷ []) (same_Some one entry there)
+changed_more (one ∷ was) (first ∷ changes) entry change there = ap (λ rest. unwrap_or first one ∷ rest) (changed_more was changes entry change there)
+
+pub length_changed : (was : List (Option StepRecord)) (changes : List (Option (Option StepRecord))) → length changes ≤ length was
+    → length (changed was changes) ≡ length changes
+length_changed was [] few = refl
+length_changed [] (change ∷ changes) few = absurd (omega (arith, few))
+length_changed (one ∷ was) (change ∷ changes) few = ap suc (length_changed was changes (omega (arith, few)))
+
+-- of one timestep
+pub kept_there : (basin : Draft) (policy : Policy) (log : Log) (first place : ℕ) (was : List (Option StepRecord)) (entry : Option StepRecord)
+    → AreKept basin policy log first was → slice_get was place ≡ Some entry → IsKept basin policy log (first + place) entry
+kept_there basin policy log first place [] entry are there = absurd (none-some _ there)
+kept_there basin policy log first zero (one ∷ was) entry are there =
+    let here : first ≡ first + zero = omega arith in
+    subst (λ step. IsKept basin policy log step entry) here (subst (IsKept basin policy log first) (same_Some one entry there) are.0)
+kept_there basin policy log first (suc place) (one ∷ was) entry are there =
+    let here : (first + 1) + place ≡ first + suc place = omega arith in
+    subst (λ step. IsKept basin policy log step entry) here (kept_there basin policy log (first + 1) place was entry are.1 there)

@@ -1,0 +1,144 @@
+-- A run on its way, one timestep on.
+use Rattle.rw_base.proofs.Common.{◌≡◌, ◌≢◌, ◌<◌, ◌≤◌, ◌+◌, ◌∙◌, ℕ, ℤ, Bool, true, false, List, [], ◌∷◌, ◌++◌, map, Contains, Option, Some, None, IsSome, IfSome, unwrap_or, length, length-append, refl, sym, ap, subst, arith, inl, inr, false≢true, slice_get, slice_get_within}
+use Rattle.rw_base.specs.declared.number.Cell.{Cell}
+use Rattle.rw_base.specs.declared.number.StepNo.{StepNo}
+use Rattle.rw_model.specs.Draft.{Draft}
+use Rattle.rw_inputs.specs.Givens.{givens}
+use Rattle.rw_inputs.specs.Inputs.{Inputs}
+use Rattle.rw_series.specs.Series.{held}
+use Rattle.rw_run.specs.Behind.{IsBehind}
+use Rattle.rw_run.specs.Frame.{log_after}
+use Rattle.rw_run.specs.Log.{Event, Log, cells_of, closed, fault, opened}
+use Rattle.rw_run.specs.Next.{Policy}
+use Rattle.rw_run.specs.Reuse.{AreRerun, IsReused}
+use Rattle.rw_run.specs.Runs.{IsOver, IsRun, Leads, over, placed, rests, standing}
+use Rattle.rw_run.specs.Step.{before_closing, before_opening, events_of}
+use Rattle.rw_run.specs.Timestep.{IsTimestep}
+use Rattle.rw_run.specs.declared.fault.RunFault.{RunFault}
+use Rattle.rw_record.specs.Noted.{AreHeld}
+use Rattle.rw_record.specs.Record.{StepRecord}
+use Rattle.rw_engine.specs.Engine.{Engine}
+use Rattle.rw_engine.specs.Passing.{Passes}
+use Rattle.rw_engine.specs.Shows.{IsBefore, Shows}
+use Rattle.rw_engine.specs.declared.step_end.StepEnd.TheVariants.{Closed as IsClosed, Fault as IsFault}
+use Rattle.rw_rerun.specs.Kept.{AreKept, IsKept, IsKeepable, changed}
+use Rattle.rw_rerun.specs.Session.{numbers_of}
+use Rattle.rw_rerun.specs.UnderWay.{IsUnderWay, stands_at}
+use Rattle.rw_rerun.specs.declared.pass.Pass.{Pass}
+use Rattle.rw_rerun.proofs.Keeping.{changed_more, kept_more, length_changed, still_kept}
+
+leads_more : (basin : Draft) (policy : Policy) (old : Log) (first last : List Event) (mid new : Log) → Leads basin policy old first mid
+    → Leads basin policy mid last new → Leads basin policy old (first ++ last) new
+leads_more basin policy old [] last mid new one other = subst (λ log. Leads basin policy log last new) one other
+leads_more basin policy old (event ∷ first) last mid new one other = (one.0, leads_more basin policy (event ∷ old) first last mid new one.1 other)
+
+-- nothing is kept of a timestep that wasn't closed
+pub not_kept : (basin : Draft) (policy : Policy) (step : ℕ) (log : Log) → before_closing step log ≡ None → IsKept basin policy log step None
+not_kept basin policy step log none = λ keepable. absurd (false≢true (subst IsSome none keepable.closing))
+
+pub numbers_more : (steps : List StepNo) (step : StepNo) → numbers_of (steps ++ step ∷ []) ≡ numbers_of steps ++ step.0 ∷ []
+numbers_more [] step = refl
+numbers_more (first ∷ steps) step = ap (λ rest. first.0 ∷ rest) (numbers_more steps step)
+
+module _ (basin : Draft) (policy : Policy) (inputs : Inputs) (earlier : Log) (was : List (Option StepRecord)) (old new : Pass) (last step : ℕ)
+    (entry : Option StepRecord) (change : Option (Option StepRecord)) (way : IsUnderWay basin policy inputs earlier was old last) (next_one : step ≡ last + 1)
+    (there : slice_get was last ≡ Some entry) (changes : new.changes.items ≡ old.changes.items ++ change ∷ []) where
+  within : last < length was
+  within = slice_get_within was last entry there
+
+  so_many : length new.changes.items ≡ step
+  so_many = let all = ap length changes in let more = length-append old.changes.items (change ∷ []) in let were = way.many in omega (arith, all, more, were, next_one)
+
+  kept_so_far : length (changed was old.changes.items) ≡ last
+  kept_so_far = length_changed was old.changes.items (let near = within in let were = way.many in omega (arith, near, were)) ∙ way.many
+
+  changed_now : changed was new.changes.items ≡ changed was old.changes.items ++ unwrap_or change entry ∷ []
+  changed_now = ap (changed was) changes ∙ changed_more was old.changes.items entry change (ap (slice_get was) way.many ∙ there)
+
+  -- one timestep more was passed
+  pub one_on : (log : Log) (more : List Event) → Leads basin policy way.log more log → Shows basin new.engine log → standing log ≡ stands_at new.over step
+      → IsBehind step way.log log → AreRerun basin earlier log (numbers_of new.reran.items) → IsKept basin policy log step (unwrap_or change entry)
+      → IsUnderWay basin policy inputs earlier was new step
+  one_on log more leads shows stands behind rerun kept = record {
+    many = so_many;
+    log = log;
+    events = way.events ++ more;
+    leads = leads_more basin policy (placed [] (givens basin inputs)) way.events more way.log log way.leads leads;
+    shows = shows;
+    stands = stands;
+    later = λ other far. behind.events other (λ same. absurd (omega (arith, far, same))) ∙ way.later other (omega (arith, far, next_one));
+    rerun = rerun;
+    kept = let many = kept_so_far in
+        subst (AreKept basin policy log 1) (sym changed_now)
+        (kept_more basin policy step 1 log (changed was old.changes.items) (unwrap_or change entry) (omega (arith, many, next_one))
+        (still_kept basin policy step 1 way.log log (changed was old.changes.items) behind (omega (arith, many, next_one)) way.kept) kept);
+  }
+
+  -- behind a fault nothing happens
+  pub none_on : old.over ≡ true → new.over ≡ true → new.engine ≡ old.engine → new.reran.items ≡ old.reran.items → before_closing step way.log ≡ None
+      → change ≡ Some None → IsUnderWay basin policy inputs earlier was new step
+  none_on was_over is_over engine reran unclosed nothing = record {
+    many = so_many;
+    log = way.log;
+    events = way.events;
+    leads = way.leads;
+    shows = subst (λ e. Shows basin e way.log) (sym engine) way.shows;
+    stands = way.stands ∙ ap (λ o. stands_at o last) was_over ∙ sym (ap (λ o. stands_at o step) is_over);
+    later = λ other far. way.later other (omega (arith, far, next_one));
+    rerun = subst (λ (steps : List StepNo). AreRerun basin earlier way.log (numbers_of steps)) (sym reran) way.rerun;
+    kept = let many = kept_so_far in
+        subst (AreKept basin policy way.log 1) (sym changed_now)
+        (kept_more basin policy step 1 way.log (changed was old.changes.items) (unwrap_or change entry) (omega (arith, many, next_one)) way.kept
+        (subst (λ c. IsKept basin policy way.log step (unwrap_or c entry)) (sym nothing) (not_kept basin policy step way.log unclosed)));
+  }
+
+  -- the timestep may be passed
+  pub before_next : old.over ≡ false → step ≤ basin.control.stamps.count → IsBefore basin step way.log
+  before_next goes near = record {
+    last = last;
+    rest = way.stands ∙ ap (λ o. stands_at o last) goes;
+    next_one = next_one;
+    exists = near;
+  }
+
+  pub none_open : (other : ℕ) → step ≤ other → events_of other way.log ≡ []
+  none_open other far = way.later other (omega (arith, far, next_one))
+
+-- ---- the first one, and the last
+
+pub first_way : (basin : Draft) (policy : Policy) (inputs : Inputs) (earlier : Log) (was : List (Option StepRecord)) (pass : Pass)
+    → pass.changes.items ≡ [] → pass.reran.items ≡ [] → pass.over ≡ false → Shows basin pass.engine (placed [] (givens basin inputs))
+    → standing (placed [] (givens basin inputs)) ≡ rests 0
+    → ((step : ℕ) → events_of step (placed [] (givens basin inputs)) ≡ [])
+    → ((step : ℕ) → before_opening step (placed [] (givens basin inputs)) ≡ None)
+    → IsUnderWay basin policy inputs earlier was pass 0
+first_way basin policy inputs earlier was pass changes reran goes shows stands none unopened = record {
+  many = ap length changes;
+  log = placed [] (givens basin inputs);
+  events = [];
+  leads = refl;
+  shows = shows;
+  stands = stands ∙ sym (ap (λ o. stands_at o 0) goes);
+  later = λ other far. none other;
+  rerun = subst (λ steps. AreRerun basin earlier (placed [] (givens basin inputs)) (numbers_of steps)) (sym reran) (record {
+    rising = tt;
+    those = λ step. (
+      λ (k, less, same). absurd (omega (arith, less)),
+      λ is. absurd (false≢true (subst IsSome (unopened step) is.0)),
+    );
+  });
+  kept = subst (λ cs. AreKept basin policy (placed [] (givens basin inputs)) 1 (changed was cs)) (sym changes) tt;
+}
+
+over_by : (basin : Draft) (is_over : Bool) → IsOver basin (stands_at is_over basin.control.stamps.count)
+over_by basin false = omega arith
+over_by basin true = tt
+
+-- behind the last timestep the run is whole
+pub whole_way : (basin : Draft) (policy : Policy) (inputs : Inputs) (earlier : Log) (was : List (Option StepRecord)) (pass : Pass)
+    → (way : IsUnderWay basin policy inputs earlier was pass basin.control.stamps.count) → IsRun basin policy (givens basin inputs) way.log
+whole_way basin policy inputs earlier was pass way = record {
+  events = way.events;
+  leads = way.leads;
+  end = subst (IsOver basin) (sym way.stands) (over_by basin pass.over);
+}

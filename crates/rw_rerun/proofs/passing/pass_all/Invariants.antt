@@ -1,0 +1,15 @@
+use Rattle.rw_base.proofs.Common.{List, Option, length, ◌+◌, ◌≡◌, ◌≤◌}
+use Rattle.rw_run.specs.Log.{Log}
+use Rattle.rw_rules.specs.Rules.{policy_in}
+use Rattle.rw_rerun.specs.Kept.{AreKept}
+use Rattle.rw_rerun.specs.UnderWay.{IsPassOf, IsUnderWay}
+use Rattle.rw_rerun.proofs.passing.pass_all.Given as goal
+
+abbrev pub invariant-loop-before : goal.invariant-loop-before
+invariant-loop-before g l = record {
+  made : IsPassOf l.setup.basin.now l.setup.policy.now l.pass;
+  way : (earlier : Log) → AreKept l.setup.basin.now (policy_in l.setup.basin.now l.setup.policy.now) earlier 1 l.kept
+      → IsUnderWay l.setup.basin.now (policy_in l.setup.basin.now l.setup.policy.now) l.inputs earlier l.kept l.pass l.before;
+  each : l.steps ≡ l.fn.steps + length l.pass.reran.items;
+  few : l.steps ≤ l.fn.steps + l.before;
+}

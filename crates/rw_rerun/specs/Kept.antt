@@ -1,0 +1,46 @@
+-- The timesteps of a run, as they are kept for the next one.
+use Rattle.std.specs.Prelude.{◌≡◌, ◌≤◌, ◌+◌, ℕ, List, [], ◌∷◌, Option, Some, None, IsSome, unwrap_or}
+use Rattle.rw_model.specs.Draft.{Draft}
+use Rattle.rw_run.specs.Frame.{log_after}
+use Rattle.rw_run.specs.Log.{Event, Log, opened}
+use Rattle.rw_run.specs.Next.{Policy}
+use Rattle.rw_run.specs.Reuse.{most_kept}
+use Rattle.rw_run.specs.Step.{before_closing, before_opening, cell_count, events_of, line_count, looked_at}
+use Rattle.rw_run.specs.Timestep.{IsTimestep}
+use Rattle.rw_record.specs.Record.{StepRecord}
+use Rattle.rw_engine.specs.Records.{RecordsThese}
+
+-- the log closed the timestep, which has few enough cells and lines
+pub record IsKeepable (basin : Draft) (log : Log) (step : ℕ) : Type 0 where
+  pub closing : IsSome (before_closing step log)
+  pub few_cells : cell_count (looked_at basin step log) ≤ most_kept
+  pub few_lines : line_count step log ≤ most_kept
+
+-- it can be kept, and the record stands for it as it went in the log
+pub record IsKeptAs (basin : Draft) (policy : Policy) (log : Log) (step : ℕ) (kept : StepRecord) : Type 0 where
+  pub keepable : IsKeepable basin log step
+  pub old : Log
+  pub first : Event
+  pub events : List Event
+  pub opening : before_opening step log ≡ Some old
+  pub own : events_of step log ≡ log_after (first ∷ events) (opened step ∷ [])
+  pub timestep : IsTimestep basin policy step old first events
+  pub these : RecordsThese basin step old (first ∷ events) kept
+
+-- there is a record exactly where the timestep can be kept
+abbrev pub IsKept : Draft → Policy → Log → ℕ → Option StepRecord → Type 0
+IsKept basin policy log step None = ¬ IsKeepable basin log step
+IsKept basin policy log step (Some kept) = IsKeptAs basin policy log step kept
+
+-- so for each timestep, from this one on
+abbrev pub AreKept : Draft → Policy → Log → ℕ → List (Option StepRecord) → Type 0
+AreKept basin policy log step [] = Unit {0}
+AreKept basin policy log step (kept ∷ rest) = IsKept basin policy log step kept × AreKept basin policy log (step + 1) rest
+
+-- ---- what a run changes of it
+
+-- what is kept of the first timesteps, where a change takes its place
+abbrev pub changed : List (Option StepRecord) → List (Option (Option StepRecord)) → List (Option StepRecord)
+changed kept [] = []
+changed [] (change ∷ changes) = []
+changed (was ∷ kept) (change ∷ changes) = unwrap_or change was ∷ changed kept changes

@@ -1,0 +1,34 @@
+// What is kept of timesteps, before a run and after it.
+ghost use Rattle.std.specs.Prelude.{◌≡◌, ℕ, IfOk, None, length, replicate};
+ghost use Rattle.rw_rerun.specs.Kept.{changed};
+
+use rw_base::NoMemory;
+use rw_engine::StepRecord;
+use std::alloc::Global;
+
+/// Nothing is kept of so many timesteps.
+pub(crate) fn nothing_kept(alloc: Global, count: u16) -> Result<Vec<Option<StepRecord>>, NoMemory>
+    ensures { IfOk result (λ kept. kept.items ≡ replicate count None) }
+{
+    let mut kept = Vec::new(alloc);
+    for _step in 0..count {
+        kept.push(None)?;
+    }
+    Ok(kept)
+}
+
+/// Each change takes the place of what was kept. It takes no memory.
+pub(crate) fn exchange(
+    kept: &mut Vec<Option<StepRecord>>,
+    mut changes: Vec<Option<Option<StepRecord>>>,
+)
+    requires { length changes.items ≡ length kept.old.items }
+    ensures { kept.new.items ≡ changed kept.old.items changes.items }
+{
+    while let Some(change) = changes.pop() {
+        let place = changes.len();
+        if let Some(record) = change {
+            kept[place] = record;
+        }
+    }
+}

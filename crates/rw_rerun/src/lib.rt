@@ -1,0 +1,15 @@
+//! A session: a run of some inputs, and batches of edits after which it is the run of the inputs as they are then. `Session::start`
+//! runs all timesteps; `apply` runs those that the batch touches, and takes the others over as they went. Either way the run is
+//! that from scratch, and `reran` tells which timesteps were run.
+#![tactic(auto)]
+
+mod exchange;
+mod pass;
+mod passing;
+mod session;
+mod setup;
+mod state;
+
+pub use session::Session;
+pub use setup::Setup;
+pub use state::State;

@@ -1,0 +1,12 @@
+use rw_base::StepNo;
+use rw_engine::{Engine, StepRecord};
+
+/// A run on its way: its engine, the timesteps that it ran, what is to be kept of each one behind which it has come, where that
+/// changes, and whether a fault has ended it.
+#[derive(Drop)]
+pub(crate) struct Pass {
+    pub(crate) engine: Engine,
+    pub(crate) reran: Vec<StepNo>,
+    pub(crate) changes: Vec<Option<Option<StepRecord>>>,
+    pub(crate) over: bool,
+}

@@ -1,0 +1,154 @@
+// A run, timestep by timestep: each is taken over from an earlier run, or run.
+ghost use Rattle.std.specs.Prelude.{◌≡◌, ◌≤◌, ℕ, ⊤, map, length, IfOk, IfSome, false, true, Ok, Some};
+ghost use Rattle.rpl_verify.specs.Verified.{verified};
+ghost use Rattle.rw_inputs.specs.Inputs.{IsInputsOf};
+ghost use Rattle.rw_method.specs.Catalogue.{AreInOrder};
+ghost use Rattle.rw_model.specs.Turn.{IsStep};
+ghost use Rattle.rw_record.specs.Noted.{AreHeld};
+ghost use Rattle.rw_series.specs.Series.{held};
+ghost use Rattle.rw_rerun.specs.UnderWay.{IsReplayable, AreReplayable, GoesOn, IsPassOf, IsUnlike, PassesAll};
+
+use crate::pass::Pass;
+use crate::setup::Setup;
+use rpl_policy::law::code_keeps_promises;
+use rpl_verify::law::answered_code_is_safe;
+use rw_base::{Ledger, NoMemory, StepNo, Steps};
+use rw_engine::{Engine, StepEnd, StepRecord};
+use rw_inputs::Inputs;
+use rw_record::law::how_many;
+use std::alloc::Global;
+
+// No timestep is opened behind a fault, and none is kept.
+fn skip(pass: &mut Pass, _setup: &Setup<'_>, _step: StepNo) -> Result<(), NoMemory>
+    requires made { IsPassOf _setup.now.basin.now _setup.now.policy.now pass.old }
+    requires ended { pass.old.over ≡ true }
+    ensures { (steps : ℕ) → GoesOn _setup.now.basin.now _setup.now.policy.now _step.0 (λ entry. ⊤)
+        pass.old pass.new steps steps result }
+{
+    pass.changes.push(Some(None))?;
+    Ok(())
+}
+
+// Takes a timestep over as its record has it.
+fn take_over(
+    pass: &mut Pass,
+    setup: &Setup<'_>,
+    kept: &StepRecord,
+    step: StepNo,
+) -> Result<(), NoMemory>
+    requires made { IsPassOf setup.now.basin.now setup.now.policy.now pass.old }
+    requires step { IsStep setup.now.basin.now step.0 }
+    requires can { IsReplayable setup.now.basin.now step.0 kept.now }
+    requires alike { AreHeld (held pass.old.engine.series) kept.now.looked }
+    requires goes { pass.old.over ≡ false }
+    ensures { (steps : ℕ) → GoesOn setup.now.basin.now setup.now.policy.now step.0
+        (λ entry. entry ≡ Some kept.now) pass.old pass.new steps steps result }
+{
+    pass.changes.push(None)?;
+    pass.engine.replay(setup.basin, kept)?;
+    Ok(())
+}
+
+// Runs a timestep, and keeps it anew.
+fn run_anew<L: Ledger>(
+    alloc: Global,
+    pass: &mut Pass,
+    setup: &Setup<'_>,
+    step: StepNo,
+    steps: &mut Steps<L>,
+) -> Result<(), NoMemory>
+    requires order { AreInOrder
+        (map (λ b. code (b.vtable, b.value)) setup.now.methods.now.methods.items) }
+    requires made { IsPassOf setup.now.basin.now setup.now.policy.now pass.old }
+    requires step { IsStep setup.now.basin.now step.0 }
+    requires goes { pass.old.over ≡ false }
+    ensures { GoesOn setup.now.basin.now setup.now.policy.now step.0 (IsUnlike pass.old)
+        pass.old pass.new steps.old steps.new result }
+{
+    how_many();
+    let end = pass.engine.run_step(
+        setup.basin,
+        setup.methods,
+        setup.policy,
+        setup.predefs,
+        step,
+        steps,
+    )?;
+    pass.reran.push(step)?;
+    match end {
+        StepEnd::Closed => {
+            let kept = pass.engine.last_record(alloc)?;
+            pass.changes.push(Some(kept))?;
+            Ok(())
+        }
+        StepEnd::Fault(_) => {
+            pass.over = true;
+            pass.changes.push(Some(None))?;
+            Ok(())
+        }
+    }
+}
+
+// Takes the timestep over where it is kept and all at which it looked is held alike, and runs it otherwise.
+fn pass_step<L: Ledger>(
+    alloc: Global,
+    pass: &mut Pass,
+    setup: &Setup<'_>,
+    entry: &Option<StepRecord>,
+    step: StepNo,
+    steps: &mut Steps<L>,
+) -> Result<(), NoMemory>
+    requires order { AreInOrder
+        (map (λ b. code (b.vtable, b.value)) setup.now.methods.now.methods.items) }
+    requires made { IsPassOf setup.now.basin.now setup.now.policy.now pass.old }
+    requires step { IsStep setup.now.basin.now step.0 }
+    requires can { IfSome entry.now (IsReplayable setup.now.basin.now step.0) }
+    ensures { GoesOn setup.now.basin.now setup.now.policy.now step.0 (λ kept. kept ≡ entry.now)
+        pass.old pass.new steps.old steps.new result }
+{
+    if pass.over {
+        return skip(pass, setup, step);
+    }
+    match entry {
+        None => run_anew(alloc, pass, setup, step, steps),
+        Some(kept) => {
+            if pass.engine.alike(kept) {
+                return take_over(pass, setup, kept, step);
+            }
+            run_anew(alloc, pass, setup, step, steps)
+        }
+    }
+}
+
+/// Passes all timesteps from inputs, with what is kept of an earlier run to go by.
+pub(crate) fn pass_all<L: Ledger>(
+    alloc: Global,
+    setup: &Setup<'_>,
+    kept: &[Option<StepRecord>],
+    inputs: &Inputs,
+    steps: &mut Steps<L>,
+) -> Result<Pass, NoMemory>
+    requires fits { verified setup.now.basin.now setup.now.policy.now.blocks ≡ Ok setup.now.policy.now }
+    requires order { AreInOrder
+        (map (λ b. code (b.vtable, b.value)) setup.now.methods.now.methods.items) }
+    requires inputs { IsInputsOf setup.now.basin.now inputs.now }
+    requires many { length kept.now ≡ setup.now.basin.now.control.stamps.count }
+    requires can { AreReplayable setup.now.basin.now kept.now }
+    ensures { PassesAll setup.now.basin.now setup.now.policy.now inputs.now kept.now
+        steps.old steps.new result }
+{
+    answered_code_is_safe();
+    code_keeps_promises();
+    let engine = Engine::for_run(alloc, setup.basin, setup.policy, inputs)?;
+    let mut pass = Pass {
+        engine,
+        reran: Vec::new(alloc),
+        changes: Vec::new(alloc),
+        over: false,
+    };
+    for before in 0..setup.basin.control().stamps.count() {
+        let entry = &kept[usize::from(before)];
+        pass_step(alloc, &mut pass, setup, entry, StepNo(before + 1), steps)?;
+    }
+    Ok(pass)
+}

@@ -1,0 +1,99 @@
+ghost use Rattle.std.specs.Prelude.{◌≡◌, map, IfErr, IfOk, Ok};
+ghost use Rattle.rpl_verify.specs.Verified.{Accepted, verified};
+ghost use Rattle.rw_engine.specs.Passing.{ComesTo};
+ghost use Rattle.rw_inputs.specs.Edits.{IsBatch};
+ghost use Rattle.rw_inputs.specs.Inputs.{IsInputsOf};
+ghost use Rattle.rw_method.specs.Catalogue.{AreInOrder};
+ghost use Rattle.rw_model.specs.Draft.{Draft};
+ghost use Rattle.rw_rules.specs.Rules.{policy_in};
+ghost use Rattle.rw_rerun.specs.Session.{Applies, CountsRuns, IsSessionOf, IsStarted};
+
+use crate::setup::Setup;
+use crate::state::State;
+use rpl_predef::Predefs;
+use rpl_verify::Verified;
+use rw_base::{Ledger, NoMemory, StepNo, Steps};
+use rw_engine::Run;
+use rw_inputs::{Batch, Inputs};
+use rw_method::Catalogue;
+use rw_model::Basin;
+use std::alloc::Global;
+
+/// A run of some inputs, and what it goes by.
+#[derive(Drop)]
+pub struct Session<'a> {
+    alloc: Global,
+    /// What its runs go by.
+    pub setup: Setup<'a>,
+    /// How far it has come.
+    pub state: State,
+}
+
+impl<'a> Session<'a> {
+    /// Runs all timesteps of a basin from its inputs, up to the last one or to a fault. Each opened timestep is counted.
+    pub fn start<L: Ledger>(
+        alloc: Global,
+        basin: &'a Basin,
+        methods: &'a Catalogue,
+        policy: &'a Verified,
+        predefs: &'a Predefs,
+        inputs: Inputs,
+        steps: &mut Steps<L>,
+    ) -> Result<Session<'a>, NoMemory>
+        requires fits { verified basin.now policy.now.blocks ≡ Ok policy.now }
+        requires order { AreInOrder (map (λ b. code (b.vtable, b.value)) methods.now.methods.items) }
+        requires inputs { IsInputsOf basin.now inputs }
+        ensures started { IfOk result (λ session. IsStarted basin.entry.now policy.entry.now inputs session.state) }
+        ensures setup { IfOk result (λ session. session.setup ≡ record {
+          basin = basin.entry;
+          methods = methods.entry;
+          policy = policy.entry;
+          predefs = predefs.entry;
+        }) }
+        ensures counted { CountsRuns basin.entry.now steps.old steps.new result (λ session. session.state.reran) }
+    {
+        let setup = Setup {
+            basin,
+            methods,
+            policy,
+            predefs,
+        };
+        let state = State::start(alloc, &setup, inputs, steps)?;
+        Ok(Session {
+            alloc,
+            setup,
+            state,
+        })
+    }
+
+    /// Applies a batch of edits to its inputs, and comes to their run. A timestep of which all at which it looked is held alike is
+    /// taken over; each other one is run, and counted. After want of memory the session is as before.
+    pub fn apply<L: Ledger>(&mut self, batch: &Batch, steps: &mut Steps<L>) -> Result<(), NoMemory>
+        requires made { IsSessionOf self.old.setup.basin.now self.old.setup.policy.now self.old.state }
+        requires order { AreInOrder
+            (map (λ b. code (b.vtable, b.value)) self.old.setup.methods.now.methods.items) }
+        requires batch { IsBatch self.old.setup.basin.now batch.now }
+        ensures applied { IfOk result (λ done. Applies self.old.setup.basin.now
+            self.old.setup.policy.now batch.now self.old.state self.new.state) }
+        ensures kept { (self.new.setup ≡ self.old.setup) × IfErr result (λ fault. self.new.state ≡ self.old.state) }
+        ensures counted { CountsRuns self.old.setup.basin.now steps.old steps.new result
+            (λ done. self.new.state.reran) }
+    {
+        self.state.apply(self.alloc, &self.setup, batch, steps)
+    }
+
+    /// What the run of its inputs comes to. It takes no memory.
+    pub fn run(&self) -> &Run
+        ensures { (basin : Draft) (policy : Accepted) → IsSessionOf basin policy self.now.state
+            → ComesTo basin (policy_in basin policy) self.now.state.inputs result.now }
+    {
+        self.state.run()
+    }
+
+    /// Which timesteps were run last, rising. It takes no memory.
+    pub fn reran(&self) -> &[StepNo]
+        ensures { result.now ≡ self.now.state.reran }
+    {
+        self.state.reran()
+    }
+}
