@@ -22,8 +22,8 @@ use std::alloc::Global;
 fn skip(pass: &mut Pass, _setup: &Setup<'_>, _step: StepNo) -> Result<(), NoMemory>
     requires made { IsPassOf _setup.now.basin.now _setup.now.policy.now pass.old }
     requires ended { pass.old.over ≡ true }
-    ensures { (steps : ℕ) → GoesOn _setup.now.basin.now _setup.now.policy.now _step.0 (λ entry. ⊤)
-        pass.old pass.new steps steps result }
+    ensures { (steps : ℕ) → GoesOn _setup.now.basin.now _setup.now.policy.now _step.0
+        (λ entry. ⊤) pass.old pass.new steps steps result }
 {
     pass.changes.push(Some(None))?;
     Ok(())
@@ -128,7 +128,8 @@ pub(crate) fn pass_all<L: Ledger>(
     inputs: &Inputs,
     steps: &mut Steps<L>,
 ) -> Result<Pass, NoMemory>
-    requires fits { verified setup.now.basin.now setup.now.policy.now.blocks ≡ Ok setup.now.policy.now }
+    requires fits { verified setup.now.basin.now setup.now.policy.now.blocks
+        ≡ Ok setup.now.policy.now }
     requires order { AreInOrder
         (map (λ b. code (b.vtable, b.value)) setup.now.methods.now.methods.items) }
     requires inputs { IsInputsOf setup.now.basin.now inputs.now }

@@ -43,14 +43,16 @@ impl<'a> Session<'a> {
         requires fits { verified basin.now policy.now.blocks ≡ Ok policy.now }
         requires order { AreInOrder (map (λ b. code (b.vtable, b.value)) methods.now.methods.items) }
         requires inputs { IsInputsOf basin.now inputs }
-        ensures started { IfOk result (λ session. IsStarted basin.entry.now policy.entry.now inputs session.state) }
+        ensures started { IfOk result
+            (λ session. IsStarted basin.entry.now policy.entry.now inputs session.state) }
         ensures setup { IfOk result (λ session. session.setup ≡ record {
           basin = basin.entry;
           methods = methods.entry;
           policy = policy.entry;
           predefs = predefs.entry;
         }) }
-        ensures counted { CountsRuns basin.entry.now steps.old steps.new result (λ session. session.state.reran) }
+        ensures counted { CountsRuns basin.entry.now steps.old steps.new result
+            (λ session. session.state.reran) }
     {
         let setup = Setup {
             basin,
@@ -69,13 +71,15 @@ impl<'a> Session<'a> {
     /// Applies a batch of edits to its inputs, and comes to their run. A timestep of which all at which it looked is held alike is
     /// taken over; each other one is run, and counted. After want of memory the session is as before.
     pub fn apply<L: Ledger>(&mut self, batch: &Batch, steps: &mut Steps<L>) -> Result<(), NoMemory>
-        requires made { IsSessionOf self.old.setup.basin.now self.old.setup.policy.now self.old.state }
+        requires made { IsSessionOf self.old.setup.basin.now
+            self.old.setup.policy.now self.old.state }
         requires order { AreInOrder
             (map (λ b. code (b.vtable, b.value)) self.old.setup.methods.now.methods.items) }
         requires batch { IsBatch self.old.setup.basin.now batch.now }
         ensures applied { IfOk result (λ done. Applies self.old.setup.basin.now
             self.old.setup.policy.now batch.now self.old.state self.new.state) }
-        ensures kept { (self.new.setup ≡ self.old.setup) × IfErr result (λ fault. self.new.state ≡ self.old.state) }
+        ensures kept { (self.new.setup ≡ self.old.setup)
+            × IfErr result (λ fault. self.new.state ≡ self.old.state) }
         ensures counted { CountsRuns self.old.setup.basin.now steps.old steps.new result
             (λ done. self.new.state.reran) }
     {

@@ -50,12 +50,14 @@ impl State {
         inputs: Inputs,
         steps: &mut Steps<L>,
     ) -> Result<State, NoMemory>
-        requires fits { verified setup.now.basin.now setup.now.policy.now.blocks ≡ Ok setup.now.policy.now }
+        requires fits { verified setup.now.basin.now setup.now.policy.now.blocks
+            ≡ Ok setup.now.policy.now }
         requires order { AreInOrder
             (map (λ b. code (b.vtable, b.value)) setup.now.methods.now.methods.items) }
         requires inputs { IsInputsOf setup.now.basin.now inputs }
         ensures started { IfOk result (IsStarted setup.now.basin.now setup.now.policy.now inputs) }
-        ensures counted { CountsRuns setup.now.basin.now steps.old steps.new result (λ state. state.reran) }
+        ensures counted { CountsRuns setup.now.basin.now steps.old steps.new result
+            (λ state. state.reran) }
     {
         let mut kept = nothing_kept(alloc, setup.basin.control().stamps.count())?;
         let pass = pass_all(alloc, setup, &kept, &inputs, steps)?;
@@ -108,8 +110,8 @@ impl State {
         requires order { AreInOrder
             (map (λ b. code (b.vtable, b.value)) setup.now.methods.now.methods.items) }
         requires batch { IsBatch setup.now.basin.now batch.now }
-        ensures applied { IfOk result (λ done. Applies setup.now.basin.now setup.now.policy.now batch.now
-            self.old self.new) }
+        ensures applied { IfOk result (λ done. Applies setup.now.basin.now setup.now.policy.now
+            batch.now self.old self.new) }
         ensures kept { IfErr result (λ fault. self.new ≡ self.old) }
         ensures counted { CountsRuns setup.now.basin.now steps.old steps.new result
             (λ done. self.new.reran) }

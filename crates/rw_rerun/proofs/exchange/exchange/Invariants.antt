@@ -1,5 +1,4 @@
 use Rattle.rw_base.proofs.Common.{length, ◌≡◌, ◌≤◌}
-use Rattle.rw_rerun.specs.Kept.{changed}
 use Rattle.rw_rerun.proofs.Exchanges.{both}
 use Rattle.rw_rerun.proofs.exchange.exchange.Given as goal
 
