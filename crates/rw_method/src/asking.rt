@@ -19,6 +19,7 @@ pub(crate) fn narrow(quantity: i128) -> i64
 }
 
 /// Adds a put that its slot can have, and that can be held where it is a storage; otherwise that is the answer.
+#[inline(always)]
 pub fn ask(
     view: &View,
     table: Option<&Rating>,

@@ -89,6 +89,7 @@ fn contents_by(table: Option<&Rating>, basis: Basis) -> Option<Given>
 }
 
 /// The contents as a term, which takes water and is put as the storage: what a storage or an elevation that is given gives.
+#[inline(always)]
 pub fn stores(view: &View, table: Option<&Rating>) -> Term
     ensures { result ≡ stores (contents_by (option_map (λ rating. rating.now) table.entry)
         (basis_of (given view.entry.now STORAGE) (given view.entry.now POOL_ELEVATION))) }

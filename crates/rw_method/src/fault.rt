@@ -84,6 +84,7 @@ fn disagreement(
 }
 
 /// What is wrong with a storage and an elevation that are given: with the slot that gives the contents, or with both together.
+#[inline(always)]
 pub fn fault_of_level(view: &View, table: Option<&Rating>) -> Option<Solved>
     ensures { result ≡ fault_of_level (option_map (λ rating. rating.now) table.entry) view.entry.now }
 {

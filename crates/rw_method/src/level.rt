@@ -57,6 +57,7 @@ fn ask_beside_given(
 }
 
 /// Puts the elevation of a solved storage, or what stands beside given contents.
+#[inline(always)]
 pub fn ask_level(
     view: &View,
     table: Option<&Rating>,
