@@ -38,6 +38,7 @@ module _ (basin : Draft) (policy : Accepted) (inputs : Inputs) (earlier : Log) (
   is_session = record {
     given = given;
     made = made.made;
+    traced = made.traced;
     log = way.log;
     whole = whole_way basin (policy_in basin policy) inputs earlier was pass way;
     shows = way.shows;

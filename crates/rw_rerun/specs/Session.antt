@@ -1,5 +1,5 @@
 -- A session: the run of some inputs, and its timesteps as they are kept.
-use Rattle.std.specs.Prelude.{◌≡◌, ◌≤◌, ◌+◌, ℕ, List, map, length, IfOk, Option, Result}
+use Rattle.std.specs.Prelude.{◌≡◌, ◌≤◌, ◌+◌, ℕ, List, map, length, IfOk, IsSome, Option, Result}
 use Rattle.rw_base.specs.declared.memory.NoMemory.{NoMemory}
 use Rattle.rw_base.specs.declared.number.StepNo.{StepNo}
 use Rattle.rw_model.specs.Draft.{Draft}
@@ -30,6 +30,7 @@ numbers_of steps = map (λ (step : StepNo). step.0) steps
 pub record IsSessionOf (basin : Draft) (policy : Accepted) (session : Session) : Type 0 where
   pub given : IsInputsOf basin session.inputs
   pub made : IsEngineOf basin policy session.engine
+  pub traced : IsSome session.engine.trace
   pub log : Log
   pub whole : IsRun basin (policy_in basin policy) (givens basin session.inputs) log
   pub shows : Shows basin session.engine log

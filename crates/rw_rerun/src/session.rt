@@ -1,4 +1,4 @@
-ghost use Rattle.std.specs.Prelude.{◌≡◌, map, IfErr, IfOk, Ok};
+ghost use Rattle.std.specs.Prelude.{◌≡◌, ◌≤◌, map, IfErr, IfOk, IsSome, Ok};
 ghost use Rattle.rpl_verify.specs.Verified.{Accepted, verified};
 ghost use Rattle.rw_engine.specs.Passing.{ComesTo};
 ghost use Rattle.rw_inputs.specs.Edits.{IsBatch};
@@ -88,8 +88,10 @@ impl<'a> Session<'a> {
 
     /// What the run of its inputs comes to. It takes no memory.
     pub fn run(&self) -> &Run
-        ensures { (basin : Draft) (policy : Accepted) → IsSessionOf basin policy self.now.state
+        ensures run { (basin : Draft) (policy : Accepted) → IsSessionOf basin policy self.now.state
             → ComesTo basin (policy_in basin policy) self.now.state.inputs result.now }
+        ensures told { (basin : Draft) (policy : Accepted) → IsSessionOf basin policy self.now.state
+            → (result.now.closed ≤ basin.control.stamps.count) × IsSome result.now.trace }
     {
         self.state.run()
     }

@@ -1,4 +1,4 @@
-ghost use Rattle.std.specs.Prelude.{◌≡◌, map, length, IfErr, IfOk, Ok};
+ghost use Rattle.std.specs.Prelude.{◌≡◌, ◌≤◌, map, length, IfErr, IfOk, IsSome, Ok};
 ghost use Rattle.rpl_verify.specs.Verified.{Accepted, verified};
 ghost use Rattle.rw_engine.specs.Passing.{ComesTo};
 ghost use Rattle.rw_inputs.specs.Edits.{IsBatch};
@@ -124,8 +124,10 @@ impl State {
 
     // What the run comes to.
     pub(crate) fn run(&self) -> &Run
-        ensures { (basin : Draft) (policy : Accepted) → IsSessionOf basin policy self.now
+        ensures run { (basin : Draft) (policy : Accepted) → IsSessionOf basin policy self.now
             → ComesTo basin (policy_in basin policy) self.now.inputs result.now }
+        ensures told { (basin : Draft) (policy : Accepted) → IsSessionOf basin policy self.now
+            → (result.now.closed ≤ basin.control.stamps.count) × IsSome result.now.trace }
     {
         self.engine.run()
     }

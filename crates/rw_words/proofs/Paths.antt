@@ -40,6 +40,7 @@ job_paths rows job command some =
       edits = first_of (codes "edits") rows;
       flags = is_given rows (codes "flags");
       trace = is_given rows (codes "trace");
+      reuse = is_given rows (codes "reuse");
     }
 
     go : (pathless : Bool) (paths : Option (List Text))

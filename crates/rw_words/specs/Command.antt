@@ -28,6 +28,7 @@ pub record Command : Type 0 where
   pub edits : Option Text
   pub flags : Bool
   pub trace : Bool
+  pub reuse : Bool
 
 -- the words, as bytes
 abbrev pub texts_of : List (String Global) → List Text
@@ -64,6 +65,7 @@ command_in rows job =
       edits = first_of (codes "edits") rows;
       flags = is_given rows (codes "flags");
       trace = is_given rows (codes "trace");
+      reuse = is_given rows (codes "reuse");
     }) (paths_in rows (paths_of job))
 
 -- the seed that was found
@@ -97,4 +99,5 @@ seen named = record {
   edits = option_map (λ path. path.now) named.edits;
   flags = named.flags;
   trace = named.trace;
+  reuse = named.reuse;
 }

@@ -46,7 +46,7 @@ options_of (Sample seed) = []
 
 -- its options without one
 abbrev pub flags_of : Job → List Text
-flags_of Run = codes "flags" ∷ codes "trace" ∷ []
+flags_of Run = codes "flags" ∷ codes "trace" ∷ codes "reuse" ∷ []
 flags_of Simulate = codes "flags" ∷ codes "trace" ∷ []
 flags_of Check = []
 flags_of Compile = []

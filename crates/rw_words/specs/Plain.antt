@@ -19,6 +19,7 @@ plain job paths = record {
   edits = None;
   flags = false;
   trace = false;
+  reuse = false;
 }
 
 -- of the cell that these words name

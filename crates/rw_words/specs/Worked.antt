@@ -44,6 +44,9 @@ flagged command = record command { flags = true }
 abbrev pub traced : Command → Command
 traced command = record command { trace = true }
 
+abbrev pub reusing : Command → Command
+reusing command = record command { reuse = true }
+
 abbrev pub AskFor : Text → Command → Type 0
 AskFor line command = command_of (words_of line) ≡ Some command
 
@@ -67,6 +70,8 @@ pub record AskWithOptions : Type 0 where
   pub behind : AskFor (codes "run m p i --edits e --flags --trace") (traced (flagged (edited (codes "e") runs)))
   pub before : AskFor (codes "run --trace --edits e m p i") (traced (edited (codes "e") runs))
   pub between : AskFor (codes "run m --flags p --edits e i") (flagged (edited (codes "e") runs))
+  pub reuse : AskFor (codes "run m p i --reuse") (reusing runs)
+  pub reuse_before : AskFor (codes "run --reuse m p i --edits e --flags") (reusing (flagged (edited (codes "e") runs)))
   pub in_simulate : AskFor (codes "simulate --flags m --trace i") (traced (flagged simulates))
   -- the value of an option stands behind it or behind `=`
   pub attached : AskFor (codes "run m p i --edits=e") (edited (codes "e") runs)
@@ -113,6 +118,9 @@ pub record AskForNothing : Type 0 where
   pub single_hyphen : Nothing (codes "run m p i -flags")
   pub negative : Nothing (codes "simulate -5 i")
   pub edits_of_simulate : Nothing (codes "simulate m i --edits e")
+  pub reuse_of_simulate : Nothing (codes "simulate m i --reuse")
+  pub reuse_of_why : Nothing (codes "why m p i s 1 --reuse")
+  pub reuse_begun : Nothing (codes "run m p i --reus")
   pub flags_of_check : Nothing (codes "check m p --flags")
   pub trace_of_compile : Nothing (codes "compile m r --trace")
   pub trace_of_why : Nothing (codes "why m p i s 1 --trace")
@@ -134,13 +142,16 @@ pub record AskForNothing : Type 0 where
   -- an option stands once
   pub flags_twice : Nothing (codes "run m p i --flags --flags")
   pub trace_twice : Nothing (codes "simulate --trace m --trace i")
+  pub reuse_twice : Nothing (codes "run --reuse m p i --reuse")
   pub edits_twice : Nothing (codes "run m p i --edits=a --edits=b")
   pub edits_again : Nothing (codes "run --edits a m p i --edits a")
   -- a flag has no value, and `--edits` has one, which is no option
   pub flag_with_value : Nothing (codes "run m p i --flags=true")
   pub flag_with_empty_value : Nothing (codes "run m p i --trace=")
+  pub reuse_with_value : Nothing (codes "run m p i --reuse=e")
   pub edits_without_value : Nothing (codes "run m p i --edits")
   pub edits_before_flag : Nothing (codes "run m p i --edits --flags")
+  pub edits_before_reuse : Nothing (codes "run m p i --edits --reuse")
   pub edits_negative : Nothing (codes "run m p i --edits -5")
   pub edits_ended : Nothing (codes "run m p i --edits --")
   pub edits_ended_before : Nothing (codes "run m p i --edits -- e")

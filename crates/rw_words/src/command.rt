@@ -30,6 +30,7 @@ pub struct Command<'w> {
     pub edits: Option<&'w str>,
     pub flags: bool,
     pub trace: bool,
+    pub reuse: bool,
 }
 
 fn has_empty(words: &[String]) -> bool
@@ -137,6 +138,7 @@ fn command_in<'w>(
         edits,
         flags: is_given(found, "flags"),
         trace: is_given(found, "trace"),
+        reuse: is_given(found, "reuse"),
     }))
 }
 

@@ -27,6 +27,8 @@ static SEED: [&str; 1] = ["SEED"];
 
 static EDITS: [&str; 1] = ["edits"];
 
+static RUN_FLAGS: [&str; 3] = ["flags", "trace", "reuse"];
+
 static FLAGS: [&str; 2] = ["flags", "trace"];
 
 static NONE: [&str; 0] = [];
@@ -117,7 +119,8 @@ impl Job {
         ensures { map (λ name. name.now) result.now ≡ flags_of self }
     {
         match self {
-            Job::Run | Job::Simulate => FLAGS.as_slice(),
+            Job::Run => RUN_FLAGS.as_slice(),
+            Job::Simulate => FLAGS.as_slice(),
             Job::Check | Job::Compile | Job::Why | Job::Sample(_) => NONE.as_slice(),
         }
     }
