@@ -1,12 +1,12 @@
 -- The event where an object that waits is taken out of the queue.
 use Rattle.std.specs.Prelude.{Bool, Err, IfOk, IfErr, Ok, Result, slice_get}
-use Rattle.std.proofs.Math.ListN.{length}
+use Rattle.std.proofs.Math.ListN.{length, length-append}
 use Rattle.rw_base.specs.declared.memory.NoMemory.{NoMemory}
 use Rattle.rw_dispatch.specs.Pick.{Picking, picked_at}
 use Rattle.rw_dispatch.specs.Queue.{IsTaken, Queue}
 use Rattle.rpl_verify.specs.Verified.{Accepted}
 use Rattle.rw_engine.specs.State.{seen_end}
-use Rattle.rw_engine.proofs.Common.{All, All-cons, All-head, All-tail, Does, Draft, HoldsWithin, IsOnTheWay, List, Log, None, Option, Some, State, [], ap, false, refl, subst, sym, true, ℕ, ◌++◌, ◌∙◌, ◌∷◌, ◌≡◌}
+use Rattle.rw_engine.proofs.Common.{All, All-cons, All-head, All-tail, Does, Draft, HoldsWithin, IsOnTheWay, List, Log, None, Option, Some, State, [], ap, arith, false, refl, subst, sym, true, ℕ, ◌++◌, ◌<◌, ◌∙◌, ◌∷◌, ◌≡◌}
 
 -- ---- lists
 
@@ -36,6 +36,12 @@ module _ (P : ℕ → Type 0) where
 pub picked_is : (rule : Picking) (turn object : ℕ) (waits rest : List ℕ) → IsTaken (rule turn waits) waits object rest → picked_at rule turn waits ≡ Some object
 picked_is rule turn object waits rest is =
     ap (λ place. slice_get waits place) (sym is.place_is) ∙ ap (λ all. slice_get all (length is.before)) is.old_is ∙ at_place is.before is.behind object
+
+-- so one that waits is picked
+pub picks_one : (place object : ℕ) (waits rest : List ℕ) → IsTaken place waits object rest → place < length waits
+picks_one place object waits rest is =
+    let at = is.place_is in
+    let all = ap length is.old_is ∙ length-append is.before (object ∷ is.behind) in omega (arith, at, all)
 
 -- where none waits none is picked
 pub none_picked : (rule : Picking) (turn : ℕ) (waits : List ℕ) → waits ≡ [] → picked_at rule turn waits ≡ None

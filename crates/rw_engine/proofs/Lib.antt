@@ -12,4 +12,5 @@ pub mod Firings
 pub mod Records
 pub mod Again
 pub mod Oldest
+pub mod Anyhow
 pub mod Runs

@@ -24,7 +24,7 @@ module _ (basin : Draft) (policy : Policy) where
 
   oldest_leads : (turn : ℕ) (old : Log) (events : List Event) (new : Log) → LeadsBy basin policy oldest turn old events new → Leads basin policy old events new
   oldest_leads turn old [] new leads = leads
-  oldest_leads turn old (event ∷ events) new leads = (follows_oldest old ∙ leads.0, oldest_leads (turn_after turn event) (event ∷ old) events new leads.1)
+  oldest_leads turn old (event ∷ events) new leads = (follows_oldest old ∙ leads.0, oldest_leads (turn_after turn event) (event ∷ old) events new leads.2)
 
   picked_leads : (old : Log) (events : List Event) (new : Log) → LeadsPicked basin policy oldest old events new → Leads basin policy old events new
   picked_leads old [] new leads = leads

@@ -15,6 +15,7 @@ use Rattle.rw_rules.specs.Rules.{policy_in}
 use Rattle.rw_engine.proofs.Common.{Fault, ap₂, end_of}
 use Rattle.rw_run.proofs.Placed.{settled_at_rest, standing-placed}
 use Rattle.rw_engine.proofs.Steps.{leads_on}
+use Rattle.rw_engine.proofs.Anyhow.{may_lead}
 use Rattle.rw_engine.proofs.Turns.{leads_picked, turns_more, turns_placed}
 
 pub before_step : (basin : Draft) (log : Log) (step : ℕ) → standing log ≡ rests step → step < basin.control.stamps.count → IsBefore basin (step + 1) log
@@ -45,7 +46,7 @@ module _ (basin : Draft) (policy : Policy) (rule : Picking) (inputs : Inputs) wh
   }
 
   -- events that the inputs led to are those of the picked run
-  whole : (events : List Event) (log : Log) → LeadsBy basin policy rule 0 (placed [] (givens basin inputs)) events log → turns_after 0 events < 2 ^ 64 - 1
+  abbrev whole : (events : List Event) (log : Log) → LeadsBy basin policy rule 0 (placed [] (givens basin inputs)) events log → turns_after 0 events < 2 ^ 64 - 1
       → IsOver basin (standing log) → IsPickedRun basin policy rule (givens basin inputs) log
   whole events log leads few over = record {
     events = events;
@@ -58,6 +59,7 @@ module _ (basin : Draft) (policy : Policy) (rule : Picking) (inputs : Inputs) wh
       → step ≡ basin.control.stamps.count → engine.turns < 2 ^ 64 - 1 → IsRunOf basin stands.log run → ComesToPicked basin policy rule inputs run
   comes_settled engine step run stands last few is = record {
     log = stands.log;
+    any = may_lead basin policy rule 0 (placed [] (givens basin inputs)) stands.events stands.log stands.leads;
     whole = whole stands.events stands.log stands.leads (subst (λ turn. turn < 2 ^ 64 - 1) stands.turned few)
         (subst (IsOver basin) (sym (stands.rest ∙ ap rests last)) (omega arith));
     is = is;
@@ -70,11 +72,12 @@ module _ (basin : Draft) (policy : Policy) (rule : Picking) (inputs : Inputs) wh
   comes_faulted old new step at why run stands passes few is =
       let least = passes.turned.least in
       let all : turns_after 0 (stands.events ++ passes.events) ≡ turns_after old.turns passes.events =
-      turns_more 0 stands.events passes.events ∙ ap (λ turn. turns_after turn passes.events) (sym stands.turned) in record {
+      turns_more 0 stands.events passes.events ∙ ap (λ turn. turns_after turn passes.events) (sym stands.turned) in
+      let leads = leads_on basin policy rule 0 (placed [] (givens basin inputs)) stands.events passes.events stands.log (passes.last ∷ passes.before) stands.leads
+      (subst (λ turn. LeadsBy basin policy rule turn stands.log passes.events (passes.last ∷ passes.before)) stands.turned passes.leads) in record {
         log = passes.last ∷ passes.before;
-        whole = whole (stands.events ++ passes.events) (passes.last ∷ passes.before)
-            (leads_on basin policy rule 0 (placed [] (givens basin inputs)) stands.events passes.events stands.log (passes.last ∷ passes.before) stands.leads
-            (subst (λ turn. LeadsBy basin policy rule turn stands.log passes.events (passes.last ∷ passes.before)) stands.turned passes.leads))
+        any = may_lead basin policy rule 0 (placed [] (givens basin inputs)) (stands.events ++ passes.events) (passes.last ∷ passes.before) leads;
+        whole = whole (stands.events ++ passes.events) (passes.last ∷ passes.before) leads
             (omega (arith, all, least, few))
             (subst (λ event. IsOver basin (standing (event ∷ passes.before))) (sym passes.ends) tt);
         is = is;

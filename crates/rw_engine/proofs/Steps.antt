@@ -20,7 +20,7 @@ use Rattle.rw_run.specs.Next.{next_of}
 use Rattle.rw_run.specs.Runs.{follows_by}
 use Rattle.rw_run.specs.Waiting.{waiting}
 use Rattle.rw_engine.specs.Passing.{steps_of}
-use Rattle.rw_engine.specs.Picked.{ClosesBy, CountsTurns, LeadsBy, PassesBy, follows_at, turn_after, turns_after}
+use Rattle.rw_engine.specs.Picked.{ClosesBy, CountsTurns, LeadsBy, PassesBy, PicksAt, follows_at, turn_after, turns_after}
 use Rattle.rw_engine.specs.Shows.{EndsBy}
 use Rattle.rw_engine.specs.Records.{CanWriteLines, HasNoted, lines_of_step}
 use Rattle.rw_engine.specs.State.{AreInside, CanGoBack, HasPassed, IsStateOf, Keeps}
@@ -33,21 +33,32 @@ use Rattle.rw_engine.proofs.Turns.{turns_more}
 
 module _ (basin : Draft) (policy : Policy) (rule : Picking) where
   pub leads_more : (turn : ℕ) (old : Log) (events : List Event) (event : Event) (new : Log) → LeadsBy basin policy rule turn old events new
-      → follows_at basin policy rule (turns_after turn events) new ≡ Some event → LeadsBy basin policy rule turn old (events ++ event ∷ []) (event ∷ new)
-  leads_more turn old [] event new leads follow = (ap (follows_at basin policy rule turn) (sym leads) ∙ follow, ap (λ log. event ∷ log) leads)
-  leads_more turn old (first ∷ events) event new leads follow =
-      (leads.0, leads_more (turn_after turn first) (first ∷ old) events event new leads.1 follow)
+      → follows_at basin policy rule (turns_after turn events) new ≡ Some event → PicksAt rule (turns_after turn events) (waiting basin new) (standing new)
+      → LeadsBy basin policy rule turn old (events ++ event ∷ []) (event ∷ new)
+  leads_more turn old [] event new leads follow picks = (
+    ap (follows_at basin policy rule turn) (sym leads) ∙ follow,
+    subst (λ log. PicksAt rule turn (waiting basin log) (standing log)) leads picks,
+    ap (λ log. event ∷ log) leads,
+  )
+  leads_more turn old (first ∷ events) event new leads follow picks =
+      (leads.0, leads.1, leads_more (turn_after turn first) (first ∷ old) events event new leads.2 follow picks)
 
   pub leads_on : (turn : ℕ) (old : Log) (first last : List Event) (mid new : Log) → LeadsBy basin policy rule turn old first mid
       → LeadsBy basin policy rule (turns_after turn first) mid last new → LeadsBy basin policy rule turn old (first ++ last) new
   leads_on turn old [] last mid new one other = subst (λ log. LeadsBy basin policy rule turn log last new) one other
-  leads_on turn old (event ∷ first) last mid new one other = (one.0, leads_on (turn_after turn event) (event ∷ old) first last mid new one.1 other)
+  leads_on turn old (event ∷ first) last mid new one other = (one.0, one.1, leads_on (turn_after turn event) (event ∷ old) first last mid new one.2 other)
 
   leads_after : (turn : ℕ) (old : Log) (events : List Event) (new : Log) → LeadsBy basin policy rule turn old events new → new ≡ log_after events old
   leads_after turn old [] new leads = leads
-  leads_after turn old (event ∷ events) new leads = leads_after (turn_after turn event) (event ∷ old) events new leads.1
+  leads_after turn old (event ∷ events) new leads = leads_after (turn_after turn event) (event ∷ old) events new leads.2
 
--- the one that is picked of those that wait in the state is picked in the log
+-- who is picked of those that wait in the state is picked in the log
+picks_inside : (basin : Draft) (policy : Accepted) (rule : Picking) (state : State) (step turn : ℕ) (log : Log) → HoldsWithin basin policy state step state.queue.waiting log
+    → state.turns ≡ turn → PicksAt rule state.turns state.queue.waiting (inside step) → PicksAt rule turn (waiting basin log) (standing log)
+picks_inside basin policy rule state step turn log holds is picks =
+    subst (λ stands. PicksAt rule turn (waiting basin log) stands) (sym holds.open_step)
+    (subst (λ t. PicksAt rule t (waiting basin log) (inside step)) is (subst (λ waits. PicksAt rule state.turns waits (inside step)) holds.queue picks))
+
 follows_inside : (basin : Draft) (policy : Accepted) (rule : Picking) (state : State) (step turn : ℕ) (log : Log) → HoldsWithin basin policy state step state.queue.waiting log
     → state.turns ≡ turn
     → follows_at basin (policy_in basin policy) rule turn log
@@ -103,14 +114,15 @@ made_by basin old new event log was is cell =
 pub reached_more : (basin : Draft) (policy : Accepted) (rule : Picking) (turn : ℕ) (start : Log) (old new : State) (step : ℕ) → Reached basin policy rule turn start old step
     → ((log : Log) → HoldsWithin basin policy old step old.queue.waiting log
     → Goes basin policy (picked_at rule old.turns old.queue.waiting) None (held old.run.series) old.noted old.turns new step log)
-    → Reached basin policy rule turn start new step
-reached_more basin policy rule turn start old new step reached goes =
+    → PicksAt rule old.turns old.queue.waiting (inside step) → Reached basin policy rule turn start new step
+reached_more basin policy rule turn start old new step reached goes picks =
     let went = goes reached.now reached.holds in
     let calm = calm_inside went.event reached.now step went.goes.open_step in record {
       events = reached.events ++ went.event ∷ [];
       now = went.event ∷ reached.now;
       leads = leads_more basin (policy_in basin policy) rule turn (opened step ∷ start) reached.events went.event reached.now reached.leads
-          (follows_inside basin policy rule old step (turns_after turn reached.events) reached.now reached.holds reached.turned ∙ went.follows);
+          (follows_inside basin policy rule old step (turns_after turn reached.events) reached.now reached.holds reached.turned ∙ went.follows)
+          (picks_inside basin policy rule old step (turns_after turn reached.events) reached.now reached.holds reached.turned picks);
       turned = went.turned.same calm ∙ ap (λ t. turn_after t went.event) reached.turned ∙ sym (turns_more turn reached.events (went.event ∷ []));
       holds = went.goes;
       inside_step = inside_more step reached.events went.event reached.inside_step (alone went.event reached.now ∙ went.goes.open_step);
@@ -191,20 +203,26 @@ begins_step basin policy chosen log step before =
 
 pub ends_step : (basin : Draft) (policy : Accepted) (rule : Picking) (turn : ℕ) (log : Log) (first old new : State) (step : ℕ) (end : StepEnd) → Reached basin policy rule turn log old step
     → ((l : Log) → HoldsWithin basin policy old step old.queue.waiting l
-    → Goes basin policy (picked_at rule old.turns old.queue.waiting) (Some end) (held old.run.series) old.noted old.turns new step l) → Shows basin (seen first) log → IsBefore basin step log
+    → Goes basin policy (picked_at rule old.turns old.queue.waiting) (Some end) (held old.run.series) old.noted old.turns new step l)
+    → PicksAt rule old.turns old.queue.waiting (inside step) → Shows basin (seen first) log → IsBefore basin step log
     → Grows first.run.trace new.run.trace → is_some new.noted ≡ is_some new.run.trace → new.lines_before ≡ length (lines_in first.run.trace)
     → PassesBy basin (policy_in basin policy) rule turn log end (seen new) step
-ends_step basin policy rule turn log first old new step end reached goes shows before grows notes many =
+ends_step basin policy rule turn log first old new step end reached goes picks shows before grows notes many =
     let went = goes reached.now reached.holds in
     let code = policy_in basin policy in
     let leads = leads_more basin code rule turn (opened step ∷ log) reached.events went.event reached.now reached.leads
-    (follows_inside basin policy rule old step (turns_after turn reached.events) reached.now reached.holds reached.turned ∙ went.follows) in
+    (follows_inside basin policy rule old step (turns_after turn reached.events) reached.now reached.holds reached.turned ∙ went.follows)
+    (picks_inside basin policy rule old step (turns_after turn reached.events) reached.now reached.holds reached.turned picks) in
     record {
       events = opened step ∷ (reached.events ++ went.event ∷ []);
       last = went.event;
       before = reached.now;
       within = reached.holds.open_step;
-      leads = (begins_step basin code (picked_at rule turn (waiting basin log)) log step before, leads);
+      leads = (
+        begins_step basin code (picked_at rule turn (waiting basin log)) log step before,
+        subst (λ stands. PicksAt rule turn (waiting basin log) stands) (sym before.rest) tt,
+        leads,
+      );
       ends = went.goes.0;
       shows = went.goes.1;
       closes = closes end went leads;

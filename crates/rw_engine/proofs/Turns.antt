@@ -130,7 +130,7 @@ leads_picked basin policy rule turn old (event ∷ events) new is most below lea
     let rest = rising (turn_after turn event) events one.1 in
     let near : turn_after turn event < 2 ^ 64 - 1 = omega (arith, rest, below) in (
       ap (λ t. follows_by basin policy old (picked_at rule t (waiting basin old)) (standing old)) (sym is) ∙ leads.0,
-      leads_picked basin policy rule (turn_after turn event) (event ∷ old) events new (one_more turn (turns old) (dispatched_in event) is near) one.1 below leads.1,
+      leads_picked basin policy rule (turn_after turn event) (event ∷ old) events new (one_more turn (turns old) (dispatched_in event) is near) one.1 below leads.2,
     )
 
 -- no input is a dispatch

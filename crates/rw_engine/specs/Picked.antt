@@ -1,11 +1,12 @@
 -- A timestep and a run in which a rule picks who is dispatched, by a turn that is counted from dispatch to dispatch.
-use Rattle.std.specs.Prelude.{◌≡◌, ◌≤◌, ℕ, ◌+◌, ◌*◌, ◌-◌, ◌^◌, min, List, [], ◌∷◌, length, IfErr, IfOk, IsSome, Option, Some, None, Result, Ok, Err}
+use Rattle.std.specs.Prelude.{◌≡◌, ◌≤◌, ◌<◌, ℕ, ◌+◌, ◌*◌, ◌-◌, ◌^◌, min, List, [], ◌∷◌, length, IfErr, IfOk, IsSome, Option, Some, None, Result, Ok, Err}
 use Rattle.rw_base.specs.declared.memory.NoMemory.{NoMemory}
 use Rattle.rw_model.specs.Draft.{Draft}
 use Rattle.rw_run.specs.Frame.{IsStepFrom, log_after}
 use Rattle.rw_run.specs.Log.{Event, Log, dispatched_in, opened}
 use Rattle.rw_run.specs.Next.{Policy}
-use Rattle.rw_run.specs.Runs.{follows_by, inside, placed, rests, standing}
+use Rattle.rw_run.specs.Choice.{MayLead}
+use Rattle.rw_run.specs.Runs.{Standing, follows_by, inside, over, placed, rests, standing}
 use Rattle.rw_run.specs.RunOf.{IsRunOf, opened_by}
 use Rattle.rw_run.specs.Waiting.{waiting}
 use Rattle.rw_run.specs.declared.run.Run.{Run}
@@ -48,11 +49,18 @@ most_turns basin = length basin.objects * basin.control.object_limit
 abbrev pub follows_at : Draft → Policy → Picking → ℕ → Log → Option Event
 follows_at basin policy rule turn log = follows_by basin policy log (picked_at rule turn (waiting basin log)) (standing log)
 
+-- within a timestep the rule picks one of those that wait, where one does
+abbrev pub PicksAt : Picking → ℕ → List ℕ → Standing → Type 0
+PicksAt rule turn waits (inside step) = 1 ≤ length waits → rule turn waits < length waits
+PicksAt rule turn waits (rests step) = Unit {0}
+PicksAt rule turn waits over = Unit {0}
+
 -- these events follow, the first of them at this turn
 abbrev pub LeadsBy : Draft → Policy → Picking → ℕ → Log → List Event → Log → Type 0
 LeadsBy basin policy rule turn old [] new = new ≡ old
 LeadsBy basin policy rule turn old (event ∷ events) new =
-    (follows_at basin policy rule turn old ≡ Some event) × LeadsBy basin policy rule (turn_after turn event) (event ∷ old) events new
+    (follows_at basin policy rule turn old ≡ Some event) × PicksAt rule turn (waiting basin old) (standing old)
+    × LeadsBy basin policy rule (turn_after turn event) (event ∷ old) events new
 
 -- ---- a timestep
 
@@ -101,10 +109,11 @@ pub record RunsStepBy (basin : Draft) (policy : Accepted) (rule : Picking) (step
 
 -- ---- a run
 
--- the run comes to what the whole run of the inputs does in which the rule picks
+-- the run comes to what the whole run of the inputs does in which the rule picks, one of those that wait each time
 pub record ComesToPicked (basin : Draft) (policy : Policy) (rule : Picking) (inputs : Inputs) (run : Run) : Type 0 where
   pub log : Log
   pub whole : IsPickedRun basin policy rule (givens basin inputs) log
+  pub any : MayLead basin policy (placed [] (givens basin inputs)) whole.events log
   pub is : IsRunOf basin log run
 
 -- the engine shows a log that the inputs led to, in which this is the last closed timestep, and its turn is that of the log

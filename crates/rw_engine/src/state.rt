@@ -11,7 +11,8 @@ ghost use Rattle.rw_engine.specs.Counts.{count_of};
 ghost use Rattle.rw_dispatch.specs.Pick.{picked_at};
 ghost use Rattle.rw_dispatch.specs.Queue.{IsTaken};
 ghost use Rattle.rw_engine.specs.Passing.{Replays};
-ghost use Rattle.rw_engine.specs.Picked.{RunsStepBy};
+ghost use Rattle.rw_run.specs.Runs.{inside};
+ghost use Rattle.rw_engine.specs.Picked.{PicksAt, RunsStepBy};
 ghost use Rattle.rw_engine.specs.Shows.{CanReplay, IsEngineOf, Shows};
 ghost use Rattle.rw_engine.specs.State.{seen, Begins, Does, HasPassed, HasReplayed, HoldsBefore, HoldsDue, HoldsWithin, IsFresh, IsOpened, IsSound, IsStateOf, IsWithinStep, OnlyTells, ended_by, step_end};
 ghost use Rattle.rw_dispatch.specs.Stage.{IsHeldIn};
@@ -303,11 +304,13 @@ impl State {
         requires order { AreInOrder
             (map (λ b. code (b.vtable, b.value)) setup.now.methods.now.methods.items) }
         requires step { IsStep setup.now.basin.now step.0 }
-        ensures { Does setup.now.basin.now setup.now.policy.now
+        ensures does { Does setup.now.basin.now setup.now.policy.now
             (picked_at (P.rule pick.now) self.old.turns self.old.queue.waiting)
             step.0 self.old self.new
             (HoldsWithin setup.now.basin.now setup.now.policy.now self.old step.0
             self.old.queue.waiting) result }
+        ensures picks { PicksAt (P.rule pick.now) self.old.turns self.old.queue.waiting
+            (inside step.0) }
     {
         match self.queue.next_by(pick, self.turns) {
             Some(object) => self.ask(setup, object, step),
