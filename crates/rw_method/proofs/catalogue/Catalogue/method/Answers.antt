@@ -1,5 +1,5 @@
 use Rattle.rw_method.proofs.Common.{List, None, [], ap, arith, common_steps, first_wrong, get_or, length, map, rules, suc, sym, zero, ℕ, ◌+◌, ◌-◌, ◌<◌, ◌∙◌, ◌∷◌, ◌≡◌, ◌≤◌}
-use Rattle.rw_method.proofs.catalogue.Catalogue.solve.Goals as goal
+use Rattle.rw_method.proofs.catalogue.Catalogue.method.Goals as goal
 
 -- where the first place is right, so are the others
 first_right : (place code : ℕ) (codes : List ℕ) → first_wrong place (code ∷ codes) ≡ None → (code ≡ place) × (first_wrong (place + 1) codes ≡ None)
@@ -11,8 +11,8 @@ in_order f [] place i d h lt = absurd (omega (arith, lt))
 in_order f (x ∷ xs) place zero d h lt = (first_right place (f x) (map f xs) h).0 ∙ omega arith
 in_order f (x ∷ xs) place (suc i) d h lt = in_order f xs (place + 1) i d (first_right place (f x) (map f xs) h).1 (omega (arith, lt)) ∙ omega arith
 
-pub solve_by-requires-clause-code : goal.solve_by-requires-clause-code
-solve_by-requires-clause-code g c =
+pub returns : goal.returns
+returns g c =
     let some : 1 ≤ c.from-place.result = rw (c.from-place.ensures, c.code.ensures) c.requires.balance in
     let counted : c.from-place.result ≡ 1 + (c.from-place.result - 1) = omega (arith, some) in
     let right = in_order (λ b. (goal.Method-dyn g (b.vtable, b.value)).code b.value) c.args.self.now.methods.items 1 (c.from-place.result - 1)
