@@ -1,5 +1,4 @@
-ghost use Rattle.std.specs.Prelude.{◌≡◌, ◌≤◌, [], IsTrue, List, Some, map, option_map};
-ghost use Rattle.rw_model.specs.Code.{code_of};
+ghost use Rattle.std.specs.Prelude.{◌≡◌, [], IsTrue, List, Some, map, option_map};
 ghost use Rattle.rw_model.specs.Kind.{IsKind};
 ghost use Rattle.rw_model.specs.Objects.{object_at};
 ghost use Rattle.rw_method.specs.View.{IsViewOf};
@@ -28,18 +27,8 @@ use rw_method::{Catalogue, PutList, Solved, View};
 use rw_model::{Basin, Kind};
 use rw_series::Series;
 
-// The method of a kind with a balance. It is lent, and asked where its answer is used: each function that hands on a `Solved`
-// copies it.
-fn method_of<'a>(methods: &'a Catalogue, kind: &Kind) -> &'a Box<dyn rw_method::Method>
-    requires order { AreInOrder (map (λ b. code b) methods.now.methods.items) }
-    requires balance { 1 ≤ code_of kind.now }
-    ensures { code_of kind.now ≡ code result.now }
-{
-    let place = usize::from(kind.code()) - 1;
-    &methods.methods[place]
-}
-
-// Fills the view in anew with what an object sees, and answers its kind.
+// Fills the view in anew with what an object sees, and answers its kind. Its method is asked where the answer is used: each
+// function that hands on a `Solved` copies it.
 fn see<'a>(
     view: &mut View,
     basin: &'a Basin,
@@ -228,7 +217,7 @@ pub fn judge_dispatch(
         (dispatched basin.now (held series.now) object.0 step.0) work.old work.new }
 {
     let kind = see(&mut work.view, basin, series, object, step);
-    let method = method_of(methods, kind);
+    let method = methods.method(kind);
     let solved = &method.solve(kind, &work.view);
     let end = answer(
         &work.view,
