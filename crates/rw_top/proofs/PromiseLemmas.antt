@@ -6,18 +6,20 @@ use Rattle.rw_base.proofs.Common.{Bool}
 use Rattle.rw_top.specs.Promise.{UnreadWords}
 use Rattle.rw_top.proofs.CommandLemmas.{asks_clash, of_command}
 use Rattle.rw_top.proofs.DueLemmas.{cell_due, complete, due, none_due, none_lacks}
+use Rattle.rw_top.specs.declared.extras.Extras.{Extras}
+use Rattle.rw_top.specs.Command.{extras_of}
 
 at_most_1 : (end : RunEnd) → status_of_end end ≤ 1
 at_most_1 Settled = omega arith
 at_most_1 (Fault why) = omega arith
 
-status_at_most_1 : (job : Job) (flags trace : Bool) (files : Files) (status : ℕ) (texts : List (List ℕ)) → IsTextOf job flags trace files status texts → status ≤ 1
-status_at_most_1 Simulate flags trace files status texts is = let most = at_most_1 is.0 in omega (arith, most, is.1)
-status_at_most_1 Check flags trace files status texts is = omega (arith, is.0)
-status_at_most_1 Compile flags trace files status texts is = omega (arith, is.0)
-status_at_most_1 Why flags trace files status texts is = let most = at_most_1 is.0 in omega (arith, most, is.1)
-status_at_most_1 Run flags trace files status texts is = let most = at_most_1 is.0 in omega (arith, most, is.1)
-status_at_most_1 (Sample seed) flags trace files status texts is = omega (arith, is.0)
+status_at_most_1 : (job : Job) (extras : Extras) (files : Files) (status : ℕ) (texts : List (List ℕ)) → IsTextOf job extras files status texts → status ≤ 1
+status_at_most_1 Simulate extras files status texts is = let most = at_most_1 is.0 in omega (arith, most, is.1)
+status_at_most_1 Check extras files status texts is = omega (arith, is.0)
+status_at_most_1 Compile extras files status texts is = omega (arith, is.0)
+status_at_most_1 Why extras files status texts is = let most = at_most_1 is.0 in omega (arith, most, is.1)
+status_at_most_1 Run extras files status texts is = let most = at_most_1 is.0 in omega (arith, most, is.1)
+status_at_most_1 (Sample seed) extras files status texts is = omega (arith, is.0)
 
 at_least_2 : (why : Refusal) → 2 ≤ status_of why
 at_least_2 Words = omega arith
@@ -31,7 +33,7 @@ was_refused call why was = was
 module _ (call : Call) (held : (path : List ℕ) → call.shelf.after.holds path ≡ call.shelf.before.holds path) where
   pub promised_text : (status : ℕ) → Wrote call status → Promise call status
   promised_text status wrote =
-      let low = status_at_most_1 wrote.command.job wrote.command.flags wrote.command.trace wrote.text.0 status wrote.text.2.texts wrote.text.2.is in
+      let low = status_at_most_1 wrote.command.job (extras_of wrote.command) wrote.text.0 status wrote.text.2.texts wrote.text.2.is in
       record {
         done = λ below. wrote;
         refused = λ above. absurd (omega (arith, low, above));

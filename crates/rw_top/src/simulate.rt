@@ -5,6 +5,7 @@ ghost use Rattle.rw_method.specs.Catalogue.{AreInOrder};
 ghost use Rattle.rw_run.specs.Next.{no_rules};
 ghost use Rattle.rw_top.specs.RunText.{IsRunText};
 
+use crate::extras::Extras;
 use crate::run::run_by_code;
 use crate::setup::RunSetup;
 use rpl_verify::Verified;
@@ -20,21 +21,20 @@ use std::alloc::Global;
 pub(crate) fn text_without_rules<L: Ledger>(
     alloc: Global,
     setup: &RunSetup<'_>,
-    flags: bool,
-    trace: bool,
+    extras: Extras,
     inputs: &Inputs,
     steps: &mut Steps<L>,
 ) -> Result<(Vec<u8>, RunEnd), NoMemory>
     requires order { AreInOrder
         (map (λ b. code (b.vtable, b.value)) setup.now.methods.now.methods.items) }
     requires inputs { IsInputsOf setup.now.basin.now inputs.now }
-    ensures { IfOk result (λ pair. IsRunText setup.now.basin.now no_rules flags trace 0 inputs.now
-        pair.1 pair.0.items) }
+    ensures { IfOk result (λ pair. IsRunText setup.now.basin.now no_rules extras None 0
+        inputs.now pair.1 pair.0.items) }
 {
     same_runs();
     texts_of_runs();
     let empty = Verified::none(alloc);
-    let run = run_by_code(alloc, setup, &empty, trace, inputs, steps)?;
-    let text = section(alloc, setup.basin, 0, &run, None, flags, trace)?;
+    let run = run_by_code(alloc, setup, &empty, extras.trace, inputs, steps)?;
+    let text = section(alloc, setup.basin, 0, &run, None, extras.flags, extras.trace)?;
     Ok((text, run.end))
 }

@@ -52,6 +52,7 @@ pub fn basin_main<S: Shelf, K: Sink, E: Sink, L: Ledger>(
       shelf = change (S.seen shelf.old) (S.seen shelf.new);
       out = change (K.seen out.old) (K.seen out.new);
       err = change (E.seen err.old) (E.seen err.new);
+      steps = change steps.old steps.new;
     }) result }
 {
     let command = match read_words(alloc, words) {
