@@ -4,6 +4,7 @@ use Rattle.rw_words.specs.declared.job.Job.TheVariants.{Simulate, Check, Compile
 use Rattle.rw_top.specs.declared.refusal.Refusal.TheVariants.{Words, NoMemory}
 use Rattle.rw_base.proofs.Common.{Bool}
 use Rattle.rw_top.specs.Promise.{UnreadWords}
+use Rattle.rw_top.specs.Written.{CountsReused}
 use Rattle.rw_top.proofs.CommandLemmas.{asks_clash, of_command}
 use Rattle.rw_top.proofs.DueLemmas.{cell_due, complete, due, none_due, none_lacks}
 use Rattle.rw_top.specs.declared.extras.Extras.{Extras}
@@ -31,8 +32,8 @@ was_refused call NoMemory was = inr was
 was_refused call why was = was
 
 module _ (call : Call) (held : (path : List ℕ) → call.shelf.after.holds path ≡ call.shelf.before.holds path) where
-  pub promised_text : (status : ℕ) → Wrote call status → Promise call status
-  promised_text status wrote =
+  pub promised_text : (status : ℕ) (wrote : Wrote call status) → CountsReused wrote.command call.shelf.before.holds call.steps → Promise call status
+  promised_text status wrote counted =
       let low = status_at_most_1 wrote.command.job (extras_of wrote.command) wrote.text.0 status wrote.text.2.texts wrote.text.2.is in
       record {
         done = λ below. wrote;
@@ -47,6 +48,8 @@ module _ (call : Call) (held : (path : List ℕ) → call.shelf.after.holds path
             (λ it. WritesAll it call.shelf.before.holds call.out status) wrote.text in
             absurd (none_lacks command call.shelf wrote_all.0 wrote_all.1 lacks honest);
         complete = λ command asks accepted there calm. inl low;
+        counted = λ below command asks.
+            of_command call.words wrote.command command wrote.asked asks (λ it. CountsReused it call.shelf.before.holds call.steps) counted;
         held = held;
       }
 
@@ -58,6 +61,7 @@ module _ (call : Call) (held : (path : List ℕ) → call.shelf.after.holds path
     due = λ command asks reason found honest. absurd (asks_clash call.words command was.nothing asks);
     cell = λ command asks lacks honest. absurd (asks_clash call.words command was.nothing asks);
     complete = λ command asks accepted there calm. absurd (asks_clash call.words command was.nothing asks);
+    counted = λ below. absurd (omega arith);
     held = held;
   }
 
@@ -69,6 +73,7 @@ module _ (call : Call) (held : (path : List ℕ) → call.shelf.after.holds path
     due = λ command asks reason found honest. inr is;
     cell = λ command asks lacks honest. inr is;
     complete = λ command asks accepted there calm. inr is;
+    counted = λ below. absurd (omega arith);
     held = held;
   }
 
@@ -86,5 +91,6 @@ module _ (call : Call) (held : (path : List ℕ) → call.shelf.after.holds path
         cell = λ command asks lacks honest. rw is (cell_due command call.shelf call.out why (cause command asks) lacks honest);
         complete = λ command asks accepted there calm.
             inr (is ∙ complete command call.shelf call.out why (cause command asks) accepted there calm.honest calm.stands);
+        counted = λ below. absurd (omega arith);
         held = held;
       }

@@ -26,7 +26,7 @@ use Rattle.rpl_verify.specs.Verified.{Accepted}
 use Rattle.rw_top.specs.Policy.{Policy as Rules, Ruleset, Code}
 use Rattle.rw_run.specs.Reuse.{AreRerun}
 use Rattle.rw_rerun.specs.Session.{numbers_of}
-use Rattle.rw_top.specs.RunText.{ComesBy, IsRerun, IsRulesText, policy_in_run}
+use Rattle.rw_top.specs.RunText.{ComesBy, IsCodeOf, IsRerun, IsRulesText, policy_in_run}
 use Rattle.rw_top.specs.Sections.{Given, first_given}
 use Rattle.rw_top.specs.declared.extras.Extras.{Extras}
 
@@ -82,6 +82,19 @@ by_ruleset basin rules blocks inputs run same accepted means firings comes =
       is = its.is;
       verified = record { budgets = budgets_of rules; accepted = accepted; firings = firings its.log whole };
     }
+
+-- the code that is compiled of it
+pub code_of_ruleset : (basin : Draft) (rules : List Declared) (code : Accepted) → code.blocks ≡ translate rules
+    → AreAccepted basin (translate rules) (budgets_of rules)
+    → ((inputs : Inputs) (log : Log) → IsRun basin (policy_of_code basin (translate rules)) (givens basin inputs) log
+    → IsRun basin (policy_of_rules basin rules) (givens basin inputs) log)
+    → ((inputs : Inputs) (log : Log) → IsRun basin (policy_of_rules basin rules) (givens basin inputs) log
+    → AreVerified basin (translate rules) (budgets_of rules) log)
+    → IsCodeOf basin (Ruleset rules) code
+code_of_ruleset basin rules code same accepted means firings = record {
+  comes = λ inputs run'. by_ruleset basin rules code.blocks inputs run' same accepted (means inputs) (firings inputs);
+  runs = λ inputs log whole. means inputs log (subst (λ bs. IsRun basin (policy_of_code basin bs) (givens basin inputs) log) same whole);
+}
 
 -- what the law says of the text of a run, by its log
 abbrev pub TextsOfRuns : Type 0

@@ -7,8 +7,8 @@ use Rattle.rw_inputs.specs.Inputs.{Inputs, value_at}
 use Rattle.rw_top.specs.Sections.{AppendsAll, AppendsFirst, AppendsOne, AreFirstSections, AreSections, StopsAmong, StopsAtOne, Given, edited_given, first_given, joined}
 use Rattle.rw_run.specs.Next.{no_rules}
 use Rattle.rw_top.specs.Policy.{Policy as Rules}
-use Rattle.rw_top.specs.RunText.{IsPlainText, IsRulesText}
-use Rattle.rw_top.specs.Written.{Appends, AppendsFront, IsFrontOf, IsOne, Stops, batches_in}
+use Rattle.rw_top.specs.RunText.{CountsSections, IsPlainText, IsRulesText}
+use Rattle.rw_top.specs.Written.{Appends, AppendsFront, CountsOfFiles, IsFrontOf, IsOne, OfBoth, Stops, batches_in}
 use Rattle.rw_words.specs.declared.job.Job.TheVariants.{Simulate, Run}
 use Rattle.rw_top.specs.declared.refusal.Refusal.TheVariants.{CannotWrite, NoMemory}
 use Rattle.rw_top.specs.declared.extras.Extras.{Extras}
@@ -120,25 +120,30 @@ one_run extras files inputs end status text there same is = (
 )
 
 -- runs by rules
-module _ (extras : Extras) (files : Files) (policy : Rules) (inputs : Inputs) (out : Change SinkView) (has_policy : files.policy ≡ Some policy)
-    (has_inputs : files.inputs ≡ Some inputs) where
-  with_both : (P : Rules → Inputs → Type 0) → P policy inputs → IsSomeAnd files.policy (λ p. IsSomeAnd files.inputs (P p))
+module _ (files : Files) (policy : Rules) (inputs : Inputs) (has_policy : files.policy ≡ Some policy) (has_inputs : files.inputs ≡ Some inputs) where
+  with_both : (P : Rules → Inputs → Type 0) → P policy inputs → OfBoth files P
   with_both P is =
       subst (λ o. IsSomeAnd o (λ p. IsSomeAnd files.inputs (P p))) (sym has_policy) (subst (λ o. IsSomeAnd o (P policy)) (sym has_inputs) is)
 
-  pub rules_appended : (end : RunEnd) (status : ℕ) → status ≡ status_of_end end
-      → AppendsAll (IsRulesText files.basin policy extras) 0 (first_given inputs) (batches_in files) out end → Appends Run extras files out status
-  rules_appended end status same all = record {
-    texts = all.texts;
-    is = (end, same, with_both (λ p i. AreSections (IsRulesText files.basin p extras) 0 (first_given i) (batches_in files) end all.texts) all.are);
-    grew = all.grew;
-  }
+  pub rules_counted : (steps : Change ℕ) → CountsSections files.basin policy inputs (batches_in files) steps → CountsOfFiles files steps
+  rules_counted steps counts = with_both (λ p i. CountsSections files.basin p i (batches_in files) steps) counts
 
-  front : (texts : List (List ℕ)) → AreFirstSections (IsRulesText files.basin policy extras) 0 (first_given inputs) (batches_in files) texts → IsFrontOf Run extras files texts
-  front texts are = with_both (λ p i. AreFirstSections (IsRulesText files.basin p extras) 0 (first_given i) (batches_in files) texts) are
+  module _ (extras : Extras) (out : Change SinkView) where
+    pub rules_appended : (end : RunEnd) (status : ℕ) → status ≡ status_of_end end
+        → AppendsAll (IsRulesText files.basin policy extras) 0 (first_given inputs) (batches_in files) out end → Appends Run extras files out status
+    rules_appended end status same all = record {
+      texts = all.texts;
+      is = (end, same, with_both (λ p i. AreSections (IsRulesText files.basin p extras) 0 (first_given i) (batches_in files) end all.texts) all.are);
+      grew = all.grew;
+    }
 
-  pub rules_stopped : (why : Refusal) → StopsAmong (IsRulesText files.basin policy extras) 0 (first_given inputs) (batches_in files) out why → Stops Run extras files out why
-  rules_stopped NoMemory stops = inr (record { runs = refl; texts = stops.texts; are = front stops.texts stops.are; fewer = stops.fewer; grew = stops.grew })
-  rules_stopped CannotWrite stops =
-      (record { done = stops.done; text = stops.text; is = front (stops.done ++ stops.text ∷ []) stops.are; grew = stops.grew }, stops.rose)
-  rules_stopped why stops = absurd stops
+    front : (texts : List (List ℕ)) → AreFirstSections (IsRulesText files.basin policy extras) 0 (first_given inputs) (batches_in files) texts
+        → IsFrontOf Run extras files texts
+    front texts are = with_both (λ p i. AreFirstSections (IsRulesText files.basin p extras) 0 (first_given i) (batches_in files) texts) are
+
+    pub rules_stopped : (why : Refusal) → StopsAmong (IsRulesText files.basin policy extras) 0 (first_given inputs) (batches_in files) out why
+        → Stops Run extras files out why
+    rules_stopped NoMemory stops = inr (record { runs = refl; texts = stops.texts; are = front stops.texts stops.are; fewer = stops.fewer; grew = stops.grew })
+    rules_stopped CannotWrite stops =
+        (record { done = stops.done; text = stops.text; is = front (stops.done ++ stops.text ∷ []) stops.are; grew = stops.grew }, stops.rose)
+    rules_stopped why stops = absurd stops

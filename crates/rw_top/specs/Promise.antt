@@ -1,5 +1,5 @@
 -- What is promised of each call of the program.
-use Rattle.std.specs.Prelude.{◌≡◌, ◌⊎◌, ℕ, ◌+◌, ◌≤◌, IsTrue, List, [], Option, Some, None, unwrap_or}
+use Rattle.std.specs.Prelude.{◌≡◌, ◌⊎◌, ℕ, ◌≤◌, List, [], Option, Some, None, unwrap_or}
 use Rattle.rw_io.specs.Causes.{Rose}
 use Rattle.rw_io.specs.Known.{GrowsBy}
 use Rattle.rw_base.specs.declared.number.Cell.{Cell}
@@ -22,9 +22,9 @@ use Rattle.rw_top.specs.Reason.{Reason, IsFound, IsHonestFor, status_by}
 use Rattle.rw_top.specs.Lines.{line_of, memory_line, words_line}
 use Rattle.rw_top.specs.Reading.{AcceptsAll, IsHonestOfAll, LacksCell, ReadsEdits, ReadsInputs, ReadsPolicy, SaysAt}
 use Rattle.rw_top.specs.Refusal.{Cause, EndsWith, status_of}
-use Rattle.rw_top.specs.RunText.{CountsRun, IsRulesText, IsRunText, IsSampleOf, IsWhyOfRules, policy_in_run}
-use Rattle.rw_top.specs.Sections.{AreSections, CountsAll, first_given, joined}
-use Rattle.rw_top.specs.Written.{OfBoth, OfFiles, Tells, WritesAll, batches_in}
+use Rattle.rw_top.specs.RunText.{IsRulesText, IsRunText, IsSampleOf, IsWhyOfRules}
+use Rattle.rw_top.specs.Sections.{AreSections, first_given, joined}
+use Rattle.rw_top.specs.Written.{CountsReused, Tells, WritesAll}
 use Rattle.rw_top.specs.declared.refusal.File.TheVariants.{Edits}
 use Rattle.rw_top.specs.declared.refusal.Refusal.{Refusal}
 use Rattle.rw_top.specs.declared.refusal.Refusal.TheVariants.{Words, NoMemory}
@@ -85,9 +85,7 @@ pub record Promise (call : Call) (status : ℕ) : Type 0 where
       → AcceptsAll command call.shelf.before.holds → ¬ LacksCell command call.shelf.before.holds → IsCalm command call
       → (status ≤ 1) ⊎ (status ≡ 5)
   -- a run that reuses timesteps counts those that it runs
-  pub counted : status ≤ 1 → (command : Command) → Asks call.words command → IsTrue command.reuse
-      → OfFiles command call.shelf.before.holds (λ files. OfBoth files (λ policy inputs. (count : ℕ) × (call.steps.after ≡ call.steps.before + count)
-      × CountsAll (CountsRun files.basin (policy_in_run files.basin policy)) (first_given inputs) (batches_in files) count))
+  pub counted : status ≤ 1 → (command : Command) → Asks call.words command → CountsReused command call.shelf.before.holds call.steps
   -- no file is changed
   pub held : (path : List ℕ) → call.shelf.after.holds path ≡ call.shelf.before.holds path
 

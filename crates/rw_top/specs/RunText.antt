@@ -1,9 +1,14 @@
 -- The text of a run.
-use Rattle.std.specs.Prelude.{◌≡◌, ℕ, Bool, true, false, List, length, IsSomeAnd, Option, Some, None, Ok}
+use Rattle.std.specs.Prelude.{◌≡◌, ◌+◌, ℕ, Bool, true, false, List, length, IsSomeAnd, Option, Some, None, Ok}
 use Rattle.rw_base.specs.declared.number.StepNo.{StepNo}
 use Rattle.rw_run.specs.Reuse.{AreOpened, AreRerun}
 use Rattle.rw_rerun.specs.Session.{numbers_of}
-use Rattle.rw_top.specs.Sections.{Given}
+use Rattle.rw_rules.specs.Rules.{policy_in}
+use Rattle.rw_engine.specs.Passing.{ComesTo}
+use Rattle.rw_inputs.specs.Edits.{Batch}
+use Rattle.rw_io.specs.Outside.{Change}
+use Rattle.rpl_verify.specs.Verified.{Accepted}
+use Rattle.rw_top.specs.Sections.{CountsAll, Given, first_given}
 use Rattle.rw_top.specs.declared.extras.Extras.{Extras}
 use Rattle.rw_model.specs.Draft.{Draft}
 use Rattle.rw_inputs.specs.Inputs.{Inputs}
@@ -76,6 +81,12 @@ pub record ComesBy (basin : Draft) (policy : Rules) (inputs : Inputs) (run : Run
   pub is : IsRunOf basin log run
   pub verified : IsVerifiedRun basin policy log
 
+-- the runs of the code are those by it, in which each firing is verified
+pub record IsCodeOf (basin : Draft) (policy : Rules) (code : Accepted) : Type 0 where
+  pub comes : (inputs : Inputs) (run : Run) → ComesTo basin (policy_in basin code) inputs run → ComesBy basin policy inputs run
+  pub runs : (inputs : Inputs) (log : Log) → IsRun basin (policy_in basin code) (givens basin inputs) log
+      → IsRun basin (policy_in_run basin policy) (givens basin inputs) log
+
 -- the timesteps that are told of a run: none, or, where timesteps are to be reused and there was a run before it, those that aren't
 abbrev pub IsRerun : Draft → Policy → (reuse : Bool) → Given → Log → Option (List StepNo) → Type 0
 IsRerun basin policy false given log reran = reran ≡ None
@@ -90,7 +101,7 @@ pub record IsRulesText (basin : Draft) (policy : Rules) (extras : Extras) (numbe
   pub verified : IsVerifiedRun basin policy run_text.log
   pub rerun : IsRerun basin (policy_in_run basin policy) extras.reuse given run_text.log reran
 
--- so many timesteps are run: those that the run opened, or, after another run, those that aren't reused
+-- where timesteps are reused so many are run: those that the run opened, or, after another run, those that aren't reused
 abbrev pub CountsOf : Draft → Policy → Option Inputs → Log → ℕ → Type 0
 CountsOf basin policy None log count = (steps : List ℕ) × AreOpened log steps × (count ≡ length steps)
 CountsOf basin policy (Some before) log count =
@@ -98,6 +109,11 @@ CountsOf basin policy (Some before) log count =
 
 abbrev pub CountsRun : Draft → Policy → Given → ℕ → Type 0
 CountsRun basin policy given count = (log : Log) × IsRun basin policy (givens basin given.inputs) log × CountsOf basin policy given.before log count
+
+-- and so many were counted for all sections
+abbrev pub CountsSections : Draft → Rules → Inputs → List Batch → Change ℕ → Type 0
+CountsSections basin policy inputs batches steps =
+    (count : ℕ) × (steps.after ≡ steps.before + count) × CountsAll (CountsRun basin (policy_in_run basin policy)) (first_given inputs) batches count
 
 -- how a cell came to what it holds in the run by it, in which each firing is verified
 pub record IsWhyOfRules (basin : Draft) (policy : Rules) (inputs : Inputs) (cell : Cell) (end : RunEnd) (text : List ℕ) : Type 0 where

@@ -1,5 +1,5 @@
 -- What a call appends to a stream.
-use Rattle.std.specs.Prelude.{◌≡◌, ◌≤◌, ℕ, Bool, ◌⊎◌, List, [], ◌∷◌, ◌++◌, IsSomeAnd, length, unwrap_or}
+use Rattle.std.specs.Prelude.{◌≡◌, ◌≤◌, ℕ, ◌⊎◌, List, [], ◌∷◌, ◌++◌, IsSomeAnd, IsTrue, length, unwrap_or}
 use Rattle.rw_io.specs.Causes.{Rose}
 use Rattle.rw_io.specs.Known.{GrowsBy, PrefixGrew}
 use Rattle.rw_io.specs.Outside.{Change, Holds, SinkView}
@@ -14,7 +14,7 @@ use Rattle.rw_top.specs.Budgets.{check_text}
 use Rattle.rw_words.specs.Command.{Command}
 use Rattle.rw_top.specs.Policy.{Policy as Rules, code_of}
 use Rattle.rw_top.specs.Reading.{AreRead, Files}
-use Rattle.rw_top.specs.RunText.{IsPlainText, IsRulesText, IsSampleText, IsWhyOfRules}
+use Rattle.rw_top.specs.RunText.{CountsSections, IsPlainText, IsRulesText, IsSampleText, IsWhyOfRules}
 use Rattle.rw_top.specs.Command.{extras_of}
 use Rattle.rw_top.specs.Sections.{AreFirstSections, AreSections, first_given, joined}
 use Rattle.rw_top.specs.declared.extras.Extras.{Extras}
@@ -39,6 +39,10 @@ OfBoth files P = IsSomeAnd files.policy (λ policy. IsSomeAnd files.inputs (P po
 -- of the policy, the inputs and the cell this holds
 abbrev pub OfThree : Files → (Rules → Inputs → Cell → Type 0) → Type 0
 OfThree files P = IsSomeAnd files.policy (λ policy. IsSomeAnd files.inputs (λ inputs. IsSomeAnd files.cell (P policy inputs)))
+
+-- the timesteps were counted that are run for the sections of the files, where timesteps are reused
+abbrev pub CountsOfFiles : Files → Change ℕ → Type 0
+CountsOfFiles files steps = OfBoth files (λ policy inputs. CountsSections files.basin policy inputs (batches_in files) steps)
 
 -- the sections of a job's text by what its files say, and the status with which it is written. A text that isn't of runs is one section
 abbrev pub IsTextOf : Job → Extras → Files → ℕ → List (List ℕ) → Type 0
@@ -119,6 +123,11 @@ WritesAll command holds out status = OfFiles command holds (λ files. Appends co
 -- a front of it was appended
 abbrev pub WritesFront : Command → Holds → Change SinkView → Type 0
 WritesFront command holds out = OfFiles command holds (λ files. AppendsFront command.job (extras_of command) files out)
+
+-- where it runs by rules and reuses timesteps, those that were run were counted
+abbrev pub CountsReused : Command → Holds → Change ℕ → Type 0
+CountsReused command holds steps =
+    command.job ≡ Run → IsTrue command.reuse → OfFiles command holds (λ files. CountsOfFiles files steps)
 
 -- nothing was appended, or the first sections of a run
 abbrev pub WritesSections : Command → Holds → Change SinkView → Type 0

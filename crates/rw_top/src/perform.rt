@@ -1,4 +1,4 @@
-ghost use Rattle.std.specs.Prelude.{◌≡◌, ◌≤◌, ℕ, Bool, List, [], length, map, option_map, unwrap_or, IfErr, IfOk, MatchResult};
+ghost use Rattle.std.specs.Prelude.{◌≡◌, ◌≤◌, ℕ, Bool, List, [], length, map, option_map, unwrap_or, IfErr, IfOk, IsTrue, MatchResult};
 ghost use Rattle.std.specs.List.{All};
 ghost use Rattle.rw_inputs.specs.Edits.{IsBatch};
 ghost use Rattle.rw_inputs.specs.Inputs.{IsInputsOf};
@@ -7,11 +7,11 @@ ghost use Rattle.rw_method.specs.Catalogue.{AreInOrder};
 ghost use Rattle.rw_top.specs.Command.{command_of};
 ghost use Rattle.rw_top.specs.Ready.{AreReady, IsFit};
 ghost use Rattle.rw_top.specs.Refusal.{Cause};
-ghost use Rattle.rw_top.specs.RunText.{IsRulesText};
+ghost use Rattle.rw_top.specs.RunText.{CountsSections, IsRulesText};
 ghost use Rattle.rw_top.specs.Sections.{AppendsAll, StopsAmong, first_given};
 ghost use Rattle.rw_top.specs.Seen.{files_seen, policy_of};
 ghost use Rattle.rw_words.specs.declared.job.Job.TheVariants as J;
-ghost use Rattle.rw_top.specs.Written.{Appends, IsOne, Stops, WritesAll, status_of_end};
+ghost use Rattle.rw_top.specs.Written.{Appends, CountsOfFiles, CountsReused, IsOne, Stops, WritesAll, status_of_end};
 
 use crate::Refusal;
 use crate::check::budgets;
@@ -206,20 +206,19 @@ fn write_runs<K: Sink, L: Ledger>(
     requires inputs { IsInputsOf setup.now.basin.now inputs }
     requires batches { All (IsBatch setup.now.basin.now) batches.now }
     requires few { length batches.now ≤ 64 }
-    ensures { MatchResult result
+    ensures text { MatchResult result
         (AppendsAll (IsRulesText setup.now.basin.now (policy_of policy.now) extras)
         0 (first_given inputs) batches.now (change (K.seen out.old) (K.seen out.new)))
         (StopsAmong (IsRulesText setup.now.basin.now (policy_of policy.now) extras)
         0 (first_given inputs) batches.now (change (K.seen out.old) (K.seen out.new))) }
+    ensures counted { IsTrue extras.reuse → IfOk result
+        (λ end. CountsSections setup.now.basin.now (policy_of policy.now) inputs batches.now
+        (change steps.old steps.new)) }
 {
     if extras.reuse {
-        write_reused(
-            alloc, setup, policy, extras, inputs, batches, steps, out,
-        )
+        write_reused(alloc, setup, policy, extras, inputs, batches, steps, out)
     } else {
-        write_sections(
-            alloc, setup, policy, extras, 0, inputs, batches, steps, out,
-        )
+        write_sections(alloc, setup, policy, extras, 0, inputs, batches, steps, out)
     }
 }
 
@@ -235,9 +234,11 @@ fn run<K: Sink, L: Ledger>(
 ) -> Result<u8, Refusal>
     requires order { AreInOrder (map (λ b. code (b.vtable, b.value)) methods.now.methods.items) }
     requires ready { AreReady J.Run files }
-    ensures { MatchResult result
+    ensures text { MatchResult result
         (Appends J.Run extras (files_seen files) (change (K.seen out.old) (K.seen out.new)))
         (Stops J.Run extras (files_seen files) (change (K.seen out.old) (K.seen out.new))) }
+    ensures counted { IsTrue extras.reuse → IfOk result
+        (λ status. CountsOfFiles (files_seen files) (change steps.old steps.new)) }
 {
     let Files {
         basin,
@@ -258,9 +259,7 @@ fn run<K: Sink, L: Ledger>(
         methods,
         predefs,
     };
-    match write_runs(
-        alloc, &setup, policy, extras, inputs, batches, steps, out,
-    ) {
+    match write_runs(alloc, &setup, policy, extras, inputs, batches, steps, out) {
         Ok(end) => Ok(status_of_run(&end)),
         Err(refusal) => Err(refusal),
     }
@@ -279,9 +278,11 @@ fn write_job<K: Sink, L: Ledger>(
 ) -> Result<u8, Refusal>
     requires order { AreInOrder (map (λ b. code (b.vtable, b.value)) methods.now.methods.items) }
     requires ready { AreReady job files }
-    ensures { MatchResult result
+    ensures text { MatchResult result
         (Appends job extras (files_seen files) (change (K.seen out.old) (K.seen out.new)))
         (Stops job extras (files_seen files) (change (K.seen out.old) (K.seen out.new))) }
+    ensures counted { job ≡ J.Run → IsTrue extras.reuse → IfOk result
+        (λ status. CountsOfFiles (files_seen files) (change steps.old steps.new)) }
 {
     match job {
         Job::Simulate => {
@@ -317,6 +318,8 @@ pub(crate) fn perform<S: Shelf, K: Sink, L: Ledger>(
         (change (K.seen out.old) (K.seen out.new))) }
     ensures cause { IfErr result (Cause (command_of command.now)
         (change (S.seen shelf.old) (S.seen shelf.new)) (change (K.seen out.old) (K.seen out.new))) }
+    ensures counted { IfOk result (λ status. CountsReused (command_of command.now)
+        (S.seen shelf.old).holds (change steps.old steps.new)) }
     ensures held { (p : List ℕ) → (S.seen shelf.new).holds p ≡ (S.seen shelf.old).holds p }
 {
     let files = match read_files(alloc, command, shelf) {
@@ -324,9 +327,7 @@ pub(crate) fn perform<S: Shelf, K: Sink, L: Ledger>(
         Err(refusal) => return Err(refusal),
     };
     let (job, extras) = (command.words.job, command.extras());
-    match write_job(
-        alloc, job, files, methods, predefs, extras, steps, out,
-    ) {
+    match write_job(alloc, job, files, methods, predefs, extras, steps, out) {
         Ok(status) => Ok(status),
         Err(refusal) => Err(refusal),
     }

@@ -1,5 +1,5 @@
 // The sections of a run by a policy that takes timesteps over after a batch of edits.
-ghost use Rattle.std.specs.Prelude.{◌≡◌, ◌≤◌, ◌+◌, ℕ, length, map, IfOk, MatchResult, Ok, true};
+ghost use Rattle.std.specs.Prelude.{◌≡◌, ◌≤◌, ◌+◌, length, map, option_map, IfOk, MatchResult, Ok, true};
 ghost use Rattle.std.specs.List.{All};
 ghost use Rattle.rpl_verify.specs.Verified.{verified};
 ghost use Rattle.rw_inputs.specs.Edits.{IsBatch};
@@ -7,25 +7,21 @@ ghost use Rattle.rw_inputs.specs.Inputs.{IsInputsOf};
 ghost use Rattle.rw_io.specs.Outside.{change};
 ghost use Rattle.rw_method.specs.Catalogue.{AreInOrder};
 ghost use Rattle.rw_rerun.specs.Session.{IsSessionOf};
+ghost use Rattle.rw_top.specs.Policy.{Policy as Rules};
 ghost use Rattle.rw_top.specs.Ready.{IsFit};
-ghost use Rattle.rw_top.specs.Reused.{AreTold, CountedLater, IsCodeOf, told_of};
-ghost use Rattle.rw_top.specs.RunText.{CountsRun, IsRulesText, policy_in_run};
-ghost use Rattle.rw_top.specs.Sections.{AppendsAll, AppendsOne, CountsAll, Given, StopsAmong, StopsAtOne, first_given};
+ghost use Rattle.rw_top.specs.Reused.{IsNextSection, WritesFrom, told_of};
+ghost use Rattle.rw_top.specs.RunText.{CountsSections, IsCodeOf, IsRulesText};
+ghost use Rattle.rw_top.specs.Sections.{AppendsAll, AppendsOne, Given, StopsAmong, StopsAtOne, first_given};
 ghost use Rattle.rw_top.specs.Seen.{policy_of};
 
 use crate::Refusal;
+use crate::coded::{code_of_rules, code_runs};
 use crate::extras::Extras;
 use crate::policy::Policy;
 use crate::sections::first_of;
 use crate::setup::RunSetup;
-use rpl_compile::accepted::compiled_budgets;
-use rpl_compile::compile;
-use rpl_parse::law::bounds;
-use rpl_policy::law::{firings_are_verified, firings_of_rules_are_verified, policies_have_runs};
-use rpl_types::law::accepted;
 use rpl_verify::Verified;
-use rpl_verify::law::answered_code_is_safe;
-use rw_base::{Ledger, NoMemory, Steps};
+use rw_base::{Ledger, NoMemory, StepNo, Steps};
 use rw_engine::RunEnd;
 use rw_inputs::{Batch, Inputs};
 use rw_io::{Sink, WriteFault, write_all};
@@ -34,38 +30,46 @@ use rw_report::section;
 use rw_rerun::Session;
 use std::alloc::Global;
 
+// The timesteps that are told in the section of this number.
+fn told<'s>(session: &'s Session<'_>, number: u32) -> Option<&'s [StepNo]>
+    ensures { option_map (λ steps. steps.now) result
+        ≡ told_of number session.entry.now.state.reran }
+{
+    if number == 0 {
+        None
+    } else {
+        Some(session.reran())
+    }
+}
+
 // Writes the section of a session's run, and answers how that ended.
 fn write_run<K: Sink>(
     alloc: Global,
-    policy: &Policy,
     session: &Session<'_>,
     extras: Extras,
-    first: bool,
     number: u32,
     out: &mut K,
 ) -> Result<RunEnd, Refusal>
     requires made { IsSessionOf session.now.setup.basin.now
         session.now.setup.policy.now session.now.state }
-    requires code { IsCodeOf session.now.setup.basin.now (policy_of policy.now)
-        session.now.setup.policy.now }
     requires reuse { extras.reuse ≡ true }
-    ensures { (given : Given) → given.inputs ≡ session.now.state.inputs
-        → AreTold session.now.setup.basin.now (policy_of policy.now) given (told_of first session.now.state.reran)
+    ensures { (policy : Rules) (given : Given)
+        → IsCodeOf session.now.setup.basin.now policy session.now.setup.policy.now
+        → IsNextSection session.now.setup.basin.now policy number given session.now.state
         → MatchResult result
-        (AppendsOne (IsRulesText session.now.setup.basin.now (policy_of policy.now) extras)
+        (AppendsOne (IsRulesText session.now.setup.basin.now policy extras)
         number given (change (K.seen out.old) (K.seen out.new)))
-        (StopsAtOne (IsRulesText session.now.setup.basin.now (policy_of policy.now) extras)
+        (StopsAtOne (IsRulesText session.now.setup.basin.now policy extras)
         number given (change (K.seen out.old) (K.seen out.new))) }
 {
     texts_of_runs();
-    let reran = if first { None } else { Some(session.reran()) };
     let run = session.run();
     let text = match section(
         alloc,
         session.setup.basin,
         number,
         run,
-        reran,
+        told(session, number),
         extras.flags,
         extras.trace,
     ) {
@@ -81,10 +85,8 @@ fn write_run<K: Sink>(
 // Writes the section of a session's run, and one after each batch that is left.
 fn write_from<K: Sink, L: Ledger>(
     alloc: Global,
-    policy: &Policy,
     session: &mut Session<'_>,
     extras: Extras,
-    first: bool,
     number: u32,
     batches: &[Batch],
     steps: &mut Steps<L>,
@@ -94,50 +96,33 @@ fn write_from<K: Sink, L: Ledger>(
         session.old.setup.policy.now session.old.state }
     requires order { AreInOrder
         (map (λ b. code (b.vtable, b.value)) session.old.setup.methods.now.methods.items) }
-    requires code { IsCodeOf session.old.setup.basin.now (policy_of policy.now)
-        session.old.setup.policy.now }
-    requires reuse { extras.reuse ≡ true }
     requires batches { All (IsBatch session.old.setup.basin.now) batches.now }
     requires few { number + length batches.now ≤ 64 }
-    ensures text { (given : Given) → given.inputs ≡ session.old.state.inputs
-        → AreTold session.old.setup.basin.now (policy_of policy.now) given (told_of first session.old.state.reran)
-        → MatchResult result
-        (AppendsAll (IsRulesText session.old.setup.basin.now (policy_of policy.now) extras)
-        number given batches.now (change (K.seen out.old) (K.seen out.new)))
-        (StopsAmong (IsRulesText session.old.setup.basin.now (policy_of policy.now) extras)
-        number given batches.now (change (K.seen out.old) (K.seen out.new))) }
-    ensures counted { (given : Given) → given.inputs ≡ session.old.state.inputs
-        → CountedLater session.old.setup.basin.now (policy_of policy.now) given batches.now
-        steps.old steps.new result }
+    requires reuse { extras.reuse ≡ true }
+    ensures { (policy : Rules) (given : Given)
+        → IsCodeOf session.old.setup.basin.now policy session.old.setup.policy.now
+        → IsNextSection session.old.setup.basin.now policy number given session.old.state
+        → WritesFrom session.old.setup.basin.now policy extras number given batches.now
+        (length session.old.state.reran) (change (K.seen out.old) (K.seen out.new))
+        (change steps.old steps.new) result }
 {
-    let end = match write_run(alloc, policy, session, extras, first, number, out) {
+    let end = match write_run(alloc, session, extras, number, out) {
         Ok(end) => end,
         Err(refusal) => return Err(refusal),
     };
     match first_of(batches) {
         None => Ok(end),
         Some((batch, rest)) => match session.apply(batch, steps) {
-            Ok(()) => write_from(
-                alloc,
-                policy,
-                session,
-                extras,
-                false,
-                number + 1,
-                rest,
-                steps,
-                out,
-            ),
+            Ok(()) => write_from(alloc, session, extras, number + 1, rest, steps, out),
             Err(NoMemory) => Err(Refusal::NoMemory),
         },
     }
 }
 
-// By verified code that runs as the policy does.
+// The sections by code, which are those by each policy that runs as it does.
 fn write_by_code<K: Sink, L: Ledger>(
     alloc: Global,
     setup: &RunSetup<'_>,
-    policy: &Policy,
     by: &Verified,
     extras: Extras,
     inputs: Inputs,
@@ -148,18 +133,19 @@ fn write_by_code<K: Sink, L: Ledger>(
     requires fits { verified setup.now.basin.now by.now.blocks ≡ Ok by.now }
     requires order { AreInOrder
         (map (λ b. code (b.vtable, b.value)) setup.now.methods.now.methods.items) }
-    requires code { IsCodeOf setup.now.basin.now (policy_of policy.now) code.now }
-    requires reuse { extras.reuse ≡ true }
     requires inputs { IsInputsOf setup.now.basin.now inputs }
-    requires batches { All (IsBatch setup.now.basin.now) batches.now × (length batches.now ≤ 64) }
-    ensures text { MatchResult result
-        (AppendsAll (IsRulesText setup.now.basin.now (policy_of policy.now) extras)
+    requires batches { All (IsBatch setup.now.basin.now) batches.now }
+    requires few { length batches.now ≤ 64 }
+    requires reuse { extras.reuse ≡ true }
+    ensures text { (policy : Rules) → IsCodeOf setup.now.basin.now policy by.now
+        → MatchResult result
+        (AppendsAll (IsRulesText setup.now.basin.now policy extras)
         0 (first_given inputs) batches.now (change (K.seen out.old) (K.seen out.new)))
-        (StopsAmong (IsRulesText setup.now.basin.now (policy_of policy.now) extras)
+        (StopsAmong (IsRulesText setup.now.basin.now policy extras)
         0 (first_given inputs) batches.now (change (K.seen out.old) (K.seen out.new))) }
-    ensures counted { IfOk result (λ end. (count : ℕ) × (steps.new ≡ steps.old + count)
-        × CountsAll (CountsRun setup.now.basin.now (policy_in_run setup.now.basin.now (policy_of policy.now)))
-        (first_given inputs) batches.now count) }
+    ensures counted { (policy : Rules) → IsCodeOf setup.now.basin.now policy by.now
+        → IfOk result (λ end. CountsSections setup.now.basin.now policy inputs batches.now
+        (change steps.old steps.new)) }
 {
     let mut session = match Session::start(
         alloc,
@@ -173,17 +159,7 @@ fn write_by_code<K: Sink, L: Ledger>(
         Ok(session) => session,
         Err(NoMemory) => return Err(Refusal::NoMemory),
     };
-    write_from(
-        alloc,
-        policy,
-        &mut session,
-        extras,
-        true,
-        0,
-        batches,
-        steps,
-        out,
-    )
+    write_from(alloc, &mut session, extras, 0, batches, steps, out)
 }
 
 /// Writes a section for inputs and one after each batch of edits, after which the timesteps alone are run again that a batch
@@ -202,33 +178,23 @@ pub(crate) fn write_reused<K: Sink, L: Ledger>(
         (map (λ b. code (b.vtable, b.value)) setup.now.methods.now.methods.items) }
     requires fits { IsFit setup.now.basin.now policy.now }
     requires inputs { IsInputsOf setup.now.basin.now inputs }
-    requires batches { All (IsBatch setup.now.basin.now) batches.now × (length batches.now ≤ 64) }
+    requires batches { All (IsBatch setup.now.basin.now) batches.now }
+    requires few { length batches.now ≤ 64 }
     requires reuse { extras.reuse ≡ true }
     ensures text { MatchResult result
         (AppendsAll (IsRulesText setup.now.basin.now (policy_of policy.now) extras)
         0 (first_given inputs) batches.now (change (K.seen out.old) (K.seen out.new)))
         (StopsAmong (IsRulesText setup.now.basin.now (policy_of policy.now) extras)
         0 (first_given inputs) batches.now (change (K.seen out.old) (K.seen out.new))) }
-    ensures counted { IfOk result (λ end. (count : ℕ) × (steps.new ≡ steps.old + count)
-        × CountsAll (CountsRun setup.now.basin.now (policy_in_run setup.now.basin.now (policy_of policy.now)))
-        (first_given inputs) batches.now count) }
+    ensures counted { IfOk result (λ end. CountsSections setup.now.basin.now
+        (policy_of policy.now) inputs batches.now (change steps.old steps.new)) }
 {
-    accepted();
-    bounds();
-    compiled_budgets();
-    policies_have_runs();
-    firings_of_rules_are_verified();
-    answered_code_is_safe();
-    firings_are_verified();
+    code_runs();
     match policy {
-        Policy::Ruleset(typed) => match compile(alloc, typed, setup.basin) {
-            Ok(code) => write_by_code(
-                alloc, setup, policy, &code, extras, inputs, batches, steps, out,
-            ),
+        Policy::Ruleset(typed) => match code_of_rules(alloc, typed, setup.basin) {
+            Ok(by) => write_by_code(alloc, setup, &by, extras, inputs, batches, steps, out),
             Err(NoMemory) => Err(Refusal::NoMemory),
         },
-        Policy::Code(code) => write_by_code(
-            alloc, setup, policy, code, extras, inputs, batches, steps, out,
-        ),
+        Policy::Code(by) => write_by_code(alloc, setup, by, extras, inputs, batches, steps, out),
     }
 }

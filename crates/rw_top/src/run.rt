@@ -12,17 +12,12 @@ ghost use Rattle.rw_top.specs.Ready.{IsFit};
 ghost use Rattle.rw_top.specs.RunText.{ComesBy, IsRulesText};
 ghost use Rattle.rw_top.specs.Seen.{policy_of};
 
+use crate::coded::{code_of_rules, code_runs};
 use crate::extras::Extras;
 use crate::policy::Policy;
 use crate::setup::RunSetup;
-use rpl_compile::accepted::compiled_budgets;
-use rpl_compile::compile;
-use rpl_parse::law::bounds;
-use rpl_policy::law::{firings_are_verified, firings_of_rules_are_verified, policies_have_runs};
 use rpl_types::Typed;
-use rpl_types::law::accepted;
 use rpl_verify::Verified;
-use rpl_verify::law::answered_code_is_safe;
 use rw_base::{Ledger, NoMemory, Steps};
 use rw_engine::{Run, RunEnd, run_all, run_without_trace};
 use rw_inputs::Inputs;
@@ -89,8 +84,7 @@ fn run_by_verified<L: Ledger>(
     ensures closed { IfOk result (λ run. run.closed ≤ setup.now.basin.now.control.stamps.count) }
     ensures kept { IfOk result (λ run. IsTrue trace → IsSome run.trace) }
 {
-    answered_code_is_safe();
-    firings_are_verified();
+    code_runs();
     let run = run_by_code(alloc, setup, policy, trace, inputs, steps)?;
     Ok(run)
 }
@@ -113,13 +107,7 @@ fn run_by_ruleset<L: Ledger>(
     ensures closed { IfOk result (λ run. run.closed ≤ setup.now.basin.now.control.stamps.count) }
     ensures kept { IfOk result (λ run. IsTrue trace → IsSome run.trace) }
 {
-    accepted();
-    bounds();
-    compiled_budgets();
-    policies_have_runs();
-    firings_of_rules_are_verified();
-    let _rules = typed.rules();
-    let code = compile(alloc, typed, setup.basin)?;
+    let code = code_of_rules(alloc, typed, setup.basin)?;
     let run = run_by_code(alloc, setup, &code, trace, inputs, steps)?;
     Ok(run)
 }
@@ -168,6 +156,14 @@ pub(crate) fn text_by_policy<L: Ledger>(
 {
     texts_of_runs();
     let run = run_by_policy(alloc, setup, policy, extras.trace, inputs, steps)?;
-    let text = section(alloc, setup.basin, number, &run, None, extras.flags, extras.trace)?;
+    let text = section(
+        alloc,
+        setup.basin,
+        number,
+        &run,
+        None,
+        extras.flags,
+        extras.trace,
+    )?;
     Ok((text, run.end))
 }

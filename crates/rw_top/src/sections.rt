@@ -44,9 +44,7 @@ fn write_section<K: Sink, L: Ledger>(
         (StopsAtOne (IsRulesText setup.now.basin.now (policy_of policy.now) extras)
         number (record { before = before; inputs = inputs.now }) (change (K.seen out.old) (K.seen out.new))) }
 {
-    let (text, end) = match text_by_policy(
-        alloc, setup, policy, extras, number, inputs, steps,
-    ) {
+    let (text, end) = match text_by_policy(alloc, setup, policy, extras, number, inputs, steps) {
         Ok(pair) => pair,
         Err(NoMemory) => return Err(Refusal::NoMemory),
     };
@@ -103,9 +101,7 @@ pub(crate) fn write_sections<K: Sink, L: Ledger>(
         (StopsAmong (IsRulesText setup.now.basin.now (policy_of policy.now) extras)
         number (record { before = before; inputs = inputs }) batches.now (change (K.seen out.old) (K.seen out.new))) }
 {
-    let end = match write_section(
-        alloc, setup, policy, extras, number, &inputs, steps, out,
-    ) {
+    let end = match write_section(alloc, setup, policy, extras, number, &inputs, steps, out) {
         Ok(end) => end,
         Err(refusal) => return Err(refusal),
     };

@@ -35,6 +35,14 @@ pub(crate) fn text_without_rules<L: Ledger>(
     texts_of_runs();
     let empty = Verified::none(alloc);
     let run = run_by_code(alloc, setup, &empty, extras.trace, inputs, steps)?;
-    let text = section(alloc, setup.basin, 0, &run, None, extras.flags, extras.trace)?;
+    let text = section(
+        alloc,
+        setup.basin,
+        0,
+        &run,
+        None,
+        extras.flags,
+        extras.trace,
+    )?;
     Ok((text, run.end))
 }

@@ -24,8 +24,10 @@ use std::alloc::Global;
 /// of its kind, and writes the table to `out`. The methods are one for each kind, in the order of the kinds' numbers. The
 /// status is 0 where the run settled and 1 where it ended in a fault. `run MODEL POLICY INPUTS` reads the three files, runs the
 /// basin as `simulate` does, and lets the rules of the policy fire, by the functions that they call. With `--edits FILE` it reads
-/// batches of edits, too, and writes one section more after each batch: that of the run from the inputs as they are then. Each
-/// section is written as soon as it is made. The status is that of the last section. With `--flags` either writes who put each
+/// batches of edits, too, and writes one section more after each batch: that of the run from the inputs as they are then. With
+/// `--reuse` it runs those timesteps alone again of which something at which they looked was changed, says which these are in the
+/// section's second line, and counts a timestep for each that it runs. Each section is written as soon as it is made. The status is
+/// that of the last section. With `--flags` either writes who put each
 /// value, with `--trace` what happened. `check MODEL POLICY` reads both files, judges the ruleset, or the code where the policy's
 /// first line is `CODE 1`, with the basin, and writes what a firing of each rule comes to at most. The status is 0. `compile MODEL
 /// RULES` reads both files, judges the ruleset with the basin, and writes the text of its code. The status is 0. `why MODEL POLICY
