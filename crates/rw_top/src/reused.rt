@@ -42,6 +42,29 @@ fn told<'s>(session: &'s Session<'_>, number: u32) -> Option<&'s [StepNo]>
     }
 }
 
+// The text of the section of a session's run, and how that ended.
+fn text_of_run(
+    alloc: Global,
+    session: &Session<'_>,
+    extras: Extras,
+    number: u32,
+) -> Result<(Vec<u8>, RunEnd), NoMemory>
+    requires made { IsSessionOf session.now.setup.basin.now
+        session.now.setup.policy.now session.now.state }
+    requires reuse { extras.reuse ≡ true }
+    ensures { (policy : Rules) (given : Given)
+        → IsCodeOf session.now.setup.basin.now policy session.now.setup.policy.now
+        → IsNextSection session.now.setup.basin.now policy number given session.now.state
+        → IfOk result (λ pair. IsRulesText session.now.setup.basin.now policy extras
+        number given pair.1 pair.0.items) }
+{
+    texts_of_runs();
+    let run = session.run();
+    let reran = told(session, number);
+    let text = section(alloc, session.setup.basin, number, run, reran, extras.flags, extras.trace)?;
+    Ok((text, run.end))
+}
+
 // Writes the section of a session's run, and answers how that ended.
 fn write_run<K: Sink>(
     alloc: Global,
@@ -62,22 +85,12 @@ fn write_run<K: Sink>(
         (StopsAtOne (IsRulesText session.now.setup.basin.now policy extras)
         number given (change (K.seen out.old) (K.seen out.new))) }
 {
-    texts_of_runs();
-    let run = session.run();
-    let text = match section(
-        alloc,
-        session.setup.basin,
-        number,
-        run,
-        told(session, number),
-        extras.flags,
-        extras.trace,
-    ) {
-        Ok(text) => text,
+    let (text, end) = match text_of_run(alloc, session, extras, number) {
+        Ok(pair) => pair,
         Err(NoMemory) => return Err(Refusal::NoMemory),
     };
     match write_all(out, &text) {
-        Ok(()) => Ok(run.end),
+        Ok(()) => Ok(end),
         Err(WriteFault) => Err(Refusal::CannotWrite),
     }
 }
