@@ -1,8 +1,11 @@
 -- A queue with one object more or less.
-use Rattle.rw_dispatch.proofs.Common.{Bool, KeepsQueue, List, Option, [], add-one, ap, append-nil, append_assoc, ap₂, arith, cond, false, filter, filter-append, get_or, is_marked, length, list_any, nat_eq, nat_lt, nat_tests, not, refl, set, subst, suc, sym, true, unmarked, zero, ℕ, ◌&&◌, ◌++◌, ◌+◌, ◌-◌, ◌<◌, ◌==◌, ◌∙◌, ◌∷◌, ◌≡◌, ◌≤◌}
+use Rattle.rw_dispatch.proofs.Common.{Bool, KeepsQueue, List, Option, [], add-one, ap, append-nil, append_assoc, ap₂, arith, cond, false, filter, filter-append, get_or, is_marked, length, list_any, nat_eq, nat_lt, nat_tests, not, refl, set, subst, suc, sym, true, unmarked, zero, ℕ, ◌&&◌, ◌++◌, ◌+◌, ◌-◌, ◌<◌, ◌==◌, ◌∙◌, ◌∷◌, ◌≡◌, ◌≤◌, ObjectNo, drop, slice_index_or, take}
 use Rattle.std.proofs.Math.ListN.{length-replicate, replicate, length-append, length-set}
+use Rattle.std.proofs.Math.Seq.{drop-cons}
+use Rattle.std.proofs.lemmas.List.{length-map, length-take-le, map-append, take-append-drop}
 use Rattle.rw_model.specs.Draft.{Draft}
 use Rattle.rw_model.specs.Turn.{is_data}
+use Rattle.rw_dispatch.specs.Queue.{IsTaken, objects_of}
 use Rattle.rw_run.proofs.Common.{times, numbers, is_woken, is_but, is_owner, times-append, times-filter, times-numbers, any-times}
 
 unmarked-set : (bits : List Bool) (k : ℕ) (v : Bool) → k < length bits → unmarked (set bits k v) + cond (get_or bits k false) 0 1 ≡ unmarked bits + cond v 0 1
@@ -46,25 +49,62 @@ in_range (b ∷ bits) (suc k) e = let h = in_range bits k e in omega arith
 set_within : (waits : List Bool) (a n : ℕ) → 1 + n ≡ cond (is_marked waits a) 1 0 → (1 ≤ a) × (get_or waits (a - 1) false ≡ true)
 set_within waits a n e = (grind (arith, nat_tests), grind (arith, nat_tests))
 
-taken_first : (items : List ℕ) (n m room a : ℕ) (waits : List Bool) → KeepsQueue (a ∷ items) n room waits → m + 1 ≡ n
-    → KeepsQueue items m room (set waits (a - 1) false)
-taken_first items n m room a waits q e =
-    let own : 1 + times a items ≡ cond (is_marked waits a) 1 0 = let h = q.marked a in grind (arith, nat_tests) in
-    let w = set_within waits a (times a items) own in
+taken_inside : (before behind : List ℕ) (n m room a : ℕ) (waits : List Bool) → KeepsQueue (before ++ a ∷ behind) n room waits → m + 1 ≡ n
+    → KeepsQueue (before ++ behind) m room (set waits (a - 1) false)
+taken_inside before behind n m room a waits q e =
+    let whole = times-append a before (a ∷ behind) in
+    let rest = times-append a before behind in
+    let own : 1 + times a (before ++ behind) ≡ cond (is_marked waits a) 1 0 = let h = q.marked a in grind (arith, nat_tests) in
+    let w = set_within waits a (times a (before ++ behind)) own in
     let k : a - 1 < length waits = in_range waits (a - 1) w.1 in
     let f = unmarked-set waits (a - 1) false k in
     let s = length-set waits (a - 1) false in
+    let long = length-append before (a ∷ behind) in
+    let short = length-append before behind in
     record {
-      marked = λ b. let i = set_at waits (a - 1) (b - 1) false k in let j = q.marked b in grind (arith, nat_tests, own, w.0, w.1);
+      marked = λ b.
+          let i = set_at waits (a - 1) (b - 1) false k in
+          let j = q.marked b in
+          let more = times-append b before (a ∷ behind) in
+          let less = times-append b before behind in grind (arith, nat_tests, own, w.0, w.1);
       count = grind (arith, q.count);
       left = grind (arith, nat_tests, w.1, q.left);
       fits = grind (arith, q.fits);
       few = grind (arith, q.few);
     }
 
-pub taken : (all items : List ℕ) (n m room wide a : ℕ) (waits : List Bool) → all ≡ a ∷ items → wide ≡ room → KeepsQueue all n room waits → m + 1 ≡ n
+-- without the object that was taken out
+pub taken : (place : ℕ) (all items : List ℕ) (n m room wide a : ℕ) (waits : List Bool) → IsTaken place all a items → wide ≡ room → KeepsQueue all n room waits → m + 1 ≡ n
     → KeepsQueue items m wide (set waits (a - 1) false)
-taken all items n m room wide a waits e w q l = rw w (taken_first items n m room a waits (subst (λ xs. KeepsQueue xs n room waits) e q) l)
+taken place all items n m room wide a waits is w q l =
+    rw (w, is.new_is) (taken_inside is.before is.behind n m room a waits (subst (λ xs. KeepsQueue xs n room waits) is.old_is q) l)
+
+-- who was taken out is one of the objects
+pub taken_known : (place : ℕ) (all items : List ℕ) (n room a : ℕ) (waits : List Bool) → IsTaken place all a items → KeepsQueue all n room waits
+    → (1 ≤ a) × (a ≤ length waits)
+taken_known place all items n room a waits is q =
+    let whole = times-append a is.before (a ∷ is.behind) in
+    let own : 1 + (times a is.before + times a is.behind) ≡ cond (is_marked waits a) 1 0 =
+    let h = q.marked a in let e = ap (times a) is.old_is in grind (arith, nat_tests) in
+    let w = set_within waits a _ own in
+    let first = w.0 in
+    let k : a - 1 < length waits = in_range waits (a - 1) w.1 in (first, omega (arith, first, k))
+
+-- the first is the one in place 0
+pub first_taken : (all items : List ℕ) (a : ℕ) → all ≡ a ∷ items → IsTaken 0 all a items
+first_taken all items a is = record { before = []; behind = items; place_is = refl; old_is = is; new_is = refl }
+
+-- what is removed is taken out
+pub removed : (old new : List ObjectNo) (place : ℕ) (object : ObjectNo) → object ≡ slice_index_or old place object → new ≡ take place old ++ drop (suc place) old
+    → place < length old → IsTaken place (objects_of old) object.0 (objects_of new)
+removed old new place object value is below = record {
+  before = objects_of (take place old);
+  behind = objects_of (drop (suc place) old);
+  place_is = length-map (take place old) (λ (o : ObjectNo). o.0) ∙ length-take-le place old (omega (arith, below));
+  old_is = ap objects_of (sym (take-append-drop place old) ∙ ap (λ xs. take place old ++ xs) (drop-cons old place object below ∙ ap (λ o. o ∷ drop (suc place) old) (sym value)))
+      ∙ map-append (λ (o : ObjectNo). o.0) (take place old) (object ∷ drop (suc place) old);
+  new_is = ap objects_of is ∙ map-append (λ (o : ObjectNo). o.0) (take place old) (drop (suc place) old);
+}
 
 pub waits_is : (items : List ℕ) (n room a : ℕ) (waits : List Bool) → KeepsQueue items n room waits → 1 ≤ a → get_or waits (a - 1) false ≡ list_any (λ x. a == x) items
 waits_is items n room a waits q l =

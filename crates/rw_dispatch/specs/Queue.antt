@@ -1,5 +1,6 @@
 -- The objects that wait, as a queue.
-use Rattle.std.specs.Prelude.{◌≡◌, ◌≤◌, ◌-◌, ◌+◌, ℕ, Bool, false, ◌&&◌, cond, nat_lt, List, [], ◌∷◌, length, slice_index_or}
+use Rattle.std.specs.Prelude.{◌≡◌, ◌≤◌, ◌-◌, ◌+◌, ℕ, Bool, false, ◌&&◌, cond, nat_lt, List, [], ◌∷◌, ◌++◌, length, map, slice_index_or}
+use Rattle.rw_base.specs.declared.number.ObjectNo.{ObjectNo}
 use Rattle.rw_model.specs.declared.limits.TheConstants.{OBJECTS_MAX}
 use Rattle.rw_model.specs.Draft.{Draft}
 use Rattle.rw_run.specs.Times.{times}
@@ -12,6 +13,18 @@ pub record Queue : Type 0 where
 -- a queue for the basin
 abbrev pub IsQueueOf : Draft → Queue → Type 0
 IsQueueOf basin queue = queue.objects ≡ length basin.objects
+
+-- the numbers of objects
+abbrev pub objects_of : List ObjectNo → List ℕ
+objects_of items = map (λ (object : ObjectNo). object.0) items
+
+-- the object in a place was taken out
+pub record IsTaken (place : ℕ) (old : List ℕ) (object : ℕ) (new : List ℕ) : Type 0 where
+  pub before : List ℕ
+  pub behind : List ℕ
+  pub place_is : length before ≡ place
+  pub old_is : old ≡ before ++ object ∷ behind
+  pub new_is : new ≡ before ++ behind
 
 -- an object is marked
 abbrev pub is_marked : List Bool → ℕ → Bool

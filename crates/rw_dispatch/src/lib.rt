@@ -1,4 +1,5 @@
-//! The dispatch of objects. `Queue` holds the objects that wait, in the order in which they are to be dispatched.
+//! The dispatch of objects. `Queue` holds the objects that wait, in the order of the events since which they wait, and `Pick`
+//! says which of them is next.
 //! `dispatch` lets one of them solve what it can from what its slots hold, and leaves the cells and the queue as the event
 //! of that dispatch says. Only making a queue takes memory.
 #![tactic(auto)]
@@ -8,6 +9,7 @@ mod dispatched;
 mod judged;
 mod owners;
 mod past;
+mod pick;
 mod queue;
 mod turn;
 mod view;
@@ -18,6 +20,7 @@ mod written;
 pub use dispatch_end::DispatchEnd;
 pub use dispatched::Dispatched;
 pub use past::past_cell;
+pub use pick::{Newest, Oldest, Pick};
 pub use queue::Queue;
 pub use turn::{dispatch, judge_dispatch};
 pub use view::slot_or_none;

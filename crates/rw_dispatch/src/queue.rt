@@ -1,14 +1,15 @@
-ghost use Rattle.std.specs.Prelude.{ℕ, List, true, cond, ◌==◌, ◌≡◌, ◌≤◌, ◌<◌, ◌+◌, ◌++◌, ◌∷◌, [], MatchOption, IfSome, IfOk, All, option_map};
+ghost use Rattle.std.specs.Prelude.{ℕ, List, length, true, cond, ◌==◌, ◌≡◌, ◌≤◌, ◌<◌, ◌+◌, ◌++◌, ◌∷◌, [], MatchOption, IfSome, IfOk, All, option_map};
 ghost use Rattle.std.specs.List.{list_any};
 ghost use Rattle.rw_model.specs.Draft.{IsObject, IsSlot};
 ghost use Rattle.rw_model.specs.Kept.{numbers_of};
 ghost use Rattle.rw_run.specs.Times.{times};
 ghost use Rattle.rw_run.specs.Waiting.{all_waiting, is_owner, is_woken, slots_at, woken};
-ghost use Rattle.rw_dispatch.specs.Queue.{IsQueueOf};
+ghost use Rattle.rw_dispatch.specs.Queue.{IsQueueOf, IsTaken, objects_of};
 ghost use Rattle.rw_dispatch.specs.Owners.{HasReached};
 ghost use Rattle.rw_dispatch.specs.Writes.{AreWrites};
 
 use crate::owners::{Reached, has_mark, is_but, is_data, lesser, reach_slots, reach_writes};
+use crate::pick::Pick;
 use rw_base::{NoMemory, ObjectNo, SlotNo, StepNo};
 use rw_model::Basin;
 use rw_run::Write;
@@ -20,7 +21,7 @@ use std::marker::Model;
 /// the one to be dispatched next first. None of them waits twice.
 #[derive(Drop)]
 pub struct Queue {
-    items: VecDeque<u16>,
+    items: VecDeque<ObjectNo>,
     waits: Vec<bool>,
 }
 
@@ -30,9 +31,9 @@ impl Model for Queue {
 
     ghost Value = { specs.Queue };
 
-    ghost view = { λ q. record { objects = length q.waits.items; waiting = q.items.items } };
+    ghost view = { λ q. record { objects = length q.waits.items; waiting = specs.objects_of q.items.items } };
 
-    ghost invariant = { λ q. specs.KeepsQueue q.items.items q.items.len q.items.cap q.waits.items };
+    ghost invariant = { λ q. specs.KeepsQueue (specs.objects_of q.items.items) q.items.len q.items.cap q.waits.items };
 }
 
 impl Queue {
@@ -54,11 +55,55 @@ impl Queue {
             (λ object. self.old.waiting ≡ object.0 ∷ self.new.waiting) }
         ensures known { IfSome result (λ object. (1 ≤ object.0) × (object.0 ≤ self.old.objects)) }
     {
-        let Some(object) = self.items.pop_front() else {
+        let Some(object) = pop(&mut self.items) else {
             return None;
         };
-        self.waits[(object - 1) as usize] = false;
-        Some(ObjectNo(object))
+        self.waits[(object.0 - 1) as usize] = false;
+        Some(object)
+    }
+
+    /// Takes out the object in a place of those that wait, counted from 0. `None` exactly where none waits there.
+    pub fn take(&mut self, place: usize) -> Option<ObjectNo>
+        ensures objects { self.new.objects ≡ self.old.objects }
+        ensures taken { MatchOption result
+            ((length self.old.waiting ≤ place) × (self.new.waiting ≡ self.old.waiting))
+            (λ object. IsTaken place self.old.waiting object.0 self.new.waiting) }
+        ensures known { IfSome result (λ object. (1 ≤ object.0) × (object.0 ≤ self.old.objects)) }
+    {
+        let Some(object) = remove(&mut self.items, place) else {
+            return None;
+        };
+        self.waits[(object.0 - 1) as usize] = false;
+        Some(object)
+    }
+
+    /// Takes out the object that is picked of those that wait, at a turn. `None` exactly where none waits.
+    pub fn next_by<P: Pick>(&mut self, pick: &P, turn: u64) -> Option<ObjectNo>
+        ensures objects { self.new.objects ≡ self.old.objects }
+        ensures taken { MatchOption result ((self.old.waiting ≡ []) × (self.new.waiting ≡ []))
+            (λ object. IsTaken (P.rule pick.now turn self.old.waiting)
+            self.old.waiting object.0 self.new.waiting) }
+        ensures known { IfSome result (λ object. (1 ≤ object.0) × (object.0 ≤ self.old.objects)) }
+    {
+        if pick.is_oldest() {
+            return self.next();
+        }
+        self.next_picked(pick, turn)
+    }
+
+    // The same by the list of those that wait.
+    fn next_picked<P: Pick>(&mut self, pick: &P, turn: u64) -> Option<ObjectNo>
+        ensures objects { self.new.objects ≡ self.old.objects }
+        ensures taken { MatchOption result ((self.old.waiting ≡ []) × (self.new.waiting ≡ []))
+            (λ object. IsTaken (P.rule pick.now turn self.old.waiting)
+            self.old.waiting object.0 self.new.waiting) }
+        ensures known { IfSome result (λ object. (1 ≤ object.0) × (object.0 ≤ self.old.objects)) }
+    {
+        if self.items.is_empty() {
+            return None;
+        }
+        let place = place_by(&mut self.items, pick, turn);
+        self.take(place)
     }
 
     /// Begins a timestep: all objects but those that only keep data wait, in order of number.
@@ -132,7 +177,7 @@ impl Queue {
         ensures objects { self.new.objects ≡ self.old.objects }
         ensures appended { self.new.waiting ≡ self.old.waiting ++ object ∷ [] }
     {
-        push(&mut self.items, object);
+        push(&mut self.items, ObjectNo(object));
         self.waits[(object - 1) as usize] = true;
     }
 
@@ -195,11 +240,55 @@ impl Queue {
 }
 
 // Adds an object behind all others, for which there is room.
-fn push(items: &mut VecDeque<u16>, object: u16)
+fn push(items: &mut VecDeque<ObjectNo>, object: ObjectNo)
     requires { items.old.len < items.old.cap }
-    ensures items { items.new.items ≡ items.old.items ++ object ∷ [] }
+    ensures items { objects_of items.new.items ≡ objects_of items.old.items ++ object.0 ∷ [] }
     ensures len { items.new.len ≡ items.old.len + 1 }
     ensures capacity { items.new.cap ≡ items.old.cap }
 {
     items.push_back_reserved(object);
+}
+
+// Takes out the first object.
+fn pop(items: &mut VecDeque<ObjectNo>) -> Option<ObjectNo>
+    ensures items { MatchOption result
+        ((objects_of items.old.items ≡ []) × (objects_of items.new.items ≡ []))
+        (λ object. objects_of items.old.items ≡ object.0 ∷ objects_of items.new.items) }
+    ensures len { MatchOption result (items.new.len ≡ items.old.len)
+        (λ object. items.new.len + 1 ≡ items.old.len) }
+    ensures capacity { items.new.cap ≡ items.old.cap }
+{
+    match items.pop_front() {
+        Some(object) => Some(object),
+        None => None,
+    }
+}
+
+// Takes out the object in a place.
+fn remove(items: &mut VecDeque<ObjectNo>, place: usize) -> Option<ObjectNo>
+    ensures items { MatchOption result
+        ((length (objects_of items.old.items) ≤ place)
+        × (objects_of items.new.items ≡ objects_of items.old.items))
+        (λ object. IsTaken place (objects_of items.old.items) object.0
+        (objects_of items.new.items)) }
+    ensures len { MatchOption result (items.new.len ≡ items.old.len)
+        (λ object. items.new.len + 1 ≡ items.old.len) }
+    ensures capacity { items.new.cap ≡ items.old.cap }
+{
+    match items.remove(place) {
+        Some(object) => Some(object),
+        None => None,
+    }
+}
+
+// The place that is picked. The list is made contiguous for it.
+fn place_by<P: Pick>(items: &mut VecDeque<ObjectNo>, pick: &P, turn: u64) -> usize
+    requires some { 1 ≤ length items.old.items }
+    ensures place { result ≡ P.rule pick.now turn (objects_of items.old.items) }
+    ensures below { result < length (objects_of items.old.items) }
+    ensures items { items.new.items ≡ items.old.items }
+    ensures len { items.new.len ≡ items.old.len }
+    ensures capacity { items.new.cap ≡ items.old.cap }
+{
+    pick.pick(turn, items.make_contiguous())
 }
