@@ -61,7 +61,15 @@ fn text_of_run(
     texts_of_runs();
     let run = session.run();
     let reran = told(session, number);
-    let text = section(alloc, session.setup.basin, number, run, reran, extras.flags, extras.trace)?;
+    let text = section(
+        alloc,
+        session.setup.basin,
+        number,
+        run,
+        reran,
+        extras.flags,
+        extras.trace,
+    )?;
     Ok((text, run.end))
 }
 
