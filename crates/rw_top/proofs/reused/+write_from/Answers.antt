@@ -23,7 +23,8 @@ pub returns-in-Err-apply : goal.returns-in-Err-apply
 returns-in-Err-apply g t c = λ policy given means next.
     let some = ap length c.in-Some.ensures in
     record {
-      text = stops_behind (IsRulesText c.args.session.now.setup.basin.now policy c.args.extras) c.args.number given c.args.batches.now _ c.in-Ok.end
+      text = stops_behind (IsRulesText c.args.session.now.setup.basin.now policy c.args.extras) c.args.number given c.args.batches.now
+          (change (g.K.Sink.seen c.args.out.now) (g.K.Sink.seen c.write_run.new.out)) c.in-Ok.end
           (omega (arith, some)) (c.in-Ok.ensures policy given means next);
       counted = tt;
     }
