@@ -223,7 +223,7 @@ on_the_way_rule basin step old new why rule known below firings counts closed en
     on_the_way basin step old new why (less_rules basin old new rule known below firings counts) closed end
 
 -- memory wants for an event
-pub wanted : (basin : Draft) (policy : Accepted) (step : ℕ) (old new : State) (given : Log → Type 0) (result : Result Bool NoMemory) (why : NoMemory)
-    → IsErrAnd result (λ fault. fault ≡ why) → Keeps basin policy old new → IsStill old new → IsSome old.run.trace → Does basin policy step old new given result
-wanted basin policy step old new given (Ok end) why is keeps still kept = absurd is
-wanted basin policy step old new given (Err fault) why is keeps still kept = record { keeps = keeps; on_the_way = still; goes = λ log holds. tt; wants = kept }
+pub wanted : (basin : Draft) (policy : Accepted) (chosen : Option ℕ) (step : ℕ) (old new : State) (given : Log → Type 0) (result : Result Bool NoMemory) (why : NoMemory)
+    → IsErrAnd result (λ fault. fault ≡ why) → Keeps basin policy old new → IsStill old new → IsSome old.run.trace → Does basin policy chosen step old new given result
+wanted basin policy chosen step old new given (Ok end) why is keeps still kept = absurd is
+wanted basin policy chosen step old new given (Err fault) why is keeps still kept = record { keeps = keeps; on_the_way = still; goes = λ log holds. tt; few = tt; wants = kept }

@@ -7,6 +7,7 @@ use Rattle.rw_base.specs.declared.memory.NoMemory.{NoMemory}
 use Rattle.rw_model.specs.Turn.{IsStep}
 use Rattle.rw_run.specs.Frame.{IsFramed, IsStepFrom, log_after}
 use Rattle.rw_run.specs.Runs.{inside}
+use Rattle.rw_run.specs.Waiting.{first_waiting}
 use Rattle.rw_run.specs.Step.{reached_by}
 use Rattle.rw_run.specs.Timestep.{AreLooked, IsTimestep}
 use Rattle.rw_run.specs.declared.held.Held.{Held}
@@ -129,7 +130,7 @@ replays basin kept old new (Ok done) again step can has = record {
         events = opened kept.step ∷ first ∷ events;
         last = closed kept.step;
         before = ends.before;
-        leads = (begins_step basin policy log kept.step before, subst (Leads basin policy (opened kept.step ∷ log) (first ∷ events)) ends.is timestep.leads);
+        leads = (begins_step basin policy (first_waiting basin log) log kept.step before, subst (Leads basin policy (opened kept.step ∷ log) (first ∷ events)) ends.is timestep.leads);
         within = ends.within;
         ends = refl;
         shows = record {

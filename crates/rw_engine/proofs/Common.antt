@@ -11,7 +11,7 @@ pub use Rattle.rw_engine.specs.Engine.{Engine}
 pub use Rattle.rw_inputs.specs.Givens.{givens, givens_of, givens_to, if_given}
 pub use Rattle.rw_engine.specs.Held.{HoldsAll}
 pub use Rattle.rw_engine.specs.Lines.{Grows, fault_by, fault_of_rule, lines_by, lines_of_rule}
-pub use Rattle.rw_engine.specs.Passing.{ComesTo, Passes, Stands}
+pub use Rattle.rw_engine.specs.Passing.{ComesTo, Passes}
 pub use Rattle.rw_engine.specs.Shows.{IsBefore, IsEngineOf, Shows, closed_by}
 pub use Rattle.rw_engine.specs.State.{Does, Goes, GoesTo, HoldsWithin, IsOnTheWay, IsRevocable, IsStill, IsWithinStep, Keeps, Reached, ended_by, ending, left, seen}
 pub use Rattle.rw_engine.specs.declared.state.State.{State}

@@ -1,6 +1,6 @@
 -- One event of the engine, over the log that its state holds.
 use Rattle.std.specs.Prelude.{is_some}
-use Rattle.rw_engine.proofs.Common.{Bool, Cell, Cells, DispatchEnd, Draft, Engine, Event, Fault, GoesTo, HoldsWithin, IsCounted, List, Log, Look, None, Option, Policy, Put, RunFault, Settled, Shows, Some, State, [], ap, arith, asked_for, cells_of, count_if, count_of, dispatched, dispatches, end_of, ended_by, ending, event_of, false, fault, fault_by, first_of, held, held_after, idles, if◌then◌else◌, inside, last_closed, last_put, lines, lines_by, nat_le, nat_tests, next, next_of, none-some, option_or, queued_after, raised, refl, same_Some, seen, slice_index_or, solves, standing, subst, sym, trace_of, true, waiting, written_by, ℕ, ◌-◌, ◌<◌, ◌==◌, ◌∙◌, ◌∷◌, ◌≡◌}
+use Rattle.rw_engine.proofs.Common.{Bool, Cell, Cells, DispatchEnd, Draft, Engine, Event, Fault, GoesTo, HoldsWithin, IsCounted, List, Log, Look, None, Option, Policy, Put, RunFault, Settled, Shows, Some, State, [], ap, arith, asked_for, cells_of, count_if, count_of, dispatched, dispatches, end_of, ended_by, ending, event_of, false, fault, fault_by, held, held_after, idles, if◌then◌else◌, inside, last_closed, last_put, lines, lines_by, nat_le, nat_tests, next_of, none-some, option_or, queued_after, raised, refl, same_Some, seen, slice_index_or, solves, standing, subst, sym, trace_of, true, waiting, written_by, ℕ, ◌++◌, ◌-◌, ◌<◌, ◌==◌, ◌∙◌, ◌∷◌, ◌≡◌}
 use Rattle.rw_run.specs.declared.fault.RunFault.TheVariants.{ObjectLimit}
 use Rattle.rw_dispatch.specs.Answer.{Ends, answer_of}
 use Rattle.rw_dispatch.specs.declared.dispatch_end.DispatchEnd.TheVariants.{Idle as IsIdle, Solved as IsSolved, Conflict as IsConflict, OutOfRange as IsOutOfRange}
@@ -8,17 +8,18 @@ use Rattle.rw_run.specs.Trace.{told as with_lines}
 use Rattle.rw_agenda.specs.Agenda.{Entry, unfired}
 use Rattle.rpl_verify.specs.Verified.{Accepted}
 use Rattle.rw_run.specs.Next.{firings, last_looks}
+use Rattle.rw_dispatch.specs.Queue.{IsTaken}
 use Rattle.rw_engine.proofs.Raises.{raised_at}
 use Rattle.rw_engine.proofs.Traces.{shown_more}
 
 -- ---- which event follows
 
--- the first that waits is dispatched, below the limit
-pub next_is : (basin : Draft) (policy : Policy) (cells : Cells) (step : ℕ) (log : Log) (object : ℕ) (rest : List ℕ) → waiting basin log ≡ object ∷ rest
-    → cells ≡ cells_of basin log → dispatches log object < basin.control.object_limit → next basin policy step log ≡ Some (dispatched basin cells object step)
-next_is basin policy cells step log object rest waits same below =
-    ap (λ queue. next_of basin policy (cells_of basin log) log step (first_of queue)) waits
-    ∙ ap Some (often (nat_le basin.control.object_limit (dispatches log object)) refl ∙ ap (λ z. dispatched basin z object step) (sym same))
+-- the object that is chosen is dispatched, below the limit
+pub next_is : (basin : Draft) (policy : Policy) (cells : Cells) (step : ℕ) (log : Log) (object : ℕ)
+    → cells ≡ cells_of basin log → dispatches log object < basin.control.object_limit
+    → next_of basin policy (cells_of basin log) log step (Some object) ≡ Some (dispatched basin cells object step)
+next_is basin policy cells step log object same below =
+    ap Some (often (nat_le basin.control.object_limit (dispatches log object)) refl ∙ ap (λ z. dispatched basin z object step) (sym same))
   where
     often : (reached : Bool) → nat_le basin.control.object_limit (dispatches log object) ≡ reached
         → (if reached then fault (ObjectLimit (record { 0 = object }) (record { 0 = step }) (dispatches log object)) else dispatched basin (cells_of basin log) object step)
@@ -41,7 +42,7 @@ pub record Told (basin : Draft) (old new : Engine) (looked : List Look) (step ob
   pub trace : new.trace ≡ with_lines old.trace (lines_by object step ended (written_by event))
   pub closed_steps : new.closed ≡ old.closed
 
-module _ (basin : Draft) (looked : List Look) (step object : ℕ) (rest : List ℕ) (log : Log) where
+module _ (basin : Draft) (looked : List Look) (step object : ℕ) (before behind : List ℕ) (log : Log) where
   -- what the end of a dispatch says of its event
   record Says (event : Event) (ended : DispatchEnd) : Type 0 where
     pub lines_are : lines_by object step ended (written_by event) ≡ lines event
@@ -49,7 +50,7 @@ module _ (basin : Draft) (looked : List Look) (step object : ℕ) (rest : List �
     pub looks : (rule : ℕ) → last_looks (event ∷ log) rule ≡ last_looks log rule
     pub fires : (rule : ℕ) → firings (event ∷ log) rule ≡ firings log rule
     pub calm : fault_by object step ended ≡ None → (end_of (event ∷ log) ≡ Settled) × (standing (event ∷ log) ≡ inside step)
-        × (waiting basin log ≡ object ∷ rest → waiting basin (event ∷ log) ≡ queued_after basin event rest)
+        × (waiting basin log ≡ before ++ object ∷ behind → waiting basin (event ∷ log) ≡ queued_after basin event (before ++ behind))
         × ((other : ℕ) → dispatches (event ∷ log) other ≡ count_if (object == other) (dispatches log other))
     pub faulted : (why : RunFault) → fault_by object step ended ≡ Some why → event ≡ fault why
 
@@ -59,7 +60,7 @@ module _ (basin : Draft) (looked : List Look) (step object : ℕ) (rest : List �
     last = refl;
     looks = λ rule. refl;
     fires = λ rule. refl;
-    calm = λ none. (refl, refl, λ waits. idles basin log object step looked [] rest waits, λ other. refl);
+    calm = λ none. (refl, refl, λ waits. idles basin log object step looked before behind waits, λ other. refl);
     faulted = λ why some. absurd (none-some _ some);
   }
   of_end IsSolved asked written = record {
@@ -70,7 +71,7 @@ module _ (basin : Draft) (looked : List Look) (step object : ℕ) (rest : List �
     calm = λ none. (
       refl,
       refl,
-      λ waits. solves basin log (record { object = object; step = step; looked = looked; asked = asked_for basin object step asked; written = asked_for basin object step written }) [] rest waits,
+      λ waits. solves basin log (record { object = object; step = step; looked = looked; asked = asked_for basin object step asked; written = asked_for basin object step written }) before behind waits,
       λ other. refl,
     );
     faulted = λ why some. absurd (none-some _ some);
@@ -115,16 +116,16 @@ pub record Went (basin : Draft) (old new : State) (looked : List Look) (step obj
   pub firings : new.firings ≡ old.firings
 
 -- the timestep goes on, or the run ends by the fault
-pub goes_to : (basin : Draft) (policy : Accepted) (old new : State) (looked : List Look) (step object : ℕ) (rest : List ℕ) (log : Log) (event : Event) (ended : DispatchEnd)
-    → HoldsWithin basin policy old step (object ∷ rest) log → Went basin old new looked step object rest event ended → new.run.end ≡ old.run.end
+pub goes_to : (basin : Draft) (policy : Accepted) (old new : State) (looked : List Look) (step object place : ℕ) (waits rest : List ℕ) (log : Log) (event : Event) (ended : DispatchEnd)
+    → IsTaken place waits object rest → HoldsWithin basin policy old step waits log → Went basin old new looked step object rest event ended → new.run.end ≡ old.run.end
     → (why : Option RunFault) → fault_by object step ended ≡ why → GoesTo basin policy (ending (ended_by why new) (is_some why)) (ended_by why new) step log event
-goes_to basin policy old new looked step object rest log event ended holds went end None is =
-    let tells = says basin looked step object rest log event ended went.told.is in
+goes_to basin policy old new looked step object place waits rest log event ended taken holds went end None is =
+    let tells = says basin looked step object taken.before taken.behind log event ended went.told.is in
     let calm = tells.calm is in record {
       open_step = calm.1;
-      shows = shown basin looked step object rest log (seen old) (seen new) event ended holds.shows went.told
+      shows = shown basin looked step object taken.before taken.behind log (seen old) (seen new) event ended holds.shows went.told
           (end ∙ holds.shows.end ∙ settled_inside log step holds.open_step ∙ sym calm.0);
-      queue = went.queue ∙ sym (calm.2 (sym holds.queue));
+      queue = went.queue ∙ ap (queued_after basin event) taken.new_is ∙ sym (calm.2 (sym holds.queue ∙ taken.old_is));
       counts = λ other known.
           ap (λ counts. count_of counts other) went.counts
           ∙ raised_at old.counts object other went.counted known.first
@@ -133,10 +134,10 @@ goes_to basin policy old new looked step object rest log event ended holds went 
           ap (λ (entries : List Entry). (slice_index_or entries (rule - 1) (unfired 0)).looked) went.rules ∙ holds.looks rule first last ∙ sym (tells.looks rule);
       firings = λ rule first. ap (λ counts. count_of counts rule) went.firings ∙ holds.firings rule first ∙ sym (tells.fires rule);
     }
-goes_to basin policy old new looked step object rest log event ended holds went end (Some why) is =
-    let faulted = (says basin looked step object rest log event ended went.told.is).faulted why is in (
+goes_to basin policy old new looked step object place waits rest log event ended taken holds went end (Some why) is =
+    let faulted = (says basin looked step object taken.before taken.behind log event ended went.told.is).faulted why is in (
       faulted,
-      shown basin looked step object rest log (seen old) (seen (record new { run = record new.run { end = Fault why } })) event ended holds.shows
+      shown basin looked step object taken.before taken.behind log (seen old) (seen (record new { run = record new.run { end = Fault why } })) event ended holds.shows
           (record { is = went.told.is; cells = went.told.cells; trace = went.told.trace; closed_steps = went.told.closed_steps })
           (ap (λ e. end_of (e ∷ log)) (sym faulted)),
     )

@@ -1,6 +1,6 @@
 -- What follows where no object waits, and the firing of a rule, over the log that the state holds.
 use Rattle.std.specs.Prelude.{is_some}
-use Rattle.rw_engine.proofs.Common.{Asked, Bool, Cell, Cells, Draft, Fault, GoesTo, HoldsWithin, IsCounted, List, Log, None, Option, Policy, RunFault, Shows, Some, State, [], ap, arith, cells_of, count_if, count_of, dispatches, ended_by, ending, false, fault, fault_of_rule, first_of, held, if◌then◌else◌, last_put, line_of, lines_of_rule, map, nat_le, nat_tests, next, next_of, option_or, raised, refl, seen, slice_index_or, subst, sym, trace_of, true, waiting, written_by, ℕ, ◌++◌, ◌-◌, ◌<◌, ◌==◌, ◌∙◌, ◌∷◌, ◌≡◌, ◌≤◌}
+use Rattle.rw_engine.proofs.Common.{Asked, Bool, Cell, Cells, Draft, Fault, GoesTo, HoldsWithin, IsCounted, List, Log, None, Option, Policy, RunFault, Shows, Some, State, [], ap, arith, cells_of, count_if, count_of, dispatches, ended_by, ending, false, fault, fault_of_rule, held, if◌then◌else◌, last_put, line_of, lines_of_rule, map, nat_le, nat_tests, next_of, option_or, raised, refl, seen, slice_index_or, subst, sym, trace_of, true, waiting, written_by, ℕ, ◌++◌, ◌-◌, ◌<◌, ◌==◌, ◌∙◌, ◌∷◌, ◌≡◌, ◌≤◌}
 use Rattle.rpl_verify.specs.Verified.{Accepted}
 use Rattle.rw_run.proofs.Waits.{fires}
 use Rattle.rw_run.specs.Dispatch.{dispatched, looks_at}
@@ -23,12 +23,11 @@ use Rattle.rw_engine.proofs.Traces.{shown_more}
 -- ---- what follows
 
 -- an object that reached its limit ends the run
-pub object_stops : (basin : Draft) (policy : Policy) (step : ℕ) (log : Log) (object count : ℕ) (rest : List ℕ) → object ∷ rest ≡ waiting basin log
+pub object_stops : (basin : Draft) (policy : Policy) (step : ℕ) (log : Log) (object count : ℕ)
     → count ≡ dispatches log object → basin.control.object_limit ≤ count
-    → next basin policy step log ≡ Some (fault (ObjectLimit (record { 0 = object }) (record { 0 = step }) count))
-object_stops basin policy step log object count rest waits counted full =
-    ap (λ queue. next_of basin policy (cells_of basin log) log step (first_of queue)) (sym waits)
-    ∙ ap Some (often (nat_le basin.control.object_limit (dispatches log object)) refl ∙ ap (λ n. fault (ObjectLimit (record { 0 = object }) (record { 0 = step }) n)) (sym counted))
+    → next_of basin policy (cells_of basin log) log step (Some object) ≡ Some (fault (ObjectLimit (record { 0 = object }) (record { 0 = step }) count))
+object_stops basin policy step log object count counted full =
+    ap Some (often (nat_le basin.control.object_limit (dispatches log object)) refl ∙ ap (λ n. fault (ObjectLimit (record { 0 = object }) (record { 0 = step }) n)) (sym counted))
   where
     often : (reached : Bool) → nat_le basin.control.object_limit (dispatches log object) ≡ reached
         → (if reached then fault (ObjectLimit (record { 0 = object }) (record { 0 = step }) (dispatches log object)) else dispatched basin (cells_of basin log) object step)
@@ -37,11 +36,10 @@ object_stops basin policy step log object count rest waits counted full =
     often false is = absurd (grind (arith, nat_tests))
 
 -- where no object waits, it goes by the rule that is due
-pub after_all : (basin : Draft) (policy : Policy) (cells : Cells) (step : ℕ) (log : Log) (due : Option ℕ) → waiting basin log ≡ [] → cells ≡ cells_of basin log
-    → first_due basin policy cells log ≡ due → next basin policy step log ≡ after_objects basin policy cells log step due
-after_all basin policy cells step log due waits same is =
-    ap (λ queue. next_of basin policy (cells_of basin log) log step (first_of queue)) waits
-    ∙ ap (λ z. after_objects basin policy z log step (first_due basin policy z log)) (sym same)
+pub after_all : (basin : Draft) (policy : Policy) (cells : Cells) (step : ℕ) (log : Log) (due : Option ℕ) → cells ≡ cells_of basin log
+    → first_due basin policy cells log ≡ due → next_of basin policy (cells_of basin log) log step None ≡ after_objects basin policy cells log step due
+after_all basin policy cells step log due same is =
+    ap (λ z. after_objects basin policy z log step (first_due basin policy z log)) (sym same)
     ∙ ap (after_objects basin policy cells log step) is
 
 module _ (basin : Draft) (policy : Policy) (cells : Cells) (step : ℕ) (log : Log) (rule : ℕ) where

@@ -1,9 +1,10 @@
 -- A run, timestep by timestep.
-use Rattle.rw_engine.proofs.Common.{ComesTo, Draft, Engine, Inputs, IsBefore, IsOver, IsRunOf, Log, Passes, RunFault, Shows, Stands, [], ap, arith, givens, Policy, placed, refl, rests, standing, subst, sym, ℕ, ◌++◌, ◌+◌, ◌<◌, ◌∙◌, ◌∷◌, ◌≡◌}
-use Rattle.std.specs.Prelude.{Err, IsErrAnd, Ok, Result, ◌≤◌}
+use Rattle.rw_engine.proofs.Common.{ComesTo, Draft, Engine, Event, Inputs, IsBefore, IsOver, IsRunOf, List, Log, RunFault, Shows, [], ap, arith, givens, Policy, placed, refl, rests, standing, subst, sym, ℕ, ◌++◌, ◌+◌, ◌<◌, ◌∙◌, ◌∷◌, ◌≡◌}
+use Rattle.std.specs.Prelude.{Err, IsErrAnd, Ok, Result, ◌-◌, ◌^◌, ◌≤◌}
 use Rattle.rw_base.specs.declared.memory.NoMemory.{NoMemory}
 use Rattle.rpl_verify.specs.Verified.{Accepted}
-use Rattle.rw_engine.specs.Passing.{RunsAll}
+use Rattle.rw_dispatch.specs.Pick.{IsPickedRun, Picking}
+use Rattle.rw_engine.specs.Picked.{ComesToPicked, LeadsBy, PassesBy, RunsAllBy, StandsBy, turns_after}
 use Rattle.rw_run.specs.declared.run.Run.{Run}
 use Rattle.rw_engine.specs.declared.step_end.StepEnd.TheVariants.{Closed as IsClosed, Fault as IsFault}
 use Rattle.rw_run.specs.declared.run.RunEnd.{RunEnd}
@@ -14,55 +15,73 @@ use Rattle.rw_rules.specs.Rules.{policy_in}
 use Rattle.rw_engine.proofs.Common.{Fault, ap₂, end_of}
 use Rattle.rw_run.proofs.Placed.{settled_at_rest, standing-placed}
 use Rattle.rw_engine.proofs.Steps.{leads_on}
-
-pub stands_first : (basin : Draft) (policy : Policy) (inputs : Inputs) (engine : Engine) → Shows basin engine (placed [] (givens basin inputs)) → Stands basin policy inputs engine 0
-stands_first basin policy inputs engine shows = record {
-  log = placed [] (givens basin inputs);
-  events = [];
-  leads = refl;
-  shows = shows;
-  rest = standing-placed [] (givens basin inputs) refl;
-}
+use Rattle.rw_engine.proofs.Anyhow.{may_lead}
+use Rattle.rw_engine.proofs.Turns.{leads_picked, turns_more, turns_placed}
 
 pub before_step : (basin : Draft) (log : Log) (step : ℕ) → standing log ≡ rests step → step < basin.control.stamps.count → IsBefore basin (step + 1) log
 before_step basin log step rest near = record { last = step; rest = rest; next_one = refl; exists = omega arith }
 
--- a closed timestep leads on
-pub stands_next : (basin : Draft) (policy : Policy) (inputs : Inputs) (old new : Engine) (step : ℕ) → (stands : Stands basin policy inputs old step)
-    → Passes basin policy stands.log IsClosed new (step + 1) → Stands basin policy inputs new (step + 1)
-stands_next basin policy inputs old new step stands passes = record {
-  log = passes.last ∷ passes.before;
-  events = stands.events ++ passes.events;
-  leads = leads_on basin policy (placed [] (givens basin inputs)) stands.events passes.events stands.log (passes.last ∷ passes.before) stands.leads passes.leads;
-  shows = passes.shows;
-  rest = ap (λ event. standing (event ∷ passes.before)) passes.ends;
-}
+module _ (basin : Draft) (policy : Policy) (rule : Picking) (inputs : Inputs) where
+  pub stands_first : (engine : Engine) → Shows basin engine (placed [] (givens basin inputs)) → engine.turns ≡ 0 → StandsBy basin policy rule inputs engine 0
+  stands_first engine shows none = record {
+    log = placed [] (givens basin inputs);
+    events = [];
+    leads = refl;
+    shows = shows;
+    rest = standing-placed [] (givens basin inputs) refl;
+    turned = none;
+  }
 
--- after the last timestep the run is whole
-pub comes_settled : (basin : Draft) (policy : Policy) (inputs : Inputs) (engine : Engine) (step : ℕ) (run : Run) → (stands : Stands basin policy inputs engine step)
-    → step ≡ basin.control.stamps.count → IsRunOf basin stands.log run → ComesTo basin policy inputs run
-comes_settled basin policy inputs engine step run stands last is = record {
-  log = stands.log;
-  whole = record {
-    events = stands.events;
-    leads = stands.leads;
-    end = subst (IsOver basin) (sym (stands.rest ∙ ap rests last)) (omega arith);
-  };
-  is = is;
-}
-
--- and after a fault
-pub comes_faulted : (basin : Draft) (policy : Policy) (inputs : Inputs) (old new : Engine) (step at : ℕ) (why : RunFault) (run : Run) → (stands : Stands basin policy inputs old step)
-    → (passes : Passes basin policy stands.log (IsFault why) new at) → IsRunOf basin (passes.last ∷ passes.before) run → ComesTo basin policy inputs run
-comes_faulted basin policy inputs old new step at why run stands passes is = record {
-  log = passes.last ∷ passes.before;
-  whole = record {
+  -- a closed timestep leads on
+  pub stands_next : (old new : Engine) (step : ℕ) → (stands : StandsBy basin policy rule inputs old step)
+      → PassesBy basin policy rule old.turns stands.log IsClosed new (step + 1) → StandsBy basin policy rule inputs new (step + 1)
+  stands_next old new step stands passes = record {
+    log = passes.last ∷ passes.before;
     events = stands.events ++ passes.events;
-    leads = leads_on basin policy (placed [] (givens basin inputs)) stands.events passes.events stands.log (passes.last ∷ passes.before) stands.leads passes.leads;
-    end = subst (λ event. IsOver basin (standing (event ∷ passes.before))) (sym passes.ends) tt;
-  };
-  is = is;
-}
+    leads = leads_on basin policy rule 0 (placed [] (givens basin inputs)) stands.events passes.events stands.log (passes.last ∷ passes.before) stands.leads
+        (subst (λ turn. LeadsBy basin policy rule turn stands.log passes.events (passes.last ∷ passes.before)) stands.turned passes.leads);
+    shows = passes.shows;
+    rest = ap (λ event. standing (event ∷ passes.before)) passes.ends;
+    turned = passes.turned.same refl ∙ ap (λ turn. turns_after turn passes.events) stands.turned ∙ sym (turns_more 0 stands.events passes.events);
+  }
+
+  -- events that the inputs led to are those of the picked run
+  abbrev whole : (events : List Event) (log : Log) → LeadsBy basin policy rule 0 (placed [] (givens basin inputs)) events log → turns_after 0 events < 2 ^ 64 - 1
+      → IsOver basin (standing log) → IsPickedRun basin policy rule (givens basin inputs) log
+  whole events log leads few over = record {
+    events = events;
+    leads = leads_picked basin policy rule 0 (placed [] (givens basin inputs)) events log (sym (turns_placed [] (givens basin inputs))) (omega arith) few leads;
+    end = over;
+  }
+
+  -- after the last timestep the run is whole
+  pub comes_settled : (engine : Engine) (step : ℕ) (run : Run) → (stands : StandsBy basin policy rule inputs engine step)
+      → step ≡ basin.control.stamps.count → engine.turns < 2 ^ 64 - 1 → IsRunOf basin stands.log run → ComesToPicked basin policy rule inputs run
+  comes_settled engine step run stands last few is = record {
+    log = stands.log;
+    any = may_lead basin policy rule 0 (placed [] (givens basin inputs)) stands.events stands.log stands.leads;
+    whole = whole stands.events stands.log stands.leads (subst (λ turn. turn < 2 ^ 64 - 1) stands.turned few)
+        (subst (IsOver basin) (sym (stands.rest ∙ ap rests last)) (omega arith));
+    is = is;
+  }
+
+  -- and after a fault
+  pub comes_faulted : (old new : Engine) (step at : ℕ) (why : RunFault) (run : Run) → (stands : StandsBy basin policy rule inputs old step)
+      → (passes : PassesBy basin policy rule old.turns stands.log (IsFault why) new at) → new.turns < 2 ^ 64 - 1 → IsRunOf basin (passes.last ∷ passes.before) run
+      → ComesToPicked basin policy rule inputs run
+  comes_faulted old new step at why run stands passes few is =
+      let least = passes.turned.least in
+      let all : turns_after 0 (stands.events ++ passes.events) ≡ turns_after old.turns passes.events =
+      turns_more 0 stands.events passes.events ∙ ap (λ turn. turns_after turn passes.events) (sym stands.turned) in
+      let leads = leads_on basin policy rule 0 (placed [] (givens basin inputs)) stands.events passes.events stands.log (passes.last ∷ passes.before) stands.leads
+      (subst (λ turn. LeadsBy basin policy rule turn stands.log passes.events (passes.last ∷ passes.before)) stands.turned passes.leads) in record {
+        log = passes.last ∷ passes.before;
+        any = may_lead basin policy rule 0 (placed [] (givens basin inputs)) (stands.events ++ passes.events) (passes.last ∷ passes.before) leads;
+        whole = whole (stands.events ++ passes.events) (passes.last ∷ passes.before) leads
+            (omega (arith, all, least, few))
+            (subst (λ event. IsOver basin (standing (event ∷ passes.before))) (sym passes.ends) tt);
+        is = is;
+      }
 
 -- ---- how many timesteps were opened
 
@@ -89,10 +108,10 @@ without_rules basin inputs run comes = record {
 }
 
 -- memory wants for the rest of a run
-pub unrun : (basin : Draft) (policy : Accepted) (engine : Engine) (before after : ℕ) (result : Result Run NoMemory) (why : NoMemory)
-    → IsErrAnd result (λ fault. fault ≡ why) → before ≤ after → after ≤ before + basin.control.stamps.count → RunsAll basin policy engine before after result
-unrun basin policy engine before after (Ok run) why is rises few = absurd is
-unrun basin policy engine before after (Err fault) why is rises few = record {
+pub unrun : (basin : Draft) (policy : Accepted) (rule : Picking) (engine : Engine) (before after : ℕ) (result : Result Run NoMemory) (why : NoMemory)
+    → IsErrAnd result (λ fault. fault ≡ why) → before ≤ after → after ≤ before + basin.control.stamps.count → RunsAllBy basin policy rule engine before after result
+unrun basin policy rule engine before after (Ok run) why is rises few = absurd is
+unrun basin policy rule engine before after (Err fault) why is rises few = record {
   comes = λ inputs shows. tt;
   opened_steps = λ inputs shows. tt;
   closed_steps = tt;

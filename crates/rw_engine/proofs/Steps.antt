@@ -1,5 +1,5 @@
 -- A timestep of the engine, over the log that it shows.
-use Rattle.rw_engine.proofs.Common.{Bool, Cell, Cells, Draft, Engine, Event, Goes, Grows, HoldsWithin, IsBefore, IsSome, IsStill, Leads, List, Log, None, Option, Passes, Policy, Reached, Series, Settled, Shows, Some, State, [], all_waiting, ap, append-nil, append_assoc, ap₂, arith, cells_of, closed, count_of, fault, false, follows, follows_in, given, held, held_after, if◌then◌else◌, inside, last_put, length, lines, nat_lt, nat_tests, next, opened, opens, option_or, refl, seen, standing, subst, sym, trace_of, true, written_by, ℕ, ◌++◌, ◌+◌, ◌∙◌, ◌∷◌, ◌≡◌, ◌≤◌}
+use Rattle.rw_engine.proofs.Common.{Bool, Cell, Cells, Draft, Engine, Event, Goes, Grows, HoldsWithin, IsBefore, IsSome, IsStill, List, Log, None, Option, Policy, Reached, Series, Settled, Shows, Some, State, [], all_waiting, ap, append-nil, append_assoc, ap₂, arith, cells_of, closed, count_of, fault, false, given, held, held_after, if◌then◌else◌, inside, last_put, length, lines, nat_lt, nat_tests, opened, opens, option_or, refl, seen, standing, subst, sym, trace_of, true, written_by, ℕ, ◌++◌, ◌+◌, ◌∙◌, ◌∷◌, ◌≡◌, ◌≤◌}
 use Rattle.std.specs.Prelude.{Err, IfSome, IsErrAnd, Ok, Result, drop, is_some}
 use Rattle.std.specs.List.{flat_map}
 use Rattle.rw_base.proofs.Common.{All-push}
@@ -15,7 +15,13 @@ use Rattle.rw_record.specs.Noted.{AreOnce}
 use Rattle.rw_record.specs.Notes.{Notes}
 use Rattle.rpl_verify.specs.Verified.{Accepted}
 use Rattle.rw_rules.specs.Rules.{ShowsLooks, policy_in}
-use Rattle.rw_engine.specs.Passing.{Closes, steps_of}
+use Rattle.rw_dispatch.specs.Pick.{Picking, picked_at}
+use Rattle.rw_run.specs.Next.{next_of}
+use Rattle.rw_run.specs.Runs.{follows_by}
+use Rattle.rw_run.specs.Waiting.{waiting}
+use Rattle.rw_engine.specs.Passing.{steps_of}
+use Rattle.rw_engine.specs.Picked.{ClosesBy, CountsTurns, LeadsBy, PassesBy, PicksAt, follows_at, turn_after, turns_after}
+use Rattle.rw_engine.specs.Shows.{EndsBy}
 use Rattle.rw_engine.specs.Records.{CanWriteLines, HasNoted, lines_of_step}
 use Rattle.rw_engine.specs.State.{AreInside, CanGoBack, HasPassed, IsStateOf, Keeps}
 use Rattle.rw_engine.specs.declared.step_end.StepEnd.{StepEnd}
@@ -23,21 +29,43 @@ use Rattle.rw_engine.specs.declared.step_end.StepEnd.TheVariants.{Closed as IsCl
 use Rattle.rw_engine.proofs.Notings.{notes_more}
 use Rattle.rw_engine.proofs.Records.{can_step}
 use Rattle.rw_engine.proofs.Traces.{kept_before, shown_more, told_more}
+use Rattle.rw_engine.proofs.Turns.{turns_more}
 
-pub leads_more : (basin : Draft) (policy : Policy) (old : Log) (events : List Event) (event : Event) (new : Log) → Leads basin policy old events new
-    → follows basin policy new ≡ Some event → Leads basin policy old (events ++ event ∷ []) (event ∷ new)
-leads_more basin policy old [] event new leads follow = (ap (follows basin policy) (sym leads) ∙ follow, ap (λ log. event ∷ log) leads)
-leads_more basin policy old (first ∷ events) event new leads follow =
-    (leads.0, leads_more basin policy (first ∷ old) events event new leads.1 follow)
+module _ (basin : Draft) (policy : Policy) (rule : Picking) where
+  pub leads_more : (turn : ℕ) (old : Log) (events : List Event) (event : Event) (new : Log) → LeadsBy basin policy rule turn old events new
+      → follows_at basin policy rule (turns_after turn events) new ≡ Some event → PicksAt rule (turns_after turn events) (waiting basin new) (standing new)
+      → LeadsBy basin policy rule turn old (events ++ event ∷ []) (event ∷ new)
+  leads_more turn old [] event new leads follow picks = (
+    ap (follows_at basin policy rule turn) (sym leads) ∙ follow,
+    subst (λ log. PicksAt rule turn (waiting basin log) (standing log)) leads picks,
+    ap (λ log. event ∷ log) leads,
+  )
+  leads_more turn old (first ∷ events) event new leads follow picks =
+      (leads.0, leads.1, leads_more (turn_after turn first) (first ∷ old) events event new leads.2 follow picks)
 
-pub leads_on : (basin : Draft) (policy : Policy) (old : Log) (first last : List Event) (mid new : Log) → Leads basin policy old first mid
-    → Leads basin policy mid last new → Leads basin policy old (first ++ last) new
-leads_on basin policy old [] last mid new one other = subst (λ log. Leads basin policy log last new) one other
-leads_on basin policy old (event ∷ first) last mid new one other = (one.0, leads_on basin policy (event ∷ old) first last mid new one.1 other)
+  pub leads_on : (turn : ℕ) (old : Log) (first last : List Event) (mid new : Log) → LeadsBy basin policy rule turn old first mid
+      → LeadsBy basin policy rule (turns_after turn first) mid last new → LeadsBy basin policy rule turn old (first ++ last) new
+  leads_on turn old [] last mid new one other = subst (λ log. LeadsBy basin policy rule turn log last new) one other
+  leads_on turn old (event ∷ first) last mid new one other = (one.0, one.1, leads_on (turn_after turn event) (event ∷ old) first last mid new one.2 other)
 
-follows_inside : (basin : Draft) (policy : Accepted) (state : State) (step : ℕ) (log : Log) (waits : List ℕ) → HoldsWithin basin policy state step waits log
-    → follows basin (policy_in basin policy) log ≡ next basin (policy_in basin policy) step log
-follows_inside basin policy state step log waits holds = ap (follows_in basin (policy_in basin policy) log) holds.open_step
+  leads_after : (turn : ℕ) (old : Log) (events : List Event) (new : Log) → LeadsBy basin policy rule turn old events new → new ≡ log_after events old
+  leads_after turn old [] new leads = leads
+  leads_after turn old (event ∷ events) new leads = leads_after (turn_after turn event) (event ∷ old) events new leads.2
+
+-- who is picked of those that wait in the state is picked in the log
+picks_inside : (basin : Draft) (policy : Accepted) (rule : Picking) (state : State) (step turn : ℕ) (log : Log) → HoldsWithin basin policy state step state.queue.waiting log
+    → state.turns ≡ turn → PicksAt rule state.turns state.queue.waiting (inside step) → PicksAt rule turn (waiting basin log) (standing log)
+picks_inside basin policy rule state step turn log holds is picks =
+    subst (λ stands. PicksAt rule turn (waiting basin log) stands) (sym holds.open_step)
+    (subst (λ t. PicksAt rule t (waiting basin log) (inside step)) is (subst (λ waits. PicksAt rule state.turns waits (inside step)) holds.queue picks))
+
+follows_inside : (basin : Draft) (policy : Accepted) (rule : Picking) (state : State) (step turn : ℕ) (log : Log) → HoldsWithin basin policy state step state.queue.waiting log
+    → state.turns ≡ turn
+    → follows_at basin (policy_in basin policy) rule turn log
+    ≡ next_of basin (policy_in basin policy) (cells_of basin log) log step (picked_at rule state.turns state.queue.waiting)
+follows_inside basin policy rule state step turn log holds is =
+    ap (follows_by basin (policy_in basin policy) log (picked_at rule turn (waiting basin log))) holds.open_step
+    ∙ ap₂ (λ t waits. next_of basin (policy_in basin policy) (cells_of basin log) log step (picked_at rule t waits)) (sym is) (sym holds.queue)
 
 pub opens_step : (basin : Draft) (policy : Accepted) (old new : State) (step : ℕ) (log : Log) → Shows basin (seen old) log → new.run.series ≡ old.run.series
     → new.queue.waiting ≡ all_waiting basin → ((object : ℕ) → count_of new.counts object ≡ 0) → ((rule : ℕ) → count_of new.firings rule ≡ 0)
@@ -77,25 +105,25 @@ inside_more : (step : ℕ) (events : List Event) (event : Event) → AreInside s
 inside_more step [] event within at = (at, tt)
 inside_more step (first ∷ events) event within at = (within.0, inside_more step events event within.1 at)
 
-leads_after : (basin : Draft) (policy : Policy) (old : Log) (events : List Event) (new : Log) → Leads basin policy old events new → new ≡ log_after events old
-leads_after basin policy old [] new leads = leads
-leads_after basin policy old (event ∷ events) new leads = leads_after basin policy (event ∷ old) events new leads.1
-
 -- what an event made of the cells, by what both states show
 made_by : (basin : Draft) (old new : State) (event : Event) (log : Log) → Shows basin (seen old) log → Shows basin (seen new) (event ∷ log) → (cell : Cell)
     → held new.run.series cell ≡ held_after basin event (held old.run.series) cell
 made_by basin old new event log was is cell =
     is.cells cell ∙ ap (λ z. option_or (last_put basin (written_by event) cell) z) (sym (was.cells cell))
 
-pub reached_more : (basin : Draft) (policy : Accepted) (start : Log) (old new : State) (step : ℕ) → Reached basin policy start old step
-    → ((log : Log) → HoldsWithin basin policy old step old.queue.waiting log → Goes basin policy None (held old.run.series) old.noted new step log) → Reached basin policy start new step
-reached_more basin policy start old new step reached goes =
+pub reached_more : (basin : Draft) (policy : Accepted) (rule : Picking) (turn : ℕ) (start : Log) (old new : State) (step : ℕ) → Reached basin policy rule turn start old step
+    → ((log : Log) → HoldsWithin basin policy old step old.queue.waiting log
+    → Goes basin policy (picked_at rule old.turns old.queue.waiting) None (held old.run.series) old.noted old.turns new step log)
+    → PicksAt rule old.turns old.queue.waiting (inside step) → Reached basin policy rule turn start new step
+reached_more basin policy rule turn start old new step reached goes picks =
     let went = goes reached.now reached.holds in
     let calm = calm_inside went.event reached.now step went.goes.open_step in record {
       events = reached.events ++ went.event ∷ [];
       now = went.event ∷ reached.now;
-      leads = leads_more basin (policy_in basin policy) (opened step ∷ start) reached.events went.event reached.now reached.leads
-          (follows_inside basin policy old step reached.now old.queue.waiting reached.holds ∙ went.follows);
+      leads = leads_more basin (policy_in basin policy) rule turn (opened step ∷ start) reached.events went.event reached.now reached.leads
+          (follows_inside basin policy rule old step (turns_after turn reached.events) reached.now reached.holds reached.turned ∙ went.follows)
+          (picks_inside basin policy rule old step (turns_after turn reached.events) reached.now reached.holds reached.turned picks);
+      turned = went.turned.same calm ∙ ap (λ t. turn_after t went.event) reached.turned ∙ sym (turns_more turn reached.events (went.event ∷ []));
       holds = went.goes;
       inside_step = inside_more step reached.events went.event reached.inside_step (alone went.event reached.now ∙ went.goes.open_step);
       notes = notes_more basin (cells_of basin start) (held old.run.series) (held new.run.series) reached.events went.event old.noted new.noted
@@ -163,54 +191,78 @@ looked_once : (basin : Draft) (before now : Cells) (events : List Event) (noted 
 looked_once basin before now events None notes = tt
 looked_once basin before now events (Some noted) notes = (notes.looked, notes.once)
 
--- the timestep after the last closed one is opened
-pub begins_step : (basin : Draft) (policy : Policy) (log : Log) (step : ℕ) → IsBefore basin step log → follows basin policy log ≡ Some (opened step)
-begins_step basin policy log step before =
-    ap (follows_in basin policy log) before.rest ∙ opened_next basin step before.last (nat_lt before.last basin.control.stamps.count) refl before.next_one before.exists
+-- a closing is no fault
+calm_closed : (step : ℕ) (event : Event) → event ≡ closed step → ¬ IsFault event
+calm_closed step event is = subst (λ (e : Event). ¬ IsFault e) (sym is) (λ faulty. faulty)
 
-pub ends_step : (basin : Draft) (policy : Accepted) (log : Log) (first old new : State) (step : ℕ) (end : StepEnd) → Reached basin policy log old step
-    → ((l : Log) → HoldsWithin basin policy old step old.queue.waiting l → Goes basin policy (Some end) (held old.run.series) old.noted new step l) → Shows basin (seen first) log → IsBefore basin step log
+-- the timestep after the last closed one is opened
+pub begins_step : (basin : Draft) (policy : Policy) (chosen : Option ℕ) (log : Log) (step : ℕ) → IsBefore basin step log
+    → follows_by basin policy log chosen (standing log) ≡ Some (opened step)
+begins_step basin policy chosen log step before =
+    ap (follows_by basin policy log chosen) before.rest ∙ opened_next basin step before.last (nat_lt before.last basin.control.stamps.count) refl before.next_one before.exists
+
+pub ends_step : (basin : Draft) (policy : Accepted) (rule : Picking) (turn : ℕ) (log : Log) (first old new : State) (step : ℕ) (end : StepEnd) → Reached basin policy rule turn log old step
+    → ((l : Log) → HoldsWithin basin policy old step old.queue.waiting l
+    → Goes basin policy (picked_at rule old.turns old.queue.waiting) (Some end) (held old.run.series) old.noted old.turns new step l)
+    → PicksAt rule old.turns old.queue.waiting (inside step) → Shows basin (seen first) log → IsBefore basin step log
     → Grows first.run.trace new.run.trace → is_some new.noted ≡ is_some new.run.trace → new.lines_before ≡ length (lines_in first.run.trace)
-    → Passes basin (policy_in basin policy) log end (seen new) step
-ends_step basin policy log first old new step end reached goes shows before grows notes many =
+    → PassesBy basin (policy_in basin policy) rule turn log end (seen new) step
+ends_step basin policy rule turn log first old new step end reached goes picks shows before grows notes many =
     let went = goes reached.now reached.holds in
     let code = policy_in basin policy in
-    let leads = leads_more basin code (opened step ∷ log) reached.events went.event reached.now reached.leads
-    (follows_inside basin policy old step reached.now old.queue.waiting reached.holds ∙ went.follows) in
+    let leads = leads_more basin code rule turn (opened step ∷ log) reached.events went.event reached.now reached.leads
+    (follows_inside basin policy rule old step (turns_after turn reached.events) reached.now reached.holds reached.turned ∙ went.follows)
+    (picks_inside basin policy rule old step (turns_after turn reached.events) reached.now reached.holds reached.turned picks) in
     record {
       events = opened step ∷ (reached.events ++ went.event ∷ []);
       last = went.event;
       before = reached.now;
       within = reached.holds.open_step;
-      leads = (begins_step basin code log step before, leads);
+      leads = (
+        begins_step basin code (picked_at rule turn (waiting basin log)) log step before,
+        subst (λ stands. PicksAt rule turn (waiting basin log) stands) (sym before.rest) tt,
+        leads,
+      );
       ends = went.goes.0;
       shows = went.goes.1;
       closes = closes end went leads;
+      turned = turned end went;
     }
   where
-    closes : (e : StepEnd) (went : Goes basin policy (Some e) (held old.run.series) old.noted new step reached.now)
-        → Leads basin (policy_in basin policy) (opened step ∷ log) (reached.events ++ went.event ∷ []) (went.event ∷ reached.now)
-        → Closes basin (policy_in basin policy) e step log (went.event ∷ reached.now) (seen new)
+    -- the turn after all of them
+    last_turn : (event : Event) → turns_after turn (opened step ∷ (reached.events ++ event ∷ [])) ≡ turn_after old.turns event
+    last_turn event = turns_more turn reached.events (event ∷ []) ∙ ap (λ t. turn_after t event) (sym reached.turned)
+
+    turned : (e : StepEnd) (went : Goes basin policy (picked_at rule old.turns old.queue.waiting) (Some e) (held old.run.series) old.noted old.turns new step reached.now)
+        → CountsTurns e turn new.turns (opened step ∷ (reached.events ++ went.event ∷ []))
+    turned e went = record {
+      least = rw (last_turn went.event) went.turned.least;
+      same = λ is.
+          let calm : ¬ IsFault went.event = calm_closed step went.event (subst (λ z. EndsBy z step went.event) is went.goes.0) in
+          went.turned.same calm ∙ sym (last_turn went.event);
+    }
+
+    closes : (e : StepEnd) (went : Goes basin policy (picked_at rule old.turns old.queue.waiting) (Some e) (held old.run.series) old.noted old.turns new step reached.now)
+        → LeadsBy basin (policy_in basin policy) rule turn (opened step ∷ log) (reached.events ++ went.event ∷ []) (went.event ∷ reached.now)
+        → ClosesBy basin (policy_in basin policy) rule turn e step log (went.event ∷ reached.now) (seen new)
     closes (IsFaulted why) went leads = tt
     closes IsClosed went leads =
         let is = went.goes.0 in
         let events = reached.events ++ went.event ∷ [] in
         let split = all_in reached.events went.event in
-        let whole : went.event ∷ reached.now ≡ log_after events (opened step ∷ log) = leads_after basin (policy_in basin policy) (opened step ∷ log) events (went.event ∷ reached.now) leads in
-        let calm : ¬ IsFault went.event = subst (λ (event : Event). ¬ IsFault event) (sym is) (λ faulty. faulty) in
+        let whole : went.event ∷ reached.now ≡ log_after events (opened step ∷ log) = leads_after basin (policy_in basin policy) rule turn (opened step ∷ log) events (went.event ∷ reached.now) leads in
+        let calm = calm_closed step went.event is in
         let noted = notes_more basin (cells_of basin log) (held old.run.series) (held new.run.series) reached.events went.event old.noted new.noted
         (went.notes calm) went.asks (made_by basin old new went.event reached.now reached.holds.shows went.goes.1) reached.notes in
         let can = All-push (λ (event : Event). AreWrites basin (written_by event)) reached.events went.event reached.can went.can in record {
           first = first_in reached.events went.event;
           events = behind_in reached.events went.event;
-          timestep = record {
-            last = before.last;
-            rest = before.rest;
-            next_one = before.next_one;
-            goes = step_from step reached.events went.event reached.inside_step is;
-            leads = subst (λ these. Leads basin (policy_in basin policy) (opened step ∷ log) these (log_after these (opened step ∷ log))) (sym split)
-                (subst (Leads basin (policy_in basin policy) (opened step ∷ log) events) whole leads);
-          };
+          last = before.last;
+          rest = before.rest;
+          next_one = before.next_one;
+          goes = step_from step reached.events went.event reached.inside_step is;
+          leads = subst (λ these. LeadsBy basin (policy_in basin policy) rule turn (opened step ∷ log) these (log_after these (opened step ∷ log))) (sym split)
+              (subst (LeadsBy basin (policy_in basin policy) rule turn (opened step ∷ log) events) whole leads);
           is = whole ∙ ap (λ these. log_after these (opened step ∷ log)) (sym split);
           noted = λ kept. subst (λ these. HasNoted basin step log these (seen new)) (sym split)
               (has_noted basin step log events (seen new) new.noted first.run.trace new.run.trace refl refl notes (looked_once basin (cells_of basin log) (held new.run.series) events new.noted noted)
@@ -234,16 +286,17 @@ goes_back_more basin policy first old new before keeps = record {
 }
 
 -- memory wants within the timestep
-pub unpassed : (basin : Draft) (policy : Accepted) (step : ℕ) (old new : State) (result : Result StepEnd NoMemory) (why : NoMemory)
+pub unpassed : (basin : Draft) (policy : Accepted) (rule : Picking) (step : ℕ) (old new : State) (result : Result StepEnd NoMemory) (why : NoMemory)
     → IsErrAnd result (λ fault. fault ≡ why) → IsStateOf basin policy new → CanGoBack old new → IsStill old new → IsSome old.run.trace
-    → HasPassed basin policy step old new result
-unpassed basin policy step old new (Ok end) why is made back still kept = absurd is
-unpassed basin policy step old new (Err want) why is made back still kept = record {
+    → HasPassed basin policy rule step old new result
+unpassed basin policy rule step old new (Ok end) why is made back still kept = absurd is
+unpassed basin policy rule step old new (Err want) why is made back still kept = record {
   made = made;
   back = back;
   still = still;
   passes = λ log shows before. tt;
   closed_steps = tt;
+  few = tt;
   wants = kept;
 }
 

@@ -5,5 +5,6 @@ pub mod Engine
 pub mod Noting
 pub mod Records
 pub mod Shows
+pub mod Picked
 pub mod State
 pub mod Passing

@@ -78,21 +78,3 @@ pub record ComesTo (basin : Draft) (policy : Policy) (inputs : Inputs) (run : Ru
   pub log : Log
   pub whole : IsRun basin policy (givens basin inputs) log
   pub is : IsRunOf basin log run
-
--- the engine shows a log that the inputs led to, in which this is the last closed timestep
-pub record Stands (basin : Draft) (policy : Policy) (inputs : Inputs) (engine : Engine) (step : ℕ) : Type 0 where
-  pub log : Log
-  pub events : List Event
-  pub leads : Leads basin policy (placed [] (givens basin inputs)) events log
-  pub shows : Shows basin engine log
-  pub rest : standing log ≡ rests step
-
--- all timesteps were passed, or as many as memory was there for: it comes to the run of the inputs that the engine began with
-pub record RunsAll (basin : Draft) (policy : Accepted) (engine : Engine) (before after : ℕ) (result : Result Run NoMemory) : Type 0 where
-  pub comes : (inputs : Inputs) → Shows basin engine (placed [] (givens basin inputs)) → IfOk result (ComesTo basin (policy_in basin policy) inputs)
-  pub opened_steps : (inputs : Inputs) → Shows basin engine (placed [] (givens basin inputs))
-      → IfOk result (λ run. after ≡ before + opened_by run.end run.closed)
-  pub closed_steps : IfOk result (λ run. run.closed ≤ basin.control.stamps.count)
-  pub kept : IsSome engine.trace → IfOk result (λ run. IsSome run.trace)
-  pub rises : before ≤ after
-  pub few : after ≤ before + basin.control.stamps.count

@@ -17,8 +17,9 @@ use Rattle.rw_record.specs.Noted.{cells_noted, with_noted}
 use Rattle.rw_record.specs.Notes.{CanTakeBack, Notes}
 use Rattle.rw_model.specs.Turn.{is_data}
 use Rattle.rw_run.specs.Waiting.{waiting}
-use Rattle.rw_run.specs.Next.{next, dispatches, firings, first_due}
-use Rattle.rw_run.specs.Runs.{Leads, placed, standing, inside}
+use Rattle.rw_run.specs.Next.{next_of, dispatches, firings, first_due}
+use Rattle.rw_run.specs.Runs.{placed, standing, inside}
+use Rattle.rw_dispatch.specs.Pick.{Picking}
 use Rattle.rw_inputs.specs.Inputs.{Inputs}
 use Rattle.rw_inputs.specs.Givens.{givens}
 use Rattle.rw_agenda.specs.Agenda.{IsIndexed}
@@ -27,7 +28,7 @@ use Rattle.rw_rules.specs.Rules.{ShowsLooks, policy_in}
 use Rattle.rw_engine.specs.Counts.{count_of, room}
 use Rattle.rw_engine.specs.Engine.{Engine}
 use Rattle.rw_engine.specs.Lines.{Grows}
-use Rattle.rw_engine.specs.Passing.{Passes}
+use Rattle.rw_engine.specs.Picked.{LeadsBy, PassesBy, most_turns, turn_after, turns_after}
 use Rattle.rw_engine.specs.Records.{CanWriteAll, puts_in}
 use Rattle.rw_engine.specs.Shows.{IsBefore, IsEngineOf, Shows, EndsBy, closed_by}
 use Rattle.rw_engine.specs.declared.state.State.{State}
@@ -48,6 +49,7 @@ seen state = record {
   end = state.run.end;
   noted = state.noted;
   lines_before = state.lines_before;
+  turns = state.turns;
 }
 
 -- a state has a count for each object and each rule, and keeps what is asked for where it notes it
@@ -91,14 +93,20 @@ NotesThat basin cells noted state event = state.noted ≡ with_noted cells (reac
 abbrev pub WritesAsked : Event → Type 0
 WritesAsked event = (put : Asked) → Contains (written_by event) put → Contains (asked_in event) put
 
--- after the event that follows, which is noted unless it is a fault
-pub record Goes (basin : Draft) (policy : Accepted) (end : Option StepEnd) (cells : Cells) (noted : Option (List Held)) (state : State) (step : ℕ) (log : Log) : Type 0 where
+-- the turn is that after the event, and behind a fault it may be a later one
+pub record CountsTurn (before after : ℕ) (event : Event) : Type 0 where
+  pub least : turn_after before event ≤ after
+  pub same : (¬ IsFault event) → after ≡ turn_after before event
+
+-- after the event that follows where this object is chosen, or none where none waits. It is noted unless it is a fault
+pub record Goes (basin : Draft) (policy : Accepted) (chosen : Option ℕ) (end : Option StepEnd) (cells : Cells) (noted : Option (List Held)) (turn : ℕ) (state : State) (step : ℕ) (log : Log) : Type 0 where
   pub event : Event
-  pub follows : next basin (policy_in basin policy) step log ≡ Some event
+  pub follows : next_of basin (policy_in basin policy) (cells_of basin log) log step chosen ≡ Some event
   pub goes : GoesTo basin policy end state step log event
   pub notes : (¬ IsFault event) → NotesThat basin cells noted state event
   pub asks : WritesAsked event
   pub can : AreWrites basin (written_by event)
+  pub turned : CountsTurn turn state.turns event
 
 -- events within the timestep
 abbrev pub AreInside : ℕ → List Event → Type 0
@@ -106,10 +114,11 @@ AreInside step [] = Unit {0}
 AreInside step (event ∷ events) = (standing (event ∷ []) ≡ inside step) × AreInside step events
 
 -- on the way through a timestep that follows this log: it is opened, and these events follow
-pub record Reached (basin : Draft) (policy : Accepted) (old : Log) (state : State) (step : ℕ) : Type 0 where
+pub record Reached (basin : Draft) (policy : Accepted) (rule : Picking) (turn : ℕ) (old : Log) (state : State) (step : ℕ) : Type 0 where
   pub events : List Event
   pub now : Log
-  pub leads : Leads basin (policy_in basin policy) (opened step ∷ old) events now
+  pub leads : LeadsBy basin (policy_in basin policy) rule turn (opened step ∷ old) events now
+  pub turned : state.turns ≡ turns_after turn events
   pub holds : HoldsWithin basin policy state step state.queue.waiting now
   pub inside_step : AreInside step events
   pub notes : IfSome state.noted (Notes basin (cells_of basin old) (held state.run.series) events)
@@ -124,6 +133,7 @@ pub record OnlyTells (old new : State) : Type 0 where
   pub closed_steps : new.run.closed ≡ old.run.closed
   pub end : new.run.end ≡ old.run.end
   pub lines_before : new.lines_before ≡ old.lines_before
+  pub turns : new.turns ≡ old.turns
   pub grows : Grows old.run.trace new.run.trace
 
 -- the run didn't come nearer to its end
@@ -157,6 +167,10 @@ pub record CanGoBack (old new : State) : Type 0 where
 abbrev pub left : Draft → State → ℕ
 left basin state = room basin.control.object_limit state.counts + room basin.control.rule_limit state.firings
 
+-- how many turns there were and objects may still be dispatched: events within a timestep never raise it
+abbrev pub turns_at_most : Draft → State → ℕ
+turns_at_most basin state = state.turns + room basin.control.object_limit state.counts
+
 -- how a timestep ended, after which the run stands so
 abbrev pub step_end : RunEnd → StepEnd
 step_end Settled = Closed
@@ -176,11 +190,12 @@ IsOnTheWay basin step (Ok None) old new = IsStill old new × (left basin new < l
 IsOnTheWay basin step (Ok (Some end)) old new = new.run.closed ≡ closed_by end step old.run.closed
 IsOnTheWay basin step (Err fault) old new = IsStill old new
 
--- what is done for the event that follows a log of which this is given
-pub record Does (basin : Draft) (policy : Accepted) (step : ℕ) (old new : State) (given : Log → Type 0) (result : Result Bool NoMemory) : Type 0 where
+-- what is done for the event that follows a log of which this is given, where this object is chosen
+pub record Does (basin : Draft) (policy : Accepted) (chosen : Option ℕ) (step : ℕ) (old new : State) (given : Log → Type 0) (result : Result Bool NoMemory) : Type 0 where
   pub keeps : Keeps basin policy old new
   pub on_the_way : IsOnTheWay basin step (seen_end new result) old new
-  pub goes : (log : Log) → given log → IfOk (seen_end new result) (λ end. Goes basin policy end (held old.run.series) old.noted new step log)
+  pub goes : (log : Log) → given log → IfOk (seen_end new result) (λ end. Goes basin policy chosen end (held old.run.series) old.noted old.turns new step log)
+  pub few : IfOk result (λ ended. turns_at_most basin new ≤ turns_at_most basin old)
   -- memory wants only where a trace is kept
   pub wants : IfErr result (λ fault. IsSome old.run.trace)
 
@@ -190,6 +205,7 @@ pub record Does (basin : Draft) (policy : Accepted) (step : ℕ) (old new : Stat
 pub record Begins (basin : Draft) (policy : Accepted) (inputs : Inputs) (state : State) : Type 0 where
   pub made : IsStateOf basin policy state
   pub shows : Shows basin (seen state) (placed [] (givens basin inputs))
+  pub turns : state.turns ≡ 0
 
 -- nothing is noted yet, and the lines of the timestep come behind those that there are
 pub record IsFresh (basin : Draft) (policy : Accepted) (state : State) : Type 0 where
@@ -203,13 +219,14 @@ pub record IsOpened (basin : Draft) (policy : Accepted) (step : ℕ) (old new : 
   pub holds : (log : Log) → Shows basin (seen old) log → IsBefore basin step log → HoldsWithin basin policy new step new.queue.waiting (opened step ∷ log)
 
 -- the timestep was passed to its end, or memory wants within it and it can be taken back
-pub record HasPassed (basin : Draft) (policy : Accepted) (step : ℕ) (old new : State) (result : Result StepEnd NoMemory) : Type 0 where
+pub record HasPassed (basin : Draft) (policy : Accepted) (rule : Picking) (step : ℕ) (old new : State) (result : Result StepEnd NoMemory) : Type 0 where
   pub made : IsStateOf basin policy new
   pub back : CanGoBack old new
   pub still : IfErr result (λ fault. IsStill old new)
   pub passes : (log : Log) → Shows basin (seen old) log → IsBefore basin step log
-      → IfOk result (λ end. Passes basin (policy_in basin policy) log end (seen new) step)
+      → IfOk result (λ end. PassesBy basin (policy_in basin policy) rule old.turns log end (seen new) step)
   pub closed_steps : IfOk result (λ end. new.run.closed ≡ closed_by end step old.run.closed)
+  pub few : IfOk result (λ end. new.turns ≤ old.turns + most_turns basin)
   pub wants : IfErr result (λ fault. IsSome old.run.trace)
 
 -- ---- what passing a timestep again does
@@ -244,7 +261,7 @@ abbrev pub HoldsDue : Draft → Accepted → State → ℕ → Option ℕ → Lo
 HoldsDue basin policy state step due log =
     HoldsWithin basin policy state step state.queue.waiting log × (first_due basin (policy_in basin policy) (held state.run.series) log ≡ due)
 
--- this event follows
-abbrev pub HoldsBefore : Draft → Accepted → State → ℕ → List ℕ → Event → Log → Type 0
-HoldsBefore basin policy state step waits event log =
-    HoldsWithin basin policy state step waits log × (next basin (policy_in basin policy) step log ≡ Some event)
+-- this event follows, where this object is chosen
+abbrev pub HoldsBefore : Draft → Accepted → Option ℕ → State → ℕ → List ℕ → Event → Log → Type 0
+HoldsBefore basin policy chosen state step waits event log =
+    HoldsWithin basin policy state step waits log × (next_of basin (policy_in basin policy) (cells_of basin log) log step chosen ≡ Some event)

@@ -12,6 +12,7 @@ ghost use Rattle.rw_series.specs.Series.{held};
 ghost use Rattle.rw_record.specs.Noted.{AreHeld};
 ghost use Rattle.rw_engine.specs.Shows.{CanReplay, IsEngineOf, Shows};
 ghost use Rattle.rw_engine.specs.Passing.{Replays, RunsStep, steps_of};
+ghost use Rattle.rw_engine.specs.Picked.{RunsStepBy};
 ghost use Rattle.rw_engine.specs.Records.{CanWriteLines, HasNoted, RecordsOrNot};
 
 use crate::setup::RunSetup;
@@ -20,6 +21,7 @@ use crate::step_end::StepEnd;
 use rpl_predef::Predefs;
 use rpl_verify::Verified;
 use rw_base::{Ledger, NoMemory, StepNo, Steps};
+use rw_dispatch::{Oldest, Pick};
 use rw_inputs::Inputs;
 use rw_method::Catalogue;
 use rw_model::Basin;
@@ -64,6 +66,7 @@ impl Engine {
         ensures shows { IfOk result
             (λ engine. Shows basin.now engine (placed [] (givens basin.now inputs.now))) }
         ensures kept { IfOk result (λ engine. IsSome engine.trace) }
+        ensures turns { IfOk result (λ engine. engine.turns ≡ 0) }
     {
         let trace = Trace::new(alloc);
         let noted = Noted::for_basin(alloc, basin)?;
@@ -84,6 +87,7 @@ impl Engine {
         ensures made { IfOk result (IsEngineOf basin.now policy.now) }
         ensures shows { IfOk result
             (λ engine. Shows basin.now engine (placed [] (givens basin.now inputs.now))) }
+        ensures turns { IfOk result (λ engine. engine.turns ≡ 0) }
     {
         let trace = Trace::unkept(alloc);
         let noted = Noted::unkept(alloc);
@@ -115,7 +119,26 @@ impl Engine {
             policy,
             predefs,
         };
-        let end = self.state.run_step(&setup, step)?;
+        self.run_step_by(&setup, &Oldest, step, steps)
+    }
+
+    // The same where it is picked who is dispatched.
+    pub(crate) fn run_step_by<L: Ledger, P: Pick>(
+        &mut self,
+        setup: &RunSetup,
+        pick: &P,
+        step: StepNo,
+        steps: &mut Steps<L>,
+    ) -> Result<StepEnd, NoMemory>
+        requires made { IsEngineOf setup.now.basin.now setup.now.policy.now self.old }
+        requires order { AreInOrder
+            (map (λ b. code (b.vtable, b.value)) setup.now.methods.now.methods.items) }
+        requires step { IsStep setup.now.basin.now step.0 }
+        ensures runs { RunsStepBy setup.now.basin.now setup.now.policy.now (P.rule pick.now) step.0
+            self.old self.new result }
+        ensures counted { steps.new ≡ steps.old + steps_of result }
+    {
+        let end = self.state.run_step(setup, pick, step)?;
         steps.tick();
         Ok(end)
     }

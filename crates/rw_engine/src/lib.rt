@@ -1,7 +1,7 @@
 //! Runs. An `Engine` stands for a log of events: it shows what the cells hold after it, the lines of its trace, the last
 //! closed timestep, and the fault if one came. `for_run` places the inputs, `run_step` passes one timestep, and `run_all`
 //! runs them all and hands out what the run comes to. Each event is the one that the definition says follows
-//! (`rw_run`). After want of memory an engine shows the same log as before.
+//! (`rw_run`); `run_by` lets a rule pick who is dispatched. After want of memory an engine shows the same log as before.
 #![tactic(auto)]
 
 mod counts;
@@ -15,9 +15,10 @@ mod setup;
 mod state;
 mod step_end;
 mod trace_lines;
+mod turn;
 
 pub use engine::Engine;
-pub use running::{run_all, run_without_trace};
+pub use running::{run_all, run_by, run_without_trace};
 pub use rw_record::{Held, StepRecord};
 pub use rw_run::{Run, RunEnd, RunFault, Trace, TraceEvent};
 pub use step_end::StepEnd;

@@ -3,7 +3,8 @@ ghost use Rattle.rw_method.specs.Catalogue.{AreInOrder};
 ghost use Rattle.rw_inputs.specs.Inputs.{IsInputsOf};
 ghost use Rattle.rpl_verify.specs.Verified.{verified};
 ghost use Rattle.rw_rules.specs.Rules.{policy_in};
-ghost use Rattle.rw_engine.specs.Passing.{ComesTo, CountsSteps, RunsAll};
+ghost use Rattle.rw_engine.specs.Passing.{ComesTo, CountsSteps};
+ghost use Rattle.rw_engine.specs.Picked.{ComesToPicked, RunsAllBy};
 ghost use Rattle.rw_engine.specs.Shows.{IsEngineOf};
 
 use crate::engine::Engine;
@@ -12,6 +13,7 @@ use crate::step_end::StepEnd;
 use rpl_predef::Predefs;
 use rpl_verify::Verified;
 use rw_base::{Ledger, NoMemory, StepNo, Steps};
+use rw_dispatch::{Oldest, Pick};
 use rw_inputs::Inputs;
 use rw_method::Catalogue;
 use rw_model::Basin;
@@ -19,26 +21,22 @@ use rw_run::Run;
 use std::alloc::Global;
 
 // Passes timestep after timestep, up to the last one or to a fault.
-fn pass_all<L: Ledger>(
+fn pass_all<L: Ledger, P: Pick>(
     mut engine: Engine,
     setup: &RunSetup,
+    pick: &P,
     steps: &mut Steps<L>,
 ) -> Result<Run, NoMemory>
     requires made { IsEngineOf setup.now.basin.now setup.now.policy.now engine }
     requires begun { engine.closed ≡ 0 }
+    requires turns { engine.turns ≡ 0 }
     requires order { AreInOrder
         (map (λ b. code (b.vtable, b.value)) setup.now.methods.now.methods.items) }
-    ensures { RunsAll setup.now.basin.now setup.now.policy.now engine steps.old steps.new result }
+    ensures { RunsAllBy setup.now.basin.now setup.now.policy.now (P.rule pick.now) engine
+        steps.old steps.new result }
 {
     for before in 0..setup.basin.control().stamps.count() {
-        let end = engine.run_step(
-            setup.basin,
-            setup.methods,
-            setup.policy,
-            setup.predefs,
-            StepNo(before + 1),
-            steps,
-        )?;
+        let end = engine.run_step_by(setup, pick, StepNo(before + 1), steps)?;
         match end {
             StepEnd::Closed => {}
             StepEnd::Fault(_) => return Ok(engine.finish()),
@@ -73,7 +71,7 @@ pub fn run_all<L: Ledger>(
         policy,
         predefs,
     };
-    pass_all(engine, &setup, steps)
+    pass_all(engine, &setup, &Oldest, steps)
 }
 
 /// The same without a trace: what the run comes to but for its lines.
@@ -100,5 +98,35 @@ pub fn run_without_trace<L: Ledger>(
         policy,
         predefs,
     };
-    pass_all(engine, &setup, steps)
+    pass_all(engine, &setup, &Oldest, steps)
+}
+
+/// Runs all timesteps as `run_all` does, but where it is picked which of the objects that wait is dispatched.
+pub fn run_by<L: Ledger, P: Pick>(
+    alloc: Global,
+    basin: &Basin,
+    methods: &Catalogue,
+    policy: &Verified,
+    predefs: &Predefs,
+    inputs: &Inputs,
+    pick: &P,
+    steps: &mut Steps<L>,
+) -> Result<Run, NoMemory>
+    requires fits { verified basin.now policy.now.blocks ≡ Ok policy.now }
+    requires order { AreInOrder (map (λ b. code (b.vtable, b.value)) methods.now.methods.items) }
+    requires inputs { IsInputsOf basin.now inputs.now }
+    ensures run { IfOk result (ComesToPicked basin.now
+        (policy_in basin.now policy.now) (P.rule pick.now) inputs.now) }
+    ensures closed { IfOk result (λ run. run.closed ≤ basin.now.control.stamps.count) }
+    ensures kept { IfOk result (λ run. IsSome run.trace) }
+    ensures counted { CountsSteps basin.now steps.old steps.new result }
+{
+    let engine = Engine::for_run(alloc, basin, policy, inputs)?;
+    let setup = RunSetup {
+        basin,
+        methods,
+        policy,
+        predefs,
+    };
+    pass_all(engine, &setup, pick, steps)
 }

@@ -1,4 +1,4 @@
-ghost use Rattle.std.specs.Prelude.{◌≡◌, ◌<◌, ◌∷◌, [], ℕ, List, map, Some, None, Ok, IfOk, IfErr, IfSome, IsSome, is_some};
+ghost use Rattle.std.specs.Prelude.{◌≡◌, ◌<◌, [], ℕ, List, Option, map, Some, None, Ok, IfOk, IfErr, IfSome, IsSome, is_some};
 ghost use Rattle.rw_model.specs.Draft.{Draft};
 ghost use Rattle.rw_method.specs.Catalogue.{AreInOrder};
 ghost use Rattle.rw_inputs.specs.Inputs.{IsInputsOf};
@@ -8,7 +8,11 @@ ghost use Rattle.rw_rules.specs.Firing.{IsRuleTurn};
 ghost use Rattle.rw_run.specs.RunOf.{IsRunOf};
 ghost use Rattle.rw_model.specs.Turn.{IsStep, IsTurn};
 ghost use Rattle.rw_engine.specs.Counts.{count_of};
-ghost use Rattle.rw_engine.specs.Passing.{Replays, RunsStep};
+ghost use Rattle.rw_dispatch.specs.Pick.{picked_at};
+ghost use Rattle.rw_dispatch.specs.Queue.{IsTaken};
+ghost use Rattle.rw_engine.specs.Passing.{Replays};
+ghost use Rattle.rw_run.specs.Runs.{inside};
+ghost use Rattle.rw_engine.specs.Picked.{PicksAt, RunsStepBy};
 ghost use Rattle.rw_engine.specs.Shows.{CanReplay, IsEngineOf, Shows};
 ghost use Rattle.rw_engine.specs.State.{seen, Begins, Does, HasPassed, HasReplayed, HoldsBefore, HoldsDue, HoldsWithin, IsFresh, IsOpened, IsSound, IsStateOf, IsWithinStep, OnlyTells, ended_by, step_end};
 ghost use Rattle.rw_dispatch.specs.Stage.{IsHeldIn};
@@ -21,9 +25,10 @@ use crate::replaying::{retell, write_again};
 use crate::setup::RunSetup;
 use crate::step_end::StepEnd;
 use crate::trace_lines::{tell, tell_firing};
+use crate::turn::next_turn;
 use rpl_verify::Verified;
 use rw_base::{NoMemory, ObjectNo, RuleNo, StepNo};
-use rw_dispatch::{Queue, Workspace, judge_dispatch, make};
+use rw_dispatch::{Pick, Queue, Workspace, judge_dispatch, make};
 use rw_inputs::Inputs;
 use rw_model::Basin;
 use rw_record::{Noted, StepRecord, take_back};
@@ -35,7 +40,7 @@ use std::alloc::Global;
 
 /// What an engine works on. Queue, rules and counts, of dispatches and of firings, are those of the open timestep. What is noted is
 /// at what the events of the last one looked, its lines come behind so many lines of the trace, and where memory wants within it, it
-/// is taken back by both.
+/// is taken back by both. Turns are counted over all timesteps, one a dispatch.
 #[derive(Drop)]
 pub(crate) struct State {
     run: Run,
@@ -46,6 +51,7 @@ pub(crate) struct State {
     firings: Counts,
     noted: Noted,
     lines_before: usize,
+    turns: u64,
 }
 
 impl State {
@@ -85,6 +91,7 @@ impl State {
             firings,
             noted,
             lines_before: 0,
+            turns: 0,
         })
     }
 
@@ -110,7 +117,7 @@ impl State {
         requires within { IsWithinStep setup.now.basin.now setup.now.policy.now self.old }
         requires idle { self.old.queue.waiting ≡ [] }
         requires step { IsStep setup.now.basin.now step.0 }
-        ensures { Does setup.now.basin.now setup.now.policy.now step.0 self.old self.new
+        ensures { Does setup.now.basin.now setup.now.policy.now None step.0 self.old self.new
             (HoldsDue setup.now.basin.now setup.now.policy.now self.old step.0 None) result }
     {
         self.run.trace.push(TraceEvent::Closed(step))?;
@@ -122,9 +129,9 @@ impl State {
     // Ends the run by a limit that is reached.
     fn exceed(&mut self, setup: &RunSetup, step: StepNo, why: RunFault) -> Result<bool, NoMemory>
         requires within { IsWithinStep setup.now.basin.now setup.now.policy.now self.old }
-        ensures { (waits : List ℕ)
-            → Does setup.now.basin.now setup.now.policy.now step.0 self.old self.new
-            (HoldsBefore setup.now.basin.now setup.now.policy.now self.old step.0 waits
+        ensures { (chosen : Option ℕ) (waits : List ℕ)
+            → Does setup.now.basin.now setup.now.policy.now chosen step.0 self.old self.new
+            (HoldsBefore setup.now.basin.now setup.now.policy.now chosen self.old step.0 waits
             (fault why)) result }
     {
         self.run.trace.push(TraceEvent::Fault(why))?;
@@ -164,11 +171,14 @@ impl State {
         requires turn { IsTurn setup.now.basin.now object.0 step.0 }
         requires below { count_of self.old.counts object.0
             < setup.now.basin.now.control.object_limit }
-        ensures { Does setup.now.basin.now setup.now.policy.now step.0 self.old self.new
-            (HoldsWithin setup.now.basin.now setup.now.policy.now self.old step.0
-            (object.0 ∷ self.old.queue.waiting)) result }
+        ensures { (place : ℕ) (waits : List ℕ)
+            → IsTaken place waits object.0 self.old.queue.waiting
+            → Does setup.now.basin.now setup.now.policy.now (Some object.0) step.0
+            self.old self.new
+            (HoldsWithin setup.now.basin.now setup.now.policy.now self.old step.0 waits) result }
     {
         self.counts.raise(object.0);
+        self.turns = next_turn(self.turns);
         let end = judge_dispatch(
             setup.basin,
             setup.methods,
@@ -201,9 +211,11 @@ impl State {
         requires order { AreInOrder
             (map (λ b. code (b.vtable, b.value)) setup.now.methods.now.methods.items) }
         requires turn { IsTurn setup.now.basin.now object.0 step.0 }
-        ensures { Does setup.now.basin.now setup.now.policy.now step.0 self.old self.new
-            (HoldsWithin setup.now.basin.now setup.now.policy.now self.old step.0
-            (object.0 ∷ self.old.queue.waiting)) result }
+        ensures { (place : ℕ) (waits : List ℕ)
+            → IsTaken place waits object.0 self.old.queue.waiting
+            → Does setup.now.basin.now setup.now.policy.now (Some object.0) step.0
+            self.old self.new
+            (HoldsWithin setup.now.basin.now setup.now.policy.now self.old step.0 waits) result }
     {
         let count = self.counts.get(object.0);
         if setup.basin.control().object_limit <= count {
@@ -226,7 +238,7 @@ impl State {
         requires idle { self.old.queue.waiting ≡ [] }
         requires turn { IsRuleTurn setup.now.basin.now setup.now.policy.now rule.0 step.0 }
         requires below { count_of self.old.firings rule.0 < setup.now.basin.now.control.rule_limit }
-        ensures { Does setup.now.basin.now setup.now.policy.now step.0 self.old self.new
+        ensures { Does setup.now.basin.now setup.now.policy.now None step.0 self.old self.new
             (HoldsDue setup.now.basin.now setup.now.policy.now self.old step.0
             (Some rule.0)) result }
     {
@@ -260,7 +272,7 @@ impl State {
         requires within { IsWithinStep setup.now.basin.now setup.now.policy.now self.old }
         requires idle { self.old.queue.waiting ≡ [] }
         requires turn { IsRuleTurn setup.now.basin.now setup.now.policy.now rule.0 step.0 }
-        ensures { Does setup.now.basin.now setup.now.policy.now step.0 self.old self.new
+        ensures { Does setup.now.basin.now setup.now.policy.now None step.0 self.old self.new
             (HoldsDue setup.now.basin.now setup.now.policy.now self.old step.0
             (Some rule.0)) result }
     {
@@ -276,7 +288,7 @@ impl State {
         requires within { IsWithinStep setup.now.basin.now setup.now.policy.now self.old }
         requires idle { self.old.queue.waiting ≡ [] }
         requires step { IsStep setup.now.basin.now step.0 }
-        ensures { Does setup.now.basin.now setup.now.policy.now step.0 self.old self.new
+        ensures { Does setup.now.basin.now setup.now.policy.now None step.0 self.old self.new
             (HoldsWithin setup.now.basin.now setup.now.policy.now self.old step.0
             self.old.queue.waiting) result }
     {
@@ -286,34 +298,43 @@ impl State {
         }
     }
 
-    // The event that follows in the open timestep.
-    fn event(&mut self, setup: &RunSetup, step: StepNo) -> Result<bool, NoMemory>
+    // The event that follows in the open timestep, where one of those that wait is picked.
+    fn event<P: Pick>(&mut self, setup: &RunSetup, pick: &P, step: StepNo) -> Result<bool, NoMemory>
         requires within { IsWithinStep setup.now.basin.now setup.now.policy.now self.old }
         requires order { AreInOrder
             (map (λ b. code (b.vtable, b.value)) setup.now.methods.now.methods.items) }
         requires step { IsStep setup.now.basin.now step.0 }
-        ensures { Does setup.now.basin.now setup.now.policy.now step.0 self.old self.new
+        ensures does { Does setup.now.basin.now setup.now.policy.now
+            (picked_at (P.rule pick.now) self.old.turns self.old.queue.waiting)
+            step.0 self.old self.new
             (HoldsWithin setup.now.basin.now setup.now.policy.now self.old step.0
             self.old.queue.waiting) result }
+        ensures picks { PicksAt (P.rule pick.now) self.old.turns self.old.queue.waiting
+            (inside step.0) }
     {
-        match self.queue.next() {
+        match self.queue.next_by(pick, self.turns) {
             Some(object) => self.ask(setup, object, step),
             None => self.turn_to_rules(setup, step),
         }
     }
 
     // The events of a timestep, of which the first opens it.
-    fn pass(&mut self, setup: &RunSetup, step: StepNo) -> Result<StepEnd, NoMemory>
+    fn pass<P: Pick>(
+        &mut self,
+        setup: &RunSetup,
+        pick: &P,
+        step: StepNo,
+    ) -> Result<StepEnd, NoMemory>
         requires fresh { IsFresh setup.now.basin.now setup.now.policy.now self.old }
         requires order { AreInOrder
             (map (λ b. code (b.vtable, b.value)) setup.now.methods.now.methods.items) }
         requires step { IsStep setup.now.basin.now step.0 }
-        ensures { HasPassed setup.now.basin.now setup.now.policy.now step.0
+        ensures { HasPassed setup.now.basin.now setup.now.policy.now (P.rule pick.now) step.0
             self.old self.new result }
     {
         self.open(setup, step)?;
         loop {
-            let ended = self.event(setup, step)?;
+            let ended = self.event(setup, pick, step)?;
             if ended {
                 return Ok(self.step_end());
             }
@@ -321,18 +342,23 @@ impl State {
     }
 
     /// Passes a timestep, and takes back what was done in it where memory wants for the rest.
-    pub(crate) fn run_step(&mut self, setup: &RunSetup, step: StepNo) -> Result<StepEnd, NoMemory>
+    pub(crate) fn run_step<P: Pick>(
+        &mut self,
+        setup: &RunSetup,
+        pick: &P,
+        step: StepNo,
+    ) -> Result<StepEnd, NoMemory>
         requires made { IsStateOf setup.now.basin.now setup.now.policy.now self.old }
         requires order { AreInOrder
             (map (λ b. code (b.vtable, b.value)) setup.now.methods.now.methods.items) }
         requires step { IsStep setup.now.basin.now step.0 }
         ensures made { IsStateOf setup.now.basin.now setup.now.policy.now self.new }
-        ensures runs { RunsStep setup.now.basin.now setup.now.policy.now step.0
+        ensures runs { RunsStepBy setup.now.basin.now setup.now.policy.now (P.rule pick.now) step.0
             (seen self.old) (seen self.new) result }
     {
         self.noted.begin_step();
         self.lines_before = self.run.trace.len();
-        match self.pass(setup, step) {
+        match self.pass(setup, pick, step) {
             Ok(end) => Ok(end),
             Err(NoMemory) => {
                 self.run.trace.truncate(self.lines_before);

@@ -1,6 +1,7 @@
 use Rattle.rw_engine.proofs.Common.{IsSome, RunControl, ap, arith, end_of, subst, sym, ◌+◌, ◌<◌, ◌∙◌, ◌∷◌, ◌≡◌}
 use Rattle.rw_rules.specs.Rules.{policy_in}
 use Rattle.rw_engine.proofs.Runs.{before_step, comes_faulted, comes_settled, counted_fault, counted_settled, stands_first, stands_next, unrun}
+use Rattle.rw_engine.proofs.Turns.{few_turns, more_turns}
 use Rattle.rw_engine.proofs.running.pass_all.Goals as goal
 
 pub loop-before-init : goal.loop-before-init
@@ -9,7 +10,8 @@ loop-before-init g c = record {
   kept = λ kept. kept;
   last = c.requires.begun;
   steps = omega arith;
-  stands = λ inputs shows. stands_first c.args.setup.now.basin.now (policy_in c.args.setup.now.basin.now c.args.setup.now.policy.now) inputs c.args.engine shows;
+  few = let none = c.requires.turns in omega (arith, none);
+  stands = λ inputs shows. stands_first c.args.setup.now.basin.now (policy_in c.args.setup.now.basin.now c.args.setup.now.policy.now) _ inputs c.args.engine shows c.requires.turns;
 }
 
 pub loop-before-preserved : goal.loop-before-preserved
@@ -20,12 +22,13 @@ loop-before-preserved g c =
     let was = c.loop-before.invariant.steps in
     let more = c.in_ok-end.ensures.counted in
     record {
-      made = c.run_step.ensures.runs.made;
-      kept = λ kept. c.run_step.ensures.runs.kept (c.loop-before.invariant.kept kept);
+      made = c.run_step_by.ensures.runs.made;
+      kept = λ kept. c.run_step_by.ensures.runs.kept (c.loop-before.invariant.kept kept);
+      few = more_turns basin c.loop-before.before _ _ c.in_ok-end.ensures.runs.few c.loop-before.invariant.few;
       last = rw c.in-Closed.is at c.in_ok-end.ensures.runs.closed_steps;
       steps = omega (arith, was, more);
       stands = λ inputs shows. let stands = c.loop-before.invariant.stands inputs shows in
-          stands_next basin (policy_in basin c.args.setup.now.policy.now) inputs c.loop-before.engine c.run_step.new.self c.loop-before.before stands
+          stands_next basin (policy_in basin c.args.setup.now.policy.now) _ inputs c.loop-before.engine c.run_step_by.new.self c.loop-before.before stands
           (rw c.in-Closed.is at c.in_ok-end.ensures.runs.passes stands.log stands.shows (before_step basin stands.log c.loop-before.before stands.rest near));
     }
 
@@ -36,7 +39,7 @@ returns-in_err-end g c =
     let value = c.count-before-end.ensures.value in
     let was = c.loop-before.invariant.steps in
     let none = c.in_err-end.ensures.counted in
-    unrun c.args.setup.now.basin.now c.args.setup.now.policy.now c.args.engine _ _ c.from_residual.result _ c.from_residual.ensures.1
+    unrun c.args.setup.now.basin.now c.args.setup.now.policy.now _ c.args.engine _ _ c.from_residual.result _ c.from_residual.ensures.1
     (omega (arith, was, none)) (omega (arith, steps, test, value, was, none))
 
 pub returns-in-Fault : goal.returns-in-Fault
@@ -48,21 +51,22 @@ returns-in-Fault g c =
     let near : before < basin.control.stamps.count = let test = c.loop-before-test.true in let value = c.count-before-end.ensures.value in omega arith in
     let was = c.loop-before.invariant.steps in
     let more = c.in_ok-end.ensures.counted in
-    let made = c.run_step.ensures.runs.made in record {
+    let made = c.run_step_by.ensures.runs.made in record {
       comes = λ inputs shows.
           let stands = c.loop-before.invariant.stands inputs shows in
           let passes = rw c.in-Fault.is at c.in_ok-end.ensures.runs.passes stands.log stands.shows (before_step basin stands.log before stands.rest near) in
-          comes_faulted basin (policy_in basin policy) inputs c.loop-before.engine c.run_step.new.self before (before + 1) c.in-Fault.field-0 c.finish.result stands passes
+          comes_faulted basin (policy_in basin policy) _ inputs c.loop-before.engine c.run_step_by.new.self before (before + 1) c.in-Fault.field-0 c.finish.result stands passes
+          (few_turns basin (before + 1) c.run_step_by.new.self.turns made.valid (omega (arith, near)) (more_turns basin before _ _ c.in_ok-end.ensures.runs.few c.loop-before.invariant.few))
           (c.finish.ensures.run basin policy (passes.last ∷ passes.before) made passes.shows);
       opened_steps = λ inputs shows.
           let stands = c.loop-before.invariant.stands inputs shows in
           let passes = rw c.in-Fault.is at c.in_ok-end.ensures.runs.passes stands.log stands.shows (before_step basin stands.log before stands.rest near) in
           let is = c.finish.ensures.run basin policy (passes.last ∷ passes.before) made passes.shows in
-          let last : c.run_step.new.self.closed ≡ c.loop-before.engine.closed = rw c.in-Fault.is at c.in_ok-end.ensures.runs.closed_steps in
+          let last : c.run_step_by.new.self.closed ≡ c.loop-before.engine.closed = rw c.in-Fault.is at c.in_ok-end.ensures.runs.closed_steps in
           counted_fault _ _ before c.finish.result.end c.finish.result.closed c.in-Fault.field-0
           (is.end ∙ ap (λ event. end_of (event ∷ passes.before)) passes.ends) (c.finish.ensures.same.0 ∙ last ∙ c.loop-before.invariant.last) was more;
       closed_steps = c.finish.ensures.closed basin policy made;
-      kept = λ kept. subst (λ trace. IsSome trace) (sym c.finish.ensures.same.1) (c.run_step.ensures.runs.kept (c.loop-before.invariant.kept kept));
+      kept = λ kept. subst (λ trace. IsSome trace) (sym c.finish.ensures.same.1) (c.run_step_by.ensures.runs.kept (c.loop-before.invariant.kept kept));
       rises = omega (arith, was, more);
       few = omega (arith, near, was, more);
     }
@@ -79,7 +83,8 @@ returns g c =
     let made = c.loop-before.invariant.made in record {
       comes = λ inputs shows.
           let stands = c.loop-before.invariant.stands inputs shows in
-          comes_settled basin (policy_in basin policy) inputs c.loop-before.engine before c.finish-2.result stands last
+          comes_settled basin (policy_in basin policy) _ inputs c.loop-before.engine before c.finish-2.result stands last
+          (few_turns basin before c.loop-before.engine.turns made.valid (omega (arith, last)) c.loop-before.invariant.few)
           (c.finish-2.ensures.run basin policy stands.log made stands.shows);
       opened_steps = λ inputs shows.
           let stands = c.loop-before.invariant.stands inputs shows in

@@ -1,5 +1,7 @@
 use Rattle.rw_engine.proofs.Common.{[], givens, ◌∙◌}
 use Rattle.rw_run.proofs.Placed.{closed-placed}
+use Rattle.rw_rules.specs.Rules.{policy_in}
+use Rattle.rw_engine.proofs.Oldest.{comes_run}
 use Rattle.rw_engine.proofs.running.run_without_trace.Goals as goal
 
 pub pass_all-requires-clause-begun : goal.pass_all-requires-clause-begun
@@ -7,7 +9,8 @@ pass_all-requires-clause-begun g c =
     c.in_ok-engine.ensures.shows.closed_steps ∙ closed-placed [] (givens c.args.basin.now c.args.inputs.now)
 
 pub returns-clause-run : goal.returns-clause-run
-returns-clause-run g c = c.pass_all.ensures.comes c.args.inputs.now c.in_ok-engine.ensures.shows
+returns-clause-run g c =
+    comes_run c.args.basin.now (policy_in c.args.basin.now c.args.policy.now) c.args.inputs.now c.pass_all.result (c.pass_all.ensures.comes c.args.inputs.now c.in_ok-engine.ensures.shows)
 
 pub returns-clause-counted : goal.returns-clause-counted
 returns-clause-counted g c = record {

@@ -1,6 +1,5 @@
-use Rattle.std.proofs.Common.{arith}
-use Rattle.rw_engine.proofs.Steps.{none_counted}
+use Rattle.rw_engine.proofs.Oldest.{runs_oldest}
 use Rattle.rw_engine.proofs.engine.Engine.run_step.Goals as goal
 
-pub returns-in_err-end-clause-counted : goal.returns-in_err-end-clause-counted
-returns-in_err-end-clause-counted g c = let none = none_counted c.from_residual.result _ c.from_residual.ensures.1 in omega (arith, none)
+pub returns-clause-runs : goal.returns-clause-runs
+returns-clause-runs g c = runs_oldest c.args.basin.now c.args.policy.now c.args.step.0 _ _ c.run_step_by.result c.run_step_by.ensures.runs

@@ -1,4 +1,4 @@
-use Rattle.rw_engine.proofs.Common.{Leaves, [], ap, held, lines_by, refl, stage, subst, sym, ◌++◌, ◌∙◌}
+use Rattle.rw_engine.proofs.Common.{Leaves, Some, [], ap, held, lines_by, refl, stage, subst, sym, ◌++◌, ◌∙◌}
 use Rattle.rw_run.specs.Trace.{told}
 use Rattle.rw_run.specs.Dispatch.{dispatched, looked_cells, looks_of}
 use Rattle.rw_run.specs.Step.{cells_reached, reached_by}
@@ -9,6 +9,7 @@ use Rattle.rw_engine.proofs.After.{counted, keeps_noted, keeps_done, keeps_ended
 use Rattle.rw_engine.proofs.Events.{next_is, goes_to}
 use Rattle.rw_engine.proofs.Notings.{dispatch_asks, dispatch_reached, ended_noted, notes_same, written_reached}
 use Rattle.rw_engine.proofs.Traces.{told_none}
+use Rattle.rw_engine.proofs.Turns.{counts_dispatch, counts_ended, few_ended, few_object}
 use Rattle.rw_rules.specs.Rules.{policy_in}
 use Rattle.rw_engine.proofs.state.State.act.Goals as goal
 
@@ -17,22 +18,22 @@ note_dispatch-requires-clause-can g c kept =
     subst (AreWrites c.args.setup.now.basin.now) (sym c.as_slice-asked.ensures) (c.judge_dispatch-end.ensures.work.can_ask (c.requires.within.made.keeps ∙ kept))
 
 pub returns-in_err-note_dispatch : goal.returns-in_err-note_dispatch
-returns-in_err-note_dispatch g c =
+returns-in_err-note_dispatch g c = λ place waits taken.
     let basin = c.args.setup.now.basin.now in
     let policy = c.args.setup.now.policy.now in
     let old = c.args.self.now in
-    wanted basin policy c.args.step.0 old _ _ c.from_residual.result _ c.from_residual.ensures.1
+    wanted basin policy (Some c.args.object.0) c.args.step.0 old _ _ c.from_residual.result _ c.from_residual.ensures.1
     (keeps_noted basin policy old _ c.requires.within
     (stays_counted basin policy old _ c.args.object.0 c.raise.ensures refl c.requires.within.made.engine.rules refl c.judge_dispatch-end.ensures.work.keeps refl)
     c.requires.within.indexed refl refl ([], sym (told_none _)) c.in_err-note_dispatch.ensures.1)
     (record { closed_steps = refl; end = refl }) (sym c.requires.within.made.engine.notes ∙ c.in_err-note_dispatch.ensures.0)
 
 pub returns-in_err-fault : goal.returns-in_err-fault
-returns-in_err-fault g c =
+returns-in_err-fault g c = λ place waits taken.
     let basin = c.args.setup.now.basin.now in
     let policy = c.args.setup.now.policy.now in
     let old = c.args.self.now in
-    wanted basin policy c.args.step.0 old _ _ c.from_residual-in_err-fault.result _ c.from_residual-in_err-fault.ensures.1
+    wanted basin policy (Some c.args.object.0) c.args.step.0 old _ _ c.from_residual-in_err-fault.result _ c.from_residual-in_err-fault.ensures.1
     (keeps_noted basin policy old _ c.requires.within
     (stays_counted basin policy old _ c.args.object.0 c.raise.ensures refl c.requires.within.made.engine.rules refl c.judge_dispatch-end.ensures.work.keeps refl)
     c.requires.within.indexed refl refl c.tell.ensures.grows
@@ -53,7 +54,7 @@ leaves g c =
     c.wake_written.ensures.woken
 
 pub returns : goal.returns
-returns g c =
+returns g c = λ place waits taken.
     let basin = c.args.setup.now.basin.now in
     let policy = c.args.setup.now.policy.now in
     let old = c.args.self.now in
@@ -80,9 +81,9 @@ returns g c =
       on_the_way = on_the_way_object basin step old _ c.in_ok-fault.fault object (counted basin policy old object within known) c.requires.below c.raise.ensures refl refl refl;
       goes = λ log holds. record {
         event = event;
-        follows = next_is basin (policy_in basin policy) cells step log object old.queue.waiting (sym holds.queue) (λ i cell. holds.shows.cells cell i)
+        follows = next_is basin (policy_in basin policy) cells step log object (λ i cell. holds.shows.cells cell i)
             (rw (← holds.counts object known) c.requires.below);
-        goes = goes_to basin policy old _ (looks_of basin cells object step) step object old.queue.waiting log event c.judge_dispatch-end.result holds (record {
+        goes = goes_to basin policy old _ (looks_of basin cells object step) step object place waits old.queue.waiting log event c.judge_dispatch-end.result taken holds (record {
           told = record {
             is = c.judge_dispatch-end.ensures.ends;
             cells = made.cells;
@@ -100,6 +101,11 @@ returns g c =
             (λ kept. dispatch_reached basin cells object step asked (λ calm. c.as_slice-asked.ensures ∙ work.asked (within.made.keeps ∙ kept) calm) calm);
         asks = asks;
         can = subst (AreWrites basin) work.writes work.can;
+        turned = counts_ended old.turns _ event c.in_ok-fault.fault
+            (counts_dispatch basin (looks_of basin cells object step) object step old.turns _ event c.judge_dispatch-end.result c.judge_dispatch-end.ensures.ends
+            c.next_turn-self.ensures.is c.next_turn-self.ensures.rises);
       };
+      few = few_ended basin old _ c.in_ok-fault.fault
+          (few_object basin old c.raise.new.self c.next_turn-self.result object (counted basin policy old object within known) c.requires.below c.raise.ensures c.next_turn-self.ensures.few);
       wants = tt;
     })

@@ -1,4 +1,4 @@
-use Rattle.rw_engine.proofs.Common.{All-nil, None, [], closed, held, lines, refl, sym, trace_of, ◌∙◌}
+use Rattle.rw_engine.proofs.Common.{All-nil, None, [], arith, closed, held, lines, refl, sym, trace_of, ◌∙◌}
 use Rattle.rw_rules.specs.Rules.{policy_in}
 use Rattle.rw_engine.proofs.After.{only_told, wanted}
 use Rattle.rw_engine.proofs.Firings.{after_all}
@@ -11,7 +11,7 @@ returns-in_err-push g c =
     let basin = c.args.setup.now.basin.now in
     let policy = c.args.setup.now.policy.now in
     let old = c.args.self.now in
-    wanted basin policy c.args.step.0 old _ _ c.from_residual.result _ c.from_residual.ensures.1
+    wanted basin policy None c.args.step.0 old _ _ c.from_residual.result _ c.from_residual.ensures.1
     (only_told basin policy old c.push.new.self c.requires.within ([], c.in_err-push.ensures.unchanged ∙ sym (told_none old.run.trace)))
     (record { closed_steps = refl; end = refl }) c.in_err-push.ensures.wants
 
@@ -49,7 +49,7 @@ returns g c =
       on_the_way = refl;
       goes = λ log given. record {
         event = closed step;
-        follows = after_all basin (policy_in basin c.args.setup.now.policy.now) (held old.run.series) step log None (sym given.0.queue ∙ c.requires.idle)
+        follows = after_all basin (policy_in basin c.args.setup.now.policy.now) (held old.run.series) step log None
             (λ i cell. given.0.shows.cells cell i) given.1;
         goes = (
           refl,
@@ -63,6 +63,8 @@ returns g c =
         notes = λ calm. sym (with_none (held old.run.series) old.noted);
         asks = none_written (closed step) refl;
         can = All-nil _;
+        turned = record { least = omega arith; same = λ calm. refl };
       };
+      few = omega arith;
       wants = tt;
     }

@@ -1,20 +1,20 @@
-use Rattle.rw_engine.proofs.Common.{All-nil, Some, [], fault, lines, refl, sym, trace_of, ◌∙◌}
+use Rattle.rw_engine.proofs.Common.{All-nil, Some, [], arith, fault, lines, refl, sym, trace_of, ◌∙◌}
 use Rattle.rw_engine.proofs.After.{keeps_ended, only_told, wanted}
 use Rattle.rw_engine.proofs.Notings.{none_written}
 use Rattle.rw_engine.proofs.Traces.{shown_more, told_none}
 use Rattle.rw_engine.proofs.state.State.exceed.Goals as goal
 
 pub returns-in_err-push : goal.returns-in_err-push
-returns-in_err-push g c = λ waits.
+returns-in_err-push g c = λ chosen waits.
     let basin = c.args.setup.now.basin.now in
     let policy = c.args.setup.now.policy.now in
     let old = c.args.self.now in
-    wanted basin policy c.args.step.0 old _ _ c.from_residual.result _ c.from_residual.ensures.1
+    wanted basin policy chosen c.args.step.0 old _ _ c.from_residual.result _ c.from_residual.ensures.1
     (only_told basin policy old c.push.new.self c.requires.within ([], c.in_err-push.ensures.unchanged ∙ sym (told_none old.run.trace)))
     (record { closed_steps = refl; end = refl }) c.in_err-push.ensures.wants
 
 pub returns : goal.returns
-returns g c = λ waits.
+returns g c = λ chosen waits.
     let basin = c.args.setup.now.basin.now in
     let policy = c.args.setup.now.policy.now in
     let old = c.args.self.now in
@@ -37,6 +37,8 @@ returns g c = λ waits.
         notes = λ calm. absurd (calm tt);
         asks = none_written (fault why) refl;
         can = All-nil _;
+        turned = record { least = omega arith; same = λ calm. absurd (calm tt) };
       };
+      few = omega arith;
       wants = tt;
     }

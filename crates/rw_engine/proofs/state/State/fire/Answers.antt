@@ -1,4 +1,4 @@
-use Rattle.rw_engine.proofs.Common.{Cell, IsCounted, None, Some, [], ap, held, last_put, lines_of_rule, option_or, refl, subst, sym, true, written_by, ◌++◌, ◌∙◌, ◌∷◌, ◌≤◌}
+use Rattle.rw_engine.proofs.Common.{Cell, IsCounted, None, Some, [], ap, held, last_put, lines_of_rule, arith, option_or, refl, subst, sym, true, written_by, ◌++◌, ◌∙◌, ◌∷◌, ◌≤◌}
 use Rattle.rw_run.specs.Log.{Firing, fired}
 use Rattle.rw_run.specs.Next.{ended}
 use Rattle.rw_run.specs.Trace.{told}
@@ -12,6 +12,7 @@ use Rattle.rw_engine.proofs.After.{keeps_noted, keeps_done, keeps_ended, on_the_
 use Rattle.rw_engine.proofs.Firings.{after_all, fired_on, looks_on, rule_fires}
 use Rattle.rw_engine.proofs.Notings.{ended_noted, firing_asks, firing_reached, notes_same, written_reached}
 use Rattle.rw_engine.proofs.Traces.{told_none}
+use Rattle.rw_engine.proofs.Turns.{counts_ended, counts_firing, few_ended}
 use Rattle.rw_engine.proofs.state.State.fire.Goals as goal
 
 pub raise-requires-clause-known : goal.raise-requires-clause-known
@@ -33,7 +34,7 @@ returns-in_err-note_firing g c =
     let basin = c.args.setup.now.basin.now in
     let policy = c.args.setup.now.policy.now in
     let old = c.args.self.now in
-    wanted basin policy c.args.step.0 old _ _ c.from_residual.result _ c.from_residual.ensures.1
+    wanted basin policy None c.args.step.0 old _ _ c.from_residual.result _ c.from_residual.ensures.1
     (keeps_noted basin policy old _ c.requires.within
     (stays_fired basin policy old _ c.args.rule.0 c.raise.ensures refl c.fire-fired.ensures.made refl refl refl)
     (c.fire-fired.ensures.keeps.indexed c.requires.within.indexed) refl refl ([], sym (told_none _)) c.in_err-note_firing.ensures.1)
@@ -44,7 +45,7 @@ returns-in_err-fault g c =
     let basin = c.args.setup.now.basin.now in
     let policy = c.args.setup.now.policy.now in
     let old = c.args.self.now in
-    wanted basin policy c.args.step.0 old _ _ c.from_residual-in_err-fault.result _ c.from_residual-in_err-fault.ensures.1
+    wanted basin policy None c.args.step.0 old _ _ c.from_residual-in_err-fault.result _ c.from_residual-in_err-fault.ensures.1
     (keeps_noted basin policy old _ c.requires.within
     (stays_fired basin policy old _ c.args.rule.0 c.raise.ensures refl c.fire-fired.ensures.made refl refl refl)
     (c.fire-fired.ensures.keeps.indexed c.requires.within.indexed) refl refl c.tell_firing.ensures.grows
@@ -87,7 +88,7 @@ returns g c =
           let holds = given.0 in
           let written = tells.written in record {
             event = event;
-            follows = after_all basin (policy_in basin policy) cells step log _ (sym holds.queue ∙ c.requires.idle) (λ i cell. holds.shows.cells cell i) given.1
+            follows = after_all basin (policy_in basin policy) cells step log _ (λ i cell. holds.shows.cells cell i) given.1
                 ∙ rule_fires basin (policy_in basin policy) cells step log rule (rw (← holds.firings rule turn.first) c.requires.below)
                 ∙ tells.event;
             goes = fired_on basin policy old _ rule step log fire holds refl c.fire-fired.result.end tells.end c.in_ok-fault.fault c.in_ok-fault.ensures.fault (record {
@@ -107,6 +108,8 @@ returns g c =
             notes = λ calm. ended_noted c.in_ok-fault.fault _ ∙ notes_same cells reached (reached_by basin event) old.noted _ c.in_ok-note_firing.ensures (λ kept. reaches calm);
             asks = asks;
             can = subst (AreWrites basin) written c.fire-fired.ensures.can;
+            turned = counts_ended old.turns _ event c.in_ok-fault.fault (counts_firing basin cells rule step fire old.turns fire.end);
           };
+      few = few_ended basin old _ c.in_ok-fault.fault (omega arith);
       wants = tt;
     })

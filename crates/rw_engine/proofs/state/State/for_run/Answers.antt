@@ -19,4 +19,5 @@ returns-clause-begun c =
         closed_steps = sym (closed-placed [] given);
         end = sym (end-placed [] given refl);
       };
+      turns = refl;
     }

@@ -1,4 +1,4 @@
-use Rattle.rw_engine.proofs.Common.{held, rules, subst, sym, ◌∙◌, ◌≤◌}
+use Rattle.rw_engine.proofs.Common.{None, held, rules, subst, sym, ◌∙◌, ◌≤◌}
 use Rattle.rw_rules.specs.Rules.{policy_in}
 use Rattle.rw_engine.proofs.Firings.{after_all, rule_stops}
 use Rattle.rw_engine.proofs.state.State.let_fire.Goals as goal
@@ -13,14 +13,15 @@ pub returns-then-control-count : goal.returns-then-control-count
 returns-then-control-count g c =
     let basin = c.args.setup.now.basin.now in
     let old = c.args.self.now in
-    let does = c.exceed.ensures old.queue.waiting in record {
+    let does = c.exceed.ensures None old.queue.waiting in record {
       keeps = does.keeps;
       on_the_way = does.on_the_way;
       goes = λ log given. does.goes log (
         given.0,
-        after_all basin (policy_in basin c.args.setup.now.policy.now) (held old.run.series) c.args.step.0 log _ (sym given.0.queue ∙ c.requires.idle) (λ i cell. given.0.shows.cells cell i) given.1
+        after_all basin (policy_in basin c.args.setup.now.policy.now) (held old.run.series) c.args.step.0 log _ (λ i cell. given.0.shows.cells cell i) given.1
             ∙ rule_stops basin (policy_in basin c.args.setup.now.policy.now) (held old.run.series) c.args.step.0 log c.args.rule.0 _
             (c.get-count.ensures ∙ given.0.firings c.args.rule.0 c.requires.turn.first) (search rules),
       );
+      few = does.few;
       wants = does.wants;
     }

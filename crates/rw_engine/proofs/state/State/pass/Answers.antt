@@ -4,6 +4,7 @@ use Rattle.rw_engine.specs.State.{step_end}
 use Rattle.rw_engine.proofs.Notings.{notes_first, revocable_first}
 use Rattle.rw_engine.proofs.Steps.{ends_step, goes_back_more, reached_more, still_more, unpassed}
 use Rattle.rw_engine.proofs.Traces.{kept_before}
+use Rattle.rw_engine.proofs.Turns.{few_first, few_last, few_more}
 use Rattle.rw_engine.proofs.state.State.pass.Goals as goal
 
 pub loop-ended-init : goal.loop-ended-init
@@ -17,6 +18,7 @@ loop-ended-init g c =
         events = [];
         now = opened c.args.step.0 ∷ log;
         leads = refl;
+        turned = tells.turns;
         holds = c.in_ok-open.ensures.opened.holds log shows before;
         inside_step = tt;
         notes = notes_first c.args.setup.now.basin.now (cells_of c.args.setup.now.basin.now log) (held new.run.series) new.noted
@@ -28,38 +30,41 @@ loop-ended-init g c =
         lines_before = tells.lines_before;
         grows = tells.grows;
       };
+      few = few_first c.args.setup.now.basin.now old new tells.turns c.in_ok-open.ensures.opened.within.made.counts;
       still = record { closed_steps = tells.closed_steps; end = tells.end };
     }
 
 pub returns-then-ended : goal.returns-then-ended
 returns-then-ended g c =
     let end = step_end c.event.new.self.run.end in
-    let back = goes_back_more c.args.setup.now.basin.now c.args.setup.now.policy.now c.args.self.now c.loop-ended.self c.event.new.self c.loop-ended.invariant.back c.event.ensures.keeps in
+    let back = goes_back_more c.args.setup.now.basin.now c.args.setup.now.policy.now c.args.self.now c.loop-ended.self c.event.new.self c.loop-ended.invariant.back c.event.ensures.does.keeps in
     rw c.step_end.ensures (record {
-      made = c.event.ensures.keeps.within.made;
+      made = c.event.ensures.does.keeps.within.made;
       back = back;
       still = tt;
       passes = λ log shows before.
-          ends_step c.args.setup.now.basin.now c.args.setup.now.policy.now log c.args.self.now c.loop-ended.self c.event.new.self c.args.step.0 end
-          (c.loop-ended.invariant.reached log shows before) (λ l holds. rw c.if-ended.true at c.in_ok-ended.ensures.goes l holds) shows before
-          back.grows c.event.ensures.keeps.within.made.engine.notes (back.lines_before ∙ c.requires.fresh.lines_before);
-      closed_steps = (rw c.if-ended.true at c.in_ok-ended.ensures.on_the_way) ∙ ap (closed_by end c.args.step.0) c.loop-ended.invariant.still.closed_steps;
+          ends_step c.args.setup.now.basin.now c.args.setup.now.policy.now _ c.args.self.now.turns log c.args.self.now c.loop-ended.self c.event.new.self c.args.step.0 end
+          (c.loop-ended.invariant.reached log shows before) (λ l holds. rw c.if-ended.true at c.in_ok-ended.ensures.does.goes l holds) c.event.ensures.picks shows before
+          back.grows c.event.ensures.does.keeps.within.made.engine.notes (back.lines_before ∙ c.requires.fresh.lines_before);
+      closed_steps = (rw c.if-ended.true at c.in_ok-ended.ensures.does.on_the_way) ∙ ap (closed_by end c.args.step.0) c.loop-ended.invariant.still.closed_steps;
+      few = few_last c.args.setup.now.basin.now c.loop-ended.self c.event.new.self _ c.in_ok-ended.ensures.does.few c.loop-ended.invariant.few;
       wants = tt;
     })
 
 pub returns-in_err-ended : goal.returns-in_err-ended
 returns-in_err-ended g c =
-    unpassed c.args.setup.now.basin.now c.args.setup.now.policy.now c.args.step.0 c.args.self.now c.event.new.self c.from_residual-in_err-ended.result _
-    c.from_residual-in_err-ended.ensures.1 c.event.ensures.keeps.within.made
-    (goes_back_more c.args.setup.now.basin.now c.args.setup.now.policy.now c.args.self.now c.loop-ended.self c.event.new.self c.loop-ended.invariant.back c.event.ensures.keeps)
-    (still_more c.args.self.now c.loop-ended.self c.event.new.self c.loop-ended.invariant.still c.in_err-ended.ensures.on_the_way)
-    (kept_before c.args.self.now.run.trace c.loop-ended.self.run.trace c.loop-ended.invariant.back.grows c.in_err-ended.ensures.wants)
+    unpassed c.args.setup.now.basin.now c.args.setup.now.policy.now _ c.args.step.0 c.args.self.now c.event.new.self c.from_residual-in_err-ended.result _
+    c.from_residual-in_err-ended.ensures.1 c.event.ensures.does.keeps.within.made
+    (goes_back_more c.args.setup.now.basin.now c.args.setup.now.policy.now c.args.self.now c.loop-ended.self c.event.new.self c.loop-ended.invariant.back c.event.ensures.does.keeps)
+    (still_more c.args.self.now c.loop-ended.self c.event.new.self c.loop-ended.invariant.still c.in_err-ended.ensures.does.on_the_way)
+    (kept_before c.args.self.now.run.trace c.loop-ended.self.run.trace c.loop-ended.invariant.back.grows c.in_err-ended.ensures.does.wants)
 
 pub loop-ended-preserved : goal.loop-ended-preserved
 loop-ended-preserved g c = record {
-  within = c.event.ensures.keeps.within;
-  reached = λ log shows before. reached_more c.args.setup.now.basin.now c.args.setup.now.policy.now log c.loop-ended.self c.event.new.self c.args.step.0 (c.loop-ended.invariant.reached log shows before)
-      (λ l holds. rw c.if-ended.false at c.in_ok-ended.ensures.goes l holds);
-  back = goes_back_more c.args.setup.now.basin.now c.args.setup.now.policy.now c.args.self.now c.loop-ended.self c.event.new.self c.loop-ended.invariant.back c.event.ensures.keeps;
-  still = still_more c.args.self.now c.loop-ended.self c.event.new.self c.loop-ended.invariant.still (rw c.if-ended.false at c.in_ok-ended.ensures.on_the_way).0;
+  within = c.event.ensures.does.keeps.within;
+  reached = λ log shows before. reached_more c.args.setup.now.basin.now c.args.setup.now.policy.now _ c.args.self.now.turns log c.loop-ended.self c.event.new.self c.args.step.0 (c.loop-ended.invariant.reached log shows before)
+      (λ l holds. rw c.if-ended.false at c.in_ok-ended.ensures.does.goes l holds) c.event.ensures.picks;
+  few = few_more c.args.setup.now.basin.now c.loop-ended.self c.event.new.self _ c.in_ok-ended.ensures.does.few c.loop-ended.invariant.few;
+  back = goes_back_more c.args.setup.now.basin.now c.args.setup.now.policy.now c.args.self.now c.loop-ended.self c.event.new.self c.loop-ended.invariant.back c.event.ensures.does.keeps;
+  still = still_more c.args.self.now c.loop-ended.self c.event.new.self c.loop-ended.invariant.still (rw c.if-ended.false at c.in_ok-ended.ensures.does.on_the_way).0;
 }

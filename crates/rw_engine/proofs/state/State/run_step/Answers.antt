@@ -70,6 +70,7 @@ returns-in-Ok-clause-runs g c = record {
   before = λ log shows. tt;
   kept = kept_on c.args.self.now.run.trace c.pass.new.self.run.trace c.pass.ensures.back.grows;
   closed_steps = c.in-Ok.ensures.closed_steps;
+  few = c.in-Ok.ensures.few;
 }
 
 pub returns-in-Err-clause-runs : goal.returns-in-Err-clause-runs
@@ -84,4 +85,5 @@ returns-in-Err-clause-runs g c = record {
   };
   kept = subst (λ trace. IsSome trace) (sym (same g c));
   closed_steps = tt;
+  few = tt;
 }

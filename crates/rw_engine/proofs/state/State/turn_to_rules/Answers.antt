@@ -25,6 +25,7 @@ returns-in-Some g c =
         sym (c.due.ensures.due basin policy log c.requires.within.made.engine.rules holds.looks)
             ∙ ap (option_map (λ (rule : RuleNo). rule.0)) c.in-Some.is,
       );
+      few = does.few;
       wants = does.wants;
     }
 
@@ -40,5 +41,6 @@ returns-in-None g c =
         sym (c.due.ensures.due basin policy log c.requires.within.made.engine.rules holds.looks)
             ∙ ap (option_map (λ (rule : RuleNo). rule.0)) c.in-None.is,
       );
+      few = does.few;
       wants = does.wants;
     }
