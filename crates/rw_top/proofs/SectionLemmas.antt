@@ -1,11 +1,10 @@
 -- Sections that are written one behind another.
-use Rattle.rw_top.proofs.Common.{Change, Err, Files, GrowsBy, GrowsBy-trans, IsRunText, IsSomeAnd, Job, List, MatchResult, None, Ok, Option, PrefixGrew, PrefixGrew-right, Refusal, Result, RunEnd, SinkView, Some, [], ap, change, inr, length, refl, status_of_end, subst, sym, ℕ, ◌++◌, ◌+◌, ◌∙◌, ◌∷◌, ◌≡◌, ◌≤◌}
+use Rattle.rw_top.proofs.Common.{Change, Err, Files, GrowsBy, GrowsBy-trans, IsSomeAnd, Job, List, MatchResult, None, Ok, Option, PrefixGrew, PrefixGrew-right, Refusal, Result, RunEnd, SinkView, Some, [], ap, change, inr, length, refl, status_of_end, subst, sym, ℕ, ◌++◌, ◌+◌, ◌∙◌, ◌∷◌, ◌≡◌, ◌≤◌}
 use Rattle.rw_base.proofs.Common.{All, Bool, append-nil, append_assoc, arith}
 use Rattle.std.proofs.lemmas.List.Elements.{All-head, All-tail}
 use Rattle.rw_inputs.specs.Edits.{Batch, after_batch}
 use Rattle.rw_inputs.specs.Inputs.{Inputs, value_at}
 use Rattle.rw_top.specs.Sections.{AppendsAll, AppendsFirst, AppendsOne, AreFirstSections, AreSections, StopsAmong, StopsAtOne, Given, edited_given, first_given, joined}
-use Rattle.rw_run.specs.Next.{no_rules}
 use Rattle.rw_top.specs.Policy.{Policy as Rules}
 use Rattle.rw_top.specs.RunText.{CountsSections, IsPlainText, IsRulesText}
 use Rattle.rw_top.specs.Written.{Appends, AppendsFront, CountsOfFiles, IsFrontOf, IsOne, OfBoth, Stops, batches_in}
@@ -113,7 +112,7 @@ made_front job extras files out status text one grew = record { done = []; text 
 
 -- a run without rules
 pub one_run : (extras : Extras) (files : Files) (inputs : Inputs) (end : RunEnd) (status : ℕ) (text : List ℕ) → files.inputs ≡ Some inputs
-    → status ≡ status_of_end end → IsRunText files.basin no_rules extras None 0 inputs end text → IsOne Simulate extras files status text
+    → status ≡ status_of_end end → IsPlainText files.basin extras 0 (first_given inputs) end text → IsOne Simulate extras files status text
 one_run extras files inputs end status text there same is = (
   (end, same, subst (λ o. IsSomeAnd o (λ i. AreSections (IsPlainText files.basin extras) 0 (first_given i) [] end (text ∷ []))) (sym there) (text, refl, is)),
   subst (λ o. IsSomeAnd o (λ i. AreFirstSections (IsPlainText files.basin extras) 0 (first_given i) [] (text ∷ []))) (sym there) (end, is),

@@ -11,9 +11,9 @@ use Rattle.rw_top.specs.declared.command.Command.{Command as Named}
 use Rattle.rw_top.specs.declared.command.Source.{Source as Held}
 use Rattle.rw_sample.specs.Texts.{sample_inputs, sample_model, sample_rules}
 
--- what its text tells besides the table
+-- what its text tells besides the table, and how it is come to
 abbrev pub extras_of : Command → Extras
-extras_of command = record { flags = command.flags; trace = command.trace; reuse = command.reuse }
+extras_of command = record { flags = command.flags; trace = command.trace; reuse = command.reuse; order = command.order }
 
 -- ---- jobs
 

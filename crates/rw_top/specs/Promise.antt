@@ -6,7 +6,6 @@ use Rattle.rw_base.specs.declared.number.Cell.{Cell}
 use Rattle.rw_inputs.specs.Edits.{Batch}
 use Rattle.rw_inputs.specs.Inputs.{Inputs as Rows}
 use Rattle.rw_model.specs.Draft.{Draft}
-use Rattle.rw_run.specs.Next.{no_rules}
 use Rattle.rw_run.specs.declared.run.RunEnd.{RunEnd}
 use Rattle.rpl_tree.specs.Tree.{Declared}
 use Rattle.rpl_code.specs.Spelling.{spelt}
@@ -22,7 +21,7 @@ use Rattle.rw_top.specs.Reason.{Reason, IsFound, IsHonestFor, status_by}
 use Rattle.rw_top.specs.Lines.{line_of, memory_line, words_line}
 use Rattle.rw_top.specs.Reading.{AcceptsAll, IsHonestOfAll, LacksCell, ReadsEdits, ReadsInputs, ReadsPolicy, SaysAt}
 use Rattle.rw_top.specs.Refusal.{Cause, EndsWith, status_of}
-use Rattle.rw_top.specs.RunText.{IsRulesText, IsRunText, IsSampleOf, IsWhyOfRules}
+use Rattle.rw_top.specs.RunText.{IsRulesText, IsSampleOf, IsSimulated, IsWhyOfRules}
 use Rattle.rw_top.specs.Sections.{AreSections, first_given, joined}
 use Rattle.rw_top.specs.Written.{CountsReused, Tells, WritesAll}
 use Rattle.rw_top.specs.declared.refusal.File.TheVariants.{Edits}
@@ -91,7 +90,7 @@ pub record Promise (call : Call) (status : ℕ) : Type 0 where
 
 -- ---- what a call wrote, by its job
 
--- a run without rules that ends so, and its text
+-- a run without rules, in the order that is asked for, that ends so, and its text
 pub record WroteRun (call : Call) (end : RunEnd) : Type 0 where
   pub command : Command
   pub asked : Asks call.words command
@@ -99,7 +98,7 @@ pub record WroteRun (call : Call) (end : RunEnd) : Type 0 where
   pub inputs : Rows
   pub read : ReadsInputs command call.shelf.before.holds basin inputs
   pub text : List ℕ
-  pub is : IsRunText basin no_rules (extras_of command) None 0 inputs end text
+  pub is : IsSimulated command.order basin (extras_of command) 0 inputs end text
   pub grew : GrowsBy call.out.before.contents call.out.after.contents text
 
 -- the sections of runs by a policy that is accepted, after each batch of edits, of which the last one ends so

@@ -10,6 +10,9 @@ use Rattle.rw_io.specs.Outside.{Change}
 use Rattle.rpl_verify.specs.Verified.{Accepted}
 use Rattle.rw_top.specs.Sections.{CountsAll, Given, first_given}
 use Rattle.rw_top.specs.declared.extras.Extras.{Extras}
+use Rattle.rw_words.specs.declared.order.Order.{Order}
+use Rattle.rw_words.specs.declared.order.Order.TheVariants.{Oldest, Newest}
+use Rattle.rw_dispatch.specs.Pick.{IsPickedRun, newest}
 use Rattle.rw_model.specs.Draft.{Draft}
 use Rattle.rw_inputs.specs.Inputs.{Inputs}
 use Rattle.rw_inputs.specs.Givens.{givens}
@@ -36,7 +39,7 @@ use Rattle.rw_top.specs.Policy.{IsRulesetOf, Policy as Rules, Ruleset, Code, cod
 
 -- nothing but the table
 abbrev pub no_extras : Extras
-no_extras = record { flags = false; trace = false; reuse = false }
+no_extras = record { flags = false; trace = false; reuse = false; order = Oldest }
 
 -- the section of a log, with this number and the timesteps that were run again, where they are told, and with flags and trace where they
 -- are asked for
@@ -50,9 +53,20 @@ pub record IsRunText (basin : Draft) (policy : Policy) (extras : Extras) (reran 
   pub end_is : end ≡ end_of log
   pub text_is : text ≡ text_of basin extras number reran log
 
--- the section of the run without rules
+-- the section of the run without rules in which the object is dispatched that has waited shortest
+pub record IsNewestText (basin : Draft) (extras : Extras) (number : ℕ) (inputs : Inputs) (end : RunEnd) (text : List ℕ) : Type 0 where
+  pub log : Log
+  pub run : IsPickedRun basin no_rules newest (givens basin inputs) log
+  pub end_is : end ≡ end_of log
+  pub text_is : text ≡ text_of basin extras number None log
+
+-- the section of the run without rules, in this order of dispatches
+abbrev pub IsSimulated : Order → Draft → Extras → ℕ → Inputs → RunEnd → List ℕ → Type 0
+IsSimulated Oldest basin extras number inputs end text = IsRunText basin no_rules extras None number inputs end text
+IsSimulated Newest basin extras number inputs end text = IsNewestText basin extras number inputs end text
+
 abbrev pub IsPlainText : Draft → Extras → ℕ → Given → RunEnd → List ℕ → Type 0
-IsPlainText basin extras number given end text = IsRunText basin no_rules extras None number given.inputs end text
+IsPlainText basin extras number given end text = IsSimulated extras.order basin extras number given.inputs end text
 
 -- how a cell came to what it holds in that run, and how the run ends
 pub record IsWhyText (basin : Draft) (policy : Policy) (inputs : Inputs) (cell : Cell) (end : RunEnd) (text : List ℕ) : Type 0 where

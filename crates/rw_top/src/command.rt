@@ -70,7 +70,7 @@ pub(crate) struct Command<'w> {
 }
 
 impl<'w> Command<'w> {
-    // What its text tells besides the table.
+    /// What its text tells besides the table, and how it is come to.
     pub(crate) fn extras(&self) -> Extras
         ensures { result ≡ extras_of (command_of self.now) }
     {
@@ -78,6 +78,7 @@ impl<'w> Command<'w> {
             flags: self.words.flags,
             trace: self.words.trace,
             reuse: self.words.reuse,
+            order: self.words.order,
         }
     }
 

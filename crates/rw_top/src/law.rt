@@ -24,6 +24,7 @@ ghost use Rattle.rw_top.specs.Budgets.{budget_in, check_text, rules_in};
 ghost use Rattle.rw_top.specs.Call.{Call};
 ghost use Rattle.rw_top.specs.Command.{AskFor, AskNothing, Asks, order, simulates};
 ghost use Rattle.rw_words.specs.Command.{Command};
+ghost use Rattle.rw_words.specs.declared.order.Order.{Order};
 ghost use Rattle.rw_top.specs.FirstCall.{IsFirstCall};
 ghost use Rattle.rw_top.specs.Policy.{BadCode, RulesRefusal, BadRules, BadBlocks, Policy, Ruleset, Code, IsPolicyOf};
 ghost use Rattle.rw_top.specs.Promise.{Promise, WroteCheck, WroteCode, WroteRules, WroteRun, WroteSample, WroteWhy};
@@ -32,7 +33,7 @@ ghost use Rattle.rw_top.specs.Refusal.{FailsToRead, FindsTooLong};
 ghost use Rattle.rw_top.specs.Told.{AreTold};
 ghost use Rattle.rw_top.specs.Written.{WritesFront, WritesSections};
 ghost use Rattle.rw_base.specs.declared.number.StepNo.{StepNo};
-ghost use Rattle.rw_top.specs.RunText.{IsRunText, IsSampleOf, no_extras};
+ghost use Rattle.rw_top.specs.RunText.{IsRunText, IsSampleOf, IsSimulated, no_extras};
 ghost use Rattle.rw_top.specs.declared.extras.Extras.{Extras};
 ghost use Rattle.rw_top.specs.declared.refusal.File.{File};
 
@@ -60,6 +61,19 @@ pub fn one_text()
         → ((slot step : ℕ) → value_at inputs slot step ≡ value_at others slot step)
         → IsRunText basin policy extras reran number inputs end text
         → IsRunText basin policy extras reran number others other more
+        → (end ≡ other) × (text ≡ more) }
+{
+    one_run();
+}
+
+/// Without rules there is one end and one text in each order of dispatches.
+pub fn one_order()
+    ensures { (order : Order) (basin : Draft) (extras : Extras) (number : ℕ)
+        (inputs others : Inputs)
+        (end other : RunEnd) (text more : List ℕ)
+        → ((slot step : ℕ) → value_at inputs slot step ≡ value_at others slot step)
+        → IsSimulated order basin extras number inputs end text
+        → IsSimulated order basin extras number others other more
         → (end ≡ other) × (text ≡ more) }
 {
     one_run();

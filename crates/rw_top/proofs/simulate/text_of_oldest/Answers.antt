@@ -2,7 +2,7 @@ use Rattle.rw_top.proofs.Common.{None, ap}
 use Rattle.rpl_verify.specs.Verified.{Accepted}
 use Rattle.rw_top.proofs.OneText.{text_is_run}
 use Rattle.rw_top.proofs.RulesText.{without_rules}
-use Rattle.rw_top.proofs.simulate.text_without_rules.Goals as goal
+use Rattle.rw_top.proofs.simulate.text_of_oldest.Goals as goal
 
 pub returns : goal.returns
 returns g c =
