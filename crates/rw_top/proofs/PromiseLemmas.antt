@@ -2,7 +2,6 @@
 use Rattle.rw_top.proofs.Common.{Asks, Call, Cause, Command, Fault, Files, IsTextOf, Job, List, None, Promise, Refusal, RefusedCommand, RefusedWords, RunEnd, Settled, Some, WasRefused, WritesAll, Wrote, arith, inl, inr, status_of, status_of_end, ℕ, ◌∙◌, ◌≡◌, ◌≤◌}
 use Rattle.rw_words.specs.declared.job.Job.TheVariants.{Simulate, Check, Compile, Run, Why, Sample}
 use Rattle.rw_top.specs.declared.refusal.Refusal.TheVariants.{Words, NoMemory}
-use Rattle.rw_base.proofs.Common.{Bool}
 use Rattle.rw_top.specs.Promise.{UnreadWords}
 use Rattle.rw_top.specs.Written.{CountsReused}
 use Rattle.rw_top.proofs.CommandLemmas.{asks_clash, of_command}

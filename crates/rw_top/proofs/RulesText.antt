@@ -1,5 +1,5 @@
 -- The run by a policy, from the run by its code, and its section.
-use Rattle.rw_top.proofs.Common.{Declared, IsRunText, List, Err, None, Ok, Option, Result, RunEnd, Some, [], arith, false, refl, subst, sym, true, ℕ, ℤ, ◌∙◌, ◌≡◌}
+use Rattle.rw_top.proofs.Common.{Declared, IsRunText, List, Err, None, Ok, Option, Result, RunEnd, [], arith, false, refl, subst, sym, ℕ, ℤ, ◌∙◌, ◌≡◌}
 use Rattle.rw_base.proofs.Common.{Bool, IsOk, IsSome, IsTrue}
 use Rattle.rw_base.specs.declared.number.Cell.{Cell}
 use Rattle.rw_base.specs.declared.number.StepNo.{StepNo}
@@ -24,10 +24,8 @@ use Rattle.rpl_types.specs.Nodes.{Types}
 use Rattle.rpl_verify.specs.Budget.{AreAccepted}
 use Rattle.rpl_verify.specs.Verified.{Accepted}
 use Rattle.rw_top.specs.Policy.{Policy as Rules, Ruleset, Code}
-use Rattle.rw_run.specs.Reuse.{AreRerun}
-use Rattle.rw_rerun.specs.Session.{numbers_of}
 use Rattle.rw_top.specs.RunText.{ComesBy, IsCodeOf, IsRerun, IsRulesText, policy_in_run}
-use Rattle.rw_top.specs.Sections.{Given, first_given}
+use Rattle.rw_top.specs.Sections.{Given}
 use Rattle.rw_top.specs.declared.extras.Extras.{Extras}
 
 -- what is accepted has types
@@ -121,15 +119,3 @@ section_by texts basin policy extras reran number given run text comes kept agai
 -- none are told where timesteps aren't reused
 pub untold : (basin : Draft) (policy : Policy) (reuse : Bool) (given : Given) (log : Log) → reuse ≡ false → IsRerun basin policy reuse given log None
 untold basin policy reuse given log plain = subst (λ r. IsRerun basin policy r given log None) (sym plain) refl
-
--- nor of the first run
-pub untold_first : (basin : Draft) (policy : Policy) (reuse : Bool) (inputs : Inputs) (log : Log) → IsRerun basin policy reuse (first_given inputs) log None
-untold_first basin policy true inputs log = refl
-untold_first basin policy false inputs log = refl
-
--- and after another one they are those that the earlier run tells of
-pub told_again : (basin : Draft) (policy : Policy) (reuse : Bool) (before edited : Inputs) (earlier log : Log) (steps : List StepNo) → reuse ≡ true
-    → IsRun basin policy (givens basin before) earlier → AreRerun basin earlier log (numbers_of steps)
-    → IsRerun basin policy reuse (record { before = Some before; inputs = edited }) log (Some steps)
-told_again basin policy reuse before edited earlier log steps reuses run rerun =
-    subst (λ r. IsRerun basin policy r (record { before = Some before; inputs = edited }) log (Some steps)) (sym reuses) (earlier, run, rerun)

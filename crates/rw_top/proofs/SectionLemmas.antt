@@ -1,6 +1,6 @@
 -- Sections that are written one behind another.
 use Rattle.rw_top.proofs.Common.{Change, Err, Files, GrowsBy, GrowsBy-trans, IsSomeAnd, Job, List, MatchResult, None, Ok, Option, PrefixGrew, PrefixGrew-right, Refusal, Result, RunEnd, SinkView, Some, [], ap, change, inr, length, refl, status_of_end, subst, sym, ℕ, ◌++◌, ◌+◌, ◌∙◌, ◌∷◌, ◌≡◌, ◌≤◌}
-use Rattle.rw_base.proofs.Common.{All, Bool, append-nil, append_assoc, arith}
+use Rattle.rw_base.proofs.Common.{All, append-nil, append_assoc, arith}
 use Rattle.std.proofs.lemmas.List.Elements.{All-head, All-tail}
 use Rattle.rw_inputs.specs.Edits.{Batch, after_batch}
 use Rattle.rw_inputs.specs.Inputs.{Inputs, value_at}

@@ -1,5 +1,5 @@
 -- The sections of a session's runs.
-use Rattle.rw_top.proofs.Common.{Change, IfOk, IsSome, List, Err, None, Ok, Option, Result, RunEnd, Refusal, SinkView, Some, [], ap, change, false, if◌then◌else◌, length, nat_tests, refl, subst, sym, true, ℕ, ◌+◌, ◌==◌, ◌∙◌, ◌∷◌, ◌≡◌}
+use Rattle.rw_top.proofs.Common.{Change, IfOk, IsSome, List, Err, None, Ok, Option, Result, RunEnd, Refusal, SinkView, Some, [], change, false, if◌then◌else◌, length, nat_tests, refl, subst, sym, true, ℕ, ◌+◌, ◌==◌, ◌∷◌, ◌≡◌}
 use Rattle.rw_base.proofs.Common.{Bool, arith, length-map}
 use Rattle.rw_base.specs.declared.number.StepNo.{StepNo}
 use Rattle.rw_engine.specs.Passing.{ComesTo}
@@ -10,7 +10,6 @@ use Rattle.rw_model.proofs.Common.{Draft}
 use Rattle.rw_report.specs.Outcome.{outcome_of}
 use Rattle.rw_report.specs.Whole.{whole_of}
 use Rattle.rw_run.proofs.OneRun.{one_run}
-use Rattle.rw_run.specs.Log.{Log}
 use Rattle.rw_run.specs.Runs.{IsRun}
 use Rattle.rw_run.specs.declared.run.Run.{Run}
 use Rattle.rw_rules.specs.Rules.{policy_in}

@@ -1,7 +1,7 @@
 use Rattle.rw_top.proofs.Common.{ap, arith, change, length, subst, sym, ◌+◌}
 use Rattle.rw_inputs.specs.Edits.{IsBatch}
 use Rattle.rw_top.specs.Reused.{WritesFrom}
-use Rattle.rw_top.specs.RunText.{IsCodeOf, IsRulesText}
+use Rattle.rw_top.specs.RunText.{IsRulesText}
 use Rattle.rw_top.specs.Sections.{edited_given}
 use Rattle.rw_top.proofs.SectionLemmas.{first_of_all, rest_of, stops_behind, stops_here}
 use Rattle.rw_top.proofs.SessionSections.{later_next, later_number, values_from, writes_last, writes_more}
