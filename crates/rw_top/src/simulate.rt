@@ -37,7 +37,15 @@ fn text_of_oldest<L: Ledger>(
     texts_of_runs();
     let empty = Verified::none(alloc);
     let run = run_by_code(alloc, setup, &empty, extras.trace, inputs, steps)?;
-    let text = section(alloc, setup.basin, 0, &run, None, extras.flags, extras.trace)?;
+    let text = section(
+        alloc,
+        setup.basin,
+        0,
+        &run,
+        None,
+        extras.flags,
+        extras.trace,
+    )?;
     Ok((text, run.end))
 }
 
@@ -56,7 +64,15 @@ fn text_of_newest(
 {
     texts_of_runs();
     let run = run_any(alloc, setup.basin, setup.methods, inputs, &Newest)?;
-    let text = section(alloc, setup.basin, 0, &run, None, extras.flags, extras.trace)?;
+    let text = section(
+        alloc,
+        setup.basin,
+        0,
+        &run,
+        None,
+        extras.flags,
+        extras.trace,
+    )?;
     Ok((text, run.end))
 }
 
