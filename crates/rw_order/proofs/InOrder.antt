@@ -1,6 +1,7 @@
 -- Those that wait stand in the order of the events since which they wait, and of one event in order of number.
 use Rattle.rw_order.proofs.Common.{All-contains, All-from_recursion, AllByRecursion, Bool, Contains, Draft, List, Log, None, Option, Some, [], ap, append-nil, arith, both_ways, false, filter, filter-append, get_or_from_slice_get, if◌then◌else◌, inl, inr, is_number, is_since, length, nat_tests, none-some, numbers, refl, same_Some, since, slice_get, slice_get_within, subst, suc, sym, true, waiting, waiting_below, zero, ℕ, ◌++◌, ◌-◌, ◌<◌, ◌∙◌, ◌∷◌, ◌≡◌, ◌≤◌, ◌⊎◌}
-use Rattle.rw_order.specs.AnyRun.{WaitsBefore, newest, picked}
+use Rattle.rw_dispatch.specs.Pick.{newest, picked}
+use Rattle.rw_order.specs.AnyRun.{WaitsBefore}
 use Rattle.rw_order.proofs.Lists.{all_joined, all_weaker}
 
 module _ (basin : Draft) (log : Log) where

@@ -1,14 +1,19 @@
 -- Runs in which a rule picks who is dispatched.
-use Rattle.rw_order.proofs.Common.{CanBeChosen, Cell, Draft, Event, IsRun, Leads, List, Log, MayLead, None, Option, Some, [], ap, arith, first_of, follows, follows_by, get_or_from_slice_get, length, no_rules, none-some, placed, refl, slice_get, slice_get-get_or, slice_get_within, standing, sym, waiting, ℕ, ℤ, ◌<◌, ◌∙◌, ◌∷◌, ◌≡◌, ◌≤◌}
-use Rattle.rw_order.specs.AnyRun.{IsAnyRun, IsPickedRun, LeadsPicked, Picking, PicksOne, follows_picked, oldest, picked, turns}
+use Rattle.std.specs.Prelude.{Err, IfOk, Ok, Result}
+use Rattle.rw_base.specs.declared.memory.NoMemory.{NoMemory}
+use Rattle.rw_dispatch.specs.Pick.{IsPickedRun, LeadsPicked, Picking, PicksOne, follows_picked, picked, turns}
+use Rattle.rw_run.specs.Next.{Policy, first_due, next_of}
+use Rattle.rw_run.specs.declared.run.Run.{Run}
+use Rattle.rpl_verify.specs.Verified.{Accepted}
+use Rattle.rpl_policy.specs.Policy.{policy_of_code}
+use Rattle.rw_rules.specs.Rules.{policy_in}
+use Rattle.rw_engine.specs.Picked.{ComesToPicked}
+use Rattle.rw_engine.proofs.Anyhow.{chosen_at}
+use Rattle.rw_engine.proofs.Oldest.{run_is_oldest}
+use Rattle.rw_order.proofs.Common.{AgendaOrder, Cell, Cells, Draft, Event, HighFirst, Inputs, IsRun, List, Log, LowFirst, MayLead, None, Option, Some, Standing, [], after_objects, agenda_of, ap, arith, cells_of, find, follows_by, inside, is_due, length, no_rules, over, placed, refl, rests, slice_get, standing, sym, waiting, ℕ, ℤ, ◌<◌, ◌∙◌, ◌∷◌, ◌≡◌, ◌≤◌}
+use Rattle.rw_order.specs.AnyRun.{IsAnyRun}
 
-chosen_at : (waits : List ℕ) (place : ℕ) (found : Option ℕ) → slice_get waits place ≡ found → (1 ≤ length waits → place < length waits) → CanBeChosen waits found
-chosen_at [] place None is one = refl
-chosen_at (first ∷ rest) place None is one =
-    absurd (none-some _ (sym is ∙ slice_get-get_or (first ∷ rest) place first (one (omega arith))))
-chosen_at waits place (Some object) is one = (place, slice_get_within waits place object is, get_or_from_slice_get waits place object object is)
-
-picks_may_lead : (basin : Draft) (rule : Picking) (old : Log) (events : List Event) (new : Log) → PicksOne rule → LeadsPicked basin rule old events new
+picks_may_lead : (basin : Draft) (rule : Picking) (old : Log) (events : List Event) (new : Log) → PicksOne rule → LeadsPicked basin no_rules rule old events new
     → MayLead basin no_rules old events new
 picks_may_lead basin rule old [] new one leads = leads
 picks_may_lead basin rule old (event ∷ events) new one leads = (
@@ -21,38 +26,72 @@ picks_may_lead basin rule old (event ∷ events) new one leads = (
 )
 
 -- a run that a rule picks is one in any order
-pub picked_is_any : (basin : Draft) (rule : Picking) (inputs : List (Cell × ℤ)) (log : Log) → PicksOne rule → IsPickedRun basin rule inputs log → IsAnyRun basin inputs log
+pub picked_is_any : (basin : Draft) (rule : Picking) (inputs : List (Cell × ℤ)) (log : Log) → PicksOne rule → IsPickedRun basin no_rules rule inputs log
+    → IsAnyRun basin inputs log
 picked_is_any basin rule inputs log one run =
     record { events = run.events; leads = picks_may_lead basin rule (placed [] inputs) run.events log one run.leads; end = run.end }
 
--- ---- the one that has waited longest
-
-first_is : (waits : List ℕ) → slice_get waits 0 ≡ first_of waits
-first_is [] = refl
-first_is (first ∷ rest) = refl
-
-follows_oldest : (basin : Draft) (log : Log) → follows_picked basin oldest log ≡ follows basin no_rules log
-follows_oldest basin log = ap (λ object. follows_by basin no_rules log object (standing log)) (first_is (waiting basin log))
-
-oldest_leads : (basin : Draft) (old : Log) (events : List Event) (new : Log) → LeadsPicked basin oldest old events new → Leads basin no_rules old events new
-oldest_leads basin old [] new leads = leads
-oldest_leads basin old (event ∷ events) new leads = (sym (follows_oldest basin old) ∙ leads.0, oldest_leads basin (event ∷ old) events new leads.1)
-
-leads_oldest : (basin : Draft) (old : Log) (events : List Event) (new : Log) → Leads basin no_rules old events new → LeadsPicked basin oldest old events new
-leads_oldest basin old [] new leads = leads
-leads_oldest basin old (event ∷ events) new leads = (follows_oldest basin old ∙ leads.0, leads_oldest basin (event ∷ old) events new leads.1)
-
-pub oldest_is_run : (basin : Draft) (inputs : List (Cell × ℤ)) (log : Log) → IsPickedRun basin oldest inputs log → IsRun basin no_rules inputs log
-oldest_is_run basin inputs log run =
-    record { events = run.events; leads = oldest_leads basin (placed [] inputs) run.events log run.leads; end = run.end }
-
-pub run_is_oldest : (basin : Draft) (inputs : List (Cell × ℤ)) (log : Log) → IsRun basin no_rules inputs log → IsPickedRun basin oldest inputs log
-run_is_oldest basin inputs log run =
-    record { events = run.events; leads = leads_oldest basin (placed [] inputs) run.events log run.leads; end = run.end }
-
 -- so a run is one in any order
 pub run_is_any : (basin : Draft) (inputs : List (Cell × ℤ)) (log : Log) → IsRun basin no_rules inputs log → IsAnyRun basin inputs log
-run_is_any basin inputs log run = picked_is_any basin oldest inputs log (λ turn waits some. some_first waits some) (run_is_oldest basin inputs log run)
+run_is_any basin inputs log run = picked_is_any basin _ inputs log (λ turn waits some. some_first waits some) (run_is_oldest basin no_rules inputs log run)
   where
     some_first : (waits : List ℕ) → 1 ≤ length waits → 0 < length waits
     some_first waits some = omega (arith, some)
+
+-- ---- a policy with no rule
+
+nothing_due : (cells : Cells) (log : Log) (order : AgendaOrder) → find (is_due cells log) (agenda_of order 0) ≡ None
+nothing_due cells log HighFirst = refl
+nothing_due cells log LowFirst = refl
+
+module _ (basin : Draft) (policy : Policy) (none : policy.rules ≡ 0) where
+  none_due : (cells : Cells) (log : Log) → first_due basin policy cells log ≡ None
+  none_due cells log = ap (λ rules. find (is_due cells log) (agenda_of basin.control.agenda rules)) none ∙ nothing_due cells log basin.control.agenda
+
+  next_same : (cells : Cells) (log : Log) (step : ℕ) (object : Option ℕ) → next_of basin policy cells log step object ≡ next_of basin no_rules cells log step object
+  next_same cells log step (Some object) = refl
+  next_same cells log step None =
+      ap (after_objects basin policy cells log step) (none_due cells log)
+      ∙ sym (ap (after_objects basin no_rules cells log step) (nothing_due cells log basin.control.agenda))
+
+  follows_same : (log : Log) (object : Option ℕ) (stands : Standing) → follows_by basin no_rules log object stands ≡ follows_by basin policy log object stands
+  follows_same log object (rests step) = refl
+  follows_same log object (inside step) = sym (next_same (cells_of basin log) log step object)
+  follows_same log object over = refl
+
+  picked_same : (rule : Picking) (old : Log) (events : List Event) (new : Log) → LeadsPicked basin policy rule old events new → LeadsPicked basin no_rules rule old events new
+  picked_same rule old [] new leads = leads
+  picked_same rule old (event ∷ events) new leads =
+      (follows_same old (picked rule old (waiting basin old)) (standing old) ∙ leads.0, picked_same rule (event ∷ old) events new leads.1)
+
+  any_same : (old : Log) (events : List Event) (new : Log) → MayLead basin policy old events new → MayLead basin no_rules old events new
+  any_same old [] new leads = leads
+  any_same old (event ∷ events) new leads = (
+    record {
+      object = leads.0.object;
+      waits = leads.0.waits;
+      is = follows_same old leads.0.object (standing old) ∙ leads.0.is;
+    },
+    any_same (event ∷ old) events new leads.1,
+  )
+
+-- what a run of no code comes to
+pub comes_without : (basin : Draft) (policy : Accepted) (rule : Picking) (inputs : Inputs) (result : Result Run NoMemory) → policy.blocks ≡ []
+    → IfOk result (ComesToPicked basin (policy_in basin policy) rule inputs) → IfOk result (ComesToPicked basin no_rules rule inputs)
+comes_without basin policy rule inputs (Err want) is comes = tt
+comes_without basin policy rule inputs (Ok run) is comes =
+    let none = ap (λ blocks. (policy_of_code basin blocks).rules) is in record {
+      log = comes.log;
+      whole = record {
+        events = comes.whole.events;
+        leads = picked_same basin (policy_in basin policy) none rule _ comes.whole.events comes.log comes.whole.leads;
+        end = comes.whole.end;
+      };
+      any = any_same basin (policy_in basin policy) none _ comes.whole.events comes.log comes.any;
+      is = comes.is;
+    }
+
+-- what holds of all that a run comes to
+pub of_ok : (P Q : Run → Type 0) (result : Result Run NoMemory) → ((run : Run) → P run → Q run) → IfOk result P → IfOk result Q
+of_ok P Q (Ok run) more holds = more run holds
+of_ok P Q (Err want) more holds = tt

@@ -16,7 +16,7 @@ use Rattle.rw_run.specs.declared.fault.RunFault.TheVariants.{Conflict}
 use Rattle.rw_run.specs.Dispatch.{cell_at}
 use Rattle.rw_run.specs.Log.{Asked, Event, opened, closed, idle, solved, fault}
 use Rattle.rw_run.specs.Worked.{basin_of}
-use Rattle.rw_order.specs.AnyRun.{Picking}
+use Rattle.rw_dispatch.specs.Pick.{Picking}
 
 -- two objects over one day, and a link between two of their slots
 abbrev pub joined : Object → Object → ℕ → ℕ → Draft

@@ -16,7 +16,8 @@ ghost use Rattle.rw_run.specs.Runs.{IsRun, placed};
 ghost use Rattle.rw_run.specs.Waiting.{waiting};
 ghost use Rattle.rw_run.specs.declared.run.Run.{Run};
 ghost use Rattle.rw_run.specs.declared.run.RunEnd.TheVariants.{Settled, Fault};
-ghost use Rattle.rw_order.specs.AnyRun.{IsAnyRun, IsPickedRun, IsSettledLog, Picking, PicksOne, WaitsBefore, newest, oldest, picked};
+ghost use Rattle.rw_dispatch.specs.Pick.{IsPickedRun, Picking, PicksOne, newest, oldest, picked};
+ghost use Rattle.rw_order.specs.AnyRun.{IsAnyRun, IsSettledLog, WaitsBefore};
 ghost use Rattle.rw_order.specs.Free.{order_free};
 ghost use Rattle.rw_order.specs.Inside.{AreInside};
 ghost use Rattle.rw_order.specs.Worked.{chain, chain_inputs, chain_newest, chain_oldest, dry, gauged, losing, losing_fault, losing_inputs, losing_newest, losing_oldest, newest_first, pools, pools_fault, pools_inputs, pools_newest, pools_oldest, stores, stores_fault, stores_inputs, stores_newest, stores_oldest, valley, valley_with};
@@ -54,14 +55,14 @@ pub fn any_order_of_a_run()
 
 /// A run in which a rule picks one of those that wait is one in any order. The run without rules is that of the rule which
 /// picks the one that has waited longest.
-#[tactic(auto, using(crate::proofs::Picked::picked_is_any, crate::proofs::Picked::oldest_is_run, crate::proofs::Picked::run_is_oldest, crate::proofs::Picked::run_is_any))]
+#[tactic(auto, using(crate::proofs::Picked::picked_is_any, crate::proofs::Picked::run_is_any))]
 pub fn orders()
     ensures picked { (basin : Draft) (rule : Picking) (inputs : List (Cell × ℤ)) (log : Log)
-        → PicksOne rule → IsPickedRun basin rule inputs log → IsAnyRun basin inputs log }
+        → PicksOne rule → IsPickedRun basin no_rules rule inputs log → IsAnyRun basin inputs log }
     ensures oldest { (basin : Draft) (inputs : List (Cell × ℤ)) (log : Log)
-        → IsPickedRun basin oldest inputs log → IsRun basin no_rules inputs log }
+        → IsPickedRun basin no_rules oldest inputs log → IsRun basin no_rules inputs log }
     ensures is_oldest { (basin : Draft) (inputs : List (Cell × ℤ)) (log : Log)
-        → IsRun basin no_rules inputs log → IsPickedRun basin oldest inputs log }
+        → IsRun basin no_rules inputs log → IsPickedRun basin no_rules oldest inputs log }
     ensures run { (basin : Draft) (inputs : List (Cell × ℤ)) (log : Log)
         → IsRun basin no_rules inputs log → IsAnyRun basin inputs log }
 {}
@@ -84,11 +85,11 @@ pub fn newest_is_last()
 /// orders come to 7.
 pub fn a_chain()
     ensures free { order_free chain ≡ true }
-    ensures oldest { IsPickedRun chain oldest chain_inputs
+    ensures oldest { IsPickedRun chain no_rules oldest chain_inputs
         (log_after chain_oldest (placed [] chain_inputs)) }
-    ensures newest { IsPickedRun chain newest chain_inputs
+    ensures newest { IsPickedRun chain no_rules newest chain_inputs
         (log_after chain_newest (placed [] chain_inputs)) }
-    ensures turns { IsPickedRun chain newest_first chain_inputs
+    ensures turns { IsPickedRun chain no_rules newest_first chain_inputs
         (log_after chain_newest (placed [] chain_inputs)) }
     ensures oldest_value { value_in (cells_of chain (log_after chain_oldest (placed [] chain_inputs))) (cell_at 5 1)
         ≡ Some (pos 7) }
@@ -112,9 +113,9 @@ pub fn free_basins()
 /// it takes the least inflow, and the gage conflicts.
 pub fn losing_orders_differ()
     ensures not_free { order_free losing ≡ false }
-    ensures oldest { IsPickedRun losing oldest losing_inputs
+    ensures oldest { IsPickedRun losing no_rules oldest losing_inputs
         (log_after losing_oldest (placed [] losing_inputs)) }
-    ensures newest { IsPickedRun losing newest losing_inputs
+    ensures newest { IsPickedRun losing no_rules newest losing_inputs
         (log_after losing_newest (placed [] losing_inputs)) }
     ensures settles { end_of (log_after losing_oldest (placed [] losing_inputs)) ≡ Settled }
     ensures fails { end_of (log_after losing_newest (placed [] losing_inputs)) ≡ Fault losing_fault }
@@ -124,9 +125,9 @@ pub fn losing_orders_differ()
 /// the second agrees; the second one first, it puts the greatest elevation of its storage, 11, and the first conflicts.
 pub fn pools_orders_differ()
     ensures not_free { order_free pools ≡ false }
-    ensures oldest { IsPickedRun pools oldest pools_inputs
+    ensures oldest { IsPickedRun pools no_rules oldest pools_inputs
         (log_after pools_oldest (placed [] pools_inputs)) }
-    ensures newest { IsPickedRun pools newest pools_inputs
+    ensures newest { IsPickedRun pools no_rules newest pools_inputs
         (log_after pools_newest (placed [] pools_inputs)) }
     ensures settles { end_of (log_after pools_oldest (placed [] pools_inputs)) ≡ Settled }
     ensures fails { end_of (log_after pools_newest (placed [] pools_inputs)) ≡ Fault pools_fault }
@@ -136,9 +137,9 @@ pub fn pools_orders_differ()
 /// second agrees; the second one first, it puts the volume at its elevation, 2, and the first conflicts.
 pub fn stores_orders_differ()
     ensures not_free { order_free stores ≡ false }
-    ensures oldest { IsPickedRun stores oldest stores_inputs
+    ensures oldest { IsPickedRun stores no_rules oldest stores_inputs
         (log_after stores_oldest (placed [] stores_inputs)) }
-    ensures newest { IsPickedRun stores newest stores_inputs
+    ensures newest { IsPickedRun stores no_rules newest stores_inputs
         (log_after stores_newest (placed [] stores_inputs)) }
     ensures settles { end_of (log_after stores_oldest (placed [] stores_inputs)) ≡ Settled }
     ensures fails { end_of (log_after stores_newest (placed [] stores_inputs)) ≡ Fault stores_fault }

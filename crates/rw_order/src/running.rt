@@ -1,0 +1,93 @@
+ghost use Rattle.std.specs.Prelude.{◌≡◌, ◌≤◌, ◌<◌, map, true, IfOk, IsSome};
+ghost use Rattle.rw_model.specs.Basin.{IsBasin};
+ghost use Rattle.rw_method.specs.Catalogue.{AreInOrder};
+ghost use Rattle.rw_inputs.specs.Givens.{givens};
+ghost use Rattle.rw_inputs.specs.Inputs.{IsInputsOf};
+ghost use Rattle.rw_run.specs.Log.{Log};
+ghost use Rattle.rw_run.specs.Next.{no_rules};
+ghost use Rattle.rw_engine.specs.Picked.{ComesToPicked};
+ghost use Rattle.rw_order.specs.AnyRun.{IsAnyRun, IsSettledLog, SettlesAs};
+ghost use Rattle.rw_order.specs.Free.{order_free};
+
+use crate::law::{any_order, inputs_are_inside};
+use rpl_predef::{
+    Predef, Predefs, absolute, clamped, greatest, least, mul_div, rounded_down, sign,
+};
+use rpl_verify::Verified;
+use rw_base::{Blank, Ledger, NoMemory, Steps};
+use rw_dispatch::Pick;
+use rw_engine::run_by;
+use rw_inputs::Inputs;
+use rw_method::Catalogue;
+use rw_model::Basin;
+use rw_run::Run;
+use std::alloc::Global;
+use std::marker::Brand;
+
+// The run without rules, with a count of timesteps that nobody asks for. No rule calls a function, but the engine takes a table.
+fn run_counted<L: Ledger, P: Pick>(
+    alloc: Global,
+    blank: Blank,
+    basin: &Basin,
+    methods: &Catalogue,
+    inputs: &Inputs,
+    pick: &P,
+) -> Result<Run, NoMemory>
+    requires name { blank.name ≡ L.name }
+    requires parts { blank.parts ≡ L.parts }
+    requires some { 0 < blank.parts }
+    requires order { AreInOrder (map (λ b. code (b.vtable, b.value)) methods.now.methods.items) }
+    requires inputs { IsInputsOf basin.now inputs.now }
+    ensures run { IfOk result (ComesToPicked basin.now no_rules (P.rule pick.now) inputs.now) }
+    ensures closed { IfOk result (λ run. run.closed ≤ basin.now.control.stamps.count) }
+    ensures kept { IfOk result (λ run. IsSome run.trace) }
+{
+    let mut steps = Steps::<L>::of(blank);
+    let mut functions = Vec::new(alloc);
+    functions.push(Predef::of(1, least))?;
+    functions.push(Predef::of(2, greatest))?;
+    functions.push(Predef::of(3, absolute))?;
+    functions.push(Predef::of(4, clamped))?;
+    functions.push(Predef::of(5, rounded_down))?;
+    functions.push(Predef::of(6, sign))?;
+    functions.push(Predef::of(7, mul_div))?;
+    let Ok(predefs) = Predefs::of(functions) else {
+        return Err(NoMemory);
+    };
+    let empty = Verified::none(alloc);
+    run_by(
+        alloc, basin, methods, &empty, &predefs, inputs, pick, &mut steps,
+    )
+}
+
+// What a basin is, it always is.
+fn is_valid(basin: &Basin)
+    ensures { IsBasin basin.now }
+{
+    let _count = basin.object_count();
+}
+
+/// Runs all timesteps of a basin from its inputs, without rules, where it is picked which of the objects that wait is dispatched, and
+/// answers what the run comes to: that of the log in which each dispatch is of the object in the place of the rule, one of
+/// those that wait. Where the order of dispatches is free in the basin and one order settles, this one does, with the same values.
+pub fn run_any<P: Pick>(
+    alloc: Global,
+    basin: &Basin,
+    methods: &Catalogue,
+    inputs: &Inputs,
+    pick: &P,
+) -> Result<Run, NoMemory>
+    requires order { AreInOrder (map (λ b. code (b.vtable, b.value)) methods.now.methods.items) }
+    requires inputs { IsInputsOf basin.now inputs.now }
+    ensures run { IfOk result (ComesToPicked basin.now no_rules (P.rule pick.now) inputs.now) }
+    ensures free { order_free basin.now ≡ true → (log : Log)
+        → IsAnyRun basin.now (givens basin.now inputs.now) log → IsSettledLog log
+        → IfOk result (SettlesAs basin.now log) }
+    ensures closed { IfOk result (λ run. run.closed ≤ basin.now.control.stamps.count) }
+    ensures told { IfOk result (λ run. IsSome run.trace) }
+{
+    any_order();
+    inputs_are_inside();
+    is_valid(basin);
+    run_counted::<Brand, P>(alloc, Blank::new(1), basin, methods, inputs, pick)
+}
