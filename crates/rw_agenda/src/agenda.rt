@@ -65,6 +65,7 @@ impl Agenda {
 
     /// A put to a cell was written. Each rule is marked that looked at a cell which shares its value with this one, and each
     /// stays marked that was. It takes no memory.
+    #[inline(always)]
     pub fn changed(&mut self, basin: &Basin, c: Cell)
         requires { IsSlot basin.now.objects c.slot.0 }
         ensures order { self.new.order ≡ self.old.order }

@@ -1,6 +1,6 @@
 //! Worked examples of calls below the top one, lowest first: quantities, rating tables, stamps, files, a basin that is built,
-//! a series, edits of inputs, the queue of objects that wait, runs and sections. There is nothing here but tests: what they
-//! compare with was worked out by hand.
+//! a series, edits of inputs, the queue of objects that wait, runs, sections and sessions. There is nothing here but
+//! tests: what they compare with was worked out by hand.
 #![tactic(auto)]
 
 #[cfg(test)]
@@ -21,6 +21,8 @@ mod runs;
 mod sections;
 #[cfg(test)]
 mod series;
+#[cfg(test)]
+mod sessions;
 #[cfg(test)]
 mod shared;
 #[cfg(test)]

@@ -4,6 +4,7 @@ ghost use Rattle.std.specs.Prelude.{◌≡◌, ◌<◌, ◌≤◌, Ok, length, m
 ghost use Rattle.rpl_verify.specs.Verified.{verified};
 ghost use Rattle.rw_method.specs.Catalogue.{AreInOrder};
 
+use crate::sessions::check_sessions;
 use crate::shared::{basin, content, none_is_wrong};
 use rpl_code::read_code;
 use rpl_predef::{
@@ -249,6 +250,7 @@ fn check<L: Ledger>(
     check_lines(rt, &run(rt, alloc, methods, predefs, &mut steps, MEETING));
     assert!(rt; ends_in_conflict(&run(rt, alloc, methods, predefs, &mut steps, MEASURED)));
     check_dam(rt, &run_dam(rt, alloc, methods, predefs, &mut steps));
+    check_sessions(rt, alloc, methods, predefs, &mut steps);
 }
 
 // The method of the kind with this number.

@@ -135,6 +135,7 @@ impl Queue {
     }
 
     /// Wakes the objects that what an event writes at a timestep reaches, as `wake` does.
+    #[inline(always)]
     pub fn wake_written(
         &mut self,
         basin: &Basin,

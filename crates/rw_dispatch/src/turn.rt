@@ -1,4 +1,5 @@
-ghost use Rattle.std.specs.Prelude.{◌≡◌, [], IsTrue, List, Some, map, option_map};
+ghost use Rattle.std.specs.Prelude.{◌≡◌, ◌≤◌, [], IsTrue, List, Some, map, option_map};
+ghost use Rattle.rw_model.specs.Code.{code_of};
 ghost use Rattle.rw_model.specs.Kind.{IsKind};
 ghost use Rattle.rw_model.specs.Objects.{object_at};
 ghost use Rattle.rw_method.specs.View.{IsViewOf};
@@ -27,8 +28,18 @@ use rw_method::{Catalogue, PutList, Solved, View};
 use rw_model::{Basin, Kind};
 use rw_series::Series;
 
-// Fills the view in anew with what an object sees, and answers its kind. Its method is asked where the answer is used: each
-// function that hands on a `Solved` copies it.
+// The method of a kind with a balance. It is lent, and asked where its answer is used: each function that hands on a `Solved`
+// copies it.
+fn method_of<'a>(methods: &'a Catalogue, kind: &Kind) -> &'a Box<dyn rw_method::Method>
+    requires order { AreInOrder (map (λ b. code b) methods.now.methods.items) }
+    requires balance { 1 ≤ code_of kind.now }
+    ensures { code_of kind.now ≡ code result.now }
+{
+    let place = usize::from(kind.code()) - 1;
+    &methods.methods[place]
+}
+
+// Fills the view in anew with what an object sees, and answers its kind.
 fn see<'a>(
     view: &mut View,
     basin: &'a Basin,
@@ -217,17 +228,18 @@ pub fn judge_dispatch(
         (dispatched basin.now (held series.now) object.0 step.0) work.old work.new }
 {
     let kind = see(&mut work.view, basin, series, object, step);
-    let solved = methods.solve(kind, &work.view);
+    let method = method_of(methods, kind);
+    let solved = &method.solve(kind, &work.view);
     let end = answer(
         &work.view,
         basin,
         object,
         step,
-        &solved,
+        solved,
         &mut work.written,
         &mut work.writes,
     );
-    keep_asked(work.keeps, &mut work.asked, basin, object, step, &solved);
+    keep_asked(work.keeps, &mut work.asked, basin, object, step, solved);
     end
 }
 

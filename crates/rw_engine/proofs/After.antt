@@ -1,5 +1,5 @@
 -- The state after an event.
-use Rattle.rw_engine.proofs.Common.{AreReady, Draft, Grows, IsCounted, IsObject, IsOnTheWay, IsSome, IsStageOf, IsWithinStep, Keeps, Leaves, List, None, Ok, Option, RunFault, Some, State, ap, arith, count_of, ended_by, held, left, length, length-set, queued_after-ready, raised, room, stage, subst, sym, ℕ, ◌-◌, ◌<◌, ◌∙◌, ◌≡◌, ◌≤◌}
+use Rattle.rw_engine.proofs.Common.{AreReady, Draft, TraceGrows, HasCount, IsObject, IsOnTheWay, IsSome, IsStageOf, IsWithinStep, KeepsWithin, Leaves, List, None, Ok, Option, RunFault, Some, State, ap, arith, count_of, ended_by, held, left, length, length-set, queued_after-ready, raised, room, stage, subst, sym, ℕ, ◌-◌, ◌<◌, ◌∙◌, ◌≡◌, ◌≤◌}
 use Rattle.rw_engine.proofs.Raises.{room_falls}
 use Rattle.rpl_verify.specs.Verified.{Accepted}
 use Rattle.rw_agenda.specs.Agenda.{IsIndexed, unfired}
@@ -14,17 +14,17 @@ use Rattle.rw_record.specs.Noted.{with_noted}
 use Rattle.rw_engine.specs.Noting.{NotesSome}
 use Rattle.rw_engine.proofs.Traces.{grows_some}
 use Rattle.std.specs.Prelude.{Bool, Contains, Result, Err, IsErrAnd, is_some}
-use Rattle.rw_engine.specs.State.{Does, IsStill, seen_end}
+use Rattle.rw_engine.specs.State.{DoesEvent, IsStill, seen_end}
 use Rattle.rw_engine.proofs.Notings.{revocable_made, revocable_noted, some_noted}
 
 -- each object has a count, and so has each rule
-pub counted : (basin : Draft) (policy : Accepted) (state : State) (object : ℕ) → IsWithinStep basin policy state → IsObject basin.objects object → IsCounted state.counts object
+pub counted : (basin : Draft) (policy : Accepted) (state : State) (object : ℕ) → IsWithinStep basin policy state → IsObject basin.objects object → HasCount state.counts object
 counted basin policy state object within known =
     let many = within.made.counts in let last = known.last in record { first = known.first; last = omega (arith, many, last) }
 
 -- nothing but the trace is another, and what waits is still
-pub only_told : (basin : Draft) (policy : Accepted) (old : State) (trace : Option (List TraceEvent)) → IsWithinStep basin policy old → Grows old.run.trace trace
-    → Keeps basin policy old (record old { run = record old.run { trace = trace } })
+pub only_told : (basin : Draft) (policy : Accepted) (old : State) (trace : Option (List TraceEvent)) → IsWithinStep basin policy old → TraceGrows old.run.trace trace
+    → KeepsWithin basin policy old (record old { run = record old.run { trace = trace } })
 only_told basin policy old trace within grows = record {
   within = record {
     made = record {
@@ -87,12 +87,12 @@ module _ (basin : Draft) (policy : Accepted) (old new : State) (within : IsWithi
   firings_kept : length new.firings ≡ length new.rules.agenda.rules
   firings_kept = stays.firings ∙ within.made.firings ∙ within.made.engine.rules.many ∙ sym stays.rules.many
 
-  notes_kept : is_some new.noted ≡ is_some old.noted → Grows old.run.trace new.run.trace → is_some new.noted ≡ is_some new.run.trace
+  notes_kept : is_some new.noted ≡ is_some old.noted → TraceGrows old.run.trace new.run.trace → is_some new.noted ≡ is_some new.run.trace
   notes_kept noted grows = noted ∙ within.made.engine.notes ∙ sym (grows_some old.run.trace new.run.trace grows)
 
   -- some cells were noted, and nothing changed
   pub keeps_noted : IsIndexed new.rules.agenda (held old.run.series) → new.run.series ≡ old.run.series → new.queue ≡ old.queue
-      → Grows old.run.trace new.run.trace → NotesSome (held old.run.series) old.noted new.noted → Keeps basin policy old new
+      → TraceGrows old.run.trace new.run.trace → NotesSome (held old.run.series) old.noted new.noted → KeepsWithin basin policy old new
   keeps_noted indexed series queue grows some =
       let kept = some_noted (held old.run.series) old.noted new.noted some in record {
         within = record {
@@ -121,8 +121,8 @@ module _ (basin : Draft) (policy : Accepted) (old new : State) (within : IsWithi
   -- an event was made, and what it reaches was noted before
   pub keeps_done : (event : Event) (reached : List Cell) → IsIndexed new.rules.agenda (held new.run.series)
       → IsStageOf basin (stage new.run.series new.queue) → Leaves basin event (stage old.run.series old.queue) (stage new.run.series new.queue)
-      → Grows old.run.trace new.run.trace → new.noted ≡ with_noted (held old.run.series) reached old.noted
-      → (IsSome old.noted → (cell : Cell) → Contains (cells_reached basin (written_by event)) cell → Contains reached cell) → Keeps basin policy old new
+      → TraceGrows old.run.trace new.run.trace → new.noted ≡ with_noted (held old.run.series) reached old.noted
+      → (IsSome old.noted → (cell : Cell) → Contains (cells_reached basin (written_by event)) cell → Contains reached cell) → KeepsWithin basin policy old new
   keeps_done event reached indexed made leaves grows noted all =
       let kept = some_noted (held old.run.series) old.noted new.noted (reached, noted) in record {
         within = record {
@@ -150,7 +150,7 @@ module _ (basin : Draft) (policy : Accepted) (old new : State) (within : IsWithi
       }
 
 -- and so where the run ends by a fault
-pub keeps_ended : (basin : Draft) (policy : Accepted) (old new : State) (why : Option RunFault) → Keeps basin policy old new → Keeps basin policy old (ended_by why new)
+pub keeps_ended : (basin : Draft) (policy : Accepted) (old new : State) (why : Option RunFault) → KeepsWithin basin policy old new → KeepsWithin basin policy old (ended_by why new)
 keeps_ended basin policy old new None keeps = keeps
 keeps_ended basin policy old new (Some why) keeps =
     let engine = keeps.within.made.engine in record {
@@ -188,7 +188,7 @@ rules_on basin policy before after old new on made = record {
 
 -- ---- what is left to do
 
-less_objects : (basin : Draft) (old new : State) (object : ℕ) → IsCounted old.counts object → count_of old.counts object < basin.control.object_limit
+less_objects : (basin : Draft) (old new : State) (object : ℕ) → HasCount old.counts object → count_of old.counts object < basin.control.object_limit
     → new.counts ≡ raised old.counts object → new.firings ≡ old.firings → left basin new < left basin old
 less_objects basin old new object known below counts firings =
     let less = room_falls basin.control.object_limit old.counts object known below in
@@ -196,7 +196,7 @@ less_objects basin old new object known below counts firings =
     let others : room basin.control.rule_limit new.firings ≡ room basin.control.rule_limit old.firings = ap (room basin.control.rule_limit) firings in
     omega (arith, less, own, others)
 
-less_rules : (basin : Draft) (old new : State) (rule : ℕ) → IsCounted old.firings rule → count_of old.firings rule < basin.control.rule_limit
+less_rules : (basin : Draft) (old new : State) (rule : ℕ) → HasCount old.firings rule → count_of old.firings rule < basin.control.rule_limit
     → new.firings ≡ raised old.firings rule → new.counts ≡ old.counts → left basin new < left basin old
 less_rules basin old new rule known below firings counts =
     let less = room_falls basin.control.rule_limit old.firings rule known below in
@@ -210,13 +210,13 @@ on_the_way : (basin : Draft) (step : ℕ) (old new : State) (why : Option RunFau
 on_the_way basin step old new None less closed end = (record { closed_steps = closed; end = end }, less)
 on_the_way basin step old new (Some why) less closed end = closed
 
-pub on_the_way_object : (basin : Draft) (step : ℕ) (old new : State) (why : Option RunFault) (object : ℕ) → IsCounted old.counts object
+pub on_the_way_object : (basin : Draft) (step : ℕ) (old new : State) (why : Option RunFault) (object : ℕ) → HasCount old.counts object
     → count_of old.counts object < basin.control.object_limit → new.counts ≡ raised old.counts object → new.firings ≡ old.firings → new.run.closed ≡ old.run.closed → new.run.end ≡ old.run.end
     → IsOnTheWay basin step (seen_end (ended_by why new) (Ok (is_some why))) old (ended_by why new)
 on_the_way_object basin step old new why object known below counts firings closed end =
     on_the_way basin step old new why (less_objects basin old new object known below counts firings) closed end
 
-pub on_the_way_rule : (basin : Draft) (step : ℕ) (old new : State) (why : Option RunFault) (rule : ℕ) → IsCounted old.firings rule
+pub on_the_way_rule : (basin : Draft) (step : ℕ) (old new : State) (why : Option RunFault) (rule : ℕ) → HasCount old.firings rule
     → count_of old.firings rule < basin.control.rule_limit → new.firings ≡ raised old.firings rule → new.counts ≡ old.counts → new.run.closed ≡ old.run.closed → new.run.end ≡ old.run.end
     → IsOnTheWay basin step (seen_end (ended_by why new) (Ok (is_some why))) old (ended_by why new)
 on_the_way_rule basin step old new why rule known below firings counts closed end =
@@ -224,6 +224,6 @@ on_the_way_rule basin step old new why rule known below firings counts closed en
 
 -- memory wants for an event
 pub wanted : (basin : Draft) (policy : Accepted) (chosen : Option ℕ) (step : ℕ) (old new : State) (given : Log → Type 0) (result : Result Bool NoMemory) (why : NoMemory)
-    → IsErrAnd result (λ fault. fault ≡ why) → Keeps basin policy old new → IsStill old new → IsSome old.run.trace → Does basin policy chosen step old new given result
+    → IsErrAnd result (λ fault. fault ≡ why) → KeepsWithin basin policy old new → IsStill old new → IsSome old.run.trace → DoesEvent basin policy chosen step old new given result
 wanted basin policy chosen step old new given (Ok end) why is keeps still kept = absurd is
 wanted basin policy chosen step old new given (Err fault) why is keeps still kept = record { keeps = keeps; on_the_way = still; goes = λ log holds. tt; few = tt; wants = kept }

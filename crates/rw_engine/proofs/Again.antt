@@ -19,7 +19,7 @@ use Rattle.rw_record.proofs.Taking.{opened as nothing_noted}
 use Rattle.rw_engine.specs.Passing.{Replays}
 use Rattle.rw_engine.specs.Records.{CanWriteLines, puts_in}
 use Rattle.rw_engine.specs.Shows.{CanReplay}
-use Rattle.rw_engine.specs.State.{HasReplayed, IsSound, cleared}
+use Rattle.rw_engine.specs.State.{HasReplayed, IsSoundState, cleared}
 use Rattle.rw_engine.proofs.Records.{held_again}
 use Rattle.rw_engine.proofs.Steps.{alone, begins_step, has_noted, trace_after}
 use Rattle.rw_engine.proofs.Traces.{shown_more}
@@ -75,7 +75,7 @@ noted_again basin before was now events looked old new is are same =
       once now [] (cells_noted looked) (nothing_noted basin before).once,
     )
 
-pub sound_again : (basin : Draft) (kept : StepRecord) (old new : State) (result : Result (Unit {0}) NoMemory) → HasReplayed basin kept old new result → IsSound old → IsSound new
+pub sound_again : (basin : Draft) (kept : StepRecord) (old new : State) (result : Result (Unit {0}) NoMemory) → HasReplayed basin kept old new result → IsSoundState old → IsSoundState new
 sound_again basin kept old new result has sound = record {
   counts = ap length has.counts ∙ sound.counts ∙ sym (ap (λ (q : _). q.objects) has.queue);
   firings = ap length has.firings ∙ sound.firings ∙ sym (ap (λ (r : _). length r.agenda.rules) has.rules);

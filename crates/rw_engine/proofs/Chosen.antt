@@ -6,7 +6,7 @@ use Rattle.rw_dispatch.specs.Pick.{Picking, picked_at}
 use Rattle.rw_dispatch.specs.Queue.{IsTaken, Queue}
 use Rattle.rpl_verify.specs.Verified.{Accepted}
 use Rattle.rw_engine.specs.State.{seen_end}
-use Rattle.rw_engine.proofs.Common.{All, All-cons, All-head, All-tail, Does, Draft, HoldsWithin, IsOnTheWay, List, Log, None, Option, Some, State, [], ap, arith, false, refl, subst, sym, true, ℕ, ◌++◌, ◌<◌, ◌∙◌, ◌∷◌, ◌≡◌}
+use Rattle.rw_engine.proofs.Common.{All, All-cons, All-head, All-tail, DoesEvent, Draft, HoldsWithin, IsOnTheWay, List, Log, None, Option, Some, State, [], ap, arith, false, refl, subst, sym, true, ℕ, ◌++◌, ◌<◌, ◌∙◌, ◌∷◌, ◌≡◌}
 
 -- ---- lists
 
@@ -75,10 +75,10 @@ module _ (basin : Draft) (policy : Accepted) (step : ℕ) (old new : State) (que
 
   -- what is done behind another queue is done behind this one, where this object is chosen
   pub does_on : (chosen one : Option ℕ) (waits others : List ℕ) (result : Result Bool NoMemory) → chosen ≡ one → waits ≡ others
-      → Does basin policy one step (record old { queue = queue }) new (HoldsWithin basin policy (record old { queue = queue }) step others) result
-      → Does basin policy chosen step old new (HoldsWithin basin policy old step waits) result
+      → DoesEvent basin policy one step (record old { queue = queue }) new (HoldsWithin basin policy (record old { queue = queue }) step others) result
+      → DoesEvent basin policy chosen step old new (HoldsWithin basin policy old step waits) result
   does_on chosen one waits others result is same does =
-      subst (λ which. Does basin policy which step old new (HoldsWithin basin policy old step waits) result) (sym is) (record {
+      subst (λ which. DoesEvent basin policy which step old new (HoldsWithin basin policy old step waits) result) (sym is) (record {
         keeps = record {
           within = does.keeps.within;
           revocable = does.keeps.revocable;

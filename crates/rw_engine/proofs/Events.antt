@@ -1,6 +1,6 @@
 -- One event of the engine, over the log that its state holds.
 use Rattle.std.specs.Prelude.{is_some}
-use Rattle.rw_engine.proofs.Common.{Bool, Cell, Cells, DispatchEnd, Draft, Engine, Event, Fault, GoesTo, HoldsWithin, IsCounted, List, Log, Look, None, Option, Policy, Put, RunFault, Settled, Shows, Some, State, [], ap, arith, asked_for, cells_of, count_if, count_of, dispatched, dispatches, end_of, ended_by, ending, event_of, false, fault, fault_by, held, held_after, idles, if◌then◌else◌, inside, last_closed, last_put, lines, lines_by, nat_le, nat_tests, next_of, none-some, option_or, queued_after, raised, refl, same_Some, seen, slice_index_or, solves, standing, subst, sym, trace_of, true, waiting, written_by, ℕ, ◌++◌, ◌-◌, ◌<◌, ◌==◌, ◌∙◌, ◌∷◌, ◌≡◌}
+use Rattle.rw_engine.proofs.Common.{Bool, Cell, Cells, DispatchEnd, Draft, Engine, Event, Fault, GoesToState, HoldsWithin, HasCount, List, Log, Look, None, Option, Policy, Put, RunFault, Settled, Shows, Some, State, [], ap, arith, asked_for, cells_of, count_if, count_of, dispatched, dispatches, end_of, ended_by, ending, event_of, false, fault, fault_by, held, held_after, idles, if◌then◌else◌, inside, last_closed, last_put, lines, lines_by, nat_le, nat_tests, next_of, none-some, option_or, queued_after, raised, refl, same_Some, seen, slice_index_or, solves, standing, subst, sym, trace_of, true, waiting, written_by, ℕ, ◌++◌, ◌-◌, ◌<◌, ◌==◌, ◌∙◌, ◌∷◌, ◌≡◌}
 use Rattle.rw_run.specs.declared.fault.RunFault.TheVariants.{ObjectLimit}
 use Rattle.rw_dispatch.specs.Answer.{Ends, answer_of}
 use Rattle.rw_dispatch.specs.declared.dispatch_end.DispatchEnd.TheVariants.{Idle as IsIdle, Solved as IsSolved, Conflict as IsConflict, OutOfRange as IsOutOfRange}
@@ -109,7 +109,7 @@ module _ (basin : Draft) (looked : List Look) (step object : ℕ) (before behind
 -- what the state has after that
 pub record Went (basin : Draft) (old new : State) (looked : List Look) (step object : ℕ) (rest : List ℕ) (event : Event) (ended : DispatchEnd) : Type 0 where
   pub told : Told basin (seen old) (seen new) looked step object event ended
-  pub counted : IsCounted old.counts object
+  pub counted : HasCount old.counts object
   pub counts : new.counts ≡ raised old.counts object
   pub queue : new.queue.waiting ≡ queued_after basin event rest
   pub rules : new.rules.agenda.rules ≡ old.rules.agenda.rules
@@ -118,7 +118,7 @@ pub record Went (basin : Draft) (old new : State) (looked : List Look) (step obj
 -- the timestep goes on, or the run ends by the fault
 pub goes_to : (basin : Draft) (policy : Accepted) (old new : State) (looked : List Look) (step object place : ℕ) (waits rest : List ℕ) (log : Log) (event : Event) (ended : DispatchEnd)
     → IsTaken place waits object rest → HoldsWithin basin policy old step waits log → Went basin old new looked step object rest event ended → new.run.end ≡ old.run.end
-    → (why : Option RunFault) → fault_by object step ended ≡ why → GoesTo basin policy (ending (ended_by why new) (is_some why)) (ended_by why new) step log event
+    → (why : Option RunFault) → fault_by object step ended ≡ why → GoesToState basin policy (ending (ended_by why new) (is_some why)) (ended_by why new) step log event
 goes_to basin policy old new looked step object place waits rest log event ended taken holds went end None is =
     let tells = says basin looked step object taken.before taken.behind log event ended went.told.is in
     let calm = tells.calm is in record {

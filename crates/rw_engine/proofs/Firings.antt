@@ -1,6 +1,6 @@
 -- What follows where no object waits, and the firing of a rule, over the log that the state holds.
 use Rattle.std.specs.Prelude.{is_some}
-use Rattle.rw_engine.proofs.Common.{Asked, Bool, Cell, Cells, Draft, Fault, GoesTo, HoldsWithin, IsCounted, List, Log, None, Option, Policy, RunFault, Shows, Some, State, [], ap, arith, cells_of, count_if, count_of, dispatches, ended_by, ending, false, fault, fault_of_rule, held, if◌then◌else◌, last_put, line_of, lines_of_rule, map, nat_le, nat_tests, next_of, option_or, raised, refl, seen, slice_index_or, subst, sym, trace_of, true, waiting, written_by, ℕ, ◌++◌, ◌-◌, ◌<◌, ◌==◌, ◌∙◌, ◌∷◌, ◌≡◌, ◌≤◌}
+use Rattle.rw_engine.proofs.Common.{Asked, Bool, Cell, Cells, Draft, Fault, GoesToState, HoldsWithin, HasCount, List, Log, None, Option, Policy, RunFault, Shows, Some, State, [], ap, arith, cells_of, count_if, count_of, dispatches, ended_by, ending, false, fault, fault_of_rule, held, if◌then◌else◌, last_put, line_of, lines_of_rule, map, nat_le, nat_tests, next_of, option_or, raised, refl, seen, slice_index_or, subst, sym, trace_of, true, waiting, written_by, ℕ, ◌++◌, ◌-◌, ◌<◌, ◌==◌, ◌∙◌, ◌∷◌, ◌≡◌, ◌≤◌}
 use Rattle.rpl_verify.specs.Verified.{Accepted}
 use Rattle.rw_run.proofs.Waits.{fires}
 use Rattle.rw_run.specs.Dispatch.{dispatched, looks_at}
@@ -72,7 +72,7 @@ pub record MadeSo (basin : Draft) (policy : Accepted) (old new : State) (rule st
   pub cells : (cell : Cell) → held new.run.series cell ≡ option_or (last_put basin written cell) (held old.run.series cell)
   pub trace : new.run.trace ≡ told old.run.trace more
   pub closed_steps : new.run.closed ≡ old.run.closed
-  pub counted : IsCounted old.firings rule
+  pub counted : HasCount old.firings rule
   pub firings : new.firings ≡ raised old.firings rule
   pub counts : new.counts ≡ old.counts
   pub queue : new.queue.waiting ≡ old.queue.waiting ++ woken basin None old.queue.waiting (slots_at step written)
@@ -129,7 +129,7 @@ module _ (basin : Draft) (policy : Accepted) (old new : State) (rule step : ℕ)
   pub fired_to : (so : FireEnd)
       → MadeSo basin policy old new rule step log fire (written_by (ended basin (held old.run.series) rule step fire so))
       (lines_of_rule rule step so fire.count (written_by (ended basin (held old.run.series) rule step fire so)))
-      → GoesTo basin policy (ending (ended_by (fault_of_rule rule step so) new) (is_some (fault_of_rule rule step so))) (ended_by (fault_of_rule rule step so) new) step log (ended basin (held old.run.series) rule step fire so)
+      → GoesToState basin policy (ending (ended_by (fault_of_rule rule step so) new) (is_some (fault_of_rule rule step so))) (ended_by (fault_of_rule rule step so) new) step log (ended basin (held old.run.series) rule step fire so)
   fired_to Done made = goes_on true _ _ made
   fired_to Unknown made = goes_on false _ _ made
   fired_to DividesByZero made = (refl, ends_by _ made)
@@ -140,9 +140,9 @@ pub fired_on : (basin : Draft) (policy : Accepted) (old new : State) (rule step 
     → new.run.end ≡ old.run.end → (so : FireEnd) → so ≡ fire.end → (why : Option RunFault) → why ≡ fault_of_rule rule step so
     → MadeSo basin policy old new rule step log fire (written_by (ended basin (held old.run.series) rule step fire fire.end))
     (lines_of_rule rule step fire.end fire.count (written_by (ended basin (held old.run.series) rule step fire fire.end)))
-    → GoesTo basin policy (ending (ended_by why new) (is_some why)) (ended_by why new) step log (ended basin (held old.run.series) rule step fire fire.end)
+    → GoesToState basin policy (ending (ended_by why new) (is_some why)) (ended_by why new) step log (ended basin (held old.run.series) rule step fire fire.end)
 fired_on basin policy old new rule step log fire holds end so same why is made =
-    subst (λ w. GoesTo basin policy (ending (ended_by w new) (is_some w)) (ended_by w new) step log (ended basin (held old.run.series) rule step fire fire.end))
+    subst (λ w. GoesToState basin policy (ending (ended_by w new) (is_some w)) (ended_by w new) step log (ended basin (held old.run.series) rule step fire fire.end))
     (sym (is ∙ ap (fault_of_rule rule step) same)) (fired_to basin policy old new rule step log fire holds end fire.end made)
 
 -- looks of rules whose marks alone changed

@@ -8,8 +8,8 @@ use Rattle.rw_run.specs.Runs.{IsRun, follows_by, standing}
 use Rattle.rw_run.specs.declared.run.Run.{Run}
 use Rattle.rpl_verify.specs.Verified.{Accepted}
 use Rattle.rw_rules.specs.Rules.{policy_in}
-use Rattle.rw_engine.specs.Passing.{Closes, RunsStep}
-use Rattle.rw_engine.specs.Picked.{ClosesBy, ComesToPicked, LeadsBy, PassesBy, RunsStepBy, turn_after}
+use Rattle.rw_engine.specs.Passing.{EndsStep, RunsStep}
+use Rattle.rw_engine.specs.Picked.{EndsStepBy, ComesToPicked, LeadsBy, PassesBy, RunsStepBy, turn_after}
 use Rattle.rw_engine.specs.declared.step_end.StepEnd.{StepEnd}
 use Rattle.rw_engine.specs.declared.step_end.StepEnd.TheVariants.{Closed as IsClosed, Fault as IsFaulted}
 use Rattle.rw_engine.proofs.Common.{ComesTo, Draft, Engine, Event, Inputs, Leads, List, Log, Passes, Policy, [], ap, first_of, follows, opened, placed, refl, sym, waiting, ℕ, ℤ, ◌∙◌, ◌∷◌, ◌≡◌}
@@ -48,7 +48,7 @@ module _ (basin : Draft) (policy : Policy) where
   comes_run inputs (Ok run) comes = comes_oldest inputs run comes
   comes_run inputs (Err want) comes = tt
 
-  closes : (turn step : ℕ) (end : StepEnd) (old new : Log) (engine : Engine) → ClosesBy basin policy oldest turn end step old new engine → Closes basin policy end step old new engine
+  closes : (turn step : ℕ) (end : StepEnd) (old new : Log) (engine : Engine) → EndsStepBy basin policy oldest turn end step old new engine → EndsStep basin policy end step old new engine
   closes turn step (IsFaulted why) old new engine closing = tt
   closes turn step IsClosed old new engine closing = record {
     first = closing.first;

@@ -4,7 +4,7 @@ use Rattle.std.specs.Prelude.{Err, IsErrAnd, Ok, Result, ◌-◌, ◌^◌, ◌�
 use Rattle.rw_base.specs.declared.memory.NoMemory.{NoMemory}
 use Rattle.rpl_verify.specs.Verified.{Accepted}
 use Rattle.rw_dispatch.specs.Pick.{IsPickedRun, Picking}
-use Rattle.rw_engine.specs.Picked.{ComesToPicked, LeadsBy, PassesBy, RunsAllBy, StandsBy, turns_after}
+use Rattle.rw_engine.specs.Picked.{ComesToPicked, LeadsBy, PassesBy, RunsAllBy, StandsPicked, turns_after}
 use Rattle.rw_run.specs.declared.run.Run.{Run}
 use Rattle.rw_engine.specs.declared.step_end.StepEnd.TheVariants.{Closed as IsClosed, Fault as IsFault}
 use Rattle.rw_run.specs.declared.run.RunEnd.{RunEnd}
@@ -22,7 +22,7 @@ pub before_step : (basin : Draft) (log : Log) (step : ℕ) → standing log ≡ 
 before_step basin log step rest near = record { last = step; rest = rest; next_one = refl; exists = omega arith }
 
 module _ (basin : Draft) (policy : Policy) (rule : Picking) (inputs : Inputs) where
-  pub stands_first : (engine : Engine) → Shows basin engine (placed [] (givens basin inputs)) → engine.turns ≡ 0 → StandsBy basin policy rule inputs engine 0
+  pub stands_first : (engine : Engine) → Shows basin engine (placed [] (givens basin inputs)) → engine.turns ≡ 0 → StandsPicked basin policy rule inputs engine 0
   stands_first engine shows none = record {
     log = placed [] (givens basin inputs);
     events = [];
@@ -33,8 +33,8 @@ module _ (basin : Draft) (policy : Policy) (rule : Picking) (inputs : Inputs) wh
   }
 
   -- a closed timestep leads on
-  pub stands_next : (old new : Engine) (step : ℕ) → (stands : StandsBy basin policy rule inputs old step)
-      → PassesBy basin policy rule old.turns stands.log IsClosed new (step + 1) → StandsBy basin policy rule inputs new (step + 1)
+  pub stands_next : (old new : Engine) (step : ℕ) → (stands : StandsPicked basin policy rule inputs old step)
+      → PassesBy basin policy rule old.turns stands.log IsClosed new (step + 1) → StandsPicked basin policy rule inputs new (step + 1)
   stands_next old new step stands passes = record {
     log = passes.last ∷ passes.before;
     events = stands.events ++ passes.events;
@@ -55,7 +55,7 @@ module _ (basin : Draft) (policy : Policy) (rule : Picking) (inputs : Inputs) wh
   }
 
   -- after the last timestep the run is whole
-  pub comes_settled : (engine : Engine) (step : ℕ) (run : Run) → (stands : StandsBy basin policy rule inputs engine step)
+  pub comes_settled : (engine : Engine) (step : ℕ) (run : Run) → (stands : StandsPicked basin policy rule inputs engine step)
       → step ≡ basin.control.stamps.count → engine.turns < 2 ^ 64 - 1 → IsRunOf basin stands.log run → ComesToPicked basin policy rule inputs run
   comes_settled engine step run stands last few is = record {
     log = stands.log;
@@ -66,7 +66,7 @@ module _ (basin : Draft) (policy : Policy) (rule : Picking) (inputs : Inputs) wh
   }
 
   -- and after a fault
-  pub comes_faulted : (old new : Engine) (step at : ℕ) (why : RunFault) (run : Run) → (stands : StandsBy basin policy rule inputs old step)
+  pub comes_faulted : (old new : Engine) (step at : ℕ) (why : RunFault) (run : Run) → (stands : StandsPicked basin policy rule inputs old step)
       → (passes : PassesBy basin policy rule old.turns stands.log (IsFault why) new at) → new.turns < 2 ^ 64 - 1 → IsRunOf basin (passes.last ∷ passes.before) run
       → ComesToPicked basin policy rule inputs run
   comes_faulted old new step at why run stands passes few is =

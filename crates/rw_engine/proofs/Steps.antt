@@ -1,5 +1,5 @@
 -- A timestep of the engine, over the log that it shows.
-use Rattle.rw_engine.proofs.Common.{Bool, Cell, Cells, Draft, Engine, Event, Goes, Grows, HoldsWithin, IsBefore, IsSome, IsStill, List, Log, None, Option, Policy, Reached, Series, Settled, Shows, Some, State, [], all_waiting, ap, append-nil, append_assoc, ap₂, arith, cells_of, closed, count_of, fault, false, given, held, held_after, if◌then◌else◌, inside, last_put, length, lines, nat_lt, nat_tests, opened, opens, option_or, refl, seen, standing, subst, sym, trace_of, true, written_by, ℕ, ◌++◌, ◌+◌, ◌∙◌, ◌∷◌, ◌≡◌, ◌≤◌}
+use Rattle.rw_engine.proofs.Common.{Bool, Cell, Cells, Draft, Engine, Event, GoesByEvent, TraceGrows, HoldsWithin, IsBefore, IsSome, IsStill, List, Log, None, Option, Policy, Reached, Series, Settled, Shows, Some, State, [], all_waiting, ap, append-nil, append_assoc, ap₂, arith, cells_of, closed, count_of, fault, false, given, held, held_after, if◌then◌else◌, inside, last_put, length, lines, nat_lt, nat_tests, opened, opens, option_or, refl, seen, standing, subst, sym, trace_of, true, written_by, ℕ, ◌++◌, ◌+◌, ◌∙◌, ◌∷◌, ◌≡◌, ◌≤◌}
 use Rattle.std.specs.Prelude.{Err, IfSome, IsErrAnd, Ok, Result, drop, is_some}
 use Rattle.std.specs.List.{flat_map}
 use Rattle.rw_base.proofs.Common.{All-push}
@@ -20,10 +20,10 @@ use Rattle.rw_run.specs.Next.{next_of}
 use Rattle.rw_run.specs.Runs.{follows_by}
 use Rattle.rw_run.specs.Waiting.{waiting}
 use Rattle.rw_engine.specs.Passing.{steps_of}
-use Rattle.rw_engine.specs.Picked.{ClosesBy, CountsTurns, LeadsBy, PassesBy, PicksAt, follows_at, turn_after, turns_after}
+use Rattle.rw_engine.specs.Picked.{EndsStepBy, CountsTurns, LeadsBy, PassesBy, PicksAt, follows_at, turn_after, turns_after}
 use Rattle.rw_engine.specs.Shows.{EndsBy}
 use Rattle.rw_engine.specs.Records.{CanWriteLines, HasNoted, lines_of_step}
-use Rattle.rw_engine.specs.State.{AreInside, CanGoBack, HasPassed, IsStateOf, Keeps}
+use Rattle.rw_engine.specs.State.{AreWithinStep, CanGoBack, HasPassed, IsStateOf, KeepsWithin}
 use Rattle.rw_engine.specs.declared.step_end.StepEnd.{StepEnd}
 use Rattle.rw_engine.specs.declared.step_end.StepEnd.TheVariants.{Closed as IsClosed, Fault as IsFaulted}
 use Rattle.rw_engine.proofs.Notings.{notes_more}
@@ -101,7 +101,7 @@ alone (solved dispatch) log = refl
 alone (fired firing) log = refl
 alone (fault why) log = refl
 
-inside_more : (step : ℕ) (events : List Event) (event : Event) → AreInside step events → standing (event ∷ []) ≡ inside step → AreInside step (events ++ event ∷ [])
+inside_more : (step : ℕ) (events : List Event) (event : Event) → AreWithinStep step events → standing (event ∷ []) ≡ inside step → AreWithinStep step (events ++ event ∷ [])
 inside_more step [] event within at = (at, tt)
 inside_more step (first ∷ events) event within at = (within.0, inside_more step events event within.1 at)
 
@@ -113,7 +113,7 @@ made_by basin old new event log was is cell =
 
 pub reached_more : (basin : Draft) (policy : Accepted) (rule : Picking) (turn : ℕ) (start : Log) (old new : State) (step : ℕ) → Reached basin policy rule turn start old step
     → ((log : Log) → HoldsWithin basin policy old step old.queue.waiting log
-    → Goes basin policy (picked_at rule old.turns old.queue.waiting) None (held old.run.series) old.noted old.turns new step log)
+    → GoesByEvent basin policy (picked_at rule old.turns old.queue.waiting) None (held old.run.series) old.noted old.turns new step log)
     → PicksAt rule old.turns old.queue.waiting (inside step) → Reached basin policy rule turn start new step
 reached_more basin policy rule turn start old new step reached goes picks =
     let went = goes reached.now reached.holds in
@@ -151,7 +151,7 @@ all_in : (events : List Event) (last : Event) → first_in events last ∷ behin
 all_in [] last = refl
 all_in (event ∷ events) last = refl
 
-step_from : (step : ℕ) (events : List Event) (last : Event) → AreInside step events → last ≡ closed step → IsStepFrom step (first_in events last) (behind_in events last)
+step_from : (step : ℕ) (events : List Event) (last : Event) → AreWithinStep step events → last ≡ closed step → IsStepFrom step (first_in events last) (behind_in events last)
 step_from step [] last within is = is
 step_from step (event ∷ []) last within is = (within.0, is)
 step_from step (event ∷ next ∷ events) last within is = (within.0, step_from step (next ∷ events) last within.1 is)
@@ -203,9 +203,9 @@ begins_step basin policy chosen log step before =
 
 pub ends_step : (basin : Draft) (policy : Accepted) (rule : Picking) (turn : ℕ) (log : Log) (first old new : State) (step : ℕ) (end : StepEnd) → Reached basin policy rule turn log old step
     → ((l : Log) → HoldsWithin basin policy old step old.queue.waiting l
-    → Goes basin policy (picked_at rule old.turns old.queue.waiting) (Some end) (held old.run.series) old.noted old.turns new step l)
+    → GoesByEvent basin policy (picked_at rule old.turns old.queue.waiting) (Some end) (held old.run.series) old.noted old.turns new step l)
     → PicksAt rule old.turns old.queue.waiting (inside step) → Shows basin (seen first) log → IsBefore basin step log
-    → Grows first.run.trace new.run.trace → is_some new.noted ≡ is_some new.run.trace → new.lines_before ≡ length (lines_in first.run.trace)
+    → TraceGrows first.run.trace new.run.trace → is_some new.noted ≡ is_some new.run.trace → new.lines_before ≡ length (lines_in first.run.trace)
     → PassesBy basin (policy_in basin policy) rule turn log end (seen new) step
 ends_step basin policy rule turn log first old new step end reached goes picks shows before grows notes many =
     let went = goes reached.now reached.holds in
@@ -233,7 +233,7 @@ ends_step basin policy rule turn log first old new step end reached goes picks s
     last_turn : (event : Event) → turns_after turn (opened step ∷ (reached.events ++ event ∷ [])) ≡ turn_after old.turns event
     last_turn event = turns_more turn reached.events (event ∷ []) ∙ ap (λ t. turn_after t event) (sym reached.turned)
 
-    turned : (e : StepEnd) (went : Goes basin policy (picked_at rule old.turns old.queue.waiting) (Some e) (held old.run.series) old.noted old.turns new step reached.now)
+    turned : (e : StepEnd) (went : GoesByEvent basin policy (picked_at rule old.turns old.queue.waiting) (Some e) (held old.run.series) old.noted old.turns new step reached.now)
         → CountsTurns e turn new.turns (opened step ∷ (reached.events ++ went.event ∷ []))
     turned e went = record {
       least = rw (last_turn went.event) went.turned.least;
@@ -242,9 +242,9 @@ ends_step basin policy rule turn log first old new step end reached goes picks s
           went.turned.same calm ∙ sym (last_turn went.event);
     }
 
-    closes : (e : StepEnd) (went : Goes basin policy (picked_at rule old.turns old.queue.waiting) (Some e) (held old.run.series) old.noted old.turns new step reached.now)
+    closes : (e : StepEnd) (went : GoesByEvent basin policy (picked_at rule old.turns old.queue.waiting) (Some e) (held old.run.series) old.noted old.turns new step reached.now)
         → LeadsBy basin (policy_in basin policy) rule turn (opened step ∷ log) (reached.events ++ went.event ∷ []) (went.event ∷ reached.now)
-        → ClosesBy basin (policy_in basin policy) rule turn e step log (went.event ∷ reached.now) (seen new)
+        → EndsStepBy basin (policy_in basin policy) rule turn e step log (went.event ∷ reached.now) (seen new)
     closes (IsFaulted why) went leads = tt
     closes IsClosed went leads =
         let is = went.goes.0 in
@@ -270,7 +270,7 @@ ends_step basin policy rule turn log first old new step end reached goes picks s
               shows.trace many (kept_before first.run.trace new.run.trace grows kept) (can_step basin step events can) kept);
         }
 
-pub grows_more : (x y z : Option (List TraceEvent)) → Grows x y → Grows y z → Grows x z
+pub grows_more : (x y z : Option (List TraceEvent)) → TraceGrows x y → TraceGrows y z → TraceGrows x z
 grows_more x y z one other = (one.0 ++ other.0, other.1 ∙ ap (λ t. told t other.0) one.1 ∙ told_more x one.0 other.0)
 
 pub still_more : (one other last : State) → IsStill one other → IsStill other last → IsStill one last
@@ -278,7 +278,7 @@ still_more one other last before after =
     record { closed_steps = after.closed_steps ∙ before.closed_steps; end = after.end ∙ before.end }
 
 -- what was done can be taken back, and then what an event did
-pub goes_back_more : (basin : Draft) (policy : Accepted) (first old new : State) → CanGoBack first old → Keeps basin policy old new → CanGoBack first new
+pub goes_back_more : (basin : Draft) (policy : Accepted) (first old new : State) → CanGoBack first old → KeepsWithin basin policy old new → CanGoBack first new
 goes_back_more basin policy first old new before keeps = record {
   revocable = keeps.revocable (held first.run.series) before.revocable;
   lines_before = keeps.lines_before ∙ before.lines_before;

@@ -1,5 +1,5 @@
 -- Traces that are kept or aren't, and the lines that are told to them.
-use Rattle.rw_engine.proofs.Common.{Grows, List, None, Option, Some, [], ap, append-nil, append_assoc, length, refl, subst, sym, take, ◌++◌, ◌∙◌, ◌≡◌}
+use Rattle.rw_engine.proofs.Common.{TraceGrows, List, None, Option, Some, [], ap, append-nil, append_assoc, length, refl, subst, sym, take, ◌++◌, ◌∙◌, ◌≡◌}
 use Rattle.std.specs.Prelude.{IfSome, IsSome, is_some, option_map}
 use Rattle.std.proofs.Math.Seq.{take-append_seam}
 use Rattle.rw_run.specs.declared.trace.TraceEvent.{TraceEvent}
@@ -28,7 +28,7 @@ pub shows_nothing : (trace : Option (List TraceEvent)) (shown : List TraceEvent)
 shows_nothing trace shown none fresh = subst (λ s. IfSome trace (λ lines. lines ≡ s)) (sym none) fresh
 
 -- the lines that were there before
-pub shortened : (old new : Option (List TraceEvent)) → Grows old new → option_map (take (length (lines_in old))) new ≡ old
+pub shortened : (old new : Option (List TraceEvent)) → TraceGrows old new → option_map (take (length (lines_in old))) new ≡ old
 shortened old new grows = ap (option_map (take (length (lines_in old)))) grows.1 ∙ by old grows.0
   where
     by : (t : Option (List TraceEvent)) (more : List TraceEvent) → option_map (take (length (lines_in t))) (told t more) ≡ t
@@ -36,15 +36,15 @@ shortened old new grows = ap (option_map (take (length (lines_in old)))) grows.1
     by (Some lines) more = ap Some (take-append_seam lines more)
 
 -- a trace is kept, or isn't, whatever is told
-pub kept_on : (old new : Option (List TraceEvent)) → Grows old new → IsSome old → IsSome new
+pub kept_on : (old new : Option (List TraceEvent)) → TraceGrows old new → IsSome old → IsSome new
 kept_on None new grows kept = absurd (cc)
 kept_on (Some lines) new grows kept = subst (λ t. IsSome t) (sym grows.1) refl
 
-pub kept_before : (old new : Option (List TraceEvent)) → Grows old new → IsSome new → IsSome old
+pub kept_before : (old new : Option (List TraceEvent)) → TraceGrows old new → IsSome new → IsSome old
 kept_before None new grows kept = subst (λ t. IsSome t) grows.1 kept
 kept_before (Some lines) new grows kept = refl
 
-pub grows_some : (old new : Option (List TraceEvent)) → Grows old new → is_some new ≡ is_some old
+pub grows_some : (old new : Option (List TraceEvent)) → TraceGrows old new → is_some new ≡ is_some old
 grows_some old new grows = ap is_some grows.1 ∙ by old
   where
     by : (trace : Option (List TraceEvent)) → is_some (told trace grows.0) ≡ is_some trace
@@ -56,5 +56,5 @@ pub told_on : (first old new : Option (List TraceEvent)) (one more all : List Tr
     → new ≡ told first all
 told_on first old new one more all is was same = is ∙ ap (λ t. told t more) was ∙ told_more first one more ∙ ap (told first) same
 
-pub grows_on : (first old new : Option (List TraceEvent)) (more : List TraceEvent) → new ≡ told old more → Grows first old → Grows first new
+pub grows_on : (first old new : Option (List TraceEvent)) (more : List TraceEvent) → new ≡ told old more → TraceGrows first old → TraceGrows first new
 grows_on first old new more is grows = (grows.0 ++ more, is ∙ ap (λ t. told t more) grows.1 ∙ told_more first grows.0 more)

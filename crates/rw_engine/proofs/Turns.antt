@@ -4,7 +4,7 @@ use Rattle.std.proofs.Math.Nat.{suc-mul}
 use Rattle.std.proofs.lemmas.Nat.{mul-le}
 use Rattle.rw_base.specs.declared.number.Cell.{Cell}
 use Rattle.rw_model.specs.Basin.{IsBasin}
-use Rattle.rw_engine.proofs.Common.{add-one, Cells, DispatchEnd, Draft, Event, IsCounted, List, Log, Look, None, Option, Policy, Put, RunFault, Some, State, [], ap, arith, count_of, ended_by, event_of, fault, given, length, placed, raised, refl, room, sym, ℕ, ℤ, ◌++◌, ◌+◌, ◌-◌, ◌<◌, ◌∙◌, ◌∷◌, ◌≡◌, ◌≤◌}
+use Rattle.rw_engine.proofs.Common.{add-one, Cells, DispatchEnd, Draft, Event, HasCount, List, Log, Look, None, Option, Policy, Put, RunFault, Some, State, [], ap, arith, count_of, ended_by, event_of, fault, given, length, placed, raised, refl, room, sym, ℕ, ℤ, ◌++◌, ◌+◌, ◌-◌, ◌<◌, ◌∙◌, ◌∷◌, ◌≡◌, ◌≤◌}
 use Rattle.rw_dispatch.specs.Answer.{Ends, answer_of}
 use Rattle.rw_dispatch.specs.Pick.{LeadsPicked, Picking, picked_at, turn_of, turns}
 use Rattle.rw_dispatch.specs.declared.dispatch_end.DispatchEnd.TheVariants.{Idle as IsIdle, Solved as IsSolved, Conflict as IsConflict, OutOfRange as IsOutOfRange}
@@ -53,7 +53,7 @@ few_ended basin old new None few = few
 few_ended basin old new (Some why) few = few
 
 -- a turn more, of an object that may be dispatched as often less
-pub few_object : (basin : Draft) (old : State) (counts : List ℕ) (turn object : ℕ) → IsCounted old.counts object → count_of old.counts object < basin.control.object_limit
+pub few_object : (basin : Draft) (old : State) (counts : List ℕ) (turn object : ℕ) → HasCount old.counts object → count_of old.counts object < basin.control.object_limit
     → counts ≡ raised old.counts object → turn ≤ old.turns + 1 → turn + room basin.control.object_limit counts ≤ turns_at_most basin old
 few_object basin old counts turn object known below is few =
     let less = room_falls basin.control.object_limit old.counts object known below in

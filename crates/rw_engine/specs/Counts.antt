@@ -2,7 +2,7 @@
 use Rattle.std.specs.Prelude.{ℕ, ◌+◌, ◌-◌, ◌≤◌, List, [], ◌∷◌, length, set, slice_index_or}
 
 -- there is a count for the number
-pub record IsCounted (counts : List ℕ) (number : ℕ) : Type 0 where
+pub record HasCount (counts : List ℕ) (number : ℕ) : Type 0 where
   pub first : 1 ≤ number
   pub last : number ≤ length counts
 

@@ -51,5 +51,5 @@ abbrev pub lines_of_rule : ℕ → ℕ → FireEnd → ℕ → List Asked → Li
 lines_of_rule rule step end count writes = by_fault (fault_of_rule rule step end) (Fire (record { 0 = rule }) (is_done end) count ∷ map line_of writes)
 
 -- the second trace is the first with more lines
-abbrev pub Grows : Option (List TraceEvent) → Option (List TraceEvent) → Type 0
-Grows old new = (more : List TraceEvent) × (new ≡ told old more)
+abbrev pub TraceGrows : Option (List TraceEvent) → Option (List TraceEvent) → Type 0
+TraceGrows old new = (more : List TraceEvent) × (new ≡ told old more)

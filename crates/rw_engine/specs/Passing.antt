@@ -30,9 +30,9 @@ pub record ClosesStep (basin : Draft) (policy : Policy) (step : ℕ) (old new : 
   pub is : new ≡ log_after (first ∷ events) (opened step ∷ old)
   pub noted : IsSome engine.trace → HasNoted basin step old (first ∷ events) engine
 
-abbrev pub Closes : Draft → Policy → StepEnd → ℕ → Log → Log → Engine → Type 0
-Closes basin policy IsClosed step old new engine = ClosesStep basin policy step old new engine
-Closes basin policy (IsFault why) step old new engine = Unit {0}
+abbrev pub EndsStep : Draft → Policy → StepEnd → ℕ → Log → Log → Engine → Type 0
+EndsStep basin policy IsClosed step old new engine = ClosesStep basin policy step old new engine
+EndsStep basin policy (IsFault why) step old new engine = Unit {0}
 
 -- the events of the timestep follow, up to its closing or to the fault, and the engine shows them
 pub record Passes (basin : Draft) (policy : Policy) (log : Log) (end : StepEnd) (engine : Engine) (step : ℕ) : Type 0 where
@@ -43,7 +43,7 @@ pub record Passes (basin : Draft) (policy : Policy) (log : Log) (end : StepEnd) 
   pub within : standing before ≡ inside step
   pub ends : EndsBy end step last
   pub shows : Shows basin engine (last ∷ before)
-  pub closes : Closes basin policy end step log (last ∷ before) engine
+  pub closes : EndsStep basin policy end step log (last ∷ before) engine
 
 -- a call passes the timestep after the last closed one. After want of memory the engine shows what it showed before
 pub record RunsStep (basin : Draft) (policy : Accepted) (step : ℕ) (old new : Engine) (result : Result StepEnd NoMemory) : Type 0 where

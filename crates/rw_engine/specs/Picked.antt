@@ -76,9 +76,9 @@ pub record ClosesStepBy (basin : Draft) (policy : Policy) (rule : Picking) (turn
   pub is : new ≡ log_after (first ∷ events) (opened step ∷ old)
   pub noted : IsSome engine.trace → HasNoted basin step old (first ∷ events) engine
 
-abbrev pub ClosesBy : Draft → Policy → Picking → ℕ → StepEnd → ℕ → Log → Log → Engine → Type 0
-ClosesBy basin policy rule turn IsClosed step old new engine = ClosesStepBy basin policy rule turn step old new engine
-ClosesBy basin policy rule turn (IsFault why) step old new engine = Unit {0}
+abbrev pub EndsStepBy : Draft → Policy → Picking → ℕ → StepEnd → ℕ → Log → Log → Engine → Type 0
+EndsStepBy basin policy rule turn IsClosed step old new engine = ClosesStepBy basin policy rule turn step old new engine
+EndsStepBy basin policy rule turn (IsFault why) step old new engine = Unit {0}
 
 -- the turn is that after these events, and behind a fault it may be a later one
 pub record CountsTurns (end : StepEnd) (before after : ℕ) (events : List Event) : Type 0 where
@@ -94,7 +94,7 @@ pub record PassesBy (basin : Draft) (policy : Policy) (rule : Picking) (turn : �
   pub within : standing before ≡ inside step
   pub ends : EndsBy end step last
   pub shows : Shows basin engine (last ∷ before)
-  pub closes : ClosesBy basin policy rule turn end step log (last ∷ before) engine
+  pub closes : EndsStepBy basin policy rule turn end step log (last ∷ before) engine
   pub turned : CountsTurns end turn engine.turns events
 
 -- a call passes the timestep after the last closed one. After want of memory the engine shows what it showed before
@@ -117,7 +117,7 @@ pub record ComesToPicked (basin : Draft) (policy : Policy) (rule : Picking) (inp
   pub is : IsRunOf basin log run
 
 -- the engine shows a log that the inputs led to, in which this is the last closed timestep, and its turn is that of the log
-pub record StandsBy (basin : Draft) (policy : Policy) (rule : Picking) (inputs : Inputs) (engine : Engine) (step : ℕ) : Type 0 where
+pub record StandsPicked (basin : Draft) (policy : Policy) (rule : Picking) (inputs : Inputs) (engine : Engine) (step : ℕ) : Type 0 where
   pub log : Log
   pub events : List Event
   pub leads : LeadsBy basin policy rule 0 (placed [] (givens basin inputs)) events log

@@ -27,7 +27,7 @@ use Rattle.rpl_verify.specs.Verified.{Accepted}
 use Rattle.rw_rules.specs.Rules.{ShowsLooks, policy_in}
 use Rattle.rw_engine.specs.Counts.{count_of, room}
 use Rattle.rw_engine.specs.Engine.{Engine}
-use Rattle.rw_engine.specs.Lines.{Grows}
+use Rattle.rw_engine.specs.Lines.{TraceGrows}
 use Rattle.rw_engine.specs.Picked.{LeadsBy, PassesBy, most_turns, turn_after, turns_after}
 use Rattle.rw_engine.specs.Records.{CanWriteAll, puts_in}
 use Rattle.rw_engine.specs.Shows.{IsBefore, IsEngineOf, Shows, EndsBy, closed_by}
@@ -53,7 +53,7 @@ seen state = record {
 }
 
 -- a state has a count for each object and each rule, and keeps what is asked for where it notes it
-pub record IsSound (state : State) : Type 0 where
+pub record IsSoundState (state : State) : Type 0 where
   pub counts : length state.counts ≡ state.queue.objects
   pub firings : length state.firings ≡ length state.rules.agenda.rules
   pub keeps : state.work.keeps ≡ is_some state.noted
@@ -81,9 +81,9 @@ pub record HoldsWithin (basin : Draft) (policy : Accepted) (state : State) (step
   pub firings : (rule : ℕ) → 1 ≤ rule → count_of state.firings rule ≡ firings log rule
 
 -- after an event: the timestep goes on, or it ended by the event
-abbrev pub GoesTo : Draft → Accepted → Option StepEnd → State → ℕ → Log → Event → Type 0
-GoesTo basin policy None state step log event = HoldsWithin basin policy state step state.queue.waiting (event ∷ log)
-GoesTo basin policy (Some end) state step log event = EndsBy end step event × Shows basin (seen state) (event ∷ log)
+abbrev pub GoesToState : Draft → Accepted → Option StepEnd → State → ℕ → Log → Event → Type 0
+GoesToState basin policy None state step log event = HoldsWithin basin policy state step state.queue.waiting (event ∷ log)
+GoesToState basin policy (Some end) state step log event = EndsBy end step event × Shows basin (seen state) (event ∷ log)
 
 -- what an event looks at and reaches is noted, with what cells hold before it, behind what was noted
 abbrev pub NotesThat : Draft → Cells → Option (List Held) → State → Event → Type 0
@@ -99,19 +99,19 @@ pub record CountsTurn (before after : ℕ) (event : Event) : Type 0 where
   pub same : (¬ IsFault event) → after ≡ turn_after before event
 
 -- after the event that follows where this object is chosen, or none where none waits. It is noted unless it is a fault
-pub record Goes (basin : Draft) (policy : Accepted) (chosen : Option ℕ) (end : Option StepEnd) (cells : Cells) (noted : Option (List Held)) (turn : ℕ) (state : State) (step : ℕ) (log : Log) : Type 0 where
+pub record GoesByEvent (basin : Draft) (policy : Accepted) (chosen : Option ℕ) (end : Option StepEnd) (cells : Cells) (noted : Option (List Held)) (turn : ℕ) (state : State) (step : ℕ) (log : Log) : Type 0 where
   pub event : Event
   pub follows : next_of basin (policy_in basin policy) (cells_of basin log) log step chosen ≡ Some event
-  pub goes : GoesTo basin policy end state step log event
+  pub goes : GoesToState basin policy end state step log event
   pub notes : (¬ IsFault event) → NotesThat basin cells noted state event
   pub asks : WritesAsked event
   pub can : AreWrites basin (written_by event)
   pub turned : CountsTurn turn state.turns event
 
 -- events within the timestep
-abbrev pub AreInside : ℕ → List Event → Type 0
-AreInside step [] = Unit {0}
-AreInside step (event ∷ events) = (standing (event ∷ []) ≡ inside step) × AreInside step events
+abbrev pub AreWithinStep : ℕ → List Event → Type 0
+AreWithinStep step [] = Unit {0}
+AreWithinStep step (event ∷ events) = (standing (event ∷ []) ≡ inside step) × AreWithinStep step events
 
 -- on the way through a timestep that follows this log: it is opened, and these events follow
 pub record Reached (basin : Draft) (policy : Accepted) (rule : Picking) (turn : ℕ) (old : Log) (state : State) (step : ℕ) : Type 0 where
@@ -120,7 +120,7 @@ pub record Reached (basin : Draft) (policy : Accepted) (rule : Picking) (turn : 
   pub leads : LeadsBy basin (policy_in basin policy) rule turn (opened step ∷ old) events now
   pub turned : state.turns ≡ turns_after turn events
   pub holds : HoldsWithin basin policy state step state.queue.waiting now
-  pub inside_step : AreInside step events
+  pub inside_step : AreWithinStep step events
   pub notes : IfSome state.noted (Notes basin (cells_of basin old) (held state.run.series) events)
   pub can : CanWriteAll basin events
 
@@ -134,7 +134,7 @@ pub record OnlyTells (old new : State) : Type 0 where
   pub end : new.run.end ≡ old.run.end
   pub lines_before : new.lines_before ≡ old.lines_before
   pub turns : new.turns ≡ old.turns
-  pub grows : Grows old.run.trace new.run.trace
+  pub grows : TraceGrows old.run.trace new.run.trace
 
 -- the run didn't come nearer to its end
 pub record IsStill (old new : State) : Type 0 where
@@ -151,17 +151,17 @@ abbrev pub IsRevocable : Cells → State → Type 0
 IsRevocable before state = IfSome state.noted (CanTakeBack before (held state.run.series))
 
 -- all can still be taken back
-pub record Keeps (basin : Draft) (policy : Accepted) (old new : State) : Type 0 where
+pub record KeepsWithin (basin : Draft) (policy : Accepted) (old new : State) : Type 0 where
   pub within : IsWithinStep basin policy new
   pub revocable : (before : Cells) → IsRevocable before old → IsRevocable before new
   pub lines_before : new.lines_before ≡ old.lines_before
-  pub grows : Grows old.run.trace new.run.trace
+  pub grows : TraceGrows old.run.trace new.run.trace
 
 -- what was done since the timestep began can be taken back
 pub record CanGoBack (old new : State) : Type 0 where
   pub revocable : IsRevocable (held old.run.series) new
   pub lines_before : new.lines_before ≡ old.lines_before
-  pub grows : Grows old.run.trace new.run.trace
+  pub grows : TraceGrows old.run.trace new.run.trace
 
 -- how often objects may still be dispatched and rules may still fire
 abbrev pub left : Draft → State → ℕ
@@ -191,10 +191,10 @@ IsOnTheWay basin step (Ok (Some end)) old new = new.run.closed ≡ closed_by end
 IsOnTheWay basin step (Err fault) old new = IsStill old new
 
 -- what is done for the event that follows a log of which this is given, where this object is chosen
-pub record Does (basin : Draft) (policy : Accepted) (chosen : Option ℕ) (step : ℕ) (old new : State) (given : Log → Type 0) (result : Result Bool NoMemory) : Type 0 where
-  pub keeps : Keeps basin policy old new
+pub record DoesEvent (basin : Draft) (policy : Accepted) (chosen : Option ℕ) (step : ℕ) (old new : State) (given : Log → Type 0) (result : Result Bool NoMemory) : Type 0 where
+  pub keeps : KeepsWithin basin policy old new
   pub on_the_way : IsOnTheWay basin step (seen_end new result) old new
-  pub goes : (log : Log) → given log → IfOk (seen_end new result) (λ end. Goes basin policy chosen end (held old.run.series) old.noted old.turns new step log)
+  pub goes : (log : Log) → given log → IfOk (seen_end new result) (λ end. GoesByEvent basin policy chosen end (held old.run.series) old.noted old.turns new step log)
   pub few : IfOk result (λ ended. turns_at_most basin new ≤ turns_at_most basin old)
   -- memory wants only where a trace is kept
   pub wants : IfErr result (λ fault. IsSome old.run.trace)
@@ -208,7 +208,7 @@ pub record Begins (basin : Draft) (policy : Accepted) (inputs : Inputs) (state :
   pub turns : state.turns ≡ 0
 
 -- nothing is noted yet, and the lines of the timestep come behind those that there are
-pub record IsFresh (basin : Draft) (policy : Accepted) (state : State) : Type 0 where
+pub record IsCleared (basin : Draft) (policy : Accepted) (state : State) : Type 0 where
   pub made : IsStateOf basin policy state
   pub cleared : IfSome state.noted (λ noted. noted ≡ [])
   pub lines_before : state.lines_before ≡ length (lines_in state.run.trace)

@@ -1,5 +1,5 @@
 ghost use Rattle.std.specs.Prelude.{◌≡◌, ◌<◌, ℕ, IfOk, length};
-ghost use Rattle.rw_engine.specs.Counts.{IsCounted, count_of, raised};
+ghost use Rattle.rw_engine.specs.Counts.{HasCount, count_of, raised};
 
 use rw_base::NoMemory;
 use std::alloc::Global;
@@ -41,7 +41,7 @@ impl Counts {
 
     /// How often a number was counted.
     pub(crate) fn get(&self, number: u16) -> u8
-        requires { IsCounted self.now number }
+        requires { HasCount self.now number }
         ensures { result ≡ count_of self.now number }
     {
         self.items[usize::from(number) - 1]
@@ -49,7 +49,7 @@ impl Counts {
 
     /// Counts a number, which was counted less often than 255 times.
     pub(crate) fn raise(&mut self, number: u16)
-        requires known { IsCounted self.old number }
+        requires known { HasCount self.old number }
         requires few { count_of self.old number < 255 }
         ensures { self.new ≡ raised self.old number }
     {

@@ -9,7 +9,7 @@ ghost use Rattle.rw_dispatch.specs.Writes.{AreWrites};
 ghost use Rattle.rw_run.specs.Log.{last_put};
 ghost use Rattle.rw_run.specs.Trace.{lines_in, told};
 ghost use Rattle.rw_record.specs.Noted.{cells_noted, with_noted};
-ghost use Rattle.rw_engine.specs.Lines.{Grows};
+ghost use Rattle.rw_engine.specs.Lines.{TraceGrows};
 ghost use Rattle.rw_engine.specs.Noting.{NotesAll};
 ghost use Rattle.rw_engine.specs.Records.{CanWriteLines, puts_in};
 
@@ -44,7 +44,7 @@ fn tell_line(trace: &mut Trace, line: Option<TraceEvent>) -> Result<(), NoMemory
 // Tells these lines.
 fn tell_again(trace: &mut Trace, lines: &Trace) -> Result<(), NoMemory>
     ensures told { IfOk result (λ _. trace.new ≡ told trace.old (lines_in lines.now)) }
-    ensures grows { Grows trace.old trace.new }
+    ensures grows { TraceGrows trace.old trace.new }
 {
     for place in 0..lines.len() {
         tell_line(trace, lines.line(place))?;
@@ -63,7 +63,7 @@ pub(crate) fn retell(
     ensures noted { IfOk result (λ _. noted.new
         ≡ with_noted (held series.now) (cells_noted kept.now.looked) noted.old) }
     ensures told { IfOk result (λ _. trace.new ≡ told trace.old kept.now.lines) }
-    ensures grows { Grows trace.old trace.new }
+    ensures grows { TraceGrows trace.old trace.new }
 {
     note_again(noted, series, kept.looked())?;
     tell_again(trace, kept.lines())

@@ -14,7 +14,7 @@ ghost use Rattle.rw_engine.specs.Passing.{Replays};
 ghost use Rattle.rw_run.specs.Runs.{inside};
 ghost use Rattle.rw_engine.specs.Picked.{PicksAt, RunsStepBy};
 ghost use Rattle.rw_engine.specs.Shows.{CanReplay, IsEngineOf, Shows};
-ghost use Rattle.rw_engine.specs.State.{seen, Begins, Does, HasPassed, HasReplayed, HoldsBefore, HoldsDue, HoldsWithin, IsFresh, IsOpened, IsSound, IsStateOf, IsWithinStep, OnlyTells, ended_by, step_end};
+ghost use Rattle.rw_engine.specs.State.{seen, Begins, DoesEvent, HasPassed, HasReplayed, HoldsBefore, HoldsDue, HoldsWithin, IsCleared, IsOpened, IsSoundState, IsStateOf, IsWithinStep, OnlyTells, ended_by, step_end};
 ghost use Rattle.rw_dispatch.specs.Stage.{IsHeldIn};
 ghost use Rattle.rw_engine.specs.Records.{CanWriteLines, HasNoted, RecordsOrNot};
 
@@ -97,7 +97,7 @@ impl State {
 
     // Opens a timestep.
     fn open(&mut self, setup: &RunSetup, step: StepNo) -> Result<(), NoMemory>
-        requires fresh { IsFresh setup.now.basin.now setup.now.policy.now self.old }
+        requires fresh { IsCleared setup.now.basin.now setup.now.policy.now self.old }
         ensures made { IsStateOf setup.now.basin.now setup.now.policy.now self.new }
         ensures tells { OnlyTells self.old self.new }
         ensures opened { IfOk result
@@ -117,7 +117,7 @@ impl State {
         requires within { IsWithinStep setup.now.basin.now setup.now.policy.now self.old }
         requires idle { self.old.queue.waiting ≡ [] }
         requires step { IsStep setup.now.basin.now step.0 }
-        ensures { Does setup.now.basin.now setup.now.policy.now None step.0 self.old self.new
+        ensures { DoesEvent setup.now.basin.now setup.now.policy.now None step.0 self.old self.new
             (HoldsDue setup.now.basin.now setup.now.policy.now self.old step.0 None) result }
     {
         self.run.trace.push(TraceEvent::Closed(step))?;
@@ -130,7 +130,7 @@ impl State {
     fn exceed(&mut self, setup: &RunSetup, step: StepNo, why: RunFault) -> Result<bool, NoMemory>
         requires within { IsWithinStep setup.now.basin.now setup.now.policy.now self.old }
         ensures { (chosen : Option ℕ) (waits : List ℕ)
-            → Does setup.now.basin.now setup.now.policy.now chosen step.0 self.old self.new
+            → DoesEvent setup.now.basin.now setup.now.policy.now chosen step.0 self.old self.new
             (HoldsBefore setup.now.basin.now setup.now.policy.now chosen self.old step.0 waits
             (fault why)) result }
     {
@@ -173,7 +173,7 @@ impl State {
             < setup.now.basin.now.control.object_limit }
         ensures { (place : ℕ) (waits : List ℕ)
             → IsTaken place waits object.0 self.old.queue.waiting
-            → Does setup.now.basin.now setup.now.policy.now (Some object.0) step.0
+            → DoesEvent setup.now.basin.now setup.now.policy.now (Some object.0) step.0
             self.old self.new
             (HoldsWithin setup.now.basin.now setup.now.policy.now self.old step.0 waits) result }
     {
@@ -213,7 +213,7 @@ impl State {
         requires turn { IsTurn setup.now.basin.now object.0 step.0 }
         ensures { (place : ℕ) (waits : List ℕ)
             → IsTaken place waits object.0 self.old.queue.waiting
-            → Does setup.now.basin.now setup.now.policy.now (Some object.0) step.0
+            → DoesEvent setup.now.basin.now setup.now.policy.now (Some object.0) step.0
             self.old self.new
             (HoldsWithin setup.now.basin.now setup.now.policy.now self.old step.0 waits) result }
     {
@@ -238,7 +238,7 @@ impl State {
         requires idle { self.old.queue.waiting ≡ [] }
         requires turn { IsRuleTurn setup.now.basin.now setup.now.policy.now rule.0 step.0 }
         requires below { count_of self.old.firings rule.0 < setup.now.basin.now.control.rule_limit }
-        ensures { Does setup.now.basin.now setup.now.policy.now None step.0 self.old self.new
+        ensures { DoesEvent setup.now.basin.now setup.now.policy.now None step.0 self.old self.new
             (HoldsDue setup.now.basin.now setup.now.policy.now self.old step.0
             (Some rule.0)) result }
     {
@@ -272,7 +272,7 @@ impl State {
         requires within { IsWithinStep setup.now.basin.now setup.now.policy.now self.old }
         requires idle { self.old.queue.waiting ≡ [] }
         requires turn { IsRuleTurn setup.now.basin.now setup.now.policy.now rule.0 step.0 }
-        ensures { Does setup.now.basin.now setup.now.policy.now None step.0 self.old self.new
+        ensures { DoesEvent setup.now.basin.now setup.now.policy.now None step.0 self.old self.new
             (HoldsDue setup.now.basin.now setup.now.policy.now self.old step.0
             (Some rule.0)) result }
     {
@@ -288,7 +288,7 @@ impl State {
         requires within { IsWithinStep setup.now.basin.now setup.now.policy.now self.old }
         requires idle { self.old.queue.waiting ≡ [] }
         requires step { IsStep setup.now.basin.now step.0 }
-        ensures { Does setup.now.basin.now setup.now.policy.now None step.0 self.old self.new
+        ensures { DoesEvent setup.now.basin.now setup.now.policy.now None step.0 self.old self.new
             (HoldsWithin setup.now.basin.now setup.now.policy.now self.old step.0
             self.old.queue.waiting) result }
     {
@@ -304,7 +304,7 @@ impl State {
         requires order { AreInOrder
             (map (λ b. code (b.vtable, b.value)) setup.now.methods.now.methods.items) }
         requires step { IsStep setup.now.basin.now step.0 }
-        ensures does { Does setup.now.basin.now setup.now.policy.now
+        ensures does { DoesEvent setup.now.basin.now setup.now.policy.now
             (picked_at (P.rule pick.now) self.old.turns self.old.queue.waiting)
             step.0 self.old self.new
             (HoldsWithin setup.now.basin.now setup.now.policy.now self.old step.0
@@ -325,7 +325,7 @@ impl State {
         pick: &P,
         step: StepNo,
     ) -> Result<StepEnd, NoMemory>
-        requires fresh { IsFresh setup.now.basin.now setup.now.policy.now self.old }
+        requires fresh { IsCleared setup.now.basin.now setup.now.policy.now self.old }
         requires order { AreInOrder
             (map (λ b. code (b.vtable, b.value)) setup.now.methods.now.methods.items) }
         requires step { IsStep setup.now.basin.now step.0 }
@@ -421,7 +421,7 @@ impl State {
         requires can { CanWriteLines basin.now kept.now.lines }
         requires made { CanReplay basin.now (seen self.old) }
         ensures replays { Replays basin.now kept.now (seen self.old) (seen self.new) result }
-        ensures sound { IsSound self.old → IsSound self.new }
+        ensures sound { IsSoundState self.old → IsSoundState self.new }
     {
         again();
         self.pass_again(basin, kept)

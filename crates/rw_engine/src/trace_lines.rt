@@ -3,7 +3,7 @@ ghost use Rattle.std.specs.Prelude.{◌≡◌, [], ◌∷◌, map, IfOk, IfErr, 
 ghost use Rattle.rw_run.specs.declared.trace.TraceEvent.TheVariants as Line;
 ghost use Rattle.rw_run.specs.RunOf.{line_of};
 ghost use Rattle.rw_run.specs.Trace.{told};
-ghost use Rattle.rw_engine.specs.Lines.{lines_by, lines_of_rule, fault_by, fault_of_rule, Grows};
+ghost use Rattle.rw_engine.specs.Lines.{lines_by, lines_of_rule, fault_by, fault_of_rule, TraceGrows};
 
 use rw_base::{NoMemory, ObjectNo, RuleNo, StepNo};
 use rw_dispatch::DispatchEnd;
@@ -25,7 +25,7 @@ fn line_of(write: &Write) -> TraceEvent
 // Writes a line for each.
 fn tell_writes(trace: &mut Trace, writes: &[Write]) -> Result<(), NoMemory>
     ensures told { IfOk result (λ _. trace.new ≡ told trace.old (map line_of writes.now)) }
-    ensures grows { Grows trace.old trace.new }
+    ensures grows { TraceGrows trace.old trace.new }
     ensures wants { IfErr result (λ _. IsSome trace.old) }
 {
     for write in writes {
@@ -38,7 +38,7 @@ fn tell_writes(trace: &mut Trace, writes: &[Write]) -> Result<(), NoMemory>
 fn tell_fault(trace: &mut Trace, fault: RunFault) -> Result<Option<RunFault>, NoMemory>
     ensures told { IfOk result
         (λ ended. (trace.new ≡ told trace.old (Line.Fault fault ∷ [])) × (ended ≡ Some fault)) }
-    ensures grows { Grows trace.old trace.new }
+    ensures grows { TraceGrows trace.old trace.new }
     ensures wants { IfErr result (λ _. IsSome trace.old) }
 {
     trace.push(TraceEvent::Fault(fault))?;
@@ -54,7 +54,7 @@ fn tell_done(
 ) -> Result<Option<RunFault>, NoMemory>
     ensures told { IfOk result (λ ended. (trace.new
         ≡ told trace.old (line ∷ map line_of writes.now)) × (ended ≡ None)) }
-    ensures grows { Grows trace.old trace.new }
+    ensures grows { TraceGrows trace.old trace.new }
     ensures wants { IfErr result (λ _. IsSome trace.old) }
 {
     trace.push(line)?;
@@ -73,7 +73,7 @@ pub(crate) fn tell(
     ensures told { IfOk result
         (λ _. trace.new ≡ told trace.old (lines_by object.0 step.0 end.now writes.now)) }
     ensures fault { IfOk result (λ fault. fault ≡ fault_by object.0 step.0 end.now) }
-    ensures grows { Grows trace.old trace.new }
+    ensures grows { TraceGrows trace.old trace.new }
     ensures wants { IfErr result (λ _. IsSome trace.old) }
 {
     match end {
@@ -112,7 +112,7 @@ pub(crate) fn tell_firing(
     ensures told { IfOk result (λ _. trace.new ≡ told trace.old
         (lines_of_rule rule.0 step.0 fired.now.end fired.now.count writes.now)) }
     ensures fault { IfOk result (λ fault. fault ≡ fault_of_rule rule.0 step.0 fired.now.end) }
-    ensures grows { Grows trace.old trace.new }
+    ensures grows { TraceGrows trace.old trace.new }
     ensures wants { IfErr result (λ _. IsSome trace.old) }
 {
     let count = fired.count;

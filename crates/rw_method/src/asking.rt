@@ -43,6 +43,7 @@ pub fn ask(
 }
 
 /// Puts the value that the table has, if it has one.
+#[inline(always)]
 pub(crate) fn ask_found(
     view: &View,
     table: Option<&Rating>,
@@ -64,6 +65,7 @@ pub(crate) fn ask_found(
 }
 
 /// Puts the term that was solved.
+#[inline(always)]
 pub fn ask_solved(
     view: &View,
     table: Option<&Rating>,

@@ -125,6 +125,7 @@ fn brought(share: Share, value: i64) -> i128
 }
 
 /// How much a term brings that is given so.
+#[inline(always)]
 pub(crate) fn brought_by(share: Share, given: Option<Given>) -> i128
     ensures amount { result ≡ brought_by share given }
     ensures bound { IsWithin 1 result }
@@ -136,6 +137,7 @@ pub(crate) fn brought_by(share: Share, given: Option<Given>) -> i128
 }
 
 /// The value of a term that brings so much.
+#[inline(always)]
 pub(crate) fn bringing(share: Share, amount: i128) -> i128
     requires { IsWithin 10 amount }
     ensures { result ≡ bringing share amount }

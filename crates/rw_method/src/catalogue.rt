@@ -49,14 +49,6 @@ fn first_wrong(methods: &[Box<dyn Method>]) -> Option<u8>
     None
 }
 
-fn solve_by(method: &Box<dyn Method>, kind: &Kind, view: &View) -> Solved
-    requires code { code_of kind.now ≡ code method.now }
-    requires view { IsViewOf kind.now view.now }
-    ensures { result ≡ solve_of kind.now view.entry.now }
-{
-    method.solve(kind, view)
-}
-
 impl Catalogue {
     /// The catalogue of these methods: gage, confluence, bifurcation, reach, reservoir, water user, canal, power
     /// reservoir, routed reach.
@@ -80,6 +72,16 @@ impl Catalogue {
         Ok(Catalogue { methods })
     }
 
+    /// The method of a kind with a balance. Whoever asks it itself has its answer, which is large, in one place alone.
+    pub fn method(&self, kind: &Kind) -> &Box<dyn Method>
+        requires order { AreInOrder (map (λ b. code b) self.now.methods.items) }
+        requires balance { 1 ≤ code_of kind.now }
+        ensures { code_of kind.now ≡ code result.now }
+    {
+        let place = usize::from(kind.code()) - 1;
+        &self.methods[place]
+    }
+
     /// What a dispatch of an object answers: what the method of its kind does. It takes no memory.
     pub fn solve(&self, kind: &Kind, view: &View) -> Solved
         requires order { AreInOrder (map (λ b. code b) self.now.methods.items) }
@@ -87,7 +89,6 @@ impl Catalogue {
         requires view { IsViewOf kind.now view.now }
         ensures { result ≡ solve_of kind.now view.entry.now }
     {
-        let place = usize::from(kind.code()) - 1;
-        solve_by(&self.methods[place], kind, view)
+        self.method(kind).solve(kind, view)
     }
 }

@@ -10,6 +10,7 @@ use crate::{Basis, Given, Share, Term, View};
 use rw_table::Rating;
 
 /// Of a storage and an elevation that are both given, the one of the lesser number, and in a tie the storage.
+#[inline(always)]
 pub(crate) fn basis_of(storage: Option<Given>, elevation: Option<Given>) -> Basis
     ensures { result ≡ basis_of storage elevation }
 {
@@ -28,6 +29,7 @@ pub(crate) fn basis_of(storage: Option<Given>, elevation: Option<Given>) -> Basi
 }
 
 /// Whether both are given with number 0.
+#[inline(always)]
 pub(crate) fn are_both_zero(storage: Option<Given>, elevation: Option<Given>) -> bool
     ensures { result ≡ are_both_zero storage elevation }
 {
@@ -38,6 +40,7 @@ pub(crate) fn are_both_zero(storage: Option<Given>, elevation: Option<Given>) ->
 }
 
 /// The elevation at a storage, where there is a table that has it.
+#[inline(always)]
 pub(crate) fn elevation_of(table: Option<&Rating>, storage: i64) -> Option<i64>
     ensures { result ≡ elevation_of (option_map (λ rating. rating.now) table.entry) storage }
 {
@@ -48,6 +51,7 @@ pub(crate) fn elevation_of(table: Option<&Rating>, storage: i64) -> Option<i64>
 }
 
 /// The volume at an elevation, where there is a table that has it.
+#[inline(always)]
 pub(crate) fn volume_of(table: Option<&Rating>, elevation: i64) -> Option<i64>
     ensures { result ≡ volume_of (option_map (λ rating. rating.now) table.entry) elevation }
 {
@@ -58,6 +62,7 @@ pub(crate) fn volume_of(table: Option<&Rating>, elevation: i64) -> Option<i64>
 }
 
 /// Whether the reservoir can hold so much: the table, if there is one, has an elevation for it.
+#[inline(always)]
 pub(crate) fn can_hold(table: Option<&Rating>, storage: i64) -> bool
     ensures { result ≡ can_hold (option_map (λ rating. rating.now) table.entry) storage }
 {
@@ -68,6 +73,7 @@ pub(crate) fn can_hold(table: Option<&Rating>, storage: i64) -> bool
 }
 
 // The contents by an elevation. They are 0 where the table doesn't have it: the answer is then that it is out of range.
+#[inline(always)]
 fn contents_at(table: Option<&Rating>, elevation: Given) -> Given
     ensures { Some result ≡ contents_by (option_map (λ rating. rating.now) table.entry) (Basis.Elevation elevation) }
 {
@@ -78,6 +84,7 @@ fn contents_at(table: Option<&Rating>, elevation: Given) -> Given
 }
 
 // The contents that are given.
+#[inline(always)]
 fn contents_by(table: Option<&Rating>, basis: Basis) -> Option<Given>
     ensures { result ≡ contents_by (option_map (λ rating. rating.now) table.entry) basis }
 {

@@ -24,6 +24,7 @@ pub fn fault_of_past(evaporation: bool, table: Option<&Rating>, past: Option<Qty
 }
 
 // What is wrong with the slot that gives the contents.
+#[inline(always)]
 fn fault_of_basis(table: Option<&Rating>, basis: Basis) -> Option<Solved>
     ensures { result ≡ fault_of_basis (option_map (λ rating. rating.now) table.entry) basis }
 {
@@ -61,6 +62,7 @@ fn agree(table: Option<&Rating>, storage: i64, elevation: i64) -> bool
 }
 
 // A storage and an elevation that are both given with number 0, and don't agree.
+#[inline(always)]
 fn disagreement(
     table: Option<&Rating>,
     storage: Option<Given>,

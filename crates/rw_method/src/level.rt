@@ -11,6 +11,7 @@ use crate::{Balanced, Basis, Given, PutList, Solved, View};
 use rw_table::Rating;
 
 // Beside the slot that gives the contents puts the other one of storage and elevation.
+#[inline(always)]
 fn ask_beside(
     view: &View,
     table: Option<&Rating>,
@@ -37,6 +38,7 @@ fn ask_beside(
 }
 
 // Beside the slot that gives the contents puts the other one, unless both are given with number 0.
+#[inline(always)]
 fn ask_beside_given(
     view: &View,
     table: Option<&Rating>,

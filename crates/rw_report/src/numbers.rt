@@ -4,6 +4,7 @@ ghost use Rattle.std.specs.Fmt.{decimal, signed_decimal};
 use itoa::Buffer;
 use rw_base::NoMemory;
 
+#[inline(always)]
 pub(crate) fn push_number(text: &mut String, number: i64) -> Result<(), NoMemory>
     ensures { OnOk result (string_bytes text.new ≡ string_bytes text.old ++ signed_decimal number) }
 {

@@ -26,13 +26,23 @@ fn method(alloc: Global, number: u8) -> Result<Option<Box<dyn Method>>, AllocErr
     }
 }
 
-/// The methods of the kinds with these numbers.
-pub(crate) fn methods(alloc: Global, numbers: &[u8]) -> Result<Vec<Box<dyn Method>>, AllocError> {
-    let mut methods = Vec::new(alloc);
+/// Adds the methods of the kinds with these numbers.
+pub(crate) fn add_methods(
+    alloc: Global,
+    methods: &mut Vec<Box<dyn Method>>,
+    numbers: &[u8],
+) -> Result<(), AllocError> {
     for number in numbers {
         if let Some(method) = method(alloc, *number)? {
             methods.push(method)?;
         }
     }
+    Ok(())
+}
+
+/// The methods of the kinds with these numbers.
+pub(crate) fn methods(alloc: Global, numbers: &[u8]) -> Result<Vec<Box<dyn Method>>, AllocError> {
+    let mut methods = Vec::new(alloc);
+    add_methods(alloc, &mut methods, numbers)?;
     Ok(methods)
 }

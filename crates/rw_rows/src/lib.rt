@@ -6,9 +6,13 @@
 #[cfg(test)]
 mod basins;
 #[cfg(test)]
+mod counting;
+#[cfg(test)]
 mod dispatch;
 #[cfg(test)]
 mod is_view;
+#[cfg(test)]
+mod kept;
 #[cfg(test)]
 mod kinds;
 #[cfg(test)]

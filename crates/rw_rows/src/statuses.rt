@@ -1,5 +1,5 @@
 //! Statuses, lines, and calls that fail.
-ghost use Rattle.std.specs.Prelude.{◌≡◌, ◌<◌, map};
+ghost use Rattle.std.specs.Prelude.{◌≡◌, ◌<◌, IfOk, map};
 ghost use Rattle.rw_method.specs.Catalogue.{AreInOrder};
 
 use crate::kinds::{ALL, methods};
@@ -158,10 +158,14 @@ fn call_counted<L: Ledger>(
     )
 }
 
-fn call(alloc: Global, words: &[String], ends: &mut Ends) -> Result<u8, NoMemory> {
-    let Ok(catalogue) = Catalogue::of(methods(alloc, ALL)?) else {
-        return Err(NoMemory);
-    };
+fn call(
+    alloc: Global,
+    methods: &Catalogue,
+    words: &[String],
+    ends: &mut Ends,
+) -> Result<u8, NoMemory>
+    requires { AreInOrder (map (λ b. code (b.vtable, b.value)) methods.now.methods.items) }
+{
     let mut functions = Vec::new(alloc);
     functions.push(Predef::of(1, least))?;
     functions.push(Predef::of(2, greatest))?;
@@ -173,17 +177,31 @@ fn call(alloc: Global, words: &[String], ends: &mut Ends) -> Result<u8, NoMemory
     let Ok(predefs) = Predefs::of(functions) else {
         return Err(NoMemory);
     };
-    Ok(call_counted::<Brand>(alloc, Blank::new(1), words, ends, &catalogue, &predefs))
+    Ok(call_counted::<Brand>(alloc, Blank::new(1), words, ends, methods, &predefs))
+}
+
+/// The methods of all kinds.
+pub(crate) fn all_methods(alloc: Global) -> Result<Catalogue, NoMemory>
+    ensures { IfOk result
+        (λ methods. AreInOrder (map (λ b. code (b.vtable, b.value)) methods.methods.items)) }
+{
+    match Catalogue::of(methods(alloc, ALL)?) {
+        Ok(methods) => Ok(methods),
+        Err(_) => Err(NoMemory),
+    }
 }
 
 // Whether the call answers and writes what is wanted.
 fn comes_to(
     alloc: Global,
+    methods: &Catalogue,
     words: &[&str],
     ends: &mut Ends,
     want: Simulation<'_>,
-) -> Result<bool, NoMemory> {
-    let status = call(alloc, &owned(alloc, words)?, ends)?;
+) -> Result<bool, NoMemory>
+    requires { AreInOrder (map (λ b. code (b.vtable, b.value)) methods.now.methods.items) }
+{
+    let status = call(alloc, methods, &owned(alloc, words)?, ends)?;
     Ok(
         status == want.status
             && is_text(ends.out.held(), want.out)
@@ -199,10 +217,30 @@ fn is_met(
     want: Simulation<'_>,
 ) -> Result<bool, NoMemory> {
     let mut ends = ends_of(alloc, files(alloc, want.model, want.inputs)?, failing)?;
-    comes_to(alloc, words, &mut ends, want)
+    comes_to(alloc, &all_methods(alloc)?, words, &mut ends, want)
 }
 
-/// Whether these words, with this policy and these edits, come to what is wanted.
+/// Whether these words, with this policy and these edits, come to what is wanted, where objects solve by these methods and this
+/// call fails.
+pub(crate) fn runs_with(
+    alloc: Global,
+    methods: &Catalogue,
+    words: &[&str],
+    failing: Failing,
+    policy: &[u8],
+    edits: &[u8],
+    want: Simulation<'_>,
+) -> Result<bool, NoMemory>
+    requires { AreInOrder (map (λ b. code (b.vtable, b.value)) methods.now.methods.items) }
+{
+    let mut files = files(alloc, want.model, want.inputs)?;
+    files.push(file(alloc, "p.rpl", policy)?)?;
+    files.push(file(alloc, "e.csv", edits)?)?;
+    let mut ends = ends_of(alloc, files, failing)?;
+    comes_to(alloc, methods, words, &mut ends, want)
+}
+
+/// The same by the methods of all kinds, where no call fails.
 pub(crate) fn runs_by(
     alloc: Global,
     words: &[&str],
@@ -210,11 +248,16 @@ pub(crate) fn runs_by(
     edits: &[u8],
     want: Simulation<'_>,
 ) -> Result<bool, NoMemory> {
-    let mut files = files(alloc, want.model, want.inputs)?;
-    files.push(file(alloc, "p.rpl", policy)?)?;
-    files.push(file(alloc, "e.csv", edits)?)?;
-    let mut ends = ends_of(alloc, files, Failing::Nothing)?;
-    comes_to(alloc, words, &mut ends, want)
+    let methods = all_methods(alloc)?;
+    runs_with(
+        alloc,
+        &methods,
+        words,
+        Failing::Nothing,
+        policy,
+        edits,
+        want,
+    )
 }
 
 /// Whether `simulate` comes to what is wanted.

@@ -31,6 +31,7 @@ use Rattle.rw_top.specs.Written.{Stops}
 use Rattle.rw_top.specs.Ready.{IsMadeOf}
 use Rattle.rw_top.specs.declared.policy.Policy.TheVariants as Held
 use Rattle.rw_top.specs.declared.refusal.Refusal.TheVariants.{CannotRead, CannotWrite, NoMemory, Model, Grammar, Types, Code, Block as BlockAt, Inputs, Edits, NoCell, TooLong}
+use Rattle.rw_top.specs.Command.{extras_of}
 
 -- a fault that doesn't tell nothing tells why
 pub tells_why : {R : Type 0} (told : Option R) → ¬ (told ≡ None) → (why : R) × (told ≡ Some why)
@@ -220,7 +221,7 @@ unwritten command shelf out why still cause = (cause, still)
 
 -- and one after something was
 pub job_cause : (command : Command) (shelf : Change ShelfView) (out : Change SinkView) (files : Files)
-    → AreRead command shelf.before.holds files → (why : Refusal) → Stops command.job command.flags command.trace files out why → Cause command shelf out why
+    → AreRead command shelf.before.holds files → (why : Refusal) → Stops command.job (extras_of command) files out why → Cause command shelf out why
 job_cause command shelf out files read CannotWrite stops = ((files, read, stops.0), stops.1)
 job_cause command shelf out files read NoMemory (inl still) = inl still
 job_cause command shelf out files read NoMemory (inr some) = inr (files, read, some)

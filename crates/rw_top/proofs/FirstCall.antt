@@ -12,6 +12,8 @@ use Rattle.rw_top.specs.declared.refusal.File.TheVariants.{Inputs}
 use Rattle.rw_top.proofs.CommandLemmas.{of_command}
 use Rattle.rw_top.proofs.Findings.{one_basin, same_text}
 use Rattle.rw_top.proofs.OneReading.{same_values}
+use Rattle.rw_top.specs.RunText.{IsPlainText, no_extras}
+use Rattle.rw_top.specs.Sections.{first_given}
 use Rattle.rw_top.proofs.OneText.{of_values}
 
 is_settled : (end : RunEnd) → status_of_end end ≡ 0 → end ≡ Settled
@@ -23,8 +25,8 @@ its_text : (call : Call) (model : FirstModel) (inflows outflows : List ℤ)
     (first : IsFirstCall call model inflows outflows) (end : RunEnd) (texts : List (List ℕ)) (basin : Draft) (inputs : Option Given)
     → SaysAt (simulates first.model_path first.inputs_path) Inputs inputs
     (ReadsInputs (simulates first.model_path first.inputs_path) call.shelf.before.holds basin)
-    → IsSomeAnd inputs (λ given. AreSections (IsRunText basin no_rules false false) 0 given [] end texts)
-    → (text : List ℕ) × (texts ≡ text ∷ []) × IsRunText first.basin no_rules false false 0 first.inputs end text
+    → IsSomeAnd inputs (λ given. AreSections (IsPlainText basin no_extras) 0 (first_given given) [] end texts)
+    → (text : List ℕ) × (texts ≡ text ∷ []) × IsRunText first.basin no_rules no_extras None 0 first.inputs end text
 its_text call model inflows outflows first end texts basin None says is = absurd is
 its_text call model inflows outflows first end texts basin (Some inputs) says is =
     let command : Command = simulates first.model_path first.inputs_path in
@@ -33,15 +35,15 @@ its_text call model inflows outflows first end texts basin (Some inputs) says is
     let bytes = same_text command holds Inputs says.text first.read.text first.told_inputs says.read first.read.read in
     let reads : Reads first.basin first.read.text inputs =
     subst (λ t. Reads first.basin t inputs) bytes (subst (λ d. Reads d says.text inputs) same says.are) in
-    let here : IsRunText first.basin no_rules false false 0 inputs end is.0 = subst (λ d. IsRunText d no_rules false false 0 inputs end is.0) same is.2 in (
+    let here : IsRunText first.basin no_rules no_extras None 0 inputs end is.0 = subst (λ d. IsRunText d no_rules no_extras None 0 inputs end is.0) same is.2 in (
       is.0,
       is.1,
-      of_values inputs first.inputs (same_values first.basin first.read.text inputs first.inputs reads first.read.are) first.basin no_rules false false 0 end is.0 here,
+      of_values inputs first.inputs (same_values first.basin first.read.text inputs first.inputs reads first.read.are) first.basin no_rules no_extras None 0 end is.0 here,
     )
 
 pub first_call : ((basin : Draft) (model : FirstModel) (inputs : Given) (inflows outflows : List ℤ)
     → IsBasin basin → IsFirstForm basin model → IsFirstFlows inputs model.run.count inflows outflows
-    → (end : RunEnd) (text : List ℕ) → IsRunText basin no_rules false false 0 inputs end text
+    → (end : RunEnd) (text : List ℕ) → IsRunText basin no_rules no_extras None 0 inputs end text
     → (fault : Option ℤ) × IsFirstText model inflows outflows fault text × ((fault ≡ None) ↔ (end ≡ Settled)))
     → ((bytes : List ℕ) → IfOk (model_of bytes) IsBasin)
     → (call : Call) (status : ℕ) (model : FirstModel) (inflows outflows : List ℤ)
@@ -54,7 +56,7 @@ first_call first_form basins call status model inflows outflows promise low firs
     let wrote = of_command call.words done.command command done.asked first.asked
     (λ it. WritesAll it call.shelf.before.holds call.out status) done.text in
     let files = wrote.0 in
-    let its : IsTextOf Simulate false false files status wrote.2.texts = wrote.2.is in
+    let its : IsTextOf Simulate no_extras files status wrote.2.texts = wrote.2.is in
     let end = its.0 in
     let valid : IsBasin first.basin = rw first.read.model.is at (basins first.read.model.text) in
     let section = its_text call model inflows outflows first end wrote.2.texts files.basin files.inputs wrote.1.inputs its.2 in

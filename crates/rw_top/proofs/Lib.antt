@@ -15,6 +15,7 @@ pub mod FirstCall
 pub mod FilesRead
 pub mod RulesText
 pub mod SectionLemmas
+pub mod SessionSections
 pub mod FewBatches
 pub mod WhyText
 pub mod SampleText

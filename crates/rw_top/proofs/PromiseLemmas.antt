@@ -2,22 +2,24 @@
 use Rattle.rw_top.proofs.Common.{Asks, Call, Cause, Command, Fault, Files, IsTextOf, Job, List, None, Promise, Refusal, RefusedCommand, RefusedWords, RunEnd, Settled, Some, WasRefused, WritesAll, Wrote, arith, inl, inr, status_of, status_of_end, ℕ, ◌∙◌, ◌≡◌, ◌≤◌}
 use Rattle.rw_words.specs.declared.job.Job.TheVariants.{Simulate, Check, Compile, Run, Why, Sample}
 use Rattle.rw_top.specs.declared.refusal.Refusal.TheVariants.{Words, NoMemory}
-use Rattle.rw_base.proofs.Common.{Bool}
 use Rattle.rw_top.specs.Promise.{UnreadWords}
+use Rattle.rw_top.specs.Written.{CountsReused}
 use Rattle.rw_top.proofs.CommandLemmas.{asks_clash, of_command}
 use Rattle.rw_top.proofs.DueLemmas.{cell_due, complete, due, none_due, none_lacks}
+use Rattle.rw_top.specs.declared.extras.Extras.{Extras}
+use Rattle.rw_top.specs.Command.{extras_of}
 
 at_most_1 : (end : RunEnd) → status_of_end end ≤ 1
 at_most_1 Settled = omega arith
 at_most_1 (Fault why) = omega arith
 
-status_at_most_1 : (job : Job) (flags trace : Bool) (files : Files) (status : ℕ) (texts : List (List ℕ)) → IsTextOf job flags trace files status texts → status ≤ 1
-status_at_most_1 Simulate flags trace files status texts is = let most = at_most_1 is.0 in omega (arith, most, is.1)
-status_at_most_1 Check flags trace files status texts is = omega (arith, is.0)
-status_at_most_1 Compile flags trace files status texts is = omega (arith, is.0)
-status_at_most_1 Why flags trace files status texts is = let most = at_most_1 is.0 in omega (arith, most, is.1)
-status_at_most_1 Run flags trace files status texts is = let most = at_most_1 is.0 in omega (arith, most, is.1)
-status_at_most_1 (Sample seed) flags trace files status texts is = omega (arith, is.0)
+status_at_most_1 : (job : Job) (extras : Extras) (files : Files) (status : ℕ) (texts : List (List ℕ)) → IsTextOf job extras files status texts → status ≤ 1
+status_at_most_1 Simulate extras files status texts is = let most = at_most_1 is.0 in omega (arith, most, is.1)
+status_at_most_1 Check extras files status texts is = omega (arith, is.0)
+status_at_most_1 Compile extras files status texts is = omega (arith, is.0)
+status_at_most_1 Why extras files status texts is = let most = at_most_1 is.0 in omega (arith, most, is.1)
+status_at_most_1 Run extras files status texts is = let most = at_most_1 is.0 in omega (arith, most, is.1)
+status_at_most_1 (Sample seed) extras files status texts is = omega (arith, is.0)
 
 at_least_2 : (why : Refusal) → 2 ≤ status_of why
 at_least_2 Words = omega arith
@@ -29,9 +31,9 @@ was_refused call NoMemory was = inr was
 was_refused call why was = was
 
 module _ (call : Call) (held : (path : List ℕ) → call.shelf.after.holds path ≡ call.shelf.before.holds path) where
-  pub promised_text : (status : ℕ) → Wrote call status → Promise call status
-  promised_text status wrote =
-      let low = status_at_most_1 wrote.command.job wrote.command.flags wrote.command.trace wrote.text.0 status wrote.text.2.texts wrote.text.2.is in
+  pub promised_text : (status : ℕ) (wrote : Wrote call status) → CountsReused wrote.command call.shelf.before.holds call.steps → Promise call status
+  promised_text status wrote counted =
+      let low = status_at_most_1 wrote.command.job (extras_of wrote.command) wrote.text.0 status wrote.text.2.texts wrote.text.2.is in
       record {
         done = λ below. wrote;
         refused = λ above. absurd (omega (arith, low, above));
@@ -45,6 +47,8 @@ module _ (call : Call) (held : (path : List ℕ) → call.shelf.after.holds path
             (λ it. WritesAll it call.shelf.before.holds call.out status) wrote.text in
             absurd (none_lacks command call.shelf wrote_all.0 wrote_all.1 lacks honest);
         complete = λ command asks accepted there calm. inl low;
+        counted = λ below command asks.
+            of_command call.words wrote.command command wrote.asked asks (λ it. CountsReused it call.shelf.before.holds call.steps) counted;
         held = held;
       }
 
@@ -56,6 +60,7 @@ module _ (call : Call) (held : (path : List ℕ) → call.shelf.after.holds path
     due = λ command asks reason found honest. absurd (asks_clash call.words command was.nothing asks);
     cell = λ command asks lacks honest. absurd (asks_clash call.words command was.nothing asks);
     complete = λ command asks accepted there calm. absurd (asks_clash call.words command was.nothing asks);
+    counted = λ below. absurd (omega arith);
     held = held;
   }
 
@@ -67,6 +72,7 @@ module _ (call : Call) (held : (path : List ℕ) → call.shelf.after.holds path
     due = λ command asks reason found honest. inr is;
     cell = λ command asks lacks honest. inr is;
     complete = λ command asks accepted there calm. inr is;
+    counted = λ below. absurd (omega arith);
     held = held;
   }
 
@@ -84,5 +90,6 @@ module _ (call : Call) (held : (path : List ℕ) → call.shelf.after.holds path
         cell = λ command asks lacks honest. rw is (cell_due command call.shelf call.out why (cause command asks) lacks honest);
         complete = λ command asks accepted there calm.
             inr (is ∙ complete command call.shelf call.out why (cause command asks) accepted there calm.honest calm.stands);
+        counted = λ below. absurd (omega arith);
         held = held;
       }

@@ -1,5 +1,5 @@
 -- The run by a policy, from the run by its code, and its section.
-use Rattle.rw_top.proofs.Common.{Declared, IsRunText, List, Err, None, Ok, Option, Result, RunEnd, [], arith, refl, subst, sym, ℕ, ℤ, ◌∙◌, ◌≡◌}
+use Rattle.rw_top.proofs.Common.{Declared, IsRunText, List, Err, None, Ok, Option, Result, RunEnd, [], arith, false, refl, subst, sym, ℕ, ℤ, ◌∙◌, ◌≡◌}
 use Rattle.rw_base.proofs.Common.{Bool, IsOk, IsSome, IsTrue}
 use Rattle.rw_base.specs.declared.number.Cell.{Cell}
 use Rattle.rw_base.specs.declared.number.StepNo.{StepNo}
@@ -24,7 +24,9 @@ use Rattle.rpl_types.specs.Nodes.{Types}
 use Rattle.rpl_verify.specs.Budget.{AreAccepted}
 use Rattle.rpl_verify.specs.Verified.{Accepted}
 use Rattle.rw_top.specs.Policy.{Policy as Rules, Ruleset, Code}
-use Rattle.rw_top.specs.RunText.{ComesBy, IsRulesText}
+use Rattle.rw_top.specs.RunText.{ComesBy, IsCodeOf, IsRerun, IsRulesText, policy_in_run}
+use Rattle.rw_top.specs.Sections.{Given}
+use Rattle.rw_top.specs.declared.extras.Extras.{Extras}
 
 -- what is accepted has types
 pub types_of : (result : Result (List Types) NodeRefusal) → IsOk result → (types : List Types) × (result ≡ Ok types)
@@ -32,10 +34,10 @@ types_of (Ok types) is = (types, refl)
 types_of (Err why) is = absurd cc
 
 -- a run by a policy, as one by another that has it too
-by_other : (basin : Draft) (one other : Policy) (flags trace : Bool) (number : ℕ) (inputs : Inputs) (end : RunEnd) (text : List ℕ)
+by_other : (basin : Draft) (one other : Policy) (extras : Extras) (reran : Option (List StepNo)) (number : ℕ) (inputs : Inputs) (end : RunEnd) (text : List ℕ)
     → ((log : Log) → IsRun basin one (givens basin inputs) log → IsRun basin other (givens basin inputs) log)
-    → IsRunText basin one flags trace number inputs end text → IsRunText basin other flags trace number inputs end text
-by_other basin one other flags trace number inputs end text has is =
+    → IsRunText basin one extras reran number inputs end text → IsRunText basin other extras reran number inputs end text
+by_other basin one other extras reran number inputs end text has is =
     record { log = is.log; run = has is.log is.run; end_is = is.end_is; text_is = is.text_is }
 
 -- code without blocks lets nothing fire
@@ -45,10 +47,10 @@ none_alike basin blocks none =
     (record { rules = refl; same = λ rule step values is. absurd (omega (arith, is.first, is.last)) })
 
 pub without_rules : ((basin : Draft) (one other : Policy) (inputs : List (Cell × ℤ)) (log : Log) → FireAlike one other → IsRun basin one inputs log → IsRun basin other inputs log)
-    → (basin : Draft) (blocks : List Block) (flags trace : Bool) (number : ℕ) (inputs : Inputs) (end : RunEnd) (text : List ℕ) → blocks ≡ []
-    → IsRunText basin (policy_of_code basin blocks) flags trace number inputs end text → IsRunText basin no_rules flags trace number inputs end text
-without_rules same_runs basin blocks flags trace number inputs end text none is =
-    by_other basin (policy_of_code basin blocks) no_rules flags trace number inputs end text
+    → (basin : Draft) (blocks : List Block) (extras : Extras) (reran : Option (List StepNo)) (number : ℕ) (inputs : Inputs) (end : RunEnd) (text : List ℕ) → blocks ≡ []
+    → IsRunText basin (policy_of_code basin blocks) extras reran number inputs end text → IsRunText basin no_rules extras reran number inputs end text
+without_rules same_runs basin blocks extras reran number inputs end text none is =
+    by_other basin (policy_of_code basin blocks) no_rules extras reran number inputs end text
     (λ log run. same_runs basin (policy_of_code basin blocks) no_rules (givens basin inputs) log (none_alike basin blocks none) run) is
 
 -- by code
@@ -79,19 +81,41 @@ by_ruleset basin rules blocks inputs run same accepted means firings comes =
       verified = record { budgets = budgets_of rules; accepted = accepted; firings = firings its.log whole };
     }
 
--- the section of what the run comes to
-pub section_by : ((basin : Draft) (batch : ℕ) (log : Log) (run : Run) (reran : Option (List StepNo)) (flags trace : Bool)
-    → IsRunOf basin log run → (IsTrue trace → IsSome run.trace)
-    → whole_of basin batch (outcome_of run) reran flags trace ≡ whole_of basin batch (outcome_by basin log) reran flags trace)
-    → (basin : Draft) (policy : Rules) (flags trace : Bool) (number : ℕ) (inputs : Inputs) (run : Run) (text : List ℕ)
-    → ComesBy basin policy inputs run → (IsTrue trace → IsSome run.trace)
-    → text ≡ whole_of basin number (outcome_of run) None flags trace → IsRulesText basin policy flags trace number inputs run.end text
-section_by texts basin policy flags trace number inputs run text comes kept is = record {
+-- the code that is compiled of it
+pub code_of_ruleset : (basin : Draft) (rules : List Declared) (code : Accepted) → code.blocks ≡ translate rules
+    → AreAccepted basin (translate rules) (budgets_of rules)
+    → ((inputs : Inputs) (log : Log) → IsRun basin (policy_of_code basin (translate rules)) (givens basin inputs) log
+    → IsRun basin (policy_of_rules basin rules) (givens basin inputs) log)
+    → ((inputs : Inputs) (log : Log) → IsRun basin (policy_of_rules basin rules) (givens basin inputs) log
+    → AreVerified basin (translate rules) (budgets_of rules) log)
+    → IsCodeOf basin (Ruleset rules) code
+code_of_ruleset basin rules code same accepted means firings = record {
+  comes = λ inputs run'. by_ruleset basin rules code.blocks inputs run' same accepted (means inputs) (firings inputs);
+  runs = λ inputs log whole. means inputs log (subst (λ bs. IsRun basin (policy_of_code basin bs) (givens basin inputs) log) same whole);
+}
+
+-- what the law says of the text of a run, by its log
+abbrev pub TextsOfRuns : Type 0
+TextsOfRuns = (basin : Draft) (batch : ℕ) (log : Log) (run : Run) (reran : Option (List StepNo)) (flags trace : Bool) → IsRunOf basin log run
+    → (IsTrue trace → IsSome run.trace) → whole_of basin batch (outcome_of run) reran flags trace ≡ whole_of basin batch (outcome_by basin log) reran flags trace
+
+-- the section of what the run comes to, with the timesteps that were run again
+pub section_by : TextsOfRuns → (basin : Draft) (policy : Rules) (extras : Extras) (reran : Option (List StepNo)) (number : ℕ) (given : Given) (run : Run) (text : List ℕ)
+    → (comes : ComesBy basin policy given.inputs run) → (IsTrue extras.trace → IsSome run.trace)
+    → IsRerun basin (policy_in_run basin policy) extras.reuse given comes.log reran
+    → text ≡ whole_of basin number (outcome_of run) reran extras.flags extras.trace → IsRulesText basin policy extras number given run.end text
+section_by texts basin policy extras reran number given run text comes kept again is = record {
+  reran = reran;
   run_text = record {
     log = comes.log;
     run = comes.whole;
     end_is = comes.is.end;
-    text_is = is ∙ texts basin number comes.log run None flags trace comes.is kept;
+    text_is = is ∙ texts basin number comes.log run reran extras.flags extras.trace comes.is kept;
   };
   verified = comes.verified;
+  rerun = again;
 }
+
+-- none are told where timesteps aren't reused
+pub untold : (basin : Draft) (policy : Policy) (reuse : Bool) (given : Given) (log : Log) → reuse ≡ false → IsRerun basin policy reuse given log None
+untold basin policy reuse given log plain = subst (λ r. IsRerun basin policy r given log None) (sym plain) refl

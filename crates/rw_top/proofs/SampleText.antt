@@ -17,6 +17,7 @@ use Rattle.rw_top.specs.RunText.{ComesBy, IsSampleText}
 use Rattle.rw_top.specs.Written.{IsOne, OfBoth}
 use Rattle.rw_words.specs.declared.job.Job.TheVariants.{Sample}
 use Rattle.rw_top.specs.declared.refusal.File.TheVariants.{Model, Policy as PolicyFile, Inputs as InputsFile}
+use Rattle.rw_top.specs.declared.extras.Extras.{Extras}
 
 -- ---- its files
 
@@ -79,10 +80,10 @@ of_both : (files : Files) (policy : Rules) (inputs : Inputs) → files.policy �
 of_both files policy inputs has_policy has_inputs P is =
     subst (λ o. IsSomeAnd o (λ p. IsSomeAnd files.inputs (P p))) (sym has_policy) (subst (λ o. IsSomeAnd o (P policy)) (sym has_inputs) is)
 
-pub one_sample : (flags trace : Bool) (files : Files) (policy : Rules) (inputs : Inputs) (seed : ℕ) → files.policy ≡ Some policy
+pub one_sample : (extras : Extras) (files : Files) (policy : Rules) (inputs : Inputs) (seed : ℕ) → files.policy ≡ Some policy
     → files.inputs ≡ Some inputs → (text : List ℕ) → IsSampleText files.basin policy inputs seed text
-    → IsOne (Sample seed) flags trace files 0 text
-one_sample flags trace files policy inputs seed has_policy has_inputs text is =
+    → IsOne (Sample seed) extras files 0 text
+one_sample extras files policy inputs seed has_policy has_inputs text is =
     let both = of_both files policy inputs has_policy has_inputs
     (λ p i. (one : List ℕ) × ((text ∷ []) ≡ one ∷ []) × IsSampleText files.basin p i seed one) (text, refl, is) in
     ((refl, both), both)

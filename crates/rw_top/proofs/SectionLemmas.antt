@@ -1,16 +1,16 @@
 -- Sections that are written one behind another.
-use Rattle.rw_top.proofs.Common.{Change, Err, Files, GrowsBy, GrowsBy-trans, IsRunText, IsSomeAnd, Job, List, MatchResult, None, Ok, Option, PrefixGrew, PrefixGrew-right, Refusal, Result, RunEnd, SinkView, Some, [], ap, change, inr, length, refl, status_of_end, subst, sym, ℕ, ◌++◌, ◌+◌, ◌∙◌, ◌∷◌, ◌≡◌, ◌≤◌}
-use Rattle.rw_base.proofs.Common.{All, Bool, append-nil, append_assoc, arith}
+use Rattle.rw_top.proofs.Common.{Change, Err, Files, GrowsBy, GrowsBy-trans, IsSomeAnd, Job, List, MatchResult, None, Ok, Option, PrefixGrew, PrefixGrew-right, Refusal, Result, RunEnd, SinkView, Some, [], ap, change, inr, length, refl, status_of_end, subst, sym, ℕ, ◌++◌, ◌+◌, ◌∙◌, ◌∷◌, ◌≡◌, ◌≤◌}
+use Rattle.rw_base.proofs.Common.{All, append-nil, append_assoc, arith}
 use Rattle.std.proofs.lemmas.List.Elements.{All-head, All-tail}
 use Rattle.rw_inputs.specs.Edits.{Batch, after_batch}
 use Rattle.rw_inputs.specs.Inputs.{Inputs, value_at}
-use Rattle.rw_top.specs.Sections.{AppendsAll, AppendsFirst, AppendsOne, AreFirstSections, AreSections, StopsAmong, StopsAtOne, joined}
-use Rattle.rw_run.specs.Next.{no_rules}
+use Rattle.rw_top.specs.Sections.{AppendsAll, AppendsFirst, AppendsOne, AreFirstSections, AreSections, StopsAmong, StopsAtOne, Given, edited_given, first_given, joined}
 use Rattle.rw_top.specs.Policy.{Policy as Rules}
-use Rattle.rw_top.specs.RunText.{IsRulesText}
-use Rattle.rw_top.specs.Written.{Appends, AppendsFront, IsFrontOf, IsOne, Stops, batches_in}
+use Rattle.rw_top.specs.RunText.{CountsSections, IsPlainText, IsRulesText}
+use Rattle.rw_top.specs.Written.{Appends, AppendsFront, CountsOfFiles, IsFrontOf, IsOne, OfBoth, Stops, batches_in}
 use Rattle.rw_words.specs.declared.job.Job.TheVariants.{Simulate, Run}
 use Rattle.rw_top.specs.declared.refusal.Refusal.TheVariants.{CannotWrite, NoMemory}
+use Rattle.rw_top.specs.declared.extras.Extras.{Extras}
 
 -- what stays has grown by nothing
 pub still : (old now : Option (List ℕ)) → now ≡ old → GrowsBy old now []
@@ -34,48 +34,48 @@ rest_of P all first rest is holds = All-tail P first rest (subst (All P) is hold
 pub first_of_all : {A : Type 0} (P : A → Type 0) (all : List A) (first : A) (rest : List A) → all ≡ first ∷ rest → All P all → P first
 first_of_all P all first rest is holds = All-head P first rest (subst (All P) is holds)
 
-module _ (IsSection : ℕ → Inputs → RunEnd → List ℕ → Type 0) where
+module _ (IsSection : ℕ → Given → RunEnd → List ℕ → Type 0) where
   -- the section is the last one
-  pub last_section : (number : ℕ) (inputs : Inputs) (out : Change SinkView) (end : RunEnd)
-      → AppendsOne IsSection number inputs out end → AppendsAll IsSection number inputs [] out end
-  last_section number inputs out end one =
+  pub last_section : (number : ℕ) (given : Given) (out : Change SinkView) (end : RunEnd)
+      → AppendsOne IsSection number given out end → AppendsAll IsSection number given [] out end
+  last_section number given out end one =
       record { texts = one.text ∷ []; are = (one.text, refl, one.is); grew = grown out.before.contents out.after.contents one.text one.grew }
 
   -- it stops at the first one
-  pub stops_here : (number : ℕ) (inputs : Inputs) (batches : List Batch) (out : Change SinkView) (why : Refusal)
-      → StopsAtOne IsSection number inputs out why → StopsAmong IsSection number inputs batches out why
-  stops_here number inputs batches out NoMemory stops =
+  pub stops_here : (number : ℕ) (given : Given) (batches : List Batch) (out : Change SinkView) (why : Refusal)
+      → StopsAtOne IsSection number given out why → StopsAmong IsSection number given batches out why
+  stops_here number given batches out NoMemory stops =
       record { texts = []; are = tt; fewer = omega arith; grew = still out.before.contents out.after.contents stops }
-  stops_here number inputs batches out CannotWrite stops =
+  stops_here number given batches out CannotWrite stops =
       record { done = []; text = stops.1; are = (stops.0, stops.2); grew = stops.3; rose = stops.4 }
-  stops_here number inputs batches out why stops = absurd stops
+  stops_here number given batches out why stops = absurd stops
 
   -- memory is wanting behind it
-  pub stops_behind : (number : ℕ) (inputs : Inputs) (batches : List Batch) (out : Change SinkView) (end : RunEnd) → 1 ≤ length batches
-      → AppendsOne IsSection number inputs out end → AppendsFirst IsSection number inputs batches out
-  stops_behind number inputs batches out end more one =
+  pub stops_behind : (number : ℕ) (given : Given) (batches : List Batch) (out : Change SinkView) (end : RunEnd) → 1 ≤ length batches
+      → AppendsOne IsSection number given out end → AppendsFirst IsSection number given batches out
+  stops_behind number given batches out end more one =
       record { texts = one.text ∷ []; are = (end, one.is); fewer = more; grew = grown out.before.contents out.after.contents one.text one.grew }
 
-  module _ (number : ℕ) (inputs edited : Inputs) (batch : Batch) (batches : List Batch) (old now after : SinkView) (end : RunEnd)
-      (one : AppendsOne IsSection number inputs (change old now) end)
-      (values : value_at edited ≡ after_batch batch (value_at inputs)) where
+  module _ (number : ℕ) (given : Given) (edited : Inputs) (batch : Batch) (batches : List Batch) (old now after : SinkView) (end : RunEnd)
+      (one : AppendsOne IsSection number given (change old now) end)
+      (values : value_at edited ≡ after_batch batch (value_at given.inputs)) where
     -- more sections follow
-    pub more_sections : (last : RunEnd) → AppendsAll IsSection (number + 1) edited batches (change now after) last
-        → AppendsAll IsSection number inputs (batch ∷ batches) (change old after) last
+    pub more_sections : (last : RunEnd) → AppendsAll IsSection (number + 1) (edited_given given edited) batches (change now after) last
+        → AppendsAll IsSection number given (batch ∷ batches) (change old after) last
     more_sections last more = record {
       texts = one.text ∷ more.texts;
       are = (end, one.text, more.texts, refl, one.is, (edited, values, more.are));
       grew = GrowsBy-trans old.contents now.contents after.contents one.text (joined more.texts) one.grew more.grew;
     }
 
-    first_with : (texts : List (List ℕ)) → AreFirstSections IsSection (number + 1) edited batches texts
-        → AreFirstSections IsSection number inputs (batch ∷ batches) (one.text ∷ texts)
+    first_with : (texts : List (List ℕ)) → AreFirstSections IsSection (number + 1) (edited_given given edited) batches texts
+        → AreFirstSections IsSection number given (batch ∷ batches) (one.text ∷ texts)
     first_with [] are = (end, one.is)
     first_with (text ∷ texts) are = ((end, one.is), (edited, values, are))
 
     -- or it stops among those
-    pub stops_later : (why : Refusal) → StopsAmong IsSection (number + 1) edited batches (change now after) why
-        → StopsAmong IsSection number inputs (batch ∷ batches) (change old after) why
+    pub stops_later : (why : Refusal) → StopsAmong IsSection (number + 1) (edited_given given edited) batches (change now after) why
+        → StopsAmong IsSection number given (batch ∷ batches) (change old after) why
     stops_later NoMemory stops = record {
       texts = one.text ∷ stops.texts;
       are = first_with stops.texts stops.are;
@@ -93,51 +93,56 @@ module _ (IsSection : ℕ → Inputs → RunEnd → List ℕ → Type 0) where
     stops_later why stops = absurd stops
 
     pub goes_on : (result : Result RunEnd Refusal)
-        → MatchResult result (AppendsAll IsSection (number + 1) edited batches (change now after)) (StopsAmong IsSection (number + 1) edited batches (change now after))
-        → MatchResult result (AppendsAll IsSection number inputs (batch ∷ batches) (change old after)) (StopsAmong IsSection number inputs (batch ∷ batches) (change old after))
+        → MatchResult result (AppendsAll IsSection (number + 1) (edited_given given edited) batches (change now after)) (StopsAmong IsSection (number + 1) (edited_given given edited) batches (change now after))
+        → MatchResult result (AppendsAll IsSection number given (batch ∷ batches) (change old after)) (StopsAmong IsSection number given (batch ∷ batches) (change old after))
     goes_on (Ok last) more = more_sections last more
     goes_on (Err why) stops = stops_later why stops
 
 -- ---- of a job
 
 -- one text that was made
-pub made_whole : (job : Job) (flags trace : Bool) (files : Files) (out : Change SinkView) (status : ℕ) (text : List ℕ) → IsOne job flags trace files status text
-    → GrowsBy out.before.contents out.after.contents text → Appends job flags trace files out status
-made_whole job flags trace files out status text one grew =
+pub made_whole : (job : Job) (extras : Extras) (files : Files) (out : Change SinkView) (status : ℕ) (text : List ℕ) → IsOne job extras files status text
+    → GrowsBy out.before.contents out.after.contents text → Appends job extras files out status
+made_whole job extras files out status text one grew =
     record { texts = text ∷ []; is = one.0; grew = grown out.before.contents out.after.contents text grew }
 
-pub made_front : (job : Job) (flags trace : Bool) (files : Files) (out : Change SinkView) (status : ℕ) (text : List ℕ) → IsOne job flags trace files status text
-    → PrefixGrew out.before.contents out.after.contents text → AppendsFront job flags trace files out
-made_front job flags trace files out status text one grew = record { done = []; text = text; is = one.1; grew = grew }
+pub made_front : (job : Job) (extras : Extras) (files : Files) (out : Change SinkView) (status : ℕ) (text : List ℕ) → IsOne job extras files status text
+    → PrefixGrew out.before.contents out.after.contents text → AppendsFront job extras files out
+made_front job extras files out status text one grew = record { done = []; text = text; is = one.1; grew = grew }
 
 -- a run without rules
-pub one_run : (flags trace : Bool) (files : Files) (inputs : Inputs) (end : RunEnd) (status : ℕ) (text : List ℕ) → files.inputs ≡ Some inputs
-    → status ≡ status_of_end end → IsRunText files.basin no_rules flags trace 0 inputs end text → IsOne Simulate flags trace files status text
-one_run flags trace files inputs end status text there same is = (
-  (end, same, subst (λ o. IsSomeAnd o (λ i. AreSections (IsRunText files.basin no_rules flags trace) 0 i [] end (text ∷ []))) (sym there) (text, refl, is)),
-  subst (λ o. IsSomeAnd o (λ i. AreFirstSections (IsRunText files.basin no_rules flags trace) 0 i [] (text ∷ []))) (sym there) (end, is),
+pub one_run : (extras : Extras) (files : Files) (inputs : Inputs) (end : RunEnd) (status : ℕ) (text : List ℕ) → files.inputs ≡ Some inputs
+    → status ≡ status_of_end end → IsPlainText files.basin extras 0 (first_given inputs) end text → IsOne Simulate extras files status text
+one_run extras files inputs end status text there same is = (
+  (end, same, subst (λ o. IsSomeAnd o (λ i. AreSections (IsPlainText files.basin extras) 0 (first_given i) [] end (text ∷ []))) (sym there) (text, refl, is)),
+  subst (λ o. IsSomeAnd o (λ i. AreFirstSections (IsPlainText files.basin extras) 0 (first_given i) [] (text ∷ []))) (sym there) (end, is),
 )
 
 -- runs by rules
-module _ (flags trace : Bool) (files : Files) (policy : Rules) (inputs : Inputs) (out : Change SinkView) (has_policy : files.policy ≡ Some policy)
-    (has_inputs : files.inputs ≡ Some inputs) where
-  with_both : (P : Rules → Inputs → Type 0) → P policy inputs → IsSomeAnd files.policy (λ p. IsSomeAnd files.inputs (P p))
+module _ (files : Files) (policy : Rules) (inputs : Inputs) (has_policy : files.policy ≡ Some policy) (has_inputs : files.inputs ≡ Some inputs) where
+  with_both : (P : Rules → Inputs → Type 0) → P policy inputs → OfBoth files P
   with_both P is =
       subst (λ o. IsSomeAnd o (λ p. IsSomeAnd files.inputs (P p))) (sym has_policy) (subst (λ o. IsSomeAnd o (P policy)) (sym has_inputs) is)
 
-  pub rules_appended : (end : RunEnd) (status : ℕ) → status ≡ status_of_end end
-      → AppendsAll (IsRulesText files.basin policy flags trace) 0 inputs (batches_in files) out end → Appends Run flags trace files out status
-  rules_appended end status same all = record {
-    texts = all.texts;
-    is = (end, same, with_both (λ p i. AreSections (IsRulesText files.basin p flags trace) 0 i (batches_in files) end all.texts) all.are);
-    grew = all.grew;
-  }
+  pub rules_counted : (steps : Change ℕ) → CountsSections files.basin policy inputs (batches_in files) steps → CountsOfFiles files steps
+  rules_counted steps counts = with_both (λ p i. CountsSections files.basin p i (batches_in files) steps) counts
 
-  front : (texts : List (List ℕ)) → AreFirstSections (IsRulesText files.basin policy flags trace) 0 inputs (batches_in files) texts → IsFrontOf Run flags trace files texts
-  front texts are = with_both (λ p i. AreFirstSections (IsRulesText files.basin p flags trace) 0 i (batches_in files) texts) are
+  module _ (extras : Extras) (out : Change SinkView) where
+    pub rules_appended : (end : RunEnd) (status : ℕ) → status ≡ status_of_end end
+        → AppendsAll (IsRulesText files.basin policy extras) 0 (first_given inputs) (batches_in files) out end → Appends Run extras files out status
+    rules_appended end status same all = record {
+      texts = all.texts;
+      is = (end, same, with_both (λ p i. AreSections (IsRulesText files.basin p extras) 0 (first_given i) (batches_in files) end all.texts) all.are);
+      grew = all.grew;
+    }
 
-  pub rules_stopped : (why : Refusal) → StopsAmong (IsRulesText files.basin policy flags trace) 0 inputs (batches_in files) out why → Stops Run flags trace files out why
-  rules_stopped NoMemory stops = inr (record { runs = refl; texts = stops.texts; are = front stops.texts stops.are; fewer = stops.fewer; grew = stops.grew })
-  rules_stopped CannotWrite stops =
-      (record { done = stops.done; text = stops.text; is = front (stops.done ++ stops.text ∷ []) stops.are; grew = stops.grew }, stops.rose)
-  rules_stopped why stops = absurd stops
+    front : (texts : List (List ℕ)) → AreFirstSections (IsRulesText files.basin policy extras) 0 (first_given inputs) (batches_in files) texts
+        → IsFrontOf Run extras files texts
+    front texts are = with_both (λ p i. AreFirstSections (IsRulesText files.basin p extras) 0 (first_given i) (batches_in files) texts) are
+
+    pub rules_stopped : (why : Refusal) → StopsAmong (IsRulesText files.basin policy extras) 0 (first_given inputs) (batches_in files) out why
+        → Stops Run extras files out why
+    rules_stopped NoMemory stops = inr (record { runs = refl; texts = stops.texts; are = front stops.texts stops.are; fewer = stops.fewer; grew = stops.grew })
+    rules_stopped CannotWrite stops =
+        (record { done = stops.done; text = stops.text; is = front (stops.done ++ stops.text ∷ []) stops.are; grew = stops.grew }, stops.rose)
+    rules_stopped why stops = absurd stops

@@ -22,6 +22,9 @@ use Rattle.rw_top.specs.declared.refusal.File.TheVariants.{Policy as PolicyFile,
 use Rattle.rw_top.specs.declared.refusal.Refusal.TheVariants.{Words, CannotRead, CannotWrite, NoMemory, Inputs, Edits, NoCell}
 use Rattle.rw_top.proofs.CauseLemmas.{told_status}
 use Rattle.rw_top.proofs.OneReading.{one_kind}
+use Rattle.rw_top.specs.Command.{extras_of}
+use Rattle.rw_top.specs.RunText.{IsPlainText}
+use Rattle.rw_top.specs.Sections.{first_given}
 
 settles : (P : RunEnd → Type 0) (end : RunEnd) → 0 ≡ status_of_end end → P end → P Settled
 settles P Settled is wrote = wrote
@@ -41,7 +44,7 @@ module _ (call : Call) (command : Command) (asked : Asks call.words command) (fi
   one text is = one_grown call.out.before.contents call.out.after.contents texts text is grew
 
   wrote_run : (end : RunEnd) (inputs : Option Given) → SaysAt command InputsFile inputs (ReadsInputs command holds files.basin)
-      → IsSomeAnd inputs (λ given. AreSections (IsRunText files.basin no_rules command.flags command.trace) 0 given [] end texts) → WroteRun call end
+      → IsSomeAnd inputs (λ given. AreSections (IsPlainText files.basin (extras_of command)) 0 (first_given given) [] end texts) → WroteRun call end
   wrote_run end None says is = absurd is
   wrote_run end (Some inputs) says is =
       record { command = command; asked = asked; basin = files.basin; inputs = inputs; read = says; text = is.0; is = is.2; grew = one is.0 is.1 }
@@ -50,7 +53,7 @@ module _ (call : Call) (command : Command) (asked : Asks call.words command) (fi
       → SaysAt command PolicyFile policy (ReadsPolicy command holds files.basin)
       → SaysAt command InputsFile inputs (ReadsInputs command holds files.basin)
       → IsSomeAnd policy (λ rules. IsSomeAnd inputs (λ given.
-      AreSections (IsRulesText files.basin rules command.flags command.trace) 0 given (batches_in files) end texts)) → WroteRules call end
+      AreSections (IsRulesText files.basin rules (extras_of command)) 0 (first_given given) (batches_in files) end texts)) → WroteRules call end
   wrote_rules end None inputs rules says is = absurd is
   wrote_rules end (Some policy) None rules says is = absurd is
   wrote_rules end (Some policy) (Some inputs) rules says is = record {
@@ -136,7 +139,7 @@ module _ (call : Call) (command : Command) (asked : Asks call.words command) (fi
       let as_code : reads_code command its.text ≡ true = its.is.0 in
       absurd (one_kind _ as_code (ap (λ j. takes_code j && is_code its.text) job))
 
-  settled_by : (job : Job) → command.job ≡ job → IsTextOf job command.flags command.trace files 0 texts → WroteRun call Settled ⊎ WroteRules call Settled ⊎ WroteWhy call Settled ⊎ WroteCheck call ⊎ WroteCode call ⊎ WroteSample call
+  settled_by : (job : Job) → command.job ≡ job → IsTextOf job (extras_of command) files 0 texts → WroteRun call Settled ⊎ WroteRules call Settled ⊎ WroteWhy call Settled ⊎ WroteCheck call ⊎ WroteCode call ⊎ WroteSample call
   settled_by Simulate job is = inl (settles (WroteRun call) is.0 is.1 (wrote_run is.0 files.inputs read.inputs is.2))
   settled_by Check job is = inr (inr (inr (inl (wrote_check files.policy read.policy is.1))))
   settled_by Compile job is = inr (inr (inr (inr (inl (wrote_code job files.policy read.policy is.1)))))
@@ -151,7 +154,7 @@ module _ (call : Call) (command : Command) (asked : Asks call.words command) (fi
   abbrev WroteFault : RunEnd → Type 0
   WroteFault end = WroteRun call end ⊎ WroteRules call end ⊎ WroteWhy call end
 
-  faulted_by : (job : Job) → IsTextOf job command.flags command.trace files 1 texts → (why : RunFault) × (WroteRun call (Fault why) ⊎ WroteRules call (Fault why) ⊎ WroteWhy call (Fault why))
+  faulted_by : (job : Job) → IsTextOf job (extras_of command) files 1 texts → (why : RunFault) × (WroteRun call (Fault why) ⊎ WroteRules call (Fault why) ⊎ WroteWhy call (Fault why))
   faulted_by Simulate is = faults WroteFault is.0 is.1 (inl (wrote_run is.0 files.inputs read.inputs is.2))
   faulted_by Run is = faults WroteFault is.0 is.1 (inr (inl (wrote_rules is.0 files.policy files.inputs read.policy read.inputs is.2)))
   faulted_by Why is =

@@ -13,6 +13,7 @@ use Rattle.rw_top.specs.Policy.{Policy as Rules}
 use Rattle.rw_top.specs.RunText.{ComesBy, IsWhyOfRules}
 use Rattle.rw_top.specs.Written.{IsOne, OfThree}
 use Rattle.rw_words.specs.declared.job.Job.TheVariants.{Why}
+use Rattle.rw_top.specs.declared.extras.Extras.{Extras}
 
 -- the text of what the run comes to
 pub why_by : ((basin : Draft) (inputs : Inputs) (log : Log) (run : Run) (cell : Cell) → IsRunOf basin log run → IsSome run.trace
@@ -37,10 +38,10 @@ of_three files policy inputs cell has_policy has_inputs has_cell P is =
     (subst (λ o. IsSomeAnd o (λ i. IsSomeAnd files.cell (P policy i))) (sym has_inputs)
     (subst (λ o. IsSomeAnd o (P policy inputs)) (sym has_cell) is))
 
-pub one_why : (flags trace : Bool) (files : Files) (policy : Rules) (inputs : Inputs) (cell : Cell) → files.policy ≡ Some policy
+pub one_why : (extras : Extras) (files : Files) (policy : Rules) (inputs : Inputs) (cell : Cell) → files.policy ≡ Some policy
     → files.inputs ≡ Some inputs → files.cell ≡ Some cell → (end : RunEnd) (status : ℕ) (text : List ℕ) → status ≡ status_of_end end
-    → IsWhyOfRules files.basin policy inputs cell end text → IsOne Why flags trace files status text
-one_why flags trace files policy inputs cell has_policy has_inputs has_cell end status text same is = (
+    → IsWhyOfRules files.basin policy inputs cell end text → IsOne Why extras files status text
+one_why extras files policy inputs cell has_policy has_inputs has_cell end status text same is = (
   (
     end,
     same,

@@ -8,3 +8,5 @@ pub record Call : Type 0 where
   pub shelf : Change ShelfView
   pub out : Change SinkView
   pub err : Change SinkView
+  -- how many timesteps were counted
+  pub steps : Change ℕ

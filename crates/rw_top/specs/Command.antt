@@ -6,9 +6,14 @@ use Rattle.rw_words.specs.Command.{Command, command_of as asked_by, seen}
 use Rattle.rw_words.specs.Plain.{plain}
 use Rattle.rw_top.specs.declared.refusal.File.{File}
 use Rattle.rw_top.specs.declared.refusal.File.TheVariants.{Model, Policy, Inputs, Edits}
+use Rattle.rw_top.specs.declared.extras.Extras.{Extras}
 use Rattle.rw_top.specs.declared.command.Command.{Command as Named}
 use Rattle.rw_top.specs.declared.command.Source.{Source as Held}
 use Rattle.rw_sample.specs.Texts.{sample_inputs, sample_model, sample_rules}
+
+-- what its text tells besides the table, and how it is come to
+abbrev pub extras_of : Command → Extras
+extras_of command = record { flags = command.flags; trace = command.trace; reuse = command.reuse; order = command.order }
 
 -- ---- jobs
 

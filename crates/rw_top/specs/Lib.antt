@@ -7,6 +7,7 @@ pub mod Told
 pub mod Reason
 pub mod RunText
 pub mod Sections
+pub mod Reused
 pub mod Budgets
 pub mod Seen
 pub mod Ready

@@ -4,9 +4,8 @@ use Rattle.rw_io.specs.Causes.{Rose}
 use Rattle.rw_io.specs.Known.{GrowsBy}
 use Rattle.rw_base.specs.declared.number.Cell.{Cell}
 use Rattle.rw_inputs.specs.Edits.{Batch}
-use Rattle.rw_inputs.specs.Inputs.{Inputs as Given}
+use Rattle.rw_inputs.specs.Inputs.{Inputs as Rows}
 use Rattle.rw_model.specs.Draft.{Draft}
-use Rattle.rw_run.specs.Next.{no_rules}
 use Rattle.rw_run.specs.declared.run.RunEnd.{RunEnd}
 use Rattle.rpl_tree.specs.Tree.{Declared}
 use Rattle.rpl_code.specs.Spelling.{spelt}
@@ -14,7 +13,7 @@ use Rattle.rpl_compile.specs.Translate.{translate}
 use Rattle.rw_top.specs.Budgets.{check_text}
 use Rattle.rw_top.specs.Cell.{cell_of}
 use Rattle.rw_top.specs.Call.{Call}
-use Rattle.rw_top.specs.Command.{AskNothing, Asks}
+use Rattle.rw_top.specs.Command.{AskNothing, Asks, extras_of}
 use Rattle.rw_words.specs.Command.{Command}
 use Rattle.rw_words.specs.declared.job.Job.TheVariants.{Sample}
 use Rattle.rw_top.specs.Policy.{Policy as Rules, Ruleset}
@@ -22,9 +21,9 @@ use Rattle.rw_top.specs.Reason.{Reason, IsFound, IsHonestFor, status_by}
 use Rattle.rw_top.specs.Lines.{line_of, memory_line, words_line}
 use Rattle.rw_top.specs.Reading.{AcceptsAll, IsHonestOfAll, LacksCell, ReadsEdits, ReadsInputs, ReadsPolicy, SaysAt}
 use Rattle.rw_top.specs.Refusal.{Cause, EndsWith, status_of}
-use Rattle.rw_top.specs.RunText.{IsRulesText, IsRunText, IsSampleOf, IsWhyOfRules}
-use Rattle.rw_top.specs.Sections.{AreSections, joined}
-use Rattle.rw_top.specs.Written.{Tells, WritesAll}
+use Rattle.rw_top.specs.RunText.{IsRulesText, IsSampleOf, IsSimulated, IsWhyOfRules}
+use Rattle.rw_top.specs.Sections.{AreSections, first_given, joined}
+use Rattle.rw_top.specs.Written.{CountsReused, Tells, WritesAll}
 use Rattle.rw_top.specs.declared.refusal.File.TheVariants.{Edits}
 use Rattle.rw_top.specs.declared.refusal.Refusal.{Refusal}
 use Rattle.rw_top.specs.declared.refusal.Refusal.TheVariants.{Words, NoMemory}
@@ -84,20 +83,22 @@ pub record Promise (call : Call) (status : ℕ) : Type 0 where
   pub complete : (command : Command) → Asks call.words command
       → AcceptsAll command call.shelf.before.holds → ¬ LacksCell command call.shelf.before.holds → IsCalm command call
       → (status ≤ 1) ⊎ (status ≡ 5)
+  -- a run that reuses timesteps counts those that it runs
+  pub counted : status ≤ 1 → (command : Command) → Asks call.words command → CountsReused command call.shelf.before.holds call.steps
   -- no file is changed
   pub held : (path : List ℕ) → call.shelf.after.holds path ≡ call.shelf.before.holds path
 
 -- ---- what a call wrote, by its job
 
--- a run without rules that ends so, and its text
+-- a run without rules, in the order that is asked for, that ends so, and its text
 pub record WroteRun (call : Call) (end : RunEnd) : Type 0 where
   pub command : Command
   pub asked : Asks call.words command
   pub basin : Draft
-  pub inputs : Given
+  pub inputs : Rows
   pub read : ReadsInputs command call.shelf.before.holds basin inputs
   pub text : List ℕ
-  pub is : IsRunText basin no_rules command.flags command.trace 0 inputs end text
+  pub is : IsSimulated command.order basin (extras_of command) 0 inputs end text
   pub grew : GrowsBy call.out.before.contents call.out.after.contents text
 
 -- the sections of runs by a policy that is accepted, after each batch of edits, of which the last one ends so
@@ -107,12 +108,12 @@ pub record WroteRules (call : Call) (end : RunEnd) : Type 0 where
   pub basin : Draft
   pub policy : Rules
   pub rules : ReadsPolicy command call.shelf.before.holds basin policy
-  pub inputs : Given
+  pub inputs : Rows
   pub read : ReadsInputs command call.shelf.before.holds basin inputs
   pub edits : Option (List Batch)
   pub edited : SaysAt command Edits edits (ReadsEdits command call.shelf.before.holds basin)
   pub texts : List (List ℕ)
-  pub are : AreSections (IsRulesText basin policy command.flags command.trace) 0 inputs (unwrap_or edits []) end texts
+  pub are : AreSections (IsRulesText basin policy (extras_of command)) 0 (first_given inputs) (unwrap_or edits []) end texts
   pub grew : GrowsBy call.out.before.contents call.out.after.contents (joined texts)
 
 -- how a cell came to what it holds in the run by a policy that is accepted, which ends so
@@ -122,7 +123,7 @@ pub record WroteWhy (call : Call) (end : RunEnd) : Type 0 where
   pub basin : Draft
   pub policy : Rules
   pub rules : ReadsPolicy command call.shelf.before.holds basin policy
-  pub inputs : Given
+  pub inputs : Rows
   pub read : ReadsInputs command call.shelf.before.holds basin inputs
   pub cell : Cell
   pub named : cell_of command basin ≡ Some cell

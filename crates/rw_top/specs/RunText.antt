@@ -1,12 +1,25 @@
 -- The text of a run.
-use Rattle.std.specs.Prelude.{◌≡◌, ℕ, Bool, List, None, Ok}
+use Rattle.std.specs.Prelude.{◌≡◌, ◌+◌, ℕ, Bool, true, false, List, length, IsSomeAnd, Option, Some, None, Ok}
+use Rattle.rw_base.specs.declared.number.StepNo.{StepNo}
+use Rattle.rw_run.specs.Reuse.{AreOpened, AreRerun}
+use Rattle.rw_rerun.specs.Session.{numbers_of}
+use Rattle.rw_rules.specs.Rules.{policy_in}
+use Rattle.rw_engine.specs.Passing.{ComesTo}
+use Rattle.rw_inputs.specs.Edits.{Batch}
+use Rattle.rw_io.specs.Outside.{Change}
+use Rattle.rpl_verify.specs.Verified.{Accepted}
+use Rattle.rw_top.specs.Sections.{CountsAll, Given, first_given}
+use Rattle.rw_top.specs.declared.extras.Extras.{Extras}
+use Rattle.rw_words.specs.declared.order.Order.{Order}
+use Rattle.rw_words.specs.declared.order.Order.TheVariants.{Oldest, Newest}
+use Rattle.rw_dispatch.specs.Pick.{IsPickedRun, newest}
 use Rattle.rw_model.specs.Draft.{Draft}
 use Rattle.rw_inputs.specs.Inputs.{Inputs}
 use Rattle.rw_inputs.specs.Givens.{givens}
 use Rattle.rw_run.specs.declared.run.Run.{Run}
 use Rattle.rw_run.specs.declared.run.RunEnd.{RunEnd}
 use Rattle.rw_run.specs.Log.{Log}
-use Rattle.rw_run.specs.Next.{Policy}
+use Rattle.rw_run.specs.Next.{Policy, no_rules}
 use Rattle.rw_run.specs.Runs.{IsRun}
 use Rattle.rw_run.specs.RunOf.{IsRunOf, end_of}
 use Rattle.rw_report.specs.Outcome.{outcome_by}
@@ -24,16 +37,36 @@ use Rattle.rw_sample.specs.Line.{sample_line}
 use Rattle.rw_sample.specs.Texts.{sample_inputs, sample_model, sample_rules}
 use Rattle.rw_top.specs.Policy.{IsRulesetOf, Policy as Rules, Ruleset, Code, code_of}
 
--- the section of a log, with this number, and with flags and trace where they are asked for
-abbrev pub text_of : Draft → (flags trace : Bool) → ℕ → Log → List ℕ
-text_of basin flags trace number log = whole_of basin number (outcome_by basin log) None flags trace
+-- nothing but the table
+abbrev pub no_extras : Extras
+no_extras = record { flags = false; trace = false; reuse = false; order = Oldest }
+
+-- the section of a log, with this number and the timesteps that were run again, where they are told, and with flags and trace where they
+-- are asked for
+abbrev pub text_of : Draft → Extras → ℕ → Option (List StepNo) → Log → List ℕ
+text_of basin extras number reran log = whole_of basin number (outcome_by basin log) reran extras.flags extras.trace
 
 -- the section of this number, of the run of a basin by a policy from inputs, and how the run ends
-pub record IsRunText (basin : Draft) (policy : Policy) (flags trace : Bool) (number : ℕ) (inputs : Inputs) (end : RunEnd) (text : List ℕ) : Type 0 where
+pub record IsRunText (basin : Draft) (policy : Policy) (extras : Extras) (reran : Option (List StepNo)) (number : ℕ) (inputs : Inputs) (end : RunEnd) (text : List ℕ) : Type 0 where
   pub log : Log
   pub run : IsRun basin policy (givens basin inputs) log
   pub end_is : end ≡ end_of log
-  pub text_is : text ≡ text_of basin flags trace number log
+  pub text_is : text ≡ text_of basin extras number reran log
+
+-- the section of the run without rules in which the object is dispatched that has waited shortest
+pub record IsNewestText (basin : Draft) (extras : Extras) (number : ℕ) (inputs : Inputs) (end : RunEnd) (text : List ℕ) : Type 0 where
+  pub log : Log
+  pub run : IsPickedRun basin no_rules newest (givens basin inputs) log
+  pub end_is : end ≡ end_of log
+  pub text_is : text ≡ text_of basin extras number None log
+
+-- the section of the run without rules, in this order of dispatches
+abbrev pub IsSimulated : Order → Draft → Extras → ℕ → Inputs → RunEnd → List ℕ → Type 0
+IsSimulated Oldest basin extras number inputs end text = IsRunText basin no_rules extras None number inputs end text
+IsSimulated Newest basin extras number inputs end text = IsNewestText basin extras number inputs end text
+
+abbrev pub IsPlainText : Draft → Extras → ℕ → Given → RunEnd → List ℕ → Type 0
+IsPlainText basin extras number given end text = IsSimulated extras.order basin extras number given.inputs end text
 
 -- how a cell came to what it holds in that run, and how the run ends
 pub record IsWhyText (basin : Draft) (policy : Policy) (inputs : Inputs) (cell : Cell) (end : RunEnd) (text : List ℕ) : Type 0 where
@@ -62,10 +95,39 @@ pub record ComesBy (basin : Draft) (policy : Rules) (inputs : Inputs) (run : Run
   pub is : IsRunOf basin log run
   pub verified : IsVerifiedRun basin policy log
 
+-- the runs of the code are those by it, in which each firing is verified
+pub record IsCodeOf (basin : Draft) (policy : Rules) (code : Accepted) : Type 0 where
+  pub comes : (inputs : Inputs) (run : Run) → ComesTo basin (policy_in basin code) inputs run → ComesBy basin policy inputs run
+  pub runs : (inputs : Inputs) (log : Log) → IsRun basin (policy_in basin code) (givens basin inputs) log
+      → IsRun basin (policy_in_run basin policy) (givens basin inputs) log
+
+-- the timesteps that are told of a run: none, or, where timesteps are to be reused and there was a run before it, those that aren't
+abbrev pub IsRerun : Draft → Policy → (reuse : Bool) → Given → Log → Option (List StepNo) → Type 0
+IsRerun basin policy false given log reran = reran ≡ None
+IsRerun basin policy true given log None = given.before ≡ None
+IsRerun basin policy true given log (Some steps) =
+    IsSomeAnd given.before (λ before. (earlier : Log) × IsRun basin policy (givens basin before) earlier × AreRerun basin earlier log (numbers_of steps))
+
 -- the section of the run by it, in which each firing is verified
-pub record IsRulesText (basin : Draft) (policy : Rules) (flags trace : Bool) (number : ℕ) (inputs : Inputs) (end : RunEnd) (text : List ℕ) : Type 0 where
-  pub run_text : IsRunText basin (policy_in_run basin policy) flags trace number inputs end text
+pub record IsRulesText (basin : Draft) (policy : Rules) (extras : Extras) (number : ℕ) (given : Given) (end : RunEnd) (text : List ℕ) : Type 0 where
+  pub reran : Option (List StepNo)
+  pub run_text : IsRunText basin (policy_in_run basin policy) extras reran number given.inputs end text
   pub verified : IsVerifiedRun basin policy run_text.log
+  pub rerun : IsRerun basin (policy_in_run basin policy) extras.reuse given run_text.log reran
+
+-- where timesteps are reused so many are run: those that the run opened, or, after another run, those that aren't reused
+abbrev pub CountsOf : Draft → Policy → Option Inputs → Log → ℕ → Type 0
+CountsOf basin policy None log count = (steps : List ℕ) × AreOpened log steps × (count ≡ length steps)
+CountsOf basin policy (Some before) log count =
+    (earlier : Log) × (steps : List ℕ) × IsRun basin policy (givens basin before) earlier × AreRerun basin earlier log steps × (count ≡ length steps)
+
+abbrev pub CountsRun : Draft → Policy → Given → ℕ → Type 0
+CountsRun basin policy given count = (log : Log) × IsRun basin policy (givens basin given.inputs) log × CountsOf basin policy given.before log count
+
+-- and so many were counted for all sections
+abbrev pub CountsSections : Draft → Rules → Inputs → List Batch → Change ℕ → Type 0
+CountsSections basin policy inputs batches steps =
+    (count : ℕ) × (steps.after ≡ steps.before + count) × CountsAll (CountsRun basin (policy_in_run basin policy)) (first_given inputs) batches count
 
 -- how a cell came to what it holds in the run by it, in which each firing is verified
 pub record IsWhyOfRules (basin : Draft) (policy : Rules) (inputs : Inputs) (cell : Cell) (end : RunEnd) (text : List ℕ) : Type 0 where

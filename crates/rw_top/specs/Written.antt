@@ -1,12 +1,11 @@
 -- What a call appends to a stream.
-use Rattle.std.specs.Prelude.{◌≡◌, ◌≤◌, ℕ, Bool, ◌⊎◌, List, [], ◌∷◌, ◌++◌, IsSomeAnd, length, unwrap_or}
+use Rattle.std.specs.Prelude.{◌≡◌, ◌≤◌, ℕ, ◌⊎◌, List, [], ◌∷◌, ◌++◌, IsSomeAnd, IsTrue, length, unwrap_or}
 use Rattle.rw_io.specs.Causes.{Rose}
 use Rattle.rw_io.specs.Known.{GrowsBy, PrefixGrew}
 use Rattle.rw_io.specs.Outside.{Change, Holds, SinkView}
 use Rattle.rw_base.specs.declared.number.Cell.{Cell}
 use Rattle.rw_inputs.specs.Edits.{Batch}
 use Rattle.rw_inputs.specs.Inputs.{Inputs}
-use Rattle.rw_run.specs.Next.{no_rules}
 use Rattle.rw_run.specs.declared.run.RunEnd.{RunEnd}
 use Rattle.rw_run.specs.declared.run.RunEnd.TheVariants.{Settled, Fault}
 use Rattle.rpl_code.specs.Spelling.{spelt}
@@ -14,8 +13,10 @@ use Rattle.rw_top.specs.Budgets.{check_text}
 use Rattle.rw_words.specs.Command.{Command}
 use Rattle.rw_top.specs.Policy.{Policy as Rules, code_of}
 use Rattle.rw_top.specs.Reading.{AreRead, Files}
-use Rattle.rw_top.specs.RunText.{IsRulesText, IsRunText, IsSampleText, IsWhyOfRules}
-use Rattle.rw_top.specs.Sections.{AreFirstSections, AreSections, joined}
+use Rattle.rw_top.specs.RunText.{CountsSections, IsPlainText, IsRulesText, IsSampleText, IsWhyOfRules}
+use Rattle.rw_top.specs.Command.{extras_of}
+use Rattle.rw_top.specs.Sections.{AreFirstSections, AreSections, first_given, joined}
+use Rattle.rw_top.specs.declared.extras.Extras.{Extras}
 use Rattle.rw_top.specs.declared.refusal.Refusal.{Refusal}
 use Rattle.rw_top.specs.declared.refusal.Refusal.TheVariants.{CannotWrite, NoMemory}
 use Rattle.rw_words.specs.declared.job.Job.{Job}
@@ -38,71 +39,75 @@ OfBoth files P = IsSomeAnd files.policy (λ policy. IsSomeAnd files.inputs (P po
 abbrev pub OfThree : Files → (Rules → Inputs → Cell → Type 0) → Type 0
 OfThree files P = IsSomeAnd files.policy (λ policy. IsSomeAnd files.inputs (λ inputs. IsSomeAnd files.cell (P policy inputs)))
 
+-- the timesteps were counted that are run for the sections of the files, where timesteps are reused
+abbrev pub CountsOfFiles : Files → Change ℕ → Type 0
+CountsOfFiles files steps = OfBoth files (λ policy inputs. CountsSections files.basin policy inputs (batches_in files) steps)
+
 -- the sections of a job's text by what its files say, and the status with which it is written. A text that isn't of runs is one section
-abbrev pub IsTextOf : Job → (flags trace : Bool) → Files → ℕ → List (List ℕ) → Type 0
-IsTextOf Simulate flags trace files status texts =
+abbrev pub IsTextOf : Job → Extras → Files → ℕ → List (List ℕ) → Type 0
+IsTextOf Simulate extras files status texts =
     (end : RunEnd) × (status ≡ status_of_end end)
-    × IsSomeAnd files.inputs (λ inputs. AreSections (IsRunText files.basin no_rules flags trace) 0 inputs [] end texts)
-IsTextOf Check flags trace files status texts = (status ≡ 0) × IsSomeAnd files.policy (λ policy. texts ≡ check_text policy ∷ [])
-IsTextOf Compile flags trace files status texts = (status ≡ 0) × IsSomeAnd files.policy (λ policy. texts ≡ spelt (code_of policy) ∷ [])
-IsTextOf Run flags trace files status texts =
+    × IsSomeAnd files.inputs (λ inputs. AreSections (IsPlainText files.basin extras) 0 (first_given inputs) [] end texts)
+IsTextOf Check extras files status texts = (status ≡ 0) × IsSomeAnd files.policy (λ policy. texts ≡ check_text policy ∷ [])
+IsTextOf Compile extras files status texts = (status ≡ 0) × IsSomeAnd files.policy (λ policy. texts ≡ spelt (code_of policy) ∷ [])
+IsTextOf Run extras files status texts =
     (end : RunEnd) × (status ≡ status_of_end end) × IsSomeAnd files.policy (λ policy.
-    IsSomeAnd files.inputs (λ inputs. AreSections (IsRulesText files.basin policy flags trace) 0 inputs (batches_in files) end texts))
-IsTextOf Why flags trace files status texts =
+    IsSomeAnd files.inputs (λ inputs. AreSections (IsRulesText files.basin policy extras) 0 (first_given inputs) (batches_in files) end texts))
+IsTextOf Why extras files status texts =
     (end : RunEnd) × (status ≡ status_of_end end) × OfThree files (λ policy inputs cell.
     (text : List ℕ) × (texts ≡ text ∷ []) × IsWhyOfRules files.basin policy inputs cell end text)
-IsTextOf (Sample seed) flags trace files status texts =
+IsTextOf (Sample seed) extras files status texts =
     (status ≡ 0) × OfBoth files (λ policy inputs.
     (text : List ℕ) × (texts ≡ text ∷ []) × IsSampleText files.basin policy inputs seed text)
 
 -- the first sections of it
-abbrev pub IsFrontOf : Job → (flags trace : Bool) → Files → List (List ℕ) → Type 0
-IsFrontOf Simulate flags trace files texts =
-    IsSomeAnd files.inputs (λ inputs. AreFirstSections (IsRunText files.basin no_rules flags trace) 0 inputs [] texts)
-IsFrontOf Check flags trace files texts = IsSomeAnd files.policy (λ policy. texts ≡ check_text policy ∷ [])
-IsFrontOf Compile flags trace files texts = IsSomeAnd files.policy (λ policy. texts ≡ spelt (code_of policy) ∷ [])
-IsFrontOf Run flags trace files texts =
+abbrev pub IsFrontOf : Job → Extras → Files → List (List ℕ) → Type 0
+IsFrontOf Simulate extras files texts =
+    IsSomeAnd files.inputs (λ inputs. AreFirstSections (IsPlainText files.basin extras) 0 (first_given inputs) [] texts)
+IsFrontOf Check extras files texts = IsSomeAnd files.policy (λ policy. texts ≡ check_text policy ∷ [])
+IsFrontOf Compile extras files texts = IsSomeAnd files.policy (λ policy. texts ≡ spelt (code_of policy) ∷ [])
+IsFrontOf Run extras files texts =
     IsSomeAnd files.policy (λ policy.
-    IsSomeAnd files.inputs (λ inputs. AreFirstSections (IsRulesText files.basin policy flags trace) 0 inputs (batches_in files) texts))
-IsFrontOf Why flags trace files texts =
+    IsSomeAnd files.inputs (λ inputs. AreFirstSections (IsRulesText files.basin policy extras) 0 (first_given inputs) (batches_in files) texts))
+IsFrontOf Why extras files texts =
     OfThree files (λ policy inputs cell.
     (end : RunEnd) × (text : List ℕ) × (texts ≡ text ∷ []) × IsWhyOfRules files.basin policy inputs cell end text)
-IsFrontOf (Sample seed) flags trace files texts =
+IsFrontOf (Sample seed) extras files texts =
     OfBoth files (λ policy inputs.
     (text : List ℕ) × (texts ≡ text ∷ []) × IsSampleText files.basin policy inputs seed text)
 
 -- ---- what a job appends
 
 -- all sections
-pub record Appends (job : Job) (flags trace : Bool) (files : Files) (out : Change SinkView) (status : ℕ) : Type 0 where
+pub record Appends (job : Job) (extras : Extras) (files : Files) (out : Change SinkView) (status : ℕ) : Type 0 where
   pub texts : List (List ℕ)
-  pub is : IsTextOf job flags trace files status texts
+  pub is : IsTextOf job extras files status texts
   pub grew : GrowsBy out.before.contents out.after.contents (joined texts)
 
 -- some whole sections, and a front of the next one
-pub record AppendsFront (job : Job) (flags trace : Bool) (files : Files) (out : Change SinkView) : Type 0 where
+pub record AppendsFront (job : Job) (extras : Extras) (files : Files) (out : Change SinkView) : Type 0 where
   pub done : List (List ℕ)
   pub text : List ℕ
-  pub is : IsFrontOf job flags trace files (done ++ text ∷ [])
+  pub is : IsFrontOf job extras files (done ++ text ∷ [])
   pub grew : PrefixGrew out.before.contents out.after.contents (joined done ++ text)
 
 -- the first sections of a run, each whole, and fewer than all: there is one more than there are batches
-pub record AppendsSections (job : Job) (flags trace : Bool) (files : Files) (out : Change SinkView) : Type 0 where
+pub record AppendsSections (job : Job) (extras : Extras) (files : Files) (out : Change SinkView) : Type 0 where
   pub runs : job ≡ Run
   pub texts : List (List ℕ)
-  pub are : IsFrontOf job flags trace files texts
+  pub are : IsFrontOf job extras files texts
   pub fewer : length texts ≤ length (batches_in files)
   pub grew : GrowsBy out.before.contents out.after.contents (joined texts)
 
 -- why not all are
-abbrev pub Stops : Job → (flags trace : Bool) → Files → Change SinkView → Refusal → Type 0
-Stops job flags trace files out CannotWrite = AppendsFront job flags trace files out × Rose out.before.faults out.after.faults
-Stops job flags trace files out NoMemory = (out.after.contents ≡ out.before.contents) ⊎ AppendsSections job flags trace files out
-Stops job flags trace files out why = ⊥
+abbrev pub Stops : Job → Extras → Files → Change SinkView → Refusal → Type 0
+Stops job extras files out CannotWrite = AppendsFront job extras files out × Rose out.before.faults out.after.faults
+Stops job extras files out NoMemory = (out.after.contents ≡ out.before.contents) ⊎ AppendsSections job extras files out
+Stops job extras files out why = ⊥
 
 -- a text is the one section of the job's
-abbrev pub IsOne : Job → (flags trace : Bool) → Files → ℕ → List ℕ → Type 0
-IsOne job flags trace files status text = IsTextOf job flags trace files status (text ∷ []) × IsFrontOf job flags trace files (text ∷ [])
+abbrev pub IsOne : Job → Extras → Files → ℕ → List ℕ → Type 0
+IsOne job extras files status text = IsTextOf job extras files status (text ∷ []) × IsFrontOf job extras files (text ∷ [])
 
 -- ---- what a command appends
 
@@ -112,16 +117,21 @@ OfFiles command holds P = (files : Files) × AreRead command holds files × P fi
 
 -- the whole text of the command was appended
 abbrev pub WritesAll : Command → Holds → Change SinkView → ℕ → Type 0
-WritesAll command holds out status = OfFiles command holds (λ files. Appends command.job command.flags command.trace files out status)
+WritesAll command holds out status = OfFiles command holds (λ files. Appends command.job (extras_of command) files out status)
 
 -- a front of it was appended
 abbrev pub WritesFront : Command → Holds → Change SinkView → Type 0
-WritesFront command holds out = OfFiles command holds (λ files. AppendsFront command.job command.flags command.trace files out)
+WritesFront command holds out = OfFiles command holds (λ files. AppendsFront command.job (extras_of command) files out)
+
+-- where it runs by rules and reuses timesteps, those that were run were counted
+abbrev pub CountsReused : Command → Holds → Change ℕ → Type 0
+CountsReused command holds steps =
+    command.job ≡ Run → IsTrue command.reuse → OfFiles command holds (λ files. CountsOfFiles files steps)
 
 -- nothing was appended, or the first sections of a run
 abbrev pub WritesSections : Command → Holds → Change SinkView → Type 0
 WritesSections command holds out =
-    (out.after.contents ≡ out.before.contents) ⊎ OfFiles command holds (λ files. AppendsSections command.job command.flags command.trace files out)
+    (out.after.contents ≡ out.before.contents) ⊎ OfFiles command holds (λ files. AppendsSections command.job (extras_of command) files out)
 
 -- a front of the line was appended, and all of it unless the sink's count rose
 pub record Tells (err : Change SinkView) (line : List ℕ) : Type 0 where

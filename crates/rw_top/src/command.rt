@@ -1,9 +1,10 @@
 // The files of a command: which it reads, and where the text of each comes from.
 ghost use Rattle.std.specs.Prelude.{◌≡◌, map, option_map, slice_index_or, [], Some};
-ghost use Rattle.rw_top.specs.Command.{command_of, files_of, named_source, path_in, path_of, place_in, seeks_cell, source_at, source_of, source_seen, takes_code};
+ghost use Rattle.rw_top.specs.Command.{command_of, extras_of, files_of, named_source, path_in, path_of, place_in, seeks_cell, source_at, source_of, source_seen, takes_code};
 ghost use Rattle.rw_top.specs.declared.refusal.File.TheVariants as F;
 
 use crate::File;
+use crate::extras::Extras;
 use rw_words::{Command as Words, Job};
 
 // In which place a file stands among those of a job, from 0 on, where the job reads it.
@@ -69,6 +70,18 @@ pub(crate) struct Command<'w> {
 }
 
 impl<'w> Command<'w> {
+    /// What its text tells besides the table, and how it is come to.
+    pub(crate) fn extras(&self) -> Extras
+        ensures { result ≡ extras_of (command_of self.now) }
+    {
+        Extras {
+            flags: self.words.flags,
+            trace: self.words.trace,
+            reuse: self.words.reuse,
+            order: self.words.order,
+        }
+    }
+
     /// Whether its policy may be code.
     pub(crate) fn takes_code(&self) -> bool
         ensures { result ≡ takes_code self.now.words.job }

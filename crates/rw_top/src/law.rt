@@ -24,6 +24,7 @@ ghost use Rattle.rw_top.specs.Budgets.{budget_in, check_text, rules_in};
 ghost use Rattle.rw_top.specs.Call.{Call};
 ghost use Rattle.rw_top.specs.Command.{AskFor, AskNothing, Asks, order, simulates};
 ghost use Rattle.rw_words.specs.Command.{Command};
+ghost use Rattle.rw_words.specs.declared.order.Order.{Order};
 ghost use Rattle.rw_top.specs.FirstCall.{IsFirstCall};
 ghost use Rattle.rw_top.specs.Policy.{BadCode, RulesRefusal, BadRules, BadBlocks, Policy, Ruleset, Code, IsPolicyOf};
 ghost use Rattle.rw_top.specs.Promise.{Promise, WroteCheck, WroteCode, WroteRules, WroteRun, WroteSample, WroteWhy};
@@ -31,7 +32,9 @@ ghost use Rattle.rw_top.specs.Reading.{AcceptsAll, HoldsTooLong, LacksCell, Read
 ghost use Rattle.rw_top.specs.Refusal.{FailsToRead, FindsTooLong};
 ghost use Rattle.rw_top.specs.Told.{AreTold};
 ghost use Rattle.rw_top.specs.Written.{WritesFront, WritesSections};
-ghost use Rattle.rw_top.specs.RunText.{IsRunText, IsSampleOf};
+ghost use Rattle.rw_base.specs.declared.number.StepNo.{StepNo};
+ghost use Rattle.rw_top.specs.RunText.{IsRunText, IsSampleOf, IsSimulated, no_extras};
+ghost use Rattle.rw_top.specs.declared.extras.Extras.{Extras};
 ghost use Rattle.rw_top.specs.declared.refusal.File.{File};
 
 use rpl_compile::accepted::compiled_budgets;
@@ -51,12 +54,26 @@ pub fn one_inputs()
 
 /// A basin, a policy and inputs have one run, which has one end and one text in each section's place, and all that counts of inputs are their values.
 pub fn one_text()
-    ensures { (basin : Draft) (policy : RunPolicy) (flags trace : Bool) (number : ℕ)
+    ensures { (basin : Draft) (policy : RunPolicy) (extras : Extras)
+        (reran : Option (List StepNo)) (number : ℕ)
         (inputs others : Inputs)
         (end other : RunEnd) (text more : List ℕ)
         → ((slot step : ℕ) → value_at inputs slot step ≡ value_at others slot step)
-        → IsRunText basin policy flags trace number inputs end text
-        → IsRunText basin policy flags trace number others other more
+        → IsRunText basin policy extras reran number inputs end text
+        → IsRunText basin policy extras reran number others other more
+        → (end ≡ other) × (text ≡ more) }
+{
+    one_run();
+}
+
+/// Without rules there is one end and one text in each order of dispatches.
+pub fn one_order()
+    ensures { (order : Order) (basin : Draft) (extras : Extras) (number : ℕ)
+        (inputs others : Inputs)
+        (end other : RunEnd) (text more : List ℕ)
+        → ((slot step : ℕ) → value_at inputs slot step ≡ value_at others slot step)
+        → IsSimulated order basin extras number inputs end text
+        → IsSimulated order basin extras number others other more
         → (end ≡ other) × (text ≡ more) }
 {
     one_run();
@@ -76,7 +93,7 @@ pub fn first_form()
     ensures { (basin : Draft) (model : FirstModel) (inputs : Inputs) (inflows outflows : List ℤ)
         → IsBasin basin → IsFirstForm basin model
         → IsFirstFlows inputs model.run.count inflows outflows
-        → (end : RunEnd) (text : List ℕ) → IsRunText basin no_rules false false 0 inputs end text
+        → (end : RunEnd) (text : List ℕ) → IsRunText basin no_rules no_extras None 0 inputs end text
         → (fault : Option ℤ) × IsFirstText model inflows outflows fault text
         × ((fault ≡ None) ↔ (end ≡ Settled)) }
 {

@@ -1,18 +1,26 @@
-ghost use Rattle.std.specs.Prelude.{◌≡◌, ℕ, Bool, List, [], map, option_map, unwrap_or, IfErr, IfOk, MatchResult};
+ghost use Rattle.std.specs.Prelude.{◌≡◌, ◌≤◌, ℕ, List, [], length, map, option_map, unwrap_or, IfErr, IfOk, IsTrue, MatchResult};
+ghost use Rattle.std.specs.List.{All};
+ghost use Rattle.rw_inputs.specs.Edits.{IsBatch};
+ghost use Rattle.rw_inputs.specs.Inputs.{IsInputsOf};
 ghost use Rattle.rw_io.specs.Outside.{change};
 ghost use Rattle.rw_method.specs.Catalogue.{AreInOrder};
 ghost use Rattle.rw_top.specs.Command.{command_of};
-ghost use Rattle.rw_top.specs.Ready.{AreReady};
+ghost use Rattle.rw_top.specs.Ready.{AreReady, IsFit};
 ghost use Rattle.rw_top.specs.Refusal.{Cause};
-ghost use Rattle.rw_top.specs.Seen.{files_seen};
+ghost use Rattle.rw_top.specs.RunText.{CountsSections, IsRulesText};
+ghost use Rattle.rw_top.specs.Sections.{AppendsAll, StopsAmong, first_given};
+ghost use Rattle.rw_top.specs.Seen.{files_seen, policy_of};
 ghost use Rattle.rw_words.specs.declared.job.Job.TheVariants as J;
-ghost use Rattle.rw_top.specs.Written.{Appends, IsOne, Stops, WritesAll, status_of_end};
+ghost use Rattle.rw_top.specs.Written.{Appends, CountsOfFiles, CountsReused, IsOne, Stops, WritesAll, status_of_end};
 
 use crate::Refusal;
 use crate::check::budgets;
 use crate::command::Command;
 use crate::compile::code_text;
+use crate::extras::Extras;
 use crate::files::{Files, read_files};
+use crate::policy::Policy;
+use crate::reused::write_reused;
 use crate::sample::sample_by_policy;
 use crate::sections::write_sections;
 use crate::setup::RunSetup;
@@ -21,7 +29,7 @@ use crate::why::why_by_policy;
 use rpl_predef::Predefs;
 use rw_base::{Ledger, NoMemory, Steps};
 use rw_engine::RunEnd;
-use rw_inputs::Batch;
+use rw_inputs::{Batch, Inputs};
 use rw_io::{Shelf, Sink, WriteFault, write_all};
 use rw_method::Catalogue;
 use rw_words::Job;
@@ -43,14 +51,13 @@ fn simulate<L: Ledger>(
     files: &Files,
     methods: &Catalogue,
     predefs: &Predefs,
-    flags: bool,
-    trace: bool,
+    extras: Extras,
     steps: &mut Steps<L>,
 ) -> Result<(Vec<u8>, u8), NoMemory>
     requires order { AreInOrder (map (λ b. code (b.vtable, b.value)) methods.now.methods.items) }
     requires ready { AreReady J.Simulate files.now }
     ensures { IfOk result
-        (λ pair. IsOne J.Simulate flags trace (files_seen files.now) pair.1 pair.0.items) }
+        (λ pair. IsOne J.Simulate extras (files_seen files.now) pair.1 pair.0.items) }
 {
     let Some(inputs) = &files.inputs else {
         unreachable!();
@@ -60,15 +67,15 @@ fn simulate<L: Ledger>(
         methods,
         predefs,
     };
-    let (text, end) = text_without_rules(alloc, &setup, flags, trace, inputs, steps)?;
+    let (text, end) = text_without_rules(alloc, &setup, extras, inputs, steps)?;
     Ok((text, status_of_run(&end)))
 }
 
 // The budgets of the policy of the files, and the status with which they are written.
 fn check(alloc: Global, files: &Files) -> Result<(Vec<u8>, u8), NoMemory>
     requires ready { AreReady J.Check files.now }
-    ensures { (flags trace : Bool) → IfOk result
-        (λ pair. IsOne J.Check flags trace (files_seen files.now) pair.1 pair.0.items) }
+    ensures { (extras : Extras) → IfOk result
+        (λ pair. IsOne J.Check extras (files_seen files.now) pair.1 pair.0.items) }
 {
     let Some(policy) = &files.policy else {
         unreachable!();
@@ -79,8 +86,8 @@ fn check(alloc: Global, files: &Files) -> Result<(Vec<u8>, u8), NoMemory>
 // The code of the policy of the files, and the status with which it is written.
 fn compile(alloc: Global, files: &Files) -> Result<(Vec<u8>, u8), NoMemory>
     requires ready { AreReady J.Compile files.now }
-    ensures { (flags trace : Bool) → IfOk result
-        (λ pair. IsOne J.Compile flags trace (files_seen files.now) pair.1 pair.0.items) }
+    ensures { (extras : Extras) → IfOk result
+        (λ pair. IsOne J.Compile extras (files_seen files.now) pair.1 pair.0.items) }
 {
     let Some(policy) = &files.policy else {
         unreachable!();
@@ -98,8 +105,8 @@ fn tell_why<L: Ledger>(
 ) -> Result<(Vec<u8>, u8), NoMemory>
     requires order { AreInOrder (map (λ b. code (b.vtable, b.value)) methods.now.methods.items) }
     requires ready { AreReady J.Why files.now }
-    ensures { (flags trace : Bool) → IfOk result
-        (λ pair. IsOne J.Why flags trace (files_seen files.now) pair.1 pair.0.items) }
+    ensures { (extras : Extras) → IfOk result
+        (λ pair. IsOne J.Why extras (files_seen files.now) pair.1 pair.0.items) }
 {
     let Some(policy) = &files.policy else {
         unreachable!();
@@ -130,8 +137,8 @@ fn sample<L: Ledger>(
 ) -> Result<(Vec<u8>, u8), NoMemory>
     requires order { AreInOrder (map (λ b. code (b.vtable, b.value)) methods.now.methods.items) }
     requires ready { AreReady (J.Sample seed) files.now }
-    ensures { (flags trace : Bool) → IfOk result
-        (λ pair. IsOne (J.Sample seed) flags trace (files_seen files.now) pair.1 pair.0.items) }
+    ensures { (extras : Extras) → IfOk result
+        (λ pair. IsOne (J.Sample seed) extras (files_seen files.now) pair.1 pair.0.items) }
 {
     let Some(policy) = &files.policy else {
         unreachable!();
@@ -151,17 +158,16 @@ fn sample<L: Ledger>(
 // Writes a text that was made, unless memory was wanting for it.
 fn write_made<K: Sink>(
     job: Job,
-    flags: bool,
-    trace: bool,
+    extras: Extras,
     _files: &Files,
     made: Result<(Vec<u8>, u8), NoMemory>,
     out: &mut K,
 ) -> Result<u8, Refusal>
     requires { IfOk made
-        (λ pair. IsOne job flags trace (files_seen _files.now) pair.1 pair.0.items) }
+        (λ pair. IsOne job extras (files_seen _files.now) pair.1 pair.0.items) }
     ensures { MatchResult result
-        (Appends job flags trace (files_seen _files.now) (change (K.seen out.old) (K.seen out.new)))
-        (Stops job flags trace (files_seen _files.now) (change (K.seen out.old) (K.seen out.new))) }
+        (Appends job extras (files_seen _files.now) (change (K.seen out.old) (K.seen out.new)))
+        (Stops job extras (files_seen _files.now) (change (K.seen out.old) (K.seen out.new))) }
 {
     let (text, status) = match made {
         Ok(pair) => pair,
@@ -183,22 +189,56 @@ fn batches_of(edits: &Option<Vec<Batch>>) -> &[Batch]
     }
 }
 
+// Writes the sections of the runs from inputs and after batches of edits, and takes timesteps over where that is asked for.
+fn write_runs<K: Sink, L: Ledger>(
+    alloc: Global,
+    setup: &RunSetup<'_>,
+    policy: &Policy,
+    extras: Extras,
+    inputs: Inputs,
+    batches: &[Batch],
+    steps: &mut Steps<L>,
+    out: &mut K,
+) -> Result<RunEnd, Refusal>
+    requires order { AreInOrder
+        (map (λ b. code (b.vtable, b.value)) setup.now.methods.now.methods.items) }
+    requires fits { IsFit setup.now.basin.now policy.now }
+    requires inputs { IsInputsOf setup.now.basin.now inputs }
+    requires batches { All (IsBatch setup.now.basin.now) batches.now }
+    requires few { length batches.now ≤ 64 }
+    ensures text { MatchResult result
+        (AppendsAll (IsRulesText setup.now.basin.now (policy_of policy.now) extras)
+        0 (first_given inputs) batches.now (change (K.seen out.old) (K.seen out.new)))
+        (StopsAmong (IsRulesText setup.now.basin.now (policy_of policy.now) extras)
+        0 (first_given inputs) batches.now (change (K.seen out.old) (K.seen out.new))) }
+    ensures counted { IsTrue extras.reuse → IfOk result
+        (λ end. CountsSections setup.now.basin.now (policy_of policy.now) inputs batches.now
+        (change steps.old steps.new)) }
+{
+    if extras.reuse {
+        write_reused(alloc, setup, policy, extras, inputs, batches, steps, out)
+    } else {
+        write_sections(alloc, setup, policy, extras, 0, inputs, batches, steps, out)
+    }
+}
+
 // Writes the sections of the runs of the files by their policy.
 fn run<K: Sink, L: Ledger>(
     alloc: Global,
     files: Files,
     methods: &Catalogue,
     predefs: &Predefs,
-    flags: bool,
-    trace: bool,
+    extras: Extras,
     steps: &mut Steps<L>,
     out: &mut K,
 ) -> Result<u8, Refusal>
     requires order { AreInOrder (map (λ b. code (b.vtable, b.value)) methods.now.methods.items) }
     requires ready { AreReady J.Run files }
-    ensures { MatchResult result
-        (Appends J.Run flags trace (files_seen files) (change (K.seen out.old) (K.seen out.new)))
-        (Stops J.Run flags trace (files_seen files) (change (K.seen out.old) (K.seen out.new))) }
+    ensures text { MatchResult result
+        (Appends J.Run extras (files_seen files) (change (K.seen out.old) (K.seen out.new)))
+        (Stops J.Run extras (files_seen files) (change (K.seen out.old) (K.seen out.new))) }
+    ensures counted { IsTrue extras.reuse → IfOk result
+        (λ status. CountsOfFiles (files_seen files) (change steps.old steps.new)) }
 {
     let Files {
         basin,
@@ -219,9 +259,7 @@ fn run<K: Sink, L: Ledger>(
         methods,
         predefs,
     };
-    match write_sections(
-        alloc, &setup, policy, flags, trace, 0, inputs, batches, steps, out,
-    ) {
+    match write_runs(alloc, &setup, policy, extras, inputs, batches, steps, out) {
         Ok(end) => Ok(status_of_run(&end)),
         Err(refusal) => Err(refusal),
     }
@@ -234,33 +272,34 @@ fn write_job<K: Sink, L: Ledger>(
     files: Files,
     methods: &Catalogue,
     predefs: &Predefs,
-    flags: bool,
-    trace: bool,
+    extras: Extras,
     steps: &mut Steps<L>,
     out: &mut K,
 ) -> Result<u8, Refusal>
     requires order { AreInOrder (map (λ b. code (b.vtable, b.value)) methods.now.methods.items) }
     requires ready { AreReady job files }
-    ensures { MatchResult result
-        (Appends job flags trace (files_seen files) (change (K.seen out.old) (K.seen out.new)))
-        (Stops job flags trace (files_seen files) (change (K.seen out.old) (K.seen out.new))) }
+    ensures text { MatchResult result
+        (Appends job extras (files_seen files) (change (K.seen out.old) (K.seen out.new)))
+        (Stops job extras (files_seen files) (change (K.seen out.old) (K.seen out.new))) }
+    ensures counted { job ≡ J.Run → IsTrue extras.reuse → IfOk result
+        (λ status. CountsOfFiles (files_seen files) (change steps.old steps.new)) }
 {
     match job {
         Job::Simulate => {
-            let made = simulate(alloc, &files, methods, predefs, flags, trace, steps);
-            write_made(job, flags, trace, &files, made, out)
+            let made = simulate(alloc, &files, methods, predefs, extras, steps);
+            write_made(job, extras, &files, made, out)
         }
-        Job::Check => write_made(job, flags, trace, &files, check(alloc, &files), out),
-        Job::Compile => write_made(job, flags, trace, &files, compile(alloc, &files), out),
+        Job::Check => write_made(job, extras, &files, check(alloc, &files), out),
+        Job::Compile => write_made(job, extras, &files, compile(alloc, &files), out),
         Job::Why => {
             let made = tell_why(alloc, &files, methods, predefs, steps);
-            write_made(job, flags, trace, &files, made, out)
+            write_made(job, extras, &files, made, out)
         }
         Job::Sample(seed) => {
             let made = sample(alloc, &files, seed, methods, predefs, steps);
-            write_made(job, flags, trace, &files, made, out)
+            write_made(job, extras, &files, made, out)
         }
-        Job::Run => run(alloc, files, methods, predefs, flags, trace, steps, out),
+        Job::Run => run(alloc, files, methods, predefs, extras, steps, out),
     }
 }
 
@@ -279,16 +318,16 @@ pub(crate) fn perform<S: Shelf, K: Sink, L: Ledger>(
         (change (K.seen out.old) (K.seen out.new))) }
     ensures cause { IfErr result (Cause (command_of command.now)
         (change (S.seen shelf.old) (S.seen shelf.new)) (change (K.seen out.old) (K.seen out.new))) }
+    ensures counted { IfOk result (λ status. CountsReused (command_of command.now)
+        (S.seen shelf.old).holds (change steps.old steps.new)) }
     ensures held { (p : List ℕ) → (S.seen shelf.new).holds p ≡ (S.seen shelf.old).holds p }
 {
     let files = match read_files(alloc, command, shelf) {
         Ok(files) => files,
         Err(refusal) => return Err(refusal),
     };
-    let (job, flags, trace) = (command.words.job, command.words.flags, command.words.trace);
-    match write_job(
-        alloc, job, files, methods, predefs, flags, trace, steps, out,
-    ) {
+    let (job, extras) = (command.words.job, command.extras());
+    match write_job(alloc, job, files, methods, predefs, extras, steps, out) {
         Ok(status) => Ok(status),
         Err(refusal) => Err(refusal),
     }

@@ -1,7 +1,7 @@
 // A run by the policy of a file, and its text.
-ghost use Rattle.std.specs.Prelude.{◌≡◌, ◌≤◌, map, IfOk, IsOk, IsSome, IsTrue, Ok};
+ghost use Rattle.std.specs.Prelude.{◌≡◌, ◌≤◌, map, IfOk, IsOk, IsSome, IsTrue, Ok, Option, false};
 ghost use Rattle.rw_engine.specs.Passing.{ComesTo};
-ghost use Rattle.rw_inputs.specs.Inputs.{IsInputsOf};
+ghost use Rattle.rw_inputs.specs.Inputs.{Inputs as Rows, IsInputsOf};
 ghost use Rattle.rw_method.specs.Catalogue.{AreInOrder};
 ghost use Rattle.rw_rules.specs.Rules.{policy_in};
 ghost use Rattle.rpl_tree.specs.Seen.{rules_of};
@@ -12,16 +12,12 @@ ghost use Rattle.rw_top.specs.Ready.{IsFit};
 ghost use Rattle.rw_top.specs.RunText.{ComesBy, IsRulesText};
 ghost use Rattle.rw_top.specs.Seen.{policy_of};
 
+use crate::coded::{code_of_rules, code_runs};
+use crate::extras::Extras;
 use crate::policy::Policy;
 use crate::setup::RunSetup;
-use rpl_compile::accepted::compiled_budgets;
-use rpl_compile::compile;
-use rpl_parse::law::bounds;
-use rpl_policy::law::{firings_are_verified, firings_of_rules_are_verified, policies_have_runs};
 use rpl_types::Typed;
-use rpl_types::law::accepted;
 use rpl_verify::Verified;
-use rpl_verify::law::answered_code_is_safe;
 use rw_base::{Ledger, NoMemory, Steps};
 use rw_engine::{Run, RunEnd, run_all, run_without_trace};
 use rw_inputs::Inputs;
@@ -88,8 +84,7 @@ fn run_by_verified<L: Ledger>(
     ensures closed { IfOk result (λ run. run.closed ≤ setup.now.basin.now.control.stamps.count) }
     ensures kept { IfOk result (λ run. IsTrue trace → IsSome run.trace) }
 {
-    answered_code_is_safe();
-    firings_are_verified();
+    code_runs();
     let run = run_by_code(alloc, setup, policy, trace, inputs, steps)?;
     Ok(run)
 }
@@ -112,13 +107,7 @@ fn run_by_ruleset<L: Ledger>(
     ensures closed { IfOk result (λ run. run.closed ≤ setup.now.basin.now.control.stamps.count) }
     ensures kept { IfOk result (λ run. IsTrue trace → IsSome run.trace) }
 {
-    accepted();
-    bounds();
-    compiled_budgets();
-    policies_have_runs();
-    firings_of_rules_are_verified();
-    let _rules = typed.rules();
-    let code = compile(alloc, typed, setup.basin)?;
+    let code = code_of_rules(alloc, typed, setup.basin)?;
     let run = run_by_code(alloc, setup, &code, trace, inputs, steps)?;
     Ok(run)
 }
@@ -151,8 +140,7 @@ pub(crate) fn text_by_policy<L: Ledger>(
     alloc: Global,
     setup: &RunSetup<'_>,
     policy: &Policy,
-    flags: bool,
-    trace: bool,
+    extras: Extras,
     number: u32,
     inputs: &Inputs,
     steps: &mut Steps<L>,
@@ -161,11 +149,21 @@ pub(crate) fn text_by_policy<L: Ledger>(
     requires order { AreInOrder
         (map (λ b. code (b.vtable, b.value)) setup.now.methods.now.methods.items) }
     requires inputs { IsInputsOf setup.now.basin.now inputs.now }
-    ensures { IfOk result (λ pair. IsRulesText setup.now.basin.now (policy_of policy.now)
-        flags trace number inputs.now pair.1 pair.0.items) }
+    requires plain { extras.reuse ≡ false }
+    ensures { (before : Option Rows) → IfOk result (λ pair. IsRulesText setup.now.basin.now
+        (policy_of policy.now) extras number (record { before = before; inputs = inputs.now })
+        pair.1 pair.0.items) }
 {
     texts_of_runs();
-    let run = run_by_policy(alloc, setup, policy, trace, inputs, steps)?;
-    let text = section(alloc, setup.basin, number, &run, None, flags, trace)?;
+    let run = run_by_policy(alloc, setup, policy, extras.trace, inputs, steps)?;
+    let text = section(
+        alloc,
+        setup.basin,
+        number,
+        &run,
+        None,
+        extras.flags,
+        extras.trace,
+    )?;
     Ok((text, run.end))
 }

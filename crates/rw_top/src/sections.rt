@@ -1,8 +1,8 @@
 // The sections of a run by a policy, each written as soon as it is made.
-ghost use Rattle.std.specs.Prelude.{◌≡◌, ◌≤◌, ◌+◌, [], ◌∷◌, length, map, IfOk, MatchOption, MatchResult};
+ghost use Rattle.std.specs.Prelude.{◌≡◌, ◌≤◌, ◌+◌, [], ◌∷◌, false, length, map, IfOk, MatchOption, MatchResult, Option};
 ghost use Rattle.std.specs.List.{All};
 ghost use Rattle.rw_inputs.specs.Edits.{IsBatch, after_batch};
-ghost use Rattle.rw_inputs.specs.Inputs.{IsInputsOf, value_at};
+ghost use Rattle.rw_inputs.specs.Inputs.{Inputs as Rows, IsInputsOf, value_at};
 ghost use Rattle.rw_io.specs.Outside.{change};
 ghost use Rattle.rw_method.specs.Catalogue.{AreInOrder};
 ghost use Rattle.rw_top.specs.Ready.{IsFit};
@@ -11,6 +11,7 @@ ghost use Rattle.rw_top.specs.Sections.{AppendsAll, AppendsOne, StopsAmong, Stop
 ghost use Rattle.rw_top.specs.Seen.{policy_of};
 
 use crate::Refusal;
+use crate::extras::Extras;
 use crate::policy::Policy;
 use crate::run::text_by_policy;
 use crate::setup::RunSetup;
@@ -26,8 +27,7 @@ fn write_section<K: Sink, L: Ledger>(
     alloc: Global,
     setup: &RunSetup<'_>,
     policy: &Policy,
-    flags: bool,
-    trace: bool,
+    extras: Extras,
     number: u32,
     inputs: &Inputs,
     steps: &mut Steps<L>,
@@ -37,15 +37,14 @@ fn write_section<K: Sink, L: Ledger>(
         (map (λ b. code (b.vtable, b.value)) setup.now.methods.now.methods.items) }
     requires fits { IsFit setup.now.basin.now policy.now }
     requires inputs { IsInputsOf setup.now.basin.now inputs.now }
-    ensures { MatchResult result
-        (AppendsOne (IsRulesText setup.now.basin.now (policy_of policy.now) flags trace)
-        number inputs.now (change (K.seen out.old) (K.seen out.new)))
-        (StopsAtOne (IsRulesText setup.now.basin.now (policy_of policy.now) flags trace)
-        number inputs.now (change (K.seen out.old) (K.seen out.new))) }
+    requires plain { extras.reuse ≡ false }
+    ensures { (before : Option Rows) → MatchResult result
+        (AppendsOne (IsRulesText setup.now.basin.now (policy_of policy.now) extras)
+        number (record { before = before; inputs = inputs.now }) (change (K.seen out.old) (K.seen out.new)))
+        (StopsAtOne (IsRulesText setup.now.basin.now (policy_of policy.now) extras)
+        number (record { before = before; inputs = inputs.now }) (change (K.seen out.old) (K.seen out.new))) }
 {
-    let (text, end) = match text_by_policy(
-        alloc, setup, policy, flags, trace, number, inputs, steps,
-    ) {
+    let (text, end) = match text_by_policy(alloc, setup, policy, extras, number, inputs, steps) {
         Ok(pair) => pair,
         Err(NoMemory) => return Err(Refusal::NoMemory),
     };
@@ -67,7 +66,7 @@ fn changed(alloc: Global, basin: &Basin, inputs: Inputs, batch: &Batch) -> Resul
 }
 
 // The first batch, and those behind it.
-fn first_of(batches: &[Batch]) -> Option<(&Batch, &[Batch])>
+pub(crate) fn first_of(batches: &[Batch]) -> Option<(&Batch, &[Batch])>
     ensures { MatchOption result (batches.entry.now ≡ [])
         (λ pair. batches.entry.now ≡ pair.0.now ∷ pair.1.now) }
 {
@@ -82,8 +81,7 @@ pub(crate) fn write_sections<K: Sink, L: Ledger>(
     alloc: Global,
     setup: &RunSetup<'_>,
     policy: &Policy,
-    flags: bool,
-    trace: bool,
+    extras: Extras,
     number: u32,
     inputs: Inputs,
     batches: &[Batch],
@@ -96,15 +94,14 @@ pub(crate) fn write_sections<K: Sink, L: Ledger>(
     requires inputs { IsInputsOf setup.now.basin.now inputs }
     requires batches { All (IsBatch setup.now.basin.now) batches.now }
     requires few { number + length batches.now ≤ 64 }
-    ensures { MatchResult result
-        (AppendsAll (IsRulesText setup.now.basin.now (policy_of policy.now) flags trace)
-        number inputs batches.now (change (K.seen out.old) (K.seen out.new)))
-        (StopsAmong (IsRulesText setup.now.basin.now (policy_of policy.now) flags trace)
-        number inputs batches.now (change (K.seen out.old) (K.seen out.new))) }
+    requires plain { extras.reuse ≡ false }
+    ensures { (before : Option Rows) → MatchResult result
+        (AppendsAll (IsRulesText setup.now.basin.now (policy_of policy.now) extras)
+        number (record { before = before; inputs = inputs }) batches.now (change (K.seen out.old) (K.seen out.new)))
+        (StopsAmong (IsRulesText setup.now.basin.now (policy_of policy.now) extras)
+        number (record { before = before; inputs = inputs }) batches.now (change (K.seen out.old) (K.seen out.new))) }
 {
-    let end = match write_section(
-        alloc, setup, policy, flags, trace, number, &inputs, steps, out,
-    ) {
+    let end = match write_section(alloc, setup, policy, extras, number, &inputs, steps, out) {
         Ok(end) => end,
         Err(refusal) => return Err(refusal),
     };
@@ -115,8 +112,7 @@ pub(crate) fn write_sections<K: Sink, L: Ledger>(
                 alloc,
                 setup,
                 policy,
-                flags,
-                trace,
+                extras,
                 number + 1,
                 edited,
                 rest,

@@ -1,40 +1,97 @@
 // The text of a run without rules.
-ghost use Rattle.std.specs.Prelude.{◌≡◌, map, IfOk};
+ghost use Rattle.std.specs.Prelude.{map, IfOk, None};
 ghost use Rattle.rw_inputs.specs.Inputs.{IsInputsOf};
 ghost use Rattle.rw_method.specs.Catalogue.{AreInOrder};
 ghost use Rattle.rw_run.specs.Next.{no_rules};
-ghost use Rattle.rw_top.specs.RunText.{IsRunText};
+ghost use Rattle.rw_top.specs.RunText.{IsNewestText, IsRunText, IsSimulated};
 
+use crate::extras::Extras;
 use crate::run::run_by_code;
 use crate::setup::RunSetup;
 use rpl_verify::Verified;
 use rw_base::{Ledger, NoMemory, Steps};
 use rw_engine::RunEnd;
 use rw_inputs::Inputs;
+use rw_order::{Newest, run_any};
 use rw_report::law::texts_of_runs;
 use rw_report::section;
 use rw_run::law::same_runs;
+use rw_words::Order;
 use std::alloc::Global;
 
-/// The text of the run without rules, from inputs, and how the run ended.
-pub(crate) fn text_without_rules<L: Ledger>(
+// That of the run in which the object is dispatched that has waited longest.
+fn text_of_oldest<L: Ledger>(
     alloc: Global,
     setup: &RunSetup<'_>,
-    flags: bool,
-    trace: bool,
+    extras: Extras,
     inputs: &Inputs,
     steps: &mut Steps<L>,
 ) -> Result<(Vec<u8>, RunEnd), NoMemory>
     requires order { AreInOrder
         (map (λ b. code (b.vtable, b.value)) setup.now.methods.now.methods.items) }
     requires inputs { IsInputsOf setup.now.basin.now inputs.now }
-    ensures { IfOk result (λ pair. IsRunText setup.now.basin.now no_rules flags trace 0 inputs.now
-        pair.1 pair.0.items) }
+    ensures { IfOk result (λ pair. IsRunText setup.now.basin.now no_rules extras None 0
+        inputs.now pair.1 pair.0.items) }
 {
     same_runs();
     texts_of_runs();
     let empty = Verified::none(alloc);
-    let run = run_by_code(alloc, setup, &empty, trace, inputs, steps)?;
-    let text = section(alloc, setup.basin, 0, &run, None, flags, trace)?;
+    let run = run_by_code(alloc, setup, &empty, extras.trace, inputs, steps)?;
+    let text = section(
+        alloc,
+        setup.basin,
+        0,
+        &run,
+        None,
+        extras.flags,
+        extras.trace,
+    )?;
     Ok((text, run.end))
+}
+
+// That of the run in which the object is dispatched that has waited shortest.
+fn text_of_newest(
+    alloc: Global,
+    setup: &RunSetup<'_>,
+    extras: Extras,
+    inputs: &Inputs,
+) -> Result<(Vec<u8>, RunEnd), NoMemory>
+    requires order { AreInOrder
+        (map (λ b. code (b.vtable, b.value)) setup.now.methods.now.methods.items) }
+    requires inputs { IsInputsOf setup.now.basin.now inputs.now }
+    ensures { IfOk result (λ pair. IsNewestText setup.now.basin.now extras 0
+        inputs.now pair.1 pair.0.items) }
+{
+    texts_of_runs();
+    let run = run_any(alloc, setup.basin, setup.methods, inputs, &Newest)?;
+    let text = section(
+        alloc,
+        setup.basin,
+        0,
+        &run,
+        None,
+        extras.flags,
+        extras.trace,
+    )?;
+    Ok((text, run.end))
+}
+
+/// The text of the run without rules, from inputs and in the order of dispatches that is asked for, and how the run ended.
+pub(crate) fn text_without_rules<L: Ledger>(
+    alloc: Global,
+    setup: &RunSetup<'_>,
+    extras: Extras,
+    inputs: &Inputs,
+    steps: &mut Steps<L>,
+) -> Result<(Vec<u8>, RunEnd), NoMemory>
+    requires order { AreInOrder
+        (map (λ b. code (b.vtable, b.value)) setup.now.methods.now.methods.items) }
+    requires inputs { IsInputsOf setup.now.basin.now inputs.now }
+    ensures { IfOk result (λ pair. IsSimulated extras.order setup.now.basin.now extras 0
+        inputs.now pair.1 pair.0.items) }
+{
+    match extras.order {
+        Order::Oldest => text_of_oldest(alloc, setup, extras, inputs, steps),
+        Order::Newest => text_of_newest(alloc, setup, extras, inputs),
+    }
 }

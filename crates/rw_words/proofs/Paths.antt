@@ -2,9 +2,11 @@
 use Rattle.rw_base.proofs.Common.{Bool, List, None, Option, Some, [], ap, append_assoc, codes, false, if◌then◌else◌, length, option_and_then, option_map, list_any, refl, same_Some, subst, suc, sym, true, ◌++◌, ◌∙◌, ◌∷◌, ◌≡◌}
 use Rattle.std.specs.Option.{option_map_or}
 use Rattle.clap.specs.Words.{Row, first_of}
-use Rattle.rw_words.specs.Command.{Command, cell_in, command_in, command_named, command_of, is_empty, is_given, paths_in, seed_in, taken}
+use Rattle.rw_words.specs.Command.{Command, command_in, command_named, command_of, command_with, is_empty, paths_in, seed_in, taken}
 use Rattle.rw_words.specs.Job.{Text, job_named, paths_of}
+use Rattle.rw_words.specs.Order.{order_or_oldest}
 use Rattle.rw_words.specs.declared.job.Job.{Job}
+use Rattle.rw_words.specs.declared.order.Order.{Order}
 
 -- a path more, before those that are left
 pub path_more : (so_far : List Text) (path : Text) (later : Option (List Text))
@@ -30,26 +32,18 @@ each_path rows (name ∷ rest) paths some = go (first_of name rows) (paths_in ro
 pub job_paths : (rows : List Row) (job : Job) (command : Command) → command_in rows job ≡ Some command
     → length command.paths ≡ length (paths_of command.job)
 job_paths rows job command some =
-    go (option_map_or is_empty (first_of (codes "edits") rows) false) (paths_in rows (paths_of job)) (each_path rows (paths_of job)) some
+    go (option_map_or is_empty (first_of (codes "edits") rows) false) (order_or_oldest (first_of (codes "order") rows))
+    (paths_in rows (paths_of job)) (each_path rows (paths_of job)) some
   where
-    told : List Text → Command
-    told paths = record {
-      job = job;
-      paths = paths;
-      cell = cell_in rows;
-      edits = first_of (codes "edits") rows;
-      flags = is_given rows (codes "flags");
-      trace = is_given rows (codes "trace");
-      reuse = is_given rows (codes "reuse");
-    }
-
-    go : (pathless : Bool) (paths : Option (List Text))
+    go : (pathless : Bool) (order : Option Order) (paths : Option (List Text))
         → ((found : List Text) → paths ≡ Some found → length found ≡ length (paths_of job))
-        → (if pathless then None else option_map told paths) ≡ Some command → length command.paths ≡ length (paths_of command.job)
-    go true paths each is = cc
-    go false None each is = cc
-    go false (Some found) each is =
-        let same = same_Some (told found) command is in
+        → (if pathless then None else option_and_then (λ first. option_map (command_with rows job first) paths) order) ≡ Some command
+        → length command.paths ≡ length (paths_of command.job)
+    go true order paths each is = cc
+    go false None paths each is = cc
+    go false (Some order) None each is = cc
+    go false (Some order) (Some found) each is =
+        let same = same_Some (command_with rows job order found) command is in
         subst (λ (c : Command). length c.paths ≡ length (paths_of c.job)) same (each found refl)
 
 -- and so has what all words ask for

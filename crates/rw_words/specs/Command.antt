@@ -6,9 +6,11 @@ use Rattle.std.specs.Str.{bytes_eq}
 use Rattle.std.specs.declared.alloc.Global.{Global}
 use Rattle.clap.specs.Words.{Row, fault_of, first_of, subcommand_of}
 use Rattle.rw_words.specs.Job.{Text, job_named, paths_of}
+use Rattle.rw_words.specs.Order.{order_or_oldest}
 use Rattle.rw_words.specs.Program.{program}
 use Rattle.rw_words.specs.Seed.{seed_of_text}
 use Rattle.rw_words.specs.declared.job.Job.{Job}
+use Rattle.rw_words.specs.declared.order.Order.{Order}
 use Rattle.rw_words.specs.declared.command.CellWords.{CellWords as NamedCell}
 use Rattle.rw_words.specs.declared.command.Command.{Command as Named}
 
@@ -26,6 +28,7 @@ pub record Command : Type 0 where
   pub paths : List Text
   pub cell : Option CellWords
   pub edits : Option Text
+  pub order : Order
   pub flags : Bool
   pub trace : Bool
   pub reuse : Bool
@@ -54,19 +57,25 @@ abbrev pub cell_in : List Row → Option CellWords
 cell_in rows =
     option_and_then (λ slot. option_map (λ step. cell_words slot step) (first_of (codes "STEP") rows)) (first_of (codes "SLOT") rows)
 
+-- the command with this order and these paths
+abbrev pub command_with : List Row → Job → Order → List Text → Command
+command_with rows job order paths = record {
+  job = job;
+  paths = paths;
+  cell = cell_in rows;
+  edits = first_of (codes "edits") rows;
+  order = order;
+  flags = is_given rows (codes "flags");
+  trace = is_given rows (codes "trace");
+  reuse = is_given rows (codes "reuse");
+}
+
 -- the command of a job, by what `clap` found. `--edits=` names no file
 abbrev pub command_in : List Row → Job → Option Command
 command_in rows job =
     if option_map_or is_empty (first_of (codes "edits") rows) false then None
-    else option_map (λ paths. record {
-      job = job;
-      paths = paths;
-      cell = cell_in rows;
-      edits = first_of (codes "edits") rows;
-      flags = is_given rows (codes "flags");
-      trace = is_given rows (codes "trace");
-      reuse = is_given rows (codes "reuse");
-    }) (paths_in rows (paths_of job))
+    else option_and_then (λ order. option_map (command_with rows job order) (paths_in rows (paths_of job)))
+    (order_or_oldest (first_of (codes "order") rows))
 
 -- the seed that was found
 abbrev pub seed_in : List Row → Option ℕ
@@ -97,6 +106,7 @@ seen named = record {
   paths = map (λ path. path.now) named.paths.items;
   cell = option_map cell_seen named.cell;
   edits = option_map (λ path. path.now) named.edits;
+  order = named.order;
   flags = named.flags;
   trace = named.trace;
   reuse = named.reuse;

@@ -38,7 +38,7 @@ others_of (Sample seed) = codes "SEED" ∷ []
 -- its options with a value
 abbrev pub options_of : Job → List Text
 options_of Run = codes "edits" ∷ []
-options_of Simulate = []
+options_of Simulate = codes "order" ∷ []
 options_of Check = []
 options_of Compile = []
 options_of Why = []

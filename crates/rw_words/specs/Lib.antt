@@ -1,4 +1,5 @@
 pub mod Job
+pub mod Order
 pub mod Seed
 pub mod Program
 pub mod Command

@@ -4,6 +4,7 @@ use Rattle.rw_words.specs.Command.{Command, cell_words, command_of}
 use Rattle.rw_words.specs.Job.{Text, name_of}
 use Rattle.rw_words.specs.Seed.{seed_of_text}
 use Rattle.rw_words.specs.declared.job.Job.{Job}
+use Rattle.rw_words.specs.declared.order.Order.TheVariants.{Oldest}
 use Rattle.rw_words.specs.declared.job.Job.TheVariants.{Run, Simulate, Check, Compile, Why, Sample}
 
 -- a word that isn't empty and isn't an option, which begins with `-`
@@ -17,6 +18,7 @@ plain job paths = record {
   paths = paths;
   cell = None;
   edits = None;
+  order = Oldest;
   flags = false;
   trace = false;
   reuse = false;

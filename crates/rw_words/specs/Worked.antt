@@ -4,6 +4,7 @@ use Rattle.rw_words.specs.Command.{Command, command_of}
 use Rattle.rw_words.specs.Job.{Text}
 use Rattle.rw_words.specs.Plain.{of_cell, plain}
 use Rattle.rw_words.specs.declared.job.Job.TheVariants.{Run, Simulate, Check, Compile, Why, Sample}
+use Rattle.rw_words.specs.declared.order.Order.TheVariants.{Newest}
 
 -- ---- a line of words
 
@@ -47,6 +48,10 @@ traced command = record command { trace = true }
 abbrev pub reusing : Command → Command
 reusing command = record command { reuse = true }
 
+-- the newest first
+abbrev pub by_newest : Command → Command
+by_newest command = record command { order = Newest }
+
 abbrev pub AskFor : Text → Command → Type 0
 AskFor line command = command_of (words_of line) ≡ Some command
 
@@ -73,6 +78,9 @@ pub record AskWithOptions : Type 0 where
   pub reuse : AskFor (codes "run m p i --reuse") (reusing runs)
   pub reuse_before : AskFor (codes "run --reuse m p i --edits e --flags") (reusing (flagged (edited (codes "e") runs)))
   pub in_simulate : AskFor (codes "simulate --flags m --trace i") (traced (flagged simulates))
+  pub newest : AskFor (codes "simulate m i --order newest") (by_newest simulates)
+  pub newest_before : AskFor (codes "simulate --order=newest m --trace i") (traced (by_newest simulates))
+  pub oldest : AskFor (codes "simulate m --order oldest i") simulates
   -- the value of an option stands behind it or behind `=`
   pub attached : AskFor (codes "run m p i --edits=e") (edited (codes "e") runs)
   pub attached_option : AskFor (codes "run m p i --edits=--x") (edited (codes "--x") runs)
@@ -121,6 +129,8 @@ pub record AskForNothing : Type 0 where
   pub reuse_of_simulate : Nothing (codes "simulate m i --reuse")
   pub reuse_of_why : Nothing (codes "why m p i s 1 --reuse")
   pub reuse_begun : Nothing (codes "run m p i --reus")
+  pub order_of_run : Nothing (codes "run m p i --order newest")
+  pub order_of_check : Nothing (codes "check m p --order=oldest")
   pub flags_of_check : Nothing (codes "check m p --flags")
   pub trace_of_compile : Nothing (codes "compile m r --trace")
   pub trace_of_why : Nothing (codes "why m p i s 1 --trace")
@@ -145,6 +155,14 @@ pub record AskForNothing : Type 0 where
   pub reuse_twice : Nothing (codes "run --reuse m p i --reuse")
   pub edits_twice : Nothing (codes "run m p i --edits=a --edits=b")
   pub edits_again : Nothing (codes "run --edits a m p i --edits a")
+  pub order_twice : Nothing (codes "simulate m i --order newest --order newest")
+  -- an order is one of two words
+  pub order_random : Nothing (codes "simulate m i --order random")
+  pub order_begun : Nothing (codes "simulate m i --order new")
+  pub order_capital : Nothing (codes "simulate m i --order Newest")
+  pub order_empty : Nothing (codes "simulate m i --order=")
+  pub order_without_value : Nothing (codes "simulate m i --order")
+  pub order_before_flag : Nothing (codes "simulate m i --order --trace")
   -- a flag has no value, and `--edits` has one, which is no option
   pub flag_with_value : Nothing (codes "run m p i --flags=true")
   pub flag_with_empty_value : Nothing (codes "run m p i --trace=")

@@ -5,9 +5,9 @@ ghost use Rattle.clap.specs.Words.{FailsBy, fault_of, first_of, found_of, rows_o
 ghost use Rattle.rw_words.specs.Program.{program};
 ghost use Rattle.rw_words.specs.Command.{cell_in, cell_seen, command_in, command_named, command_of, is_empty, is_given, paths_in, seed_in, seen, taken, texts_of};
 
-use crate::Job;
 use crate::program::program;
 use crate::seed::seed_of_text;
+use crate::{Job, Order};
 use clap::error::ErrorKind;
 use clap::{ArgMatches, Error};
 use rw_base::NoMemory;
@@ -28,6 +28,7 @@ pub struct Command<'w> {
     pub paths: Vec<&'w str>,
     pub cell: Option<CellWords<'w>>,
     pub edits: Option<&'w str>,
+    pub order: Order,
     pub flags: bool,
     pub trace: bool,
     pub reuse: bool,
@@ -128,6 +129,9 @@ fn command_in<'w>(
     if is_pathless(edits) {
         return Ok(None);
     }
+    let Some(order) = Order::or_oldest(value(found, "order")) else {
+        return Ok(None);
+    };
     let Some(paths) = paths_in(alloc, found, job.paths())? else {
         return Ok(None);
     };
@@ -136,6 +140,7 @@ fn command_in<'w>(
         paths,
         cell: cell_in(found),
         edits,
+        order,
         flags: is_given(found, "flags"),
         trace: is_given(found, "trace"),
         reuse: is_given(found, "reuse"),

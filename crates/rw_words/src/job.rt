@@ -27,6 +27,8 @@ static SEED: [&str; 1] = ["SEED"];
 
 static EDITS: [&str; 1] = ["edits"];
 
+static ORDER: [&str; 1] = ["order"];
+
 static RUN_FLAGS: [&str; 3] = ["flags", "trace", "reuse"];
 
 static FLAGS: [&str; 2] = ["flags", "trace"];
@@ -108,9 +110,8 @@ impl Job {
     {
         match self {
             Job::Run => EDITS.as_slice(),
-            Job::Simulate | Job::Check | Job::Compile | Job::Why | Job::Sample(_) => {
-                NONE.as_slice()
-            }
+            Job::Simulate => ORDER.as_slice(),
+            Job::Check | Job::Compile | Job::Why | Job::Sample(_) => NONE.as_slice(),
         }
     }
 

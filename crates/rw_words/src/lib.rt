@@ -6,9 +6,11 @@
 mod command;
 mod job;
 mod law;
+mod order;
 mod program;
 mod seed;
 
 pub use command::{CellWords, Command, read_words};
 pub use job::Job;
 pub use law::{empty_words, one_path_each, plain_words, worked_words};
+pub use order::Order;

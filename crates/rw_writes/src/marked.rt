@@ -8,6 +8,7 @@ use rw_model::Basin;
 use rw_run::Write;
 
 /// Marks the rules that looked at a cell which shares its value with one that is written.
+#[inline(always)]
 pub fn mark(basin: &Basin, agenda: &mut Agenda, writes: &[Write])
     requires can { AreWrites basin.now writes.now }
     ensures order { agenda.new.order ≡ agenda.old.order }

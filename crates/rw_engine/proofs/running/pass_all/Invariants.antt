@@ -1,6 +1,6 @@
 use Rattle.rw_engine.proofs.Common.{Inputs, IsEngineOf, IsSome, Shows, [], givens, placed, ◌+◌, ◌≡◌, ◌≤◌}
 use Rattle.std.specs.Prelude.{◌*◌}
-use Rattle.rw_engine.specs.Picked.{StandsBy, most_turns}
+use Rattle.rw_engine.specs.Picked.{StandsPicked, most_turns}
 use Rattle.rw_rules.specs.Rules.{policy_in}
 use Rattle.rw_engine.proofs.running.pass_all.Given as goal
 
@@ -12,5 +12,5 @@ invariant-loop-before g l = record {
   steps : l.steps ≡ l.fn.steps + l.before;
   few : l.engine.turns ≤ l.before * most_turns l.setup.basin.now;
   stands : (inputs : Inputs) → Shows l.setup.basin.now l.fn.engine (placed [] (givens l.setup.basin.now inputs))
-      → StandsBy l.setup.basin.now (policy_in l.setup.basin.now l.setup.policy.now) (g.P.Pick.rule l.pick) inputs l.engine l.before;
+      → StandsPicked l.setup.basin.now (policy_in l.setup.basin.now l.setup.policy.now) (g.P.Pick.rule l.pick) inputs l.engine l.before;
 }

@@ -1,23 +1,31 @@
 use Rattle.rw_top.proofs.Common.{ap, change, files_seen, option_map, policy_of, subst}
-use Rattle.rw_top.specs.RunText.{IsRulesText}
-use Rattle.rw_top.specs.Sections.{AppendsAll, StopsAmong}
-use Rattle.rw_top.proofs.SectionLemmas.{rules_appended, rules_stopped}
+use Rattle.rw_top.specs.RunText.{CountsSections, IsRulesText}
+use Rattle.rw_top.specs.Sections.{AppendsAll, StopsAmong, first_given}
+use Rattle.rw_top.proofs.SectionLemmas.{rules_appended, rules_counted, rules_stopped}
 use Rattle.rw_top.proofs.perform.run.Goals as goal
 
-pub returns-in-Ok : goal.returns-in-Ok
-returns-in-Ok g c =
-    rules_appended c.args.flags c.args.trace (files_seen c.args.files) (policy_of c.in-Some.policy) c.in-Some-inputs.inputs _ (ap (option_map policy_of) c.in-Some.is) c.in-Some-inputs.is
-    c.in-Ok.end c.status_of_run.result c.status_of_run.ensures
+pub returns-in-Ok-clause-text : goal.returns-in-Ok-clause-text
+returns-in-Ok-clause-text g c =
+    rules_appended (files_seen c.args.files) (policy_of c.in-Some.policy) c.in-Some-inputs.inputs (ap (option_map policy_of) c.in-Some.is) c.in-Some-inputs.is
+    c.args.extras _ c.in-Ok.end c.status_of_run.result c.status_of_run.ensures
     (subst
-    (λ batches. AppendsAll (IsRulesText c.args.files.basin (policy_of c.in-Some.policy) c.args.flags c.args.trace) 0 c.in-Some-inputs.inputs batches
-    (change (g.K.Sink.seen c.args.out.now) (g.K.Sink.seen c.write_sections.new.out)) c.in-Ok.end)
-    c.batches_of-batches.ensures c.in-Ok.ensures)
+    (λ batches. AppendsAll (IsRulesText c.args.files.basin (policy_of c.in-Some.policy) c.args.extras) 0 (first_given c.in-Some-inputs.inputs) batches
+    (change (g.K.Sink.seen c.args.out.now) (g.K.Sink.seen c.write_runs.new.out)) c.in-Ok.end)
+    c.batches_of-batches.ensures c.in-Ok.ensures.text)
 
-pub returns : goal.returns
-returns g c =
-    rules_stopped c.args.flags c.args.trace (files_seen c.args.files) (policy_of c.in-Some.policy) c.in-Some-inputs.inputs _ (ap (option_map policy_of) c.in-Some.is) c.in-Some-inputs.is
-    c.in-Err.refusal
+pub returns-in-Ok-clause-counted : goal.returns-in-Ok-clause-counted
+returns-in-Ok-clause-counted g c = λ reuse.
+    rules_counted (files_seen c.args.files) (policy_of c.in-Some.policy) c.in-Some-inputs.inputs (ap (option_map policy_of) c.in-Some.is) c.in-Some-inputs.is _
     (subst
-    (λ batches. StopsAmong (IsRulesText c.args.files.basin (policy_of c.in-Some.policy) c.args.flags c.args.trace) 0 c.in-Some-inputs.inputs batches
-    (change (g.K.Sink.seen c.args.out.now) (g.K.Sink.seen c.write_sections.new.out)) c.in-Err.refusal)
-    c.batches_of-batches.ensures c.in-Err.ensures)
+    (λ batches. CountsSections c.args.files.basin (policy_of c.in-Some.policy) c.in-Some-inputs.inputs batches
+    (change c.args.steps.now c.write_runs.new.steps))
+    c.batches_of-batches.ensures (c.in-Ok.ensures.counted reuse))
+
+pub returns-clause-text : goal.returns-clause-text
+returns-clause-text g c =
+    rules_stopped (files_seen c.args.files) (policy_of c.in-Some.policy) c.in-Some-inputs.inputs (ap (option_map policy_of) c.in-Some.is) c.in-Some-inputs.is
+    c.args.extras _ c.in-Err.refusal
+    (subst
+    (λ batches. StopsAmong (IsRulesText c.args.files.basin (policy_of c.in-Some.policy) c.args.extras) 0 (first_given c.in-Some-inputs.inputs) batches
+    (change (g.K.Sink.seen c.args.out.now) (g.K.Sink.seen c.write_runs.new.out)) c.in-Err.refusal)
+    c.batches_of-batches.ensures c.in-Err.ensures.text)

@@ -3,7 +3,7 @@ use Rattle.rw_top.proofs.WhyText.{one_why}
 use Rattle.rw_top.proofs.perform.tell_why.Goals as goal
 
 pub returns : goal.returns
-returns g c = λ flags trace.
-    one_why flags trace (files_seen c.args.files.now) (policy_of c.in-Some.policy) c.in-Some-inputs.inputs c.in-Some-cell.cell
+returns g c = λ extras.
+    one_why extras (files_seen c.args.files.now) (policy_of c.in-Some.policy) c.in-Some-inputs.inputs c.in-Some-cell.cell
     (ap (option_map policy_of) c.in-Some.is) c.in-Some-inputs.is c.in-Some-cell.is
     _ c.status_of_run.result _ c.status_of_run.ensures c.in_ok-text.ensures

@@ -1,4 +1,4 @@
-use Rattle.rw_top.proofs.Common.{MatchResult, ap, arith, change, length, subst, sym}
+use Rattle.rw_top.proofs.Common.{MatchResult, Some, ap, arith, change, length, subst, sym}
 use Rattle.rw_inputs.specs.Edits.{IsBatch}
 use Rattle.rw_top.specs.RunText.{IsRulesText}
 use Rattle.rw_top.specs.Sections.{AppendsAll, StopsAmong}
@@ -7,21 +7,21 @@ use Rattle.rw_top.proofs.SectionLemmas.{first_of_all, goes_on, last_section, res
 use Rattle.rw_top.proofs.sections.+write_sections.Goals as goal
 
 pub returns-in-Err : goal.returns-in-Err
-returns-in-Err g t c =
-    stops_here (IsRulesText c.args.setup.now.basin.now (policy_of c.args.policy.now) c.args.flags c.args.trace) c.args.number c.args.inputs c.args.batches.now _ c.in-Err.refusal c.in-Err.ensures
+returns-in-Err g t c = λ before.
+    stops_here (IsRulesText c.args.setup.now.basin.now (policy_of c.args.policy.now) c.args.extras) c.args.number (record { before = before; inputs = c.args.inputs }) c.args.batches.now _ c.in-Err.refusal (c.in-Err.ensures before)
 
 pub returns-in-None : goal.returns-in-None
-returns-in-None g t c =
+returns-in-None g t c = λ before.
     subst
-    (λ batches. AppendsAll (IsRulesText c.args.setup.now.basin.now (policy_of c.args.policy.now) c.args.flags c.args.trace) c.args.number c.args.inputs batches (change (g.K.Sink.seen c.args.out.now) (g.K.Sink.seen c.write_section.new.out)) c.in-Ok.end)
+    (λ batches. AppendsAll (IsRulesText c.args.setup.now.basin.now (policy_of c.args.policy.now) c.args.extras) c.args.number (record { before = before; inputs = c.args.inputs }) batches (change (g.K.Sink.seen c.args.out.now) (g.K.Sink.seen c.write_section.new.out)) c.in-Ok.end)
     (sym c.in-None.ensures)
-    (last_section (IsRulesText c.args.setup.now.basin.now (policy_of c.args.policy.now) c.args.flags c.args.trace) c.args.number c.args.inputs _ c.in-Ok.end c.in-Ok.ensures)
+    (last_section (IsRulesText c.args.setup.now.basin.now (policy_of c.args.policy.now) c.args.extras) c.args.number (record { before = before; inputs = c.args.inputs }) _ c.in-Ok.end (c.in-Ok.ensures before))
 
 pub returns-in-Err-changed : goal.returns-in-Err-changed
-returns-in-Err-changed g t c =
+returns-in-Err-changed g t c = λ before.
     let some = ap length c.in-Some.ensures in
-    stops_behind (IsRulesText c.args.setup.now.basin.now (policy_of c.args.policy.now) c.args.flags c.args.trace) c.args.number c.args.inputs c.args.batches.now _ c.in-Ok.end
-    (omega (arith, some)) c.in-Ok.ensures
+    stops_behind (IsRulesText c.args.setup.now.basin.now (policy_of c.args.policy.now) c.args.extras) c.args.number (record { before = before; inputs = c.args.inputs }) c.args.batches.now _ c.in-Ok.end
+    (omega (arith, some)) (c.in-Ok.ensures before)
 
 pub write_sections-requires : goal.write_sections-requires
 write_sections-requires g t c κs within =
@@ -29,7 +29,7 @@ write_sections-requires g t c κs within =
     let few = c.requires.few in
     let batches = rest_of (IsBatch c.args.setup.now.basin.now) c.args.batches.now c.in-Some.batch.now c.in-Some.rest.now c.in-Some.ensures c.requires.batches in (
       omega (arith, c.decreases, shorter),
-      (within.0, (within.1, (c.requires.order, (c.requires.fits, (c.in-Ok-changed.ensures.made, (batches, omega (arith, few, shorter))))))),
+      (within.0, (within.1, (c.requires.order, (c.requires.fits, (c.in-Ok-changed.ensures.made, (batches, (omega (arith, few, shorter), c.requires.plain))))))),
     )
 
 pub changed-requires-clause-batch : goal.changed-requires-clause-batch
@@ -37,12 +37,12 @@ changed-requires-clause-batch g t c =
     first_of_all (IsBatch c.args.setup.now.basin.now) c.args.batches.now c.in-Some.batch.now c.in-Some.rest.now c.in-Some.ensures c.requires.batches
 
 pub returns-in-Ok-changed : goal.returns-in-Ok-changed
-returns-in-Ok-changed g t c =
+returns-in-Ok-changed g t c = λ before.
     subst
     (λ batches. MatchResult c.write_sections.result
-    (AppendsAll (IsRulesText c.args.setup.now.basin.now (policy_of c.args.policy.now) c.args.flags c.args.trace) c.args.number c.args.inputs batches (change (g.K.Sink.seen c.args.out.now) (g.K.Sink.seen c.write_sections.new.out)))
-    (StopsAmong (IsRulesText c.args.setup.now.basin.now (policy_of c.args.policy.now) c.args.flags c.args.trace) c.args.number c.args.inputs batches (change (g.K.Sink.seen c.args.out.now) (g.K.Sink.seen c.write_sections.new.out))))
+    (AppendsAll (IsRulesText c.args.setup.now.basin.now (policy_of c.args.policy.now) c.args.extras) c.args.number (record { before = before; inputs = c.args.inputs }) batches (change (g.K.Sink.seen c.args.out.now) (g.K.Sink.seen c.write_sections.new.out)))
+    (StopsAmong (IsRulesText c.args.setup.now.basin.now (policy_of c.args.policy.now) c.args.extras) c.args.number (record { before = before; inputs = c.args.inputs }) batches (change (g.K.Sink.seen c.args.out.now) (g.K.Sink.seen c.write_sections.new.out))))
     (sym c.in-Some.ensures)
-    (goes_on (IsRulesText c.args.setup.now.basin.now (policy_of c.args.policy.now) c.args.flags c.args.trace) c.args.number c.args.inputs c.in-Ok-changed.edited c.in-Some.batch.now c.in-Some.rest.now
-    (g.K.Sink.seen c.args.out.now) (g.K.Sink.seen c.write_section.new.out) (g.K.Sink.seen c.write_sections.new.out) c.in-Ok.end c.in-Ok.ensures
-    c.in-Ok-changed.ensures.values c.write_sections.result c.write_sections.ensures)
+    (goes_on (IsRulesText c.args.setup.now.basin.now (policy_of c.args.policy.now) c.args.extras) c.args.number (record { before = before; inputs = c.args.inputs }) c.in-Ok-changed.edited c.in-Some.batch.now c.in-Some.rest.now
+    (g.K.Sink.seen c.args.out.now) (g.K.Sink.seen c.write_section.new.out) (g.K.Sink.seen c.write_sections.new.out) c.in-Ok.end (c.in-Ok.ensures before)
+    c.in-Ok-changed.ensures.values c.write_sections.result (c.write_sections.ensures (Some c.args.inputs)))

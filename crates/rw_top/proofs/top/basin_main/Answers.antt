@@ -15,7 +15,7 @@ pub returns-in-Ok : goal.returns-in-Ok
 returns-in-Ok g c =
     let asked : Asks (texts_of c.args.words.now) (seen c.in-Ok-Some.words) = sym c.in-Ok-Some.ensures.command ∙ ap (option_map seen) c.in-Ok-Some.field-0-is in
     promised_text _ c.in-Ok.ensures.held _
-    (record { command = seen c.in-Ok-Some.words; asked = asked; text = c.in-Ok.ensures.wrote; silent = refl })
+    (record { command = seen c.in-Ok-Some.words; asked = asked; text = c.in-Ok.ensures.wrote; silent = refl }) c.in-Ok.ensures.counted
 
 pub returns : goal.returns
 returns g c =

@@ -1,4 +1,4 @@
-use Rattle.rw_engine.proofs.Common.{Cell, IsCounted, None, Some, [], ap, held, last_put, lines_of_rule, arith, option_or, refl, subst, sym, true, written_by, ◌++◌, ◌∙◌, ◌∷◌, ◌≤◌}
+use Rattle.rw_engine.proofs.Common.{Cell, HasCount, None, Some, [], ap, held, last_put, lines_of_rule, arith, option_or, refl, subst, sym, true, written_by, ◌++◌, ◌∙◌, ◌∷◌, ◌≤◌}
 use Rattle.rw_run.specs.Log.{Firing, fired}
 use Rattle.rw_run.specs.Next.{ended}
 use Rattle.rw_run.specs.Trace.{told}
@@ -65,7 +65,7 @@ returns g c =
     let tells = c.fire-fired.ensures.told in
     let fire = tells.fire in
     let event = ended basin cells rule step fire fire.end in
-    let known : IsCounted old.firings rule = record { first = turn.first; last = subst (λ n. rule ≤ n) (sym (within.made.firings ∙ within.made.engine.rules.many)) turn.last } in
+    let known : HasCount old.firings rule = record { first = turn.first; last = subst (λ n. rule ≤ n) (sym (within.made.firings ∙ within.made.engine.rules.many)) turn.last } in
     let asked = c.asked-asked.result.now in
     let looked = c.looked-looked.result.now in
     let reached = cells_looked looked ++ cells_reached basin asked in

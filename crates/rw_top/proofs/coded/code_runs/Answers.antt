@@ -1,0 +1,13 @@
+use Rattle.rw_inputs.specs.Givens.{givens}
+use Rattle.rw_top.proofs.RulesText.{by_code}
+use Rattle.rw_top.proofs.coded.code_runs.Goals as goal
+
+pub returns : goal.returns
+returns c = λ basin code fits.
+    let accepted = c.answered_code_is_safe.ensures.accepted basin code.blocks code fits in
+    record {
+      comes = λ inputs run'.
+          by_code basin code inputs run' accepted
+          (λ log whole. c.firings_are_verified.ensures basin code.blocks code.budgets (givens basin inputs) log accepted whole);
+      runs = λ inputs log whole. whole;
+    }

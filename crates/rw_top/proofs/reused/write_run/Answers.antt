@@ -1,0 +1,18 @@
+use Rattle.rw_top.proofs.reused.write_run.Goals as goal
+
+pub returns-in-Ok-write_all : goal.returns-in-Ok-write_all
+returns-in-Ok-write_all g c = λ policy given means next. record {
+  text = c.in-Ok.pair.0.items;
+  is = c.in-Ok.ensures policy given means next;
+  grew = rw c.deref.ensures.value at c.in-Ok-write_all.ensures.whole;
+  later = c.in-Ok-write_all.ensures.later;
+}
+
+pub returns : goal.returns
+returns g c = λ policy given means next. (
+  c.in-Ok.pair.1,
+  c.in-Ok.pair.0.items,
+  c.in-Ok.ensures policy given means next,
+  rw c.deref.ensures.value at c.in-Err-write_all.ensures.prefix,
+  c.in-Err-write_all.ensures.cause,
+)

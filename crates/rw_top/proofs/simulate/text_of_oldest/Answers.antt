@@ -1,0 +1,13 @@
+use Rattle.rw_top.proofs.Common.{None, ap}
+use Rattle.rpl_verify.specs.Verified.{Accepted}
+use Rattle.rw_top.proofs.OneText.{text_is_run}
+use Rattle.rw_top.proofs.RulesText.{without_rules}
+use Rattle.rw_top.proofs.simulate.text_of_oldest.Goals as goal
+
+pub returns : goal.returns
+returns g c =
+    let basin = c.args.setup.now.basin.now in
+    let inputs = c.args.inputs.now in
+    without_rules c.same_runs.ensures.alike basin _ c.args.extras None _ inputs _ _ (ap (λ (a : Accepted). a.blocks) c.none-empty.ensures)
+    (text_is_run c.texts_of_runs.ensures.whole basin _ c.args.extras None _ inputs c.in_ok-run.run' _ c.in_ok-run.ensures.run c.in_ok-run.ensures.kept
+    c.in_ok-text.ensures.text)

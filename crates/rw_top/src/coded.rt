@@ -1,0 +1,49 @@
+// Verified code that runs as the policy of a file does.
+ghost use Rattle.std.specs.Prelude.{◌≡◌, IfOk, IsOk, Ok};
+ghost use Rattle.rw_model.specs.Draft.{Draft};
+ghost use Rattle.rpl_tree.specs.Seen.{rules_of};
+ghost use Rattle.rpl_types.specs.Judged.{judged};
+ghost use Rattle.rpl_verify.specs.Verified.{Accepted, verified};
+ghost use Rattle.rw_top.specs.Policy.{Ruleset, Code};
+ghost use Rattle.rw_top.specs.RunText.{IsCodeOf};
+
+use rpl_compile::accepted::compiled_budgets;
+use rpl_compile::compile;
+use rpl_parse::law::bounds;
+use rpl_policy::law::{firings_are_verified, firings_of_rules_are_verified, policies_have_runs};
+use rpl_types::Typed;
+use rpl_types::law::accepted;
+use rpl_verify::Verified;
+use rpl_verify::law::answered_code_is_safe;
+use rw_base::NoMemory;
+use rw_model::Basin;
+use std::alloc::Global;
+
+/// Code of a file runs as itself.
+pub(crate) fn code_runs()
+    ensures { (basin : Draft) (code : Accepted) → verified basin code.blocks ≡ Ok code
+        → IsCodeOf basin (Code code.blocks code.budgets) code }
+{
+    answered_code_is_safe();
+    firings_are_verified();
+}
+
+/// The code of a ruleset that is accepted for the basin, which runs as the ruleset does.
+pub(crate) fn code_of_rules(
+    alloc: Global,
+    typed: &Typed,
+    basin: &Basin,
+) -> Result<Verified, NoMemory>
+    requires { IsOk (judged basin.now (rules_of typed.now.rules)) }
+    ensures fits { IfOk result (λ code. verified basin.now code.blocks ≡ Ok code) }
+    ensures runs { IfOk result (IsCodeOf basin.now (Ruleset (rules_of typed.now.rules))) }
+{
+    accepted();
+    bounds();
+    compiled_budgets();
+    policies_have_runs();
+    firings_of_rules_are_verified();
+    let _rules = typed.rules();
+    let code = compile(alloc, typed, basin)?;
+    Ok(code)
+}

@@ -1,0 +1,14 @@
+use rw_words::Order;
+
+/// What the text of a run tells besides its table, and how it is come to.
+#[derive(Clone, Copy)]
+pub(crate) struct Extras {
+    /// Who put each value.
+    pub(crate) flags: bool,
+    /// What happened, line by line.
+    pub(crate) trace: bool,
+    /// After a batch of edits, which timesteps were run again: the others are taken over.
+    pub(crate) reuse: bool,
+    /// Which of the objects that wait is dispatched first, in a run without rules.
+    pub(crate) order: Order,
+}

@@ -1,0 +1,221 @@
+// The sections of a run by a policy that takes timesteps over after a batch of edits.
+ghost use Rattle.std.specs.Prelude.{◌≡◌, ◌≤◌, ◌+◌, length, map, option_map, IfOk, MatchResult, Ok, true};
+ghost use Rattle.std.specs.List.{All};
+ghost use Rattle.rpl_verify.specs.Verified.{verified};
+ghost use Rattle.rw_inputs.specs.Edits.{IsBatch};
+ghost use Rattle.rw_inputs.specs.Inputs.{IsInputsOf};
+ghost use Rattle.rw_io.specs.Outside.{change};
+ghost use Rattle.rw_method.specs.Catalogue.{AreInOrder};
+ghost use Rattle.rw_rerun.specs.Session.{IsSessionOf};
+ghost use Rattle.rw_top.specs.Policy.{Policy as Rules};
+ghost use Rattle.rw_top.specs.Ready.{IsFit};
+ghost use Rattle.rw_top.specs.Reused.{IsNextSection, WritesFrom, told_of};
+ghost use Rattle.rw_top.specs.RunText.{CountsSections, IsCodeOf, IsRulesText};
+ghost use Rattle.rw_top.specs.Sections.{AppendsAll, AppendsOne, Given, StopsAmong, StopsAtOne, first_given};
+ghost use Rattle.rw_top.specs.Seen.{policy_of};
+
+use crate::Refusal;
+use crate::coded::{code_of_rules, code_runs};
+use crate::extras::Extras;
+use crate::policy::Policy;
+use crate::sections::first_of;
+use crate::setup::RunSetup;
+use rpl_verify::Verified;
+use rw_base::{Ledger, NoMemory, StepNo, Steps};
+use rw_engine::RunEnd;
+use rw_inputs::{Batch, Inputs};
+use rw_io::{Sink, WriteFault, write_all};
+use rw_report::law::texts_of_runs;
+use rw_report::section;
+use rw_rerun::Session;
+use std::alloc::Global;
+
+// The timesteps that are told in the section of this number.
+fn told<'s>(session: &'s Session<'_>, number: u32) -> Option<&'s [StepNo]>
+    ensures { option_map (λ steps. steps.now) result
+        ≡ told_of number session.entry.now.state.reran }
+{
+    if number == 0 {
+        None
+    } else {
+        Some(session.reran())
+    }
+}
+
+// The text of the section of a session's run, and how that ended.
+fn text_of_run(
+    alloc: Global,
+    session: &Session<'_>,
+    extras: Extras,
+    number: u32,
+) -> Result<(Vec<u8>, RunEnd), NoMemory>
+    requires made { IsSessionOf session.now.setup.basin.now
+        session.now.setup.policy.now session.now.state }
+    requires reuse { extras.reuse ≡ true }
+    ensures { (policy : Rules) (given : Given)
+        → IsCodeOf session.now.setup.basin.now policy session.now.setup.policy.now
+        → IsNextSection session.now.setup.basin.now policy number given session.now.state
+        → IfOk result (λ pair. IsRulesText session.now.setup.basin.now policy extras
+        number given pair.1 pair.0.items) }
+{
+    texts_of_runs();
+    let run = session.run();
+    let reran = told(session, number);
+    let text = section(
+        alloc,
+        session.setup.basin,
+        number,
+        run,
+        reran,
+        extras.flags,
+        extras.trace,
+    )?;
+    Ok((text, run.end))
+}
+
+// Writes the section of a session's run, and answers how that ended.
+fn write_run<K: Sink>(
+    alloc: Global,
+    session: &Session<'_>,
+    extras: Extras,
+    number: u32,
+    out: &mut K,
+) -> Result<RunEnd, Refusal>
+    requires made { IsSessionOf session.now.setup.basin.now
+        session.now.setup.policy.now session.now.state }
+    requires reuse { extras.reuse ≡ true }
+    ensures { (policy : Rules) (given : Given)
+        → IsCodeOf session.now.setup.basin.now policy session.now.setup.policy.now
+        → IsNextSection session.now.setup.basin.now policy number given session.now.state
+        → MatchResult result
+        (AppendsOne (IsRulesText session.now.setup.basin.now policy extras)
+        number given (change (K.seen out.old) (K.seen out.new)))
+        (StopsAtOne (IsRulesText session.now.setup.basin.now policy extras)
+        number given (change (K.seen out.old) (K.seen out.new))) }
+{
+    let (text, end) = match text_of_run(alloc, session, extras, number) {
+        Ok(pair) => pair,
+        Err(NoMemory) => return Err(Refusal::NoMemory),
+    };
+    match write_all(out, &text) {
+        Ok(()) => Ok(end),
+        Err(WriteFault) => Err(Refusal::CannotWrite),
+    }
+}
+
+// Writes the section of a session's run, and one after each batch that is left.
+fn write_from<K: Sink, L: Ledger>(
+    alloc: Global,
+    session: &mut Session<'_>,
+    extras: Extras,
+    number: u32,
+    batches: &[Batch],
+    steps: &mut Steps<L>,
+    out: &mut K,
+) -> Result<RunEnd, Refusal>
+    requires made { IsSessionOf session.old.setup.basin.now
+        session.old.setup.policy.now session.old.state }
+    requires order { AreInOrder
+        (map (λ b. code (b.vtable, b.value)) session.old.setup.methods.now.methods.items) }
+    requires batches { All (IsBatch session.old.setup.basin.now) batches.now }
+    requires few { number + length batches.now ≤ 64 }
+    requires reuse { extras.reuse ≡ true }
+    ensures { (policy : Rules) (given : Given)
+        → IsCodeOf session.old.setup.basin.now policy session.old.setup.policy.now
+        → IsNextSection session.old.setup.basin.now policy number given session.old.state
+        → WritesFrom session.old.setup.basin.now policy extras number given batches.now
+        (length session.old.state.reran) (change (K.seen out.old) (K.seen out.new))
+        (change steps.old steps.new) result }
+{
+    let end = match write_run(alloc, session, extras, number, out) {
+        Ok(end) => end,
+        Err(refusal) => return Err(refusal),
+    };
+    match first_of(batches) {
+        None => Ok(end),
+        Some((batch, rest)) => match session.apply(batch, steps) {
+            Ok(()) => write_from(alloc, session, extras, number + 1, rest, steps, out),
+            Err(NoMemory) => Err(Refusal::NoMemory),
+        },
+    }
+}
+
+// The sections by code, which are those by each policy that runs as it does.
+fn write_by_code<K: Sink, L: Ledger>(
+    alloc: Global,
+    setup: &RunSetup<'_>,
+    by: &Verified,
+    extras: Extras,
+    inputs: Inputs,
+    batches: &[Batch],
+    steps: &mut Steps<L>,
+    out: &mut K,
+) -> Result<RunEnd, Refusal>
+    requires fits { verified setup.now.basin.now by.now.blocks ≡ Ok by.now }
+    requires order { AreInOrder
+        (map (λ b. code (b.vtable, b.value)) setup.now.methods.now.methods.items) }
+    requires inputs { IsInputsOf setup.now.basin.now inputs }
+    requires batches { All (IsBatch setup.now.basin.now) batches.now }
+    requires few { length batches.now ≤ 64 }
+    requires reuse { extras.reuse ≡ true }
+    ensures text { (policy : Rules) → IsCodeOf setup.now.basin.now policy by.now
+        → MatchResult result
+        (AppendsAll (IsRulesText setup.now.basin.now policy extras)
+        0 (first_given inputs) batches.now (change (K.seen out.old) (K.seen out.new)))
+        (StopsAmong (IsRulesText setup.now.basin.now policy extras)
+        0 (first_given inputs) batches.now (change (K.seen out.old) (K.seen out.new))) }
+    ensures counted { (policy : Rules) → IsCodeOf setup.now.basin.now policy by.now
+        → IfOk result (λ end. CountsSections setup.now.basin.now policy inputs batches.now
+        (change steps.old steps.new)) }
+{
+    let mut session = match Session::start(
+        alloc,
+        setup.basin,
+        setup.methods,
+        by,
+        setup.predefs,
+        inputs,
+        steps,
+    ) {
+        Ok(session) => session,
+        Err(NoMemory) => return Err(Refusal::NoMemory),
+    };
+    write_from(alloc, &mut session, extras, 0, batches, steps, out)
+}
+
+/// Writes a section for inputs and one after each batch of edits, after which the timesteps alone are run again that a batch
+/// touches, and answers how the run of the last one ended.
+pub(crate) fn write_reused<K: Sink, L: Ledger>(
+    alloc: Global,
+    setup: &RunSetup<'_>,
+    policy: &Policy,
+    extras: Extras,
+    inputs: Inputs,
+    batches: &[Batch],
+    steps: &mut Steps<L>,
+    out: &mut K,
+) -> Result<RunEnd, Refusal>
+    requires order { AreInOrder
+        (map (λ b. code (b.vtable, b.value)) setup.now.methods.now.methods.items) }
+    requires fits { IsFit setup.now.basin.now policy.now }
+    requires inputs { IsInputsOf setup.now.basin.now inputs }
+    requires batches { All (IsBatch setup.now.basin.now) batches.now }
+    requires few { length batches.now ≤ 64 }
+    requires reuse { extras.reuse ≡ true }
+    ensures text { MatchResult result
+        (AppendsAll (IsRulesText setup.now.basin.now (policy_of policy.now) extras)
+        0 (first_given inputs) batches.now (change (K.seen out.old) (K.seen out.new)))
+        (StopsAmong (IsRulesText setup.now.basin.now (policy_of policy.now) extras)
+        0 (first_given inputs) batches.now (change (K.seen out.old) (K.seen out.new))) }
+    ensures counted { IfOk result (λ end. CountsSections setup.now.basin.now
+        (policy_of policy.now) inputs batches.now (change steps.old steps.new)) }
+{
+    code_runs();
+    match policy {
+        Policy::Ruleset(typed) => match code_of_rules(alloc, typed, setup.basin) {
+            Ok(by) => write_by_code(alloc, setup, &by, extras, inputs, batches, steps, out),
+            Err(NoMemory) => Err(Refusal::NoMemory),
+        },
+        Policy::Code(by) => write_by_code(alloc, setup, by, extras, inputs, batches, steps, out),
+    }
+}
