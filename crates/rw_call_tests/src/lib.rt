@@ -1,6 +1,6 @@
 //! Worked examples of calls below the top one, lowest first: quantities, rating tables, stamps, files, a basin that is built,
-//! a series, edits of inputs, the queue of objects that wait, runs, sections and sessions. There is nothing here but
-//! tests: what they compare with was worked out by hand.
+//! a series, edits of inputs, the queue of objects that wait, runs, records of their timesteps, sections and sessions. There is
+//! nothing here but tests: what they compare with was worked out by hand.
 #![tactic(auto)]
 
 #[cfg(test)]
@@ -15,6 +15,8 @@ mod files;
 mod queue;
 #[cfg(test)]
 mod ratings;
+#[cfg(test)]
+mod records;
 #[cfg(test)]
 mod runs;
 #[cfg(test)]

@@ -4,6 +4,7 @@ ghost use Rattle.std.specs.Prelude.{◌≡◌, ◌<◌, ◌≤◌, Ok, length, m
 ghost use Rattle.rpl_verify.specs.Verified.{verified};
 ghost use Rattle.rw_method.specs.Catalogue.{AreInOrder};
 
+use crate::records::check_records;
 use crate::sessions::check_sessions;
 use crate::shared::{basin, content, none_is_wrong};
 use rpl_code::read_code;
@@ -250,6 +251,7 @@ fn check<L: Ledger>(
     check_lines(rt, &run(rt, alloc, methods, predefs, &mut steps, MEETING));
     assert!(rt; ends_in_conflict(&run(rt, alloc, methods, predefs, &mut steps, MEASURED)));
     check_dam(rt, &run_dam(rt, alloc, methods, predefs, &mut steps));
+    check_records(rt, alloc, methods, predefs, &mut steps);
     check_sessions(rt, alloc, methods, predefs, &mut steps);
 }
 
