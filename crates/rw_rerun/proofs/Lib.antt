@@ -6,3 +6,4 @@ pub mod Counted
 pub mod Goings
 pub mod Sessions
 pub mod Exchanges
+pub mod Begun
