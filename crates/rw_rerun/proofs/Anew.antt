@@ -116,6 +116,15 @@ module _ (basin : Draft) (policy : Policy) (earlier log now : Log) (step : ℕ) 
         subst (Contains kept.looked) (ap (λ c. record { cell = one.cell; content = c }) (sym same)) had,
   )
 
+  pub these_again : RecordsThese basin step now (is.first ∷ is.events) kept
+  these_again = record {
+    step_is = is.these.step_is;
+    looked = looked_now;
+    rising = is.these.rising;
+    lines_are = is.these.lines_are;
+    can = is.these.can;
+  }
+
   pub kept_again : IsClosedIn step log now is.first is.events → IsTimestep basin policy step now is.first is.events → IsKept basin policy log step (Some kept)
   kept_again closed timestep = record {
     keepable = record {
@@ -129,11 +138,5 @@ module _ (basin : Draft) (policy : Policy) (earlier log now : Log) (step : ℕ) 
     opening = closed.behind.opening;
     own = closed.own;
     timestep = timestep;
-    these = record {
-      step_is = is.these.step_is;
-      looked = looked_now;
-      rising = is.these.rising;
-      lines_are = is.these.lines_are;
-      can = is.these.can;
-    };
+    these = these_again;
   }

@@ -14,7 +14,7 @@ use Rattle.rw_run.proofs.Agains.{alike_each, alike_events}
 use Rattle.rw_record.proofs.Cells.{reached_at, shared_in}
 use Rattle.rw_rerun.specs.Begun.{AreTimesteps, HoldAlike, Went, cells_put, cells_touched, events_in, log_behind}
 
-alike_behind : (basin : Draft) (events : List Event) (one other : Log) (cell : Cell) → cells_of basin one cell ≡ cells_of basin other cell
+pub alike_behind : (basin : Draft) (events : List Event) (one other : Log) (cell : Cell) → cells_of basin one cell ≡ cells_of basin other cell
     → cells_of basin (log_after events one) cell ≡ cells_of basin (log_after events other) cell
 alike_behind basin [] one other cell same = same
 alike_behind basin (event ∷ events) one other cell same =
@@ -63,7 +63,7 @@ unmoved basin step log (first ∷ steps) cell none =
 
 -- ---- the timesteps
 
-rests_behind : (step : ℕ) (event : Event) (events : List Event) (log : Log) → IsStepFrom step event events
+pub rests_behind : (step : ℕ) (event : Event) (events : List Event) (log : Log) → IsStepFrom step event events
     → standing (log_after (event ∷ events) log) ≡ rests step
 rests_behind step event [] log goes = ap (λ e. standing (e ∷ log)) goes
 rests_behind step event (next ∷ events) log goes = rests_behind step next events (event ∷ log) goes.1

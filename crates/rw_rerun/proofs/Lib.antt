@@ -7,3 +7,4 @@ pub mod Goings
 pub mod Sessions
 pub mod Exchanges
 pub mod Begun
+pub mod Beginning

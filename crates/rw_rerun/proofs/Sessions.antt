@@ -44,6 +44,7 @@ module _ (basin : Draft) (policy : Accepted) (inputs : Inputs) (earlier : Log) (
     shows = way.shows;
     many = length_changed was pass.changes.items (let all = way.many in omega (arith, many, all)) ∙ way.many;
     kept = way.kept;
+    linked = way.linked;
   }
 
 -- ---- the first run

@@ -1,13 +1,20 @@
 -- The first timesteps of a run, and how they go where other inputs were placed before them.
-use Rattle.std.specs.Prelude.{◌≡◌, ℕ, ◌+◌, pos, List, [], ◌∷◌, Contains, Some, None}
+use Rattle.std.specs.Prelude.{◌≡◌, ℕ, ◌+◌, ◌<◌, pos, length, Option, List, [], ◌∷◌, Contains, Some, None}
 use Rattle.std.specs.List.{flat_map}
 use Rattle.rw_base.specs.declared.number.Cell.{Cell}
 use Rattle.rw_model.specs.Draft.{Draft}
 use Rattle.rw_run.specs.Frame.{log_after}
 use Rattle.rw_run.specs.Log.{Event, Log, cells_of, closed, opened, written_by}
 use Rattle.rw_run.specs.Next.{Policy}
-use Rattle.rw_run.specs.Step.{cells_reached, reached_by}
+use Rattle.rw_inputs.specs.Givens.{givens}
+use Rattle.rw_inputs.specs.Inputs.{Inputs}
+use Rattle.rw_run.specs.Reuse.{AreRerun}
+use Rattle.rw_run.specs.Runs.{Leads, placed, rests, standing}
+use Rattle.rw_run.specs.Step.{cells_reached, events_of, reached_by}
 use Rattle.rw_run.specs.Timestep.{IsTimestep}
+use Rattle.rw_run.specs.declared.held.Held.{Held}
+use Rattle.rw_record.specs.Record.{StepRecord}
+use Rattle.rw_rerun.specs.Kept.{AreKept, AreLinked}
 use Rattle.rw_run.specs.Worked.{did, saw, stopped, x_to}
 
 -- a closed timestep as it went: its first event, and those behind it
@@ -41,6 +48,32 @@ cells_put basin steps = flat_map (λ one. flat_map (λ event. cells_reached basi
 -- each of these cells is held alike behind both logs
 abbrev pub HoldAlike : Draft → Log → Log → List Cell → Type 0
 HoldAlike basin one other cells = (cell : Cell) → Contains cells cell → cells_of basin one cell ≡ cells_of basin other cell
+
+-- ---- timesteps that are taken over
+
+-- in this log a run has come behind this timestep, and has taken over each one from an earlier run, of which this is kept
+pub record HasTakenOver (basin : Draft) (policy : Policy) (inputs : Inputs) (earlier : Log) (all_kept : List (Option StepRecord)) (log : Log) (step : ℕ) : Type 0 where
+  pub many : length all_kept ≡ step
+  pub events : List Event
+  pub leads : Leads basin policy (placed [] (givens basin inputs)) events log
+  pub stands : standing log ≡ rests step
+  pub later : (other : ℕ) → step < other → events_of other log ≡ []
+  pub rerun : AreRerun basin earlier log []
+  pub kept : AreKept basin policy log 1 all_kept
+  pub linked : AreLinked basin policy 1 (placed [] (givens basin inputs)) all_kept log
+
+-- each cell of these records is held alike behind both logs
+abbrev pub AreAlikeIn : Draft → Log → Log → List StepRecord → Type 0
+AreAlikeIn basin one other [] = Unit {0}
+AreAlikeIn basin one other (kept ∷ rest) =
+    ((one_of : Held) → Contains kept.looked one_of → cells_of basin one one_of.cell ≡ cells_of basin other one_of.cell)
+    × AreAlikeIn basin one other rest
+
+-- the timesteps of these records, too, are taken over, up to a log that holds alike what was alike before them
+pub record TakesOver (basin : Draft) (policy : Policy) (inputs : Inputs) (earlier : Log) (all_kept : List (Option StepRecord)) (one other end : Log) (step : ℕ) : Type 0 where
+  pub log : Log
+  pub taken : HasTakenOver basin policy inputs earlier all_kept log step
+  pub alike : (cell : Cell) → cells_of basin one cell ≡ cells_of basin other cell → cells_of basin end cell ≡ cells_of basin log cell
 
 -- ---- worked out
 

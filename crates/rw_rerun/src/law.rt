@@ -1,5 +1,5 @@
 //! How a run begins again, as a law: a function that does nothing, and whose contract is the law.
-ghost use Rattle.std.specs.Prelude.{◌≡◌, ℕ, ◌+◌, List, [], Contains, Some, pos};
+ghost use Rattle.std.specs.Prelude.{◌≡◌, ◌≤◌, ℕ, ◌+◌, ◌++◌, List, [], Contains, Option, Some, length, map, pos};
 ghost use Rattle.rw_base.specs.declared.number.Cell.{Cell};
 ghost use Rattle.rw_model.specs.Draft.{Draft};
 ghost use Rattle.rw_model.specs.declared.control.AgendaOrder.TheVariants.{HighFirst};
@@ -9,7 +9,11 @@ ghost use Rattle.rw_run.specs.Log.{Log, cells_of, input_content};
 ghost use Rattle.rw_run.specs.Next.{Policy};
 ghost use Rattle.rw_run.specs.Runs.{placed, rests, standing};
 ghost use Rattle.rw_run.specs.Worked.{basin_of, raised, raised_twice, three};
-ghost use Rattle.rw_rerun.specs.Begun.{AreTimesteps, HoldAlike, Went, cells_put, cells_touched, log_behind, raised_days};
+ghost use Rattle.rw_inputs.specs.Inputs.{Inputs};
+ghost use Rattle.rw_record.specs.Record.{StepRecord};
+ghost use Rattle.rw_run.specs.Step.{events_of};
+ghost use Rattle.rw_rerun.specs.Kept.{AreKept, AreLinked};
+ghost use Rattle.rw_rerun.specs.Begun.{AreAlikeIn, AreTimesteps, HasTakenOver, HoldAlike, TakesOver, Went, cells_put, cells_touched, log_behind, raised_days};
 
 use rw_run::law::reuse;
 
@@ -31,6 +35,22 @@ pub fn begun()
 {
     reuse();
 }
+
+/// Where kept timesteps stand one behind the other in one run, and another run has come behind as many before them and holds all
+/// alike that their records hold, it takes them over too, and what was alike before them is alike behind them.
+pub fn taking_over()
+    ensures { (basin : Draft) (policy : Policy) (inputs : Inputs) (earlier : Log)
+        (records : List StepRecord) (step last : ℕ) (one other end : Log)
+        (all_kept : List (Option StepRecord)) → IsFramed policy → step ≡ last + 1
+        → last + length records ≤ basin.control.stamps.count
+        → AreLinked basin policy step one (map (λ kept. Some kept) records) end
+        → ((other : ℕ) → step ≤ other → events_of other one ≡ [])
+        → HasTakenOver basin policy inputs earlier all_kept other last
+        → AreKept basin policy earlier step (map (λ kept. Some kept) records)
+        → AreAlikeIn basin one other records
+        → TakesOver basin policy inputs earlier (all_kept ++ map (λ kept. Some kept) records)
+        one other end (last + length records) }
+{}
 
 /// Two days on which a rule looks at X go so where nothing is given, and where Y is given on the first one, which is held then.
 pub fn worked_beginning()
