@@ -1,14 +1,13 @@
 -- A run that begins where a batch begins: the timesteps that it doesn't touch are taken over.
 use Rattle.rw_base.proofs.Common.{◌≡◌, ◌≤◌, ◌+◌, ◌∙◌, ℕ, suc, List, [], ◌∷◌, ◌++◌, map, Contains, Option, Some, length, length-append, append-nil, append_assoc, refl, sym, ap, subst, arith}
 use Rattle.std.specs.List.{flat_map}
-use Rattle.rw_base.specs.declared.number.Cell.{Cell}
 use Rattle.rw_model.specs.Draft.{Draft}
 use Rattle.rw_inputs.specs.Givens.{givens}
 use Rattle.rw_inputs.specs.Inputs.{Inputs}
 use Rattle.rw_run.specs.Frame.{IsFramed, log_after}
 use Rattle.rw_run.specs.Log.{Event, Log, cells_of, opened}
 use Rattle.rw_run.specs.Next.{Policy}
-use Rattle.rw_run.specs.Runs.{Leads, placed, rests, standing}
+use Rattle.rw_run.specs.Runs.{placed}
 use Rattle.rw_run.specs.Reuse.{most_kept}
 use Rattle.rw_run.specs.RunOf.{lines}
 use Rattle.rw_run.specs.Step.{cell_count, events_of, reached_by}

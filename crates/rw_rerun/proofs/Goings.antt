@@ -1,5 +1,5 @@
 -- What each way of passing a timestep comes to.
-use Rattle.rw_base.proofs.Common.{◌≡◌, ◌≤◌, ◌+◌, ◌∙◌, ℕ, Bool, true, false, List, [], ◌∷◌, ◌++◌, Contains, Ok, Option, Some, None, IsSome, IfSome, unwrap_or, length, length-append, refl, sym, ap, subst, arith}
+use Rattle.rw_base.proofs.Common.{◌≡◌, ◌≤◌, ◌+◌, ◌∙◌, ℕ, true, false, List, [], ◌∷◌, ◌++◌, Ok, Option, Some, None, IsSome, IfSome, length, length-append, refl, sym, ap, subst, arith}
 use Rattle.rw_base.specs.declared.number.StepNo.{StepNo}
 use Rattle.rw_model.specs.Draft.{Draft}
 use Rattle.rw_model.specs.Turn.{IsStep}
@@ -11,7 +11,7 @@ use Rattle.rw_run.specs.Next.{Policy}
 use Rattle.rw_run.specs.Reuse.{AreRerun, most_kept}
 use Rattle.rw_run.specs.RunOf.{lines}
 use Rattle.rw_run.specs.Runs.{Leads, rests, standing}
-use Rattle.rw_run.specs.Step.{before_closing, before_opening, cell_count, events_of, reached_by}
+use Rattle.rw_run.specs.Step.{before_closing, cell_count, events_of, reached_by}
 use Rattle.rw_run.specs.Timestep.{AreLooked, IsTimestep}
 use Rattle.rw_run.specs.declared.fault.RunFault.{RunFault}
 use Rattle.rw_run.specs.declared.held.Held.{Held}
@@ -29,7 +29,7 @@ use Rattle.rpl_verify.specs.Verified.{Accepted}
 use Rattle.rw_rules.specs.Rules.{policy_in}
 use Rattle.rw_rerun.specs.Kept.{IsKept, IsKeptAs, IsLink}
 use Rattle.rw_rerun.specs.Session.{numbers_of}
-use Rattle.rw_rerun.specs.UnderWay.{IsReplayable, GoesOn, IsEntry, IsPassOf, IsUnderWay, IsUnlike, stands_at}
+use Rattle.rw_rerun.specs.UnderWay.{IsReplayable, GoesOn, IsPassOf, IsUnlike, stands_at}
 use Rattle.rw_rerun.specs.declared.pass.Pass.{Pass}
 use Rattle.rw_rerun.proofs.Anew.{IsClosedIn, kept_again, kept_anew, record_stands, these_again}
 use Rattle.rw_rerun.proofs.Reusing.{is_reused, not_reused, run_again, taken_over}

@@ -1,15 +1,15 @@
 -- What is kept of timesteps stays so behind a longer log, and what a run changes of it.
-use Rattle.rw_base.proofs.Common.{◌≡◌, ◌≢◌, ◌<◌, ◌≤◌, ◌+◌, ◌∙◌, ℕ, zero, suc, List, [], ◌∷◌, ◌++◌, Option, Some, None, IsSome, unwrap_or, length, refl, sym, ap, subst, arith, same_Some, none-some, slice_get}
+use Rattle.rw_base.proofs.Common.{◌≡◌, ◌≢◌, ◌≤◌, ◌+◌, ◌∙◌, ℕ, zero, suc, List, [], ◌∷◌, ◌++◌, Option, Some, None, IsSome, unwrap_or, length, refl, sym, ap, subst, arith, same_Some, none-some, slice_get}
 use Rattle.std.specs.List.{flat_map}
 use Rattle.rw_model.specs.Draft.{Draft}
 use Rattle.rw_run.specs.Behind.{IsBehind}
-use Rattle.rw_run.specs.Log.{Event, Log}
+use Rattle.rw_run.specs.Log.{Log}
 use Rattle.rw_run.specs.Next.{Policy}
 use Rattle.rw_run.specs.Reuse.{most_kept}
 use Rattle.rw_run.specs.RunOf.{lines}
 use Rattle.rw_run.specs.Step.{before_closing, before_opening, cell_count, events_of, reached_by}
 use Rattle.rw_record.specs.Record.{StepRecord}
-use Rattle.rw_rerun.specs.Kept.{AreKept, AreLinked, IsKept, IsKeptAs, IsKeepable, IsLink, changed}
+use Rattle.rw_rerun.specs.Kept.{AreKept, AreLinked, IsKept, IsKeepable, IsLink, changed}
 
 -- by what it closed and its events
 pub keepable_same : (basin : Draft) (step : ℕ) (log other : Log) → before_closing step other ≡ before_closing step log → events_of step other ≡ events_of step log

@@ -1,27 +1,18 @@
 -- A run on its way, one timestep on.
-use Rattle.rw_base.proofs.Common.{◌≡◌, ◌≢◌, ◌<◌, ◌≤◌, ◌+◌, ◌∙◌, ℕ, ℤ, Bool, true, false, List, [], ◌∷◌, ◌++◌, map, Contains, Option, Some, None, IsSome, IfSome, unwrap_or, length, length-append, refl, sym, ap, subst, arith, inl, inr, false≢true, slice_get, slice_get_within}
-use Rattle.rw_base.specs.declared.number.Cell.{Cell}
+use Rattle.rw_base.proofs.Common.{◌≡◌, ◌<◌, ◌≤◌, ◌+◌, ◌∙◌, ℕ, Bool, true, false, List, [], ◌∷◌, ◌++◌, Option, Some, None, IsSome, unwrap_or, length, length-append, refl, sym, ap, subst, arith, false≢true, slice_get, slice_get_within}
 use Rattle.rw_base.specs.declared.number.StepNo.{StepNo}
 use Rattle.rw_model.specs.Draft.{Draft}
 use Rattle.rw_inputs.specs.Givens.{givens}
 use Rattle.rw_inputs.specs.Inputs.{Inputs}
-use Rattle.rw_series.specs.Series.{held}
 use Rattle.rw_run.specs.Behind.{IsBehind}
-use Rattle.rw_run.specs.Frame.{log_after}
-use Rattle.rw_run.specs.Log.{Event, Log, cells_of, closed, fault, opened}
+use Rattle.rw_run.specs.Log.{Event, Log}
 use Rattle.rw_run.specs.Next.{Policy}
-use Rattle.rw_run.specs.Reuse.{AreRerun, IsReused}
-use Rattle.rw_run.specs.Runs.{IsOver, IsRun, Leads, over, placed, rests, standing}
+use Rattle.rw_run.specs.Reuse.{AreRerun}
+use Rattle.rw_run.specs.Runs.{IsOver, IsRun, Leads, placed, rests, standing}
 use Rattle.rw_run.specs.Step.{before_closing, before_opening, events_of}
-use Rattle.rw_run.specs.Timestep.{IsTimestep}
-use Rattle.rw_run.specs.declared.fault.RunFault.{RunFault}
-use Rattle.rw_record.specs.Noted.{AreHeld}
 use Rattle.rw_record.specs.Record.{StepRecord}
-use Rattle.rw_engine.specs.Engine.{Engine}
-use Rattle.rw_engine.specs.Passing.{Passes}
 use Rattle.rw_engine.specs.Shows.{IsBefore, Shows}
-use Rattle.rw_engine.specs.declared.step_end.StepEnd.TheVariants.{Closed as IsClosed, Fault as IsFault}
-use Rattle.rw_rerun.specs.Kept.{AreKept, AreLinked, IsKept, IsKeepable, IsLink, changed}
+use Rattle.rw_rerun.specs.Kept.{AreKept, AreLinked, IsKept, IsLink, changed}
 use Rattle.rw_rerun.specs.Session.{numbers_of}
 use Rattle.rw_rerun.specs.UnderWay.{IsUnderWay, stands_at}
 use Rattle.rw_rerun.specs.declared.pass.Pass.{Pass}
