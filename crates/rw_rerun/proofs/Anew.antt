@@ -1,15 +1,15 @@
 -- What is kept of a timestep that was run, and of one that was taken over.
-use Rattle.rw_base.proofs.Common.{◌≡◌, ◌⊎◌, ◌<◌, ◌≤◌, ◌+◌, ◌∙◌, ℕ, Bool, true, false, List, [], ◌∷◌, ◌++◌, Contains, Option, Some, None, IsSome, length, length-append, nat_lt, refl, sym, ap, subst, arith, inl, inr, nat_tests}
+use Rattle.rw_base.proofs.Common.{◌≡◌, ◌⊎◌, ◌<◌, ◌≤◌, ◌∙◌, ℕ, Bool, true, false, List, [], ◌∷◌, Contains, Option, Some, None, IsSome, length, length-append, nat_lt, refl, sym, ap, subst, arith, inl, inr, nat_tests}
 use Rattle.std.specs.List.{flat_map}
 use Rattle.rw_base.specs.declared.number.Cell.{Cell}
 use Rattle.rw_model.specs.Draft.{Draft}
 use Rattle.rw_run.specs.Behind.{IsBehind}
-use Rattle.rw_run.specs.Frame.{IsFramed, log_after}
-use Rattle.rw_run.specs.Log.{Cells, Event, Log, cells_of, opened}
+use Rattle.rw_run.specs.Frame.{log_after}
+use Rattle.rw_run.specs.Log.{Event, Log, cells_of, opened}
 use Rattle.rw_run.specs.Next.{Policy}
 use Rattle.rw_run.specs.Reuse.{most_kept}
 use Rattle.rw_run.specs.RunOf.{lines}
-use Rattle.rw_run.specs.Step.{before_closing, before_opening, cell_count, events_of, line_count, looked_at, reached_by}
+use Rattle.rw_run.specs.Step.{before_closing, cell_count, events_of, line_count, looked_at, reached_by}
 use Rattle.rw_run.specs.Timestep.{AreLooked, IsTimestep}
 use Rattle.rw_run.specs.declared.held.Held.{Held}
 use Rattle.rw_record.specs.Noted.{AreHeld, AreOnce}
@@ -17,7 +17,6 @@ use Rattle.rw_record.specs.Record.{StepRecord}
 use Rattle.rw_engine.specs.Records.{HasNoted, IsTooLarge, Records, RecordsOrNot, RecordsThese, lines_of_step}
 use Rattle.rw_engine.specs.Engine.{Engine}
 use Rattle.rw_rerun.specs.Kept.{IsKept, IsKeptAs, IsKeepable}
-use Rattle.rw_rerun.proofs.Keeping.{keepable_same}
 use Rattle.rw_rerun.proofs.Reusing.{length_after, reached_after, reached_events}
 
 at_most : (most n : ℕ) → ¬ (most < n) → n ≤ most
@@ -116,6 +115,15 @@ module _ (basin : Draft) (policy : Policy) (earlier log now : Log) (step : ℕ) 
         subst (Contains kept.looked) (ap (λ c. record { cell = one.cell; content = c }) (sym same)) had,
   )
 
+  pub these_again : RecordsThese basin step now (is.first ∷ is.events) kept
+  these_again = record {
+    step_is = is.these.step_is;
+    looked = looked_now;
+    rising = is.these.rising;
+    lines_are = is.these.lines_are;
+    can = is.these.can;
+  }
+
   pub kept_again : IsClosedIn step log now is.first is.events → IsTimestep basin policy step now is.first is.events → IsKept basin policy log step (Some kept)
   kept_again closed timestep = record {
     keepable = record {
@@ -129,11 +137,5 @@ module _ (basin : Draft) (policy : Policy) (earlier log now : Log) (step : ℕ) 
     opening = closed.behind.opening;
     own = closed.own;
     timestep = timestep;
-    these = record {
-      step_is = is.these.step_is;
-      looked = looked_now;
-      rising = is.these.rising;
-      lines_are = is.these.lines_are;
-      can = is.these.can;
-    };
+    these = these_again;
   }

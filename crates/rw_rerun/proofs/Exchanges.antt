@@ -1,5 +1,5 @@
 -- Changes take the place of what was kept, the last one first.
-use Rattle.rw_base.proofs.Common.{◌≡◌, ◌≤◌, ◌<◌, ◌+◌, ◌∙◌, ℕ, zero, suc, List, [], ◌∷◌, ◌++◌, Option, Some, None, unwrap_or, length, refl, sym, ap, subst, arith, set, drop, length-append, length-set}
+use Rattle.rw_base.proofs.Common.{◌≡◌, ◌≤◌, ◌<◌, ◌∙◌, ℕ, suc, List, [], ◌∷◌, ◌++◌, Option, Some, None, unwrap_or, length, refl, sym, ap, arith, set, drop, length-append, length-set}
 use Rattle.rw_record.specs.Record.{StepRecord}
 use Rattle.rw_rerun.specs.Kept.{changed}
 

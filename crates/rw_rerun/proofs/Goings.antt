@@ -1,5 +1,5 @@
 -- What each way of passing a timestep comes to.
-use Rattle.rw_base.proofs.Common.{◌≡◌, ◌≤◌, ◌+◌, ◌∙◌, ℕ, Bool, true, false, List, [], ◌∷◌, ◌++◌, Contains, Ok, Option, Some, None, IsSome, IfSome, unwrap_or, length, length-append, refl, sym, ap, subst, arith}
+use Rattle.rw_base.proofs.Common.{◌≡◌, ◌≤◌, ◌+◌, ◌∙◌, ℕ, true, false, List, [], ◌∷◌, ◌++◌, Ok, Option, Some, None, IsSome, IfSome, length, length-append, refl, sym, ap, subst, arith}
 use Rattle.rw_base.specs.declared.number.StepNo.{StepNo}
 use Rattle.rw_model.specs.Draft.{Draft}
 use Rattle.rw_model.specs.Turn.{IsStep}
@@ -8,9 +8,10 @@ use Rattle.rw_run.specs.Behind.{IsBehind}
 use Rattle.rw_run.specs.Frame.{log_after}
 use Rattle.rw_run.specs.Log.{Cells, Event, Log, cells_of, closed, fault, opened}
 use Rattle.rw_run.specs.Next.{Policy}
-use Rattle.rw_run.specs.Reuse.{AreRerun}
+use Rattle.rw_run.specs.Reuse.{AreRerun, most_kept}
+use Rattle.rw_run.specs.RunOf.{lines}
 use Rattle.rw_run.specs.Runs.{Leads, rests, standing}
-use Rattle.rw_run.specs.Step.{before_closing, before_opening, cell_count, events_of, reached_by}
+use Rattle.rw_run.specs.Step.{before_closing, cell_count, events_of, reached_by}
 use Rattle.rw_run.specs.Timestep.{AreLooked, IsTimestep}
 use Rattle.rw_run.specs.declared.fault.RunFault.{RunFault}
 use Rattle.rw_run.specs.declared.held.Held.{Held}
@@ -26,11 +27,11 @@ use Rattle.rw_engine.specs.Shows.{IsBefore, IsEngineOf}
 use Rattle.rw_engine.specs.declared.step_end.StepEnd.TheVariants.{Closed as IsClosed, Fault as IsFault}
 use Rattle.rpl_verify.specs.Verified.{Accepted}
 use Rattle.rw_rules.specs.Rules.{policy_in}
-use Rattle.rw_rerun.specs.Kept.{IsKept, IsKeptAs}
+use Rattle.rw_rerun.specs.Kept.{IsKept, IsKeptAs, IsLink}
 use Rattle.rw_rerun.specs.Session.{numbers_of}
-use Rattle.rw_rerun.specs.UnderWay.{IsReplayable, GoesOn, IsEntry, IsPassOf, IsUnderWay, IsUnlike, stands_at}
+use Rattle.rw_rerun.specs.UnderWay.{IsReplayable, GoesOn, IsPassOf, IsUnlike, stands_at}
 use Rattle.rw_rerun.specs.declared.pass.Pass.{Pass}
-use Rattle.rw_rerun.proofs.Anew.{IsClosedIn, kept_again, kept_anew, record_stands}
+use Rattle.rw_rerun.proofs.Anew.{IsClosedIn, kept_again, kept_anew, record_stands, these_again}
 use Rattle.rw_rerun.proofs.Reusing.{is_reused, not_reused, run_again, taken_over}
 use Rattle.rw_rerun.proofs.Ways.{before_next, none_on, none_open, not_kept, numbers_more, one_on}
 
@@ -38,6 +39,21 @@ unlike_now : (series cells : Cells) (entry : Option StepRecord) → ((one : Held
     → IfSome entry (λ kept. ¬ AreHeld series kept.looked) → IfSome entry (λ kept. ¬ AreHeld cells kept.looked)
 unlike_now series cells None same unlike = tt
 unlike_now series cells (Some kept) same unlike = λ are. unlike (λ one has. same one ∙ are one has)
+
+link_anew : (basin : Draft) (policy : Policy) (step : ℕ) (now log : Log) (first : Event) (events : List Event) (found : Option StepRecord)
+    → IsTimestep basin policy step now first events → log ≡ log_after (first ∷ events) (opened step ∷ now)
+    → events_of step log ≡ log_after (first ∷ events) (opened step ∷ []) → RecordsOrNot basin step now (first ∷ events) found
+    → IsKept basin policy log step found → IsLink basin policy step now found log
+link_anew basin policy step now log first events None timestep is own records kept = tt
+link_anew basin policy step now log first events (Some it) timestep is own records kept = record {
+  first = first;
+  events = events;
+  timestep = timestep;
+  these = records.1;
+  is = is;
+  few_cells = subst (λ es. cell_count (flat_map (reached_by basin) es) ≤ most_kept) own kept.keepable.few_cells;
+  few_lines = subst (λ es. length (flat_map lines es) ≤ most_kept) own kept.keepable.few_lines;
+}
 
 module _ (basin : Draft) (policy : Accepted) (step : ℕ) (old new : Pass) (made : IsPassOf basin policy old) where
   abbrev in_run : Policy
@@ -90,7 +106,16 @@ module _ (basin : Draft) (policy : Accepted) (step : ℕ) (old new : Pass) (made
         (subst (λ (steps : List StepNo). AreRerun basin earlier log (numbers_of steps)) (sym reran)
         (taken_over basin earlier now log step (numbers_of old.reran.items) closed_in.behind (λ other far. (nothing_of other now (none other far)).0) way.rerun
         (is_reused basin in_run earlier log now step kept is closed_in.behind.opening held_now)))
-        (subst (IsKept basin in_run log step) (sym fits) (kept_again basin in_run earlier log now step kept is held_now closed_in timestep));
+        (subst (IsKept basin in_run log step) (sym fits) (kept_again basin in_run earlier log now step kept is held_now closed_in timestep))
+        (subst (λ kept. IsLink basin in_run step now kept log) (sym fits) (record {
+          first = is.first;
+          events = is.events;
+          timestep = timestep;
+          these = these_again basin in_run earlier log now step kept is held_now;
+          is = same;
+          few_cells = subst (λ es. cell_count (flat_map (reached_by basin) es) ≤ most_kept) is.own is.keepable.few_cells;
+          few_lines = subst (λ es. length (flat_map lines es) ≤ most_kept) is.own is.keepable.few_lines;
+        }));
     each = let same = ap length reran in omega (arith, same);
     rises = omega arith;
     few = omega arith;
@@ -134,7 +159,11 @@ module _ (basin : Draft) (policy : Accepted) (step : ℕ) (old new : Pass) (made
           (not_reused basin in_run earlier log now step entry (subst (λ s. IsKept basin in_run earlier s entry) (sym next_one) there.kept) closed_in.behind.opening
           (unlike_now (held old.engine.series) (cells_of basin now) entry (λ one. way.shows.cells one.cell) fits))))
           (kept_anew basin in_run step log now closes.first closes.events closed_in closes.timestep new.engine noted (how_many basin (cells_of basin now)) found
-          (records basin step now (closes.first ∷ closes.events) noted runs.closed_steps));
+          (records basin step now (closes.first ∷ closes.events) noted runs.closed_steps))
+          (link_anew basin in_run step now log closes.first closes.events found closes.timestep closes.is closed_in.own
+          (records basin step now (closes.first ∷ closes.events) noted runs.closed_steps)
+          (kept_anew basin in_run step log now closes.first closes.events closed_in closes.timestep new.engine noted (how_many basin (cells_of basin now)) found
+          (records basin step now (closes.first ∷ closes.events) noted runs.closed_steps)));
       each = one_more;
       rises = omega (arith, counted);
       few = omega (arith, counted);
@@ -162,7 +191,7 @@ module _ (basin : Draft) (policy : Accepted) (step : ℕ) (old new : Pass) (made
           (run_again basin earlier now log step (numbers_of old.reran.items) behind (λ other far. (nothing_of other now (none other far)).0) way.rerun
           (not_reused basin in_run earlier log now step entry (subst (λ s. IsKept basin in_run earlier s entry) (sym next_one) there.kept) behind.opening
           (unlike_now (held old.engine.series) (cells_of basin now) entry (λ one. way.shows.cells one.cell) fits))))
-          (not_kept basin in_run step log (ap (before_closing step) ends ∙ facts.1));
+          (not_kept basin in_run step log (ap (before_closing step) ends ∙ facts.1)) tt;
       each = one_more;
       rises = omega (arith, counted);
       few = omega (arith, counted);

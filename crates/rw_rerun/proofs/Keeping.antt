@@ -1,15 +1,15 @@
 -- What is kept of timesteps stays so behind a longer log, and what a run changes of it.
-use Rattle.rw_base.proofs.Common.{◌≡◌, ◌≢◌, ◌<◌, ◌≤◌, ◌+◌, ◌∙◌, ℕ, zero, suc, List, [], ◌∷◌, ◌++◌, Option, Some, None, IsSome, unwrap_or, length, refl, sym, ap, subst, arith, same_Some, none-some, slice_get}
+use Rattle.rw_base.proofs.Common.{◌≡◌, ◌≢◌, ◌≤◌, ◌+◌, ◌∙◌, ℕ, zero, suc, List, [], ◌∷◌, ◌++◌, Option, Some, None, IsSome, unwrap_or, length, refl, sym, ap, subst, arith, same_Some, none-some, slice_get}
 use Rattle.std.specs.List.{flat_map}
 use Rattle.rw_model.specs.Draft.{Draft}
 use Rattle.rw_run.specs.Behind.{IsBehind}
-use Rattle.rw_run.specs.Log.{Event, Log}
+use Rattle.rw_run.specs.Log.{Log}
 use Rattle.rw_run.specs.Next.{Policy}
 use Rattle.rw_run.specs.Reuse.{most_kept}
 use Rattle.rw_run.specs.RunOf.{lines}
 use Rattle.rw_run.specs.Step.{before_closing, before_opening, cell_count, events_of, reached_by}
 use Rattle.rw_record.specs.Record.{StepRecord}
-use Rattle.rw_rerun.specs.Kept.{AreKept, IsKept, IsKeptAs, IsKeepable, changed}
+use Rattle.rw_rerun.specs.Kept.{AreKept, AreLinked, IsKept, IsKeepable, IsLink, changed}
 
 -- by what it closed and its events
 pub keepable_same : (basin : Draft) (step : ℕ) (log other : Log) → before_closing step other ≡ before_closing step log → events_of step other ≡ events_of step log
@@ -53,6 +53,15 @@ kept_more basin policy step first log [] entry at are is =
     let here : step ≡ first = omega (arith, at) in (subst (λ k. IsKept basin policy log k entry) here is, tt)
 kept_more basin policy step first log (one ∷ kept) entry at are is =
     (are.0, kept_more basin policy step (first + 1) log kept entry (omega (arith, at)) are.1 is)
+
+pub linked_more : (basin : Draft) (policy : Policy) (step first : ℕ) (log end next : Log) (kept : List (Option StepRecord)) (entry : Option StepRecord)
+    → step ≡ first + length kept → AreLinked basin policy first log kept end → IsLink basin policy step end entry next
+    → AreLinked basin policy first log (kept ++ entry ∷ []) next
+linked_more basin policy step first log end next [] entry at are is =
+    let here : step ≡ first = omega (arith, at) in
+    (next, subst (λ k. IsLink basin policy k log entry next) here (subst (λ l. IsLink basin policy step l entry next) are is), refl)
+linked_more basin policy step first log end next (one ∷ kept) entry at are is =
+    (are.0, are.1, linked_more basin policy step (first + 1) are.0 end next kept entry (omega (arith, at)) are.2 is)
 
 -- ---- changes
 

@@ -6,3 +6,5 @@ pub mod Counted
 pub mod Goings
 pub mod Sessions
 pub mod Exchanges
+pub mod Begun
+pub mod Beginning

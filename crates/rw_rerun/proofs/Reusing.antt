@@ -1,5 +1,5 @@
 -- A timestep is taken over exactly where it is reused.
-use Rattle.rw_base.proofs.Common.{◌≡◌, ◌≢◌, ◌⊎◌, ◌↔◌, ◌<◌, ◌≤◌, ◌+◌, ◌==◌, ◌∙◌, ℕ, zero, suc, Bool, true, false, false≢true, nat_lt, List, [], ◌∷◌, ◌++◌, map, All, All-cons, All-head, All-nil, All-push, All-tail, Contains, Option, Some, None, IsSome, IfSome, length, length-append, refl, sym, ap, subst, arith, inl, inr, nat_tests, same_Some, none-some}
+use Rattle.rw_base.proofs.Common.{◌≡◌, ◌≢◌, ◌⊎◌, ◌↔◌, ◌<◌, ◌≤◌, ◌+◌, ◌==◌, ◌∙◌, ℕ, zero, suc, Bool, true, false, false≢true, nat_lt, List, [], ◌∷◌, ◌++◌, map, All, All-cons, All-head, All-nil, All-push, All-tail, Contains, Option, Some, None, IsSome, IfSome, length, length-append, refl, sym, ap, subst, arith, inl, inr, nat_tests, same_Some}
 use Rattle.std.proofs.lemmas.List.Elements.{Contains-append_cases, Contains-append_left, Contains-append_right}
 use Rattle.std.specs.List.{flat_map}
 use Rattle.rw_base.specs.declared.number.Cell.{Cell}
@@ -10,12 +10,11 @@ use Rattle.rw_run.specs.Frame.{AreAlike, log_after}
 use Rattle.rw_run.specs.Log.{Cells, Event, Log, cells_of, opened}
 use Rattle.rw_run.specs.Next.{Policy}
 use Rattle.rw_run.specs.Reuse.{AreRerun, AreRising, IsReused}
-use Rattle.rw_run.specs.Step.{before_opening, events_of, looked_at, reached_by}
-use Rattle.rw_run.specs.Timestep.{AreLooked}
+use Rattle.rw_run.specs.Step.{before_opening, looked_at, reached_by}
 use Rattle.rw_run.specs.declared.held.Held.{Held}
 use Rattle.rw_record.specs.Noted.{AreHeld}
 use Rattle.rw_record.specs.Record.{StepRecord}
-use Rattle.rw_rerun.specs.Kept.{IsKept, IsKeptAs, IsKeepable}
+use Rattle.rw_rerun.specs.Kept.{IsKept, IsKeptAs}
 
 -- ---- what events reach, whichever of them is the newest
 

@@ -1,5 +1,5 @@
 -- What a run comes to for its session.
-use Rattle.rw_base.proofs.Common.{◌≡◌, ◌<◌, ◌≤◌, ◌+◌, ◌∙◌, ℕ, zero, suc, Bool, false, false≢true, List, [], ◌∷◌, Contains, Option, Some, None, Ok, IsSome, IfSome, get_or, length, refl, sym, ap, subst, arith, replicate, same_Some, none-some, slice_get}
+use Rattle.rw_base.proofs.Common.{◌≡◌, ◌<◌, ◌+◌, ◌∙◌, ℕ, zero, suc, false≢true, List, [], ◌∷◌, Option, Some, None, Ok, IfSome, get_or, length, refl, sym, ap, subst, arith, replicate, same_Some, none-some, slice_get}
 use Rattle.std.proofs.lemmas.Option.{slice_get_read}
 use Rattle.rw_model.specs.Draft.{Draft}
 use Rattle.rw_inputs.specs.Edits.{Batch, after_batch}
@@ -8,9 +8,7 @@ use Rattle.rw_inputs.specs.Inputs.{Inputs, IsInputsOf, value_at}
 use Rattle.rw_run.specs.Frame.{IsFramed}
 use Rattle.rw_run.specs.Log.{Log}
 use Rattle.rw_run.specs.Next.{Policy}
-use Rattle.rw_run.specs.Reuse.{AreOpened, AreRerun, IsReused}
-use Rattle.rw_run.specs.Runs.{IsRun}
-use Rattle.rw_run.specs.Step.{before_closing, before_opening}
+use Rattle.rw_run.specs.Reuse.{AreRerun}
 use Rattle.rw_run.proofs.OneRun.{one_run}
 use Rattle.rw_record.specs.Record.{StepRecord}
 use Rattle.rpl_verify.specs.Verified.{Accepted}
@@ -44,6 +42,7 @@ module _ (basin : Draft) (policy : Accepted) (inputs : Inputs) (earlier : Log) (
     shows = way.shows;
     many = length_changed was pass.changes.items (let all = way.many in omega (arith, many, all)) ∙ way.many;
     kept = way.kept;
+    linked = way.linked;
   }
 
 -- ---- the first run

@@ -1,33 +1,24 @@
 -- A run on its way, one timestep on.
-use Rattle.rw_base.proofs.Common.{◌≡◌, ◌≢◌, ◌<◌, ◌≤◌, ◌+◌, ◌∙◌, ℕ, ℤ, Bool, true, false, List, [], ◌∷◌, ◌++◌, map, Contains, Option, Some, None, IsSome, IfSome, unwrap_or, length, length-append, refl, sym, ap, subst, arith, inl, inr, false≢true, slice_get, slice_get_within}
-use Rattle.rw_base.specs.declared.number.Cell.{Cell}
+use Rattle.rw_base.proofs.Common.{◌≡◌, ◌<◌, ◌≤◌, ◌+◌, ◌∙◌, ℕ, Bool, true, false, List, [], ◌∷◌, ◌++◌, Option, Some, None, IsSome, unwrap_or, length, length-append, refl, sym, ap, subst, arith, false≢true, slice_get, slice_get_within}
 use Rattle.rw_base.specs.declared.number.StepNo.{StepNo}
 use Rattle.rw_model.specs.Draft.{Draft}
 use Rattle.rw_inputs.specs.Givens.{givens}
 use Rattle.rw_inputs.specs.Inputs.{Inputs}
-use Rattle.rw_series.specs.Series.{held}
 use Rattle.rw_run.specs.Behind.{IsBehind}
-use Rattle.rw_run.specs.Frame.{log_after}
-use Rattle.rw_run.specs.Log.{Event, Log, cells_of, closed, fault, opened}
+use Rattle.rw_run.specs.Log.{Event, Log}
 use Rattle.rw_run.specs.Next.{Policy}
-use Rattle.rw_run.specs.Reuse.{AreRerun, IsReused}
-use Rattle.rw_run.specs.Runs.{IsOver, IsRun, Leads, over, placed, rests, standing}
+use Rattle.rw_run.specs.Reuse.{AreRerun}
+use Rattle.rw_run.specs.Runs.{IsOver, IsRun, Leads, placed, rests, standing}
 use Rattle.rw_run.specs.Step.{before_closing, before_opening, events_of}
-use Rattle.rw_run.specs.Timestep.{IsTimestep}
-use Rattle.rw_run.specs.declared.fault.RunFault.{RunFault}
-use Rattle.rw_record.specs.Noted.{AreHeld}
 use Rattle.rw_record.specs.Record.{StepRecord}
-use Rattle.rw_engine.specs.Engine.{Engine}
-use Rattle.rw_engine.specs.Passing.{Passes}
 use Rattle.rw_engine.specs.Shows.{IsBefore, Shows}
-use Rattle.rw_engine.specs.declared.step_end.StepEnd.TheVariants.{Closed as IsClosed, Fault as IsFault}
-use Rattle.rw_rerun.specs.Kept.{AreKept, IsKept, IsKeepable, changed}
+use Rattle.rw_rerun.specs.Kept.{AreKept, AreLinked, IsKept, IsLink, changed}
 use Rattle.rw_rerun.specs.Session.{numbers_of}
 use Rattle.rw_rerun.specs.UnderWay.{IsUnderWay, stands_at}
 use Rattle.rw_rerun.specs.declared.pass.Pass.{Pass}
-use Rattle.rw_rerun.proofs.Keeping.{changed_more, kept_more, length_changed, still_kept}
+use Rattle.rw_rerun.proofs.Keeping.{changed_more, kept_more, length_changed, linked_more, still_kept}
 
-leads_more : (basin : Draft) (policy : Policy) (old : Log) (first last : List Event) (mid new : Log) → Leads basin policy old first mid
+pub leads_more : (basin : Draft) (policy : Policy) (old : Log) (first last : List Event) (mid new : Log) → Leads basin policy old first mid
     → Leads basin policy mid last new → Leads basin policy old (first ++ last) new
 leads_more basin policy old [] last mid new one other = subst (λ log. Leads basin policy log last new) one other
 leads_more basin policy old (event ∷ first) last mid new one other = (one.0, leads_more basin policy (event ∷ old) first last mid new one.1 other)
@@ -55,11 +46,19 @@ module _ (basin : Draft) (policy : Policy) (inputs : Inputs) (earlier : Log) (wa
   changed_now : changed was new.changes.items ≡ changed was old.changes.items ++ unwrap_or change entry ∷ []
   changed_now = ap (changed was) changes ∙ changed_more was old.changes.items entry change (ap (slice_get was) way.many ∙ there)
 
+  linked_now : (log : Log) → IsLink basin policy step way.log (unwrap_or change entry) log
+      → AreLinked basin policy 1 (placed [] (givens basin inputs)) (changed was new.changes.items) log
+  linked_now log link =
+      let many = kept_so_far in
+      subst (λ kept. AreLinked basin policy 1 (placed [] (givens basin inputs)) kept log) (sym changed_now)
+      (linked_more basin policy step 1 (placed [] (givens basin inputs)) way.log log (changed was old.changes.items) (unwrap_or change entry)
+      (omega (arith, many, next_one)) way.linked link)
+
   -- one timestep more was passed
   pub one_on : (log : Log) (more : List Event) → Leads basin policy way.log more log → Shows basin new.engine log → standing log ≡ stands_at new.over step
       → IsBehind step way.log log → AreRerun basin earlier log (numbers_of new.reran.items) → IsKept basin policy log step (unwrap_or change entry)
-      → IsUnderWay basin policy inputs earlier was new step
-  one_on log more leads shows stands behind rerun kept = record {
+      → IsLink basin policy step way.log (unwrap_or change entry) log → IsUnderWay basin policy inputs earlier was new step
+  one_on log more leads shows stands behind rerun kept link = record {
     many = so_many;
     log = log;
     events = way.events ++ more;
@@ -72,6 +71,7 @@ module _ (basin : Draft) (policy : Policy) (inputs : Inputs) (earlier : Log) (wa
         subst (AreKept basin policy log 1) (sym changed_now)
         (kept_more basin policy step 1 log (changed was old.changes.items) (unwrap_or change entry) (omega (arith, many, next_one))
         (still_kept basin policy step 1 way.log log (changed was old.changes.items) behind (omega (arith, many, next_one)) way.kept) kept);
+    linked = linked_now log link;
   }
 
   -- behind a fault nothing happens
@@ -90,6 +90,7 @@ module _ (basin : Draft) (policy : Policy) (inputs : Inputs) (earlier : Log) (wa
         subst (AreKept basin policy way.log 1) (sym changed_now)
         (kept_more basin policy step 1 way.log (changed was old.changes.items) (unwrap_or change entry) (omega (arith, many, next_one)) way.kept
         (subst (λ c. IsKept basin policy way.log step (unwrap_or c entry)) (sym nothing) (not_kept basin policy step way.log unclosed)));
+    linked = linked_now way.log (subst (λ c. IsLink basin policy step way.log (unwrap_or c entry) way.log) (sym nothing) tt);
   }
 
   -- the timestep may be passed
@@ -128,6 +129,7 @@ first_way basin policy inputs earlier was pass changes reran goes shows stands n
     );
   });
   kept = subst (λ cs. AreKept basin policy (placed [] (givens basin inputs)) 1 (changed was cs)) (sym changes) tt;
+  linked = subst (λ cs. AreLinked basin policy 1 (placed [] (givens basin inputs)) (changed was cs) (placed [] (givens basin inputs))) (sym changes) refl;
 }
 
 over_by : (basin : Draft) (is_over : Bool) → IsOver basin (stands_at is_over basin.control.stamps.count)

@@ -1,11 +1,13 @@
 -- The timesteps of a run, as they are kept for the next one.
-use Rattle.std.specs.Prelude.{◌≡◌, ◌≤◌, ◌+◌, ℕ, List, [], ◌∷◌, Option, Some, None, IsSome, unwrap_or}
+use Rattle.std.specs.Prelude.{length, ◌≡◌, ◌≤◌, ◌+◌, ℕ, List, [], ◌∷◌, Option, Some, None, IsSome, unwrap_or}
+use Rattle.std.specs.List.{flat_map}
 use Rattle.rw_model.specs.Draft.{Draft}
 use Rattle.rw_run.specs.Frame.{log_after}
 use Rattle.rw_run.specs.Log.{Event, Log, opened}
 use Rattle.rw_run.specs.Next.{Policy}
 use Rattle.rw_run.specs.Reuse.{most_kept}
-use Rattle.rw_run.specs.Step.{before_closing, before_opening, cell_count, events_of, line_count, looked_at}
+use Rattle.rw_run.specs.RunOf.{lines}
+use Rattle.rw_run.specs.Step.{before_closing, before_opening, cell_count, events_of, line_count, looked_at, reached_by}
 use Rattle.rw_run.specs.Timestep.{IsTimestep}
 use Rattle.rw_record.specs.Record.{StepRecord}
 use Rattle.rw_engine.specs.Records.{RecordsThese}
@@ -36,6 +38,28 @@ IsKept basin policy log step (Some kept) = IsKeptAs basin policy log step kept
 abbrev pub AreKept : Draft → Policy → Log → ℕ → List (Option StepRecord) → Type 0
 AreKept basin policy log step [] = Unit {0}
 AreKept basin policy log step (kept ∷ rest) = IsKept basin policy log step kept × AreKept basin policy log (step + 1) rest
+
+-- ---- how they stand one behind the other
+
+-- behind this log the timestep went so up to the next one, where it is kept
+pub record IsLinkOf (basin : Draft) (policy : Policy) (step : ℕ) (log : Log) (kept : StepRecord) (next : Log) : Type 0 where
+  pub first : Event
+  pub events : List Event
+  pub timestep : IsTimestep basin policy step log first events
+  pub these : RecordsThese basin step log (first ∷ events) kept
+  pub is : next ≡ log_after (first ∷ events) (opened step ∷ log)
+  pub few_cells : cell_count (flat_map (reached_by basin) (log_after (first ∷ events) (opened step ∷ []))) ≤ most_kept
+  pub few_lines : length (flat_map lines (log_after (first ∷ events) (opened step ∷ []))) ≤ most_kept
+
+abbrev pub IsLink : Draft → Policy → ℕ → Log → Option StepRecord → Log → Type 0
+IsLink basin policy step log None next = Unit {0}
+IsLink basin policy step log (Some kept) next = IsLinkOf basin policy step log kept next
+
+-- from this log on, up to the last one, timestep by timestep
+abbrev pub AreLinked : Draft → Policy → ℕ → Log → List (Option StepRecord) → Log → Type 0
+AreLinked basin policy step log [] end = end ≡ log
+AreLinked basin policy step log (kept ∷ rest) end =
+    (next : Log) × IsLink basin policy step log kept next × AreLinked basin policy (step + 1) next rest end
 
 -- ---- what a run changes of it
 

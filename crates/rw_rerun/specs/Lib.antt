@@ -1,3 +1,4 @@
 pub mod Kept
 pub mod Session
 pub mod UnderWay
+pub mod Begun

@@ -1,5 +1,5 @@
 -- A session: the run of some inputs, and its timesteps as they are kept.
-use Rattle.std.specs.Prelude.{◌≡◌, ◌≤◌, ◌+◌, ℕ, List, map, length, IfOk, IsSome, Option, Result}
+use Rattle.std.specs.Prelude.{◌≡◌, ◌≤◌, ◌+◌, ℕ, List, [], map, length, IfOk, IsSome, Option, Result}
 use Rattle.rw_base.specs.declared.memory.NoMemory.{NoMemory}
 use Rattle.rw_base.specs.declared.number.StepNo.{StepNo}
 use Rattle.rw_model.specs.Draft.{Draft}
@@ -8,13 +8,13 @@ use Rattle.rw_inputs.specs.Givens.{givens}
 use Rattle.rw_inputs.specs.Inputs.{Inputs, IsInputsOf, value_at}
 use Rattle.rw_run.specs.Log.{Log}
 use Rattle.rw_run.specs.Reuse.{AreOpened, AreRerun}
-use Rattle.rw_run.specs.Runs.{IsRun}
+use Rattle.rw_run.specs.Runs.{IsRun, placed}
 use Rattle.rw_record.specs.Record.{StepRecord}
 use Rattle.rw_engine.specs.Engine.{Engine}
 use Rattle.rw_engine.specs.Shows.{IsEngineOf, Shows}
 use Rattle.rpl_verify.specs.Verified.{Accepted}
 use Rattle.rw_rules.specs.Rules.{policy_in}
-use Rattle.rw_rerun.specs.Kept.{AreKept}
+use Rattle.rw_rerun.specs.Kept.{AreKept, AreLinked}
 
 -- its inputs, the engine of their run, what is kept of each timestep, and the timesteps that its last run ran
 pub record Session : Type 0 where
@@ -36,6 +36,7 @@ pub record IsSessionOf (basin : Draft) (policy : Accepted) (session : Session) :
   pub shows : Shows basin session.engine log
   pub many : length session.kept ≡ basin.control.stamps.count
   pub kept : AreKept basin (policy_in basin policy) log 1 session.kept
+  pub linked : AreLinked basin (policy_in basin policy) 1 (placed [] (givens basin session.inputs)) session.kept log
 
 -- it was started: each timestep was run that the run opened
 pub record IsStarted (basin : Draft) (policy : Accepted) (inputs : Inputs) (session : Session) : Type 0 where

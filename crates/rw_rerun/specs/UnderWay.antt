@@ -1,5 +1,5 @@
 -- A run on its way, timestep by timestep, with an earlier one to go by.
-use Rattle.std.specs.Prelude.{◌≡◌, ◌≢◌, ◌≤◌, ◌<◌, ◌+◌, ℕ, Bool, true, false, List, [], ◌∷◌, length, IfOk, IfSome, IsSome, Option, Some, Result, slice_get}
+use Rattle.std.specs.Prelude.{◌≡◌, ◌≤◌, ◌<◌, ◌+◌, ℕ, Bool, true, false, List, [], length, IfOk, IfSome, IsSome, Option, Some, Result, slice_get}
 use Rattle.rw_base.specs.declared.memory.NoMemory.{NoMemory}
 use Rattle.rw_model.specs.Draft.{Draft}
 use Rattle.rw_inputs.specs.Givens.{givens}
@@ -17,7 +17,7 @@ use Rattle.rw_engine.specs.Records.{CanWriteLines}
 use Rattle.rw_engine.specs.Shows.{IsEngineOf, Shows}
 use Rattle.rpl_verify.specs.Verified.{Accepted}
 use Rattle.rw_rules.specs.Rules.{policy_in}
-use Rattle.rw_rerun.specs.Kept.{AreKept, IsKept, changed}
+use Rattle.rw_rerun.specs.Kept.{AreKept, AreLinked, IsKept, changed}
 use Rattle.rw_rerun.specs.Session.{numbers_of}
 use Rattle.rw_rerun.specs.declared.pass.Pass.{Pass}
 
@@ -38,6 +38,7 @@ pub record IsUnderWay (basin : Draft) (policy : Policy) (inputs : Inputs) (earli
   pub later : (other : ℕ) → step < other → events_of other log ≡ []
   pub rerun : AreRerun basin earlier log (numbers_of pass.reran.items)
   pub kept : AreKept basin policy log 1 (changed was pass.changes.items)
+  pub linked : AreLinked basin policy 1 (placed [] (givens basin inputs)) (changed was pass.changes.items) log
 
 -- its engine is one of the basin and the policy, and keeps a trace
 pub record IsPassOf (basin : Draft) (policy : Accepted) (pass : Pass) : Type 0 where

@@ -4,6 +4,7 @@
 #![tactic(auto)]
 
 mod exchange;
+pub mod law;
 mod pass;
 mod passing;
 mod session;

@@ -1,4 +1,4 @@
-use Rattle.rw_base.proofs.Common.{Some, [], ap, arith, length, refl, slice_get, subst, ◌+◌, ◌<◌, ◌≡◌}
+use Rattle.rw_base.proofs.Common.{Some, [], ap, arith, length, refl, slice_get, subst, ◌<◌, ◌≡◌}
 use Rattle.rw_model.specs.declared.control.RunControl.{RunControl}
 use Rattle.rw_inputs.specs.Givens.{givens}
 use Rattle.rw_run.proofs.Passings.{begun, nothing_of}

@@ -1,4 +1,4 @@
-use Rattle.rw_base.proofs.Common.{List, Option, length, ◌+◌, ◌≡◌, ◌≤◌}
+use Rattle.rw_base.proofs.Common.{length, ◌+◌, ◌≡◌, ◌≤◌}
 use Rattle.rw_run.specs.Log.{Log}
 use Rattle.rw_rules.specs.Rules.{policy_in}
 use Rattle.rw_rerun.specs.Kept.{AreKept}

@@ -1,0 +1,63 @@
+//! How a run begins again, as a law: a function that does nothing, and whose contract is the law.
+ghost use Rattle.std.specs.Prelude.{◌≡◌, ◌≤◌, ℕ, ◌+◌, ◌++◌, List, [], Contains, Option, Some, length, map, pos};
+ghost use Rattle.rw_base.specs.declared.number.Cell.{Cell};
+ghost use Rattle.rw_model.specs.Draft.{Draft};
+ghost use Rattle.rw_model.specs.declared.control.AgendaOrder.TheVariants.{HighFirst};
+ghost use Rattle.rw_run.specs.Dispatch.{cell_at};
+ghost use Rattle.rw_run.specs.Frame.{IsFramed, log_after};
+ghost use Rattle.rw_run.specs.Log.{Log, cells_of, input_content};
+ghost use Rattle.rw_run.specs.Next.{Policy};
+ghost use Rattle.rw_run.specs.Runs.{placed, rests, standing};
+ghost use Rattle.rw_run.specs.Worked.{basin_of, raised, raised_twice, three};
+ghost use Rattle.rw_inputs.specs.Inputs.{Inputs};
+ghost use Rattle.rw_record.specs.Record.{StepRecord};
+ghost use Rattle.rw_run.specs.Step.{events_of};
+ghost use Rattle.rw_rerun.specs.Kept.{AreKept, AreLinked};
+ghost use Rattle.rw_rerun.specs.Begun.{AreAlikeIn, AreTimesteps, HasTakenOver, HoldAlike, TakesOver, Went, cells_put, cells_touched, log_behind, raised_days};
+
+use rw_run::law::reuse;
+
+/// First timesteps go behind other inputs as they went, where all is held alike at which they looked or which their puts reached.
+/// A cell that was alike before them is alike behind them, and one to which they put nothing holds what it held.
+pub fn begun()
+    ensures timesteps { (basin : Draft) (policy : Policy) (step last : ℕ) (one other : Log)
+        (steps : List Went) → IsFramed policy → AreTimesteps basin policy step steps one
+        → standing other ≡ rests last → step ≡ last + 1
+        → HoldAlike basin one other (cells_touched basin steps)
+        → AreTimesteps basin policy step steps other }
+    ensures alike { (basin : Draft) (step : ℕ) (one other : Log) (steps : List Went) (cell : Cell)
+        → cells_of basin one cell ≡ cells_of basin other cell
+        → cells_of basin (log_behind step steps one) cell
+        ≡ cells_of basin (log_behind step steps other) cell }
+    ensures unmoved { (basin : Draft) (step : ℕ) (log : Log) (steps : List Went) (cell : Cell)
+        → ¬ Contains (cells_put basin steps) cell
+        → cells_of basin (log_behind step steps log) cell ≡ cells_of basin log cell }
+{
+    reuse();
+}
+
+/// Where kept timesteps stand one behind the other in one run, and another run has come behind as many before them and holds all
+/// alike that their records hold, it takes them over too, and what was alike before them is alike behind them.
+pub fn taking_over()
+    ensures { (basin : Draft) (policy : Policy) (inputs : Inputs) (earlier : Log)
+        (records : List StepRecord) (step last : ℕ) (one other end : Log)
+        (all_kept : List (Option StepRecord)) → IsFramed policy → step ≡ last + 1
+        → last + length records ≤ basin.control.stamps.count
+        → AreLinked basin policy step one (map (λ kept. Some kept) records) end
+        → ((other : ℕ) → step ≤ other → events_of other one ≡ [])
+        → HasTakenOver basin policy inputs earlier all_kept other last
+        → AreKept basin policy earlier step (map (λ kept. Some kept) records)
+        → AreAlikeIn basin one other records
+        → TakesOver basin policy inputs earlier (all_kept ++ map (λ kept. Some kept) records)
+        one other end (last + length records) }
+{}
+
+/// Two days on which a rule looks at X go so where nothing is given, and where Y is given on the first one, which is held then.
+pub fn worked_beginning()
+    ensures first { AreTimesteps (basin_of HighFirst 2) raised 1 raised_days [] }
+    ensures again { AreTimesteps (basin_of HighFirst 2) raised 1 raised_days (placed [] three) }
+    ensures whole { log_behind 1 raised_days (placed [] three)
+        ≡ log_after raised_twice (placed [] three) }
+    ensures held { cells_of (basin_of HighFirst 2) (log_behind 1 raised_days (placed [] three))
+        (cell_at 2 1) ≡ Some (input_content (pos 3)) }
+{}
