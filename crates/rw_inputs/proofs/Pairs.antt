@@ -1,5 +1,5 @@
 -- Values, of which those are kept that are given.
-use Rattle.rw_base.proofs.Common.{◌≡◌, ◌≢◌, ℕ, zero, suc, ◌+◌, ◌==◌, ◌<◌, ◌≤◌, ◌&&◌, Bool, true, false, if◌then◌else◌, List, [], ◌∷◌, length, Some, None, inl, inr, refl, sym, ap, ◌∙◌, arith, ℤ, nat_le, slice_index_or, slice_set, nat_tests, get_or-set_same, get_or-set_other, get_or_past, dec_lt}
+use Rattle.rw_base.proofs.Common.{◌≡◌, ◌≢◌, ℕ, zero, suc, ◌+◌, ◌==◌, ◌<◌, ◌≤◌, ◌&&◌, Bool, MatchBool, not, true, false, if◌then◌else◌, List, [], ◌∷◌, length, Some, None, inl, inr, refl, sym, ap, ◌∙◌, arith, ℤ, nat_le, slice_index_or, slice_set, nat_tests, get_or-set_same, get_or-set_other, get_or_past, dec_lt}
 use Rattle.rw_inputs.specs.Column.{Column, HasPlaces, IsColumn, IsPaired, IsSet, given_values, value_in}
 
 -- what is kept at a timestep is what stands in its place, where that is given
@@ -26,6 +26,16 @@ pub length-given : (given : List Bool) (values : List ℤ) → length given ≡ 
 length-given [] values same = same
 length-given (g ∷ given) [] same = absurd (omega (arith, same))
 length-given (g ∷ given) (v ∷ values) same = let rest : length given ≡ length values = omega (arith, same) in ap suc (length-given given values rest)
+
+-- there are places exactly where it is said of some whether their values are given
+pub places-seen : (given : List Bool) (values : List ℤ) (none : Bool) → none ≡ (length given == 0) → IsPaired given values
+    → MatchBool (not none) (given_values given values ≢ []) (given_values given values ≡ [])
+places-seen [] values true is paired = refl
+places-seen [] values false is paired = absurd (grind (arith, nat_tests))
+places-seen (g ∷ given) values true is paired = absurd (grind (arith, nat_tests))
+places-seen (g ∷ given) [] false is (inl empty) = absurd (cc)
+places-seen (g ∷ given) [] false is (inr same) = absurd (omega (arith, same))
+places-seen (g ∷ given) (v ∷ values) false is paired = λ empty. absurd (cc)
 
 -- a value is given in its place, or is no longer given
 pub set-given : (given : List Bool) (values : List ℤ) (step : ℕ) (kept : Bool) (value : ℤ) → length given ≡ length values

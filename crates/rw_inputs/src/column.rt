@@ -1,4 +1,4 @@
-ghost use Rattle.std.specs.Prelude.{◌≡◌, ◌⊎◌, ℕ, ◌+◌, ◌≤◌, ◌<◌, [], true, false, Ok, Some, None, IfOk, OnOk, OnErr, MatchBool, if◌then◌else◌, length, slice_index_or};
+ghost use Rattle.std.specs.Prelude.{◌≡◌, ◌≢◌, ◌⊎◌, ℕ, ◌+◌, ◌≤◌, ◌<◌, [], true, false, Ok, Some, None, IfOk, OnOk, OnErr, MatchBool, if◌then◌else◌, length, slice_index_or};
 ghost use Rattle.rw_inputs.specs.Column.{HasMore, HasPlaces, IsColumn, IsFree, IsKept, IsPaired, IsSet, IsTaken, given_values, value_in};
 
 use crate::edit::Edit;
@@ -187,6 +187,13 @@ impl Column {
             values: Vec::new(alloc),
             given: Vec::new(alloc),
         }
+    }
+
+    /// Whether there is a place for each timestep.
+    pub fn has_places(&self) -> bool
+        ensures { MatchBool result (self.now ≢ []) (self.now ≡ []) }
+    {
+        !self.given.is_empty()
     }
 
     /// What is kept at a timestep, nothing where there is no such timestep.

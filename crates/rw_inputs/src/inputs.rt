@@ -1,4 +1,4 @@
-ghost use Rattle.std.specs.Prelude.{◌≡◌, ◌⊎◌, [], ℕ, true, false, Ok, IfOk, OnErr, OnOk, length};
+ghost use Rattle.std.specs.Prelude.{◌≡◌, ◌≢◌, ◌⊎◌, [], ℕ, true, false, Ok, MatchBool, IfOk, OnErr, OnOk, length};
 ghost use Rattle.rw_inputs.specs.Inputs.{column_of, value_at, kept_slot, IsInputsOf, Keeps};
 ghost use Rattle.rw_model.specs.Draft.{IsSlot};
 ghost use Rattle.rw_inputs.specs.Sound.{IsGiven};
@@ -88,6 +88,17 @@ impl Inputs {
         match self.columns.get(usize::from(c.slot.0)) {
             Some(column) => column.value(c.step.0),
             None => None,
+        }
+    }
+
+    /// Whether the slot has places for values. Where it hasn't, nothing is kept of it at any timestep.
+    pub fn has_places(&self, slot: SlotNo) -> bool
+        ensures { MatchBool result (column_of self.now.columns slot.0 ≢ [])
+            (column_of self.now.columns slot.0 ≡ []) }
+    {
+        match self.columns.get(usize::from(slot.0)) {
+            Some(column) => column.has_places(),
+            None => false,
         }
     }
 
