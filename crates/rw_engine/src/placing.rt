@@ -44,6 +44,9 @@ fn place_slot(basin: &Basin, inputs: &Inputs, series: &mut Series, slot: SlotNo)
         → HoldsAll basin.now series.new
         (placed log (givens_of inputs.now slot.0 basin.now.control.stamps.count)) }
 {
+    if !inputs.has_places(slot) {
+        return;
+    }
     let steps = basin.control().stamps.count();
     for before in 0..steps {
         let step = StepNo(before + 1);

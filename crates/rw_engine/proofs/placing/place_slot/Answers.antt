@@ -1,5 +1,5 @@
-use Rattle.rw_engine.proofs.Common.{RunControl, ap, arith, cells_of, givens_of, placed, ◌∙◌, ◌≡◌}
-use Rattle.rw_engine.proofs.Places.{one-more}
+use Rattle.rw_engine.proofs.Common.{RunControl, ap, arith, cells_of, givens_of, placed, sym, ◌∙◌, ◌≡◌}
+use Rattle.rw_engine.proofs.Places.{none-given, one-more}
 use Rattle.rw_engine.proofs.placing.place_slot.Goals as goal
 
 pub loop-before-preserved : goal.loop-before-preserved
@@ -14,3 +14,8 @@ returns-clause-placed c log holds cell =
     let steps = all ∙ c.count-steps.ensures.value ∙ ap (λ (control : RunControl). control.stamps.count) c.control.ensures in
     c.loop-before.invariant.placed_so_far log holds cell
     ∙ ap (λ n. cells_of c.args.basin.now (placed log (givens_of c.args.inputs.now c.args.slot.0 n)) cell) steps
+
+pub returns-then-not-has_places-clause-placed : goal.returns-then-not-has_places-clause-placed
+returns-then-not-has_places-clause-placed c log holds cell =
+    let none = none-given c.args.inputs.now c.args.slot.0 c.args.basin.now.control.stamps.count c.if-not-has_places.ensures in
+    holds cell ∙ ap (λ given. cells_of c.args.basin.now (placed log given) cell) (sym none)
