@@ -1,4 +1,6 @@
 pub mod Section
+pub mod Sheet
+pub mod Kept
 pub mod Flags
 pub mod Lines
 pub mod Outcome

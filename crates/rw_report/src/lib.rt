@@ -1,20 +1,24 @@
 //! The texts of a run. `section` answers how the run of a batch ended, and a table of what every slot held at each timestep
-//! that was closed, and which timesteps were run again, who wrote each value, and what happened, where it is asked. `why`
-//! answers how one cell came to what it holds. Each answers exactly the text that `specs/` defines, for any run that closed
-//! no more timesteps than the basin has, and want of memory is its one other answer. Each cell and each line of a trace is
-//! read once, and takes no memory but its place in the text.
+//! that was closed, and which timesteps were run again, who wrote each value, and what happened, where it is asked. A `Sheet`
+//! tells such texts of a basin's runs one after another, and tells again those lines of the table alone of which a value
+//! changed. `why` answers how one cell came to what it holds. Each answers exactly the text that `specs/` defines, for any run
+//! that closed no more timesteps than the basin has, and want of memory is its one other answer. Each cell and each line of a
+//! trace is read once.
 #![tactic(auto)]
 
 mod cell;
 mod flags;
 mod heading;
+mod kept;
 pub mod law;
 mod lines;
 mod names;
 mod numbers;
+mod sheet;
 mod table;
 mod whole;
 
 pub use cell::why;
 pub use lines::line_at;
+pub use sheet::Sheet;
 pub use whole::section;

@@ -92,8 +92,8 @@ fn push_stamp(alloc: Global, text: &mut String, basin: &Basin, step: u16) -> Res
     Ok(())
 }
 
-// Appends the line of a timestep.
-fn push_row(
+/// Appends the line of a timestep.
+pub(crate) fn push_row(
     alloc: Global,
     text: &mut String,
     basin: &Basin,

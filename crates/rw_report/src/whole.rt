@@ -68,7 +68,7 @@ fn push_reran(text: &mut String, reran: Option<&[StepNo]>) -> Result<(), NoMemor
     }
 }
 
-fn push_top(
+pub(crate) fn push_top(
     text: &mut String,
     basin: &Basin,
     batch: u32,
@@ -91,7 +91,12 @@ fn push_table(alloc: Global, text: &mut String, basin: &Basin, run: &Run) -> Res
     push_rows(alloc, text, basin, &run.series, run.closed)
 }
 
-fn push_flags_if(text: &mut String, basin: &Basin, run: &Run, flags: bool) -> Result<(), NoMemory>
+pub(crate) fn push_flags_if(
+    text: &mut String,
+    basin: &Basin,
+    run: &Run,
+    flags: bool,
+) -> Result<(), NoMemory>
     ensures { OnOk result (string_bytes text.new ≡ string_bytes text.old
         ++ if_asked flags (flag_table basin.now (held run.now.series) run.now.closed)) }
 {
@@ -102,7 +107,12 @@ fn push_flags_if(text: &mut String, basin: &Basin, run: &Run, flags: bool) -> Re
     }
 }
 
-fn push_trace_if(text: &mut String, basin: &Basin, run: &Run, trace: bool) -> Result<(), NoMemory>
+pub(crate) fn push_trace_if(
+    text: &mut String,
+    basin: &Basin,
+    run: &Run,
+    trace: bool,
+) -> Result<(), NoMemory>
     ensures { OnOk result (string_bytes text.new ≡ string_bytes text.old
         ++ if_asked trace (trace_words basin.now (lines_in run.now.trace))) }
 {

@@ -218,7 +218,7 @@ fn write_runs<K: Sink, L: Ledger>(
     if extras.reuse {
         write_reused(alloc, setup, policy, extras, inputs, batches, steps, out)
     } else {
-        write_sections(alloc, setup, policy, extras, 0, inputs, batches, steps, out)
+        write_sections(alloc, setup, policy, extras, inputs, batches, steps, out)
     }
 }
 

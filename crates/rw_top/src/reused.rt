@@ -25,8 +25,8 @@ use rw_base::{Ledger, NoMemory, StepNo, Steps};
 use rw_engine::RunEnd;
 use rw_inputs::{Batch, Inputs};
 use rw_io::{Sink, WriteFault, write_all};
+use rw_report::Sheet;
 use rw_report::law::texts_of_runs;
-use rw_report::section;
 use rw_rerun::Session;
 use std::alloc::Global;
 
@@ -42,49 +42,44 @@ fn told<'s>(session: &'s Session<'_>, number: u32) -> Option<&'s [StepNo]>
     }
 }
 
-// The text of the section of a session's run, and how that ended.
-fn text_of_run(
-    alloc: Global,
+// Tells the section of a session's run, and answers how that ended.
+fn tell_run(
     session: &Session<'_>,
     extras: Extras,
     number: u32,
-) -> Result<(Vec<u8>, RunEnd), NoMemory>
+    sheet: &mut Sheet<'_>,
+) -> Result<RunEnd, NoMemory>
     requires made { IsSessionOf session.now.setup.basin.now
         session.now.setup.policy.now session.now.state }
     requires reuse { extras.reuse ≡ true }
-    ensures { (policy : Rules) (given : Given)
+    requires sheet { sheet.old.basin ≡ session.now.setup.basin.now }
+    ensures text { (policy : Rules) (given : Given)
         → IsCodeOf session.now.setup.basin.now policy session.now.setup.policy.now
         → IsNextSection session.now.setup.basin.now policy number given session.now.state
-        → IfOk result (λ pair. IsRulesText session.now.setup.basin.now policy extras
-        number given pair.1 pair.0.items) }
+        → IfOk result (λ end. IsRulesText session.now.setup.basin.now policy extras
+        number given end sheet.new.text) }
+    ensures sheet { sheet.new.basin ≡ sheet.old.basin }
 {
     texts_of_runs();
     let run = session.run();
     let reran = told(session, number);
-    let text = section(
-        alloc,
-        session.setup.basin,
-        number,
-        run,
-        reran,
-        extras.flags,
-        extras.trace,
-    )?;
-    Ok((text, run.end))
+    sheet.tell(number, run, reran, extras.flags, extras.trace)?;
+    Ok(run.end)
 }
 
 // Writes the section of a session's run, and answers how that ended.
 fn write_run<K: Sink>(
-    alloc: Global,
     session: &Session<'_>,
     extras: Extras,
     number: u32,
+    sheet: &mut Sheet<'_>,
     out: &mut K,
 ) -> Result<RunEnd, Refusal>
     requires made { IsSessionOf session.now.setup.basin.now
         session.now.setup.policy.now session.now.state }
     requires reuse { extras.reuse ≡ true }
-    ensures { (policy : Rules) (given : Given)
+    requires sheet { sheet.old.basin ≡ session.now.setup.basin.now }
+    ensures out { (policy : Rules) (given : Given)
         → IsCodeOf session.now.setup.basin.now policy session.now.setup.policy.now
         → IsNextSection session.now.setup.basin.now policy number given session.now.state
         → MatchResult result
@@ -92,12 +87,13 @@ fn write_run<K: Sink>(
         number given (change (K.seen out.old) (K.seen out.new)))
         (StopsAtOne (IsRulesText session.now.setup.basin.now policy extras)
         number given (change (K.seen out.old) (K.seen out.new))) }
+    ensures sheet { sheet.new.basin ≡ sheet.old.basin }
 {
-    let (text, end) = match text_of_run(alloc, session, extras, number) {
-        Ok(pair) => pair,
+    let end = match tell_run(session, extras, number, sheet) {
+        Ok(end) => end,
         Err(NoMemory) => return Err(Refusal::NoMemory),
     };
-    match write_all(out, &text) {
+    match write_all(out, sheet.text()) {
         Ok(()) => Ok(end),
         Err(WriteFault) => Err(Refusal::CannotWrite),
     }
@@ -105,12 +101,12 @@ fn write_run<K: Sink>(
 
 // Writes the section of a session's run, and one after each batch that is left.
 fn write_from<K: Sink, L: Ledger>(
-    alloc: Global,
     session: &mut Session<'_>,
     extras: Extras,
     number: u32,
     batches: &[Batch],
     steps: &mut Steps<L>,
+    sheet: &mut Sheet<'_>,
     out: &mut K,
 ) -> Result<RunEnd, Refusal>
     requires made { IsSessionOf session.old.setup.basin.now
@@ -120,6 +116,7 @@ fn write_from<K: Sink, L: Ledger>(
     requires batches { All (IsBatch session.old.setup.basin.now) batches.now }
     requires few { number + length batches.now ≤ 64 }
     requires reuse { extras.reuse ≡ true }
+    requires sheet { sheet.old.basin ≡ session.old.setup.basin.now }
     ensures { (policy : Rules) (given : Given)
         → IsCodeOf session.old.setup.basin.now policy session.old.setup.policy.now
         → IsNextSection session.old.setup.basin.now policy number given session.old.state
@@ -127,14 +124,14 @@ fn write_from<K: Sink, L: Ledger>(
         (length session.old.state.reran) (change (K.seen out.old) (K.seen out.new))
         (change steps.old steps.new) result }
 {
-    let end = match write_run(alloc, session, extras, number, out) {
+    let end = match write_run(session, extras, number, sheet, out) {
         Ok(end) => end,
         Err(refusal) => return Err(refusal),
     };
     match first_of(batches) {
         None => Ok(end),
         Some((batch, rest)) => match session.apply(batch, steps) {
-            Ok(()) => write_from(alloc, session, extras, number + 1, rest, steps, out),
+            Ok(()) => write_from(session, extras, number + 1, rest, steps, sheet, out),
             Err(NoMemory) => Err(Refusal::NoMemory),
         },
     }
@@ -180,7 +177,8 @@ fn write_by_code<K: Sink, L: Ledger>(
         Ok(session) => session,
         Err(NoMemory) => return Err(Refusal::NoMemory),
     };
-    write_from(alloc, &mut session, extras, 0, batches, steps, out)
+    let mut sheet = Sheet::new(alloc, setup.basin);
+    write_from(&mut session, extras, 0, batches, steps, &mut sheet, out)
 }
 
 /// Writes a section for inputs and one after each batch of edits, after which the timesteps alone are run again that a batch

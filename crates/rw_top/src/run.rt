@@ -21,8 +21,8 @@ use rpl_verify::Verified;
 use rw_base::{Ledger, NoMemory, Steps};
 use rw_engine::{Run, RunEnd, run_all, run_without_trace};
 use rw_inputs::Inputs;
+use rw_report::Sheet;
 use rw_report::law::texts_of_runs;
-use rw_report::section;
 use std::alloc::Global;
 
 /// The run by verified code, from inputs, with its trace where that is asked for.
@@ -135,8 +135,8 @@ pub(crate) fn run_by_policy<L: Ledger>(
     }
 }
 
-/// The text of the run by a policy that is accepted for the basin, from inputs, and how the run ended.
-pub(crate) fn text_by_policy<L: Ledger>(
+/// Tells the section of the run by a policy that is accepted for the basin, from inputs, and answers how the run ended.
+pub(crate) fn tell_by_policy<L: Ledger>(
     alloc: Global,
     setup: &RunSetup<'_>,
     policy: &Policy,
@@ -144,26 +144,21 @@ pub(crate) fn text_by_policy<L: Ledger>(
     number: u32,
     inputs: &Inputs,
     steps: &mut Steps<L>,
-) -> Result<(Vec<u8>, RunEnd), NoMemory>
+    sheet: &mut Sheet<'_>,
+) -> Result<RunEnd, NoMemory>
     requires fits { IsFit setup.now.basin.now policy.now }
     requires order { AreInOrder
         (map (λ b. code (b.vtable, b.value)) setup.now.methods.now.methods.items) }
     requires inputs { IsInputsOf setup.now.basin.now inputs.now }
     requires plain { extras.reuse ≡ false }
-    ensures { (before : Option Rows) → IfOk result (λ pair. IsRulesText setup.now.basin.now
+    requires sheet { sheet.old.basin ≡ setup.now.basin.now }
+    ensures text { (before : Option Rows) → IfOk result (λ end. IsRulesText setup.now.basin.now
         (policy_of policy.now) extras number (record { before = before; inputs = inputs.now })
-        pair.1 pair.0.items) }
+        end sheet.new.text) }
+    ensures sheet { sheet.new.basin ≡ sheet.old.basin }
 {
     texts_of_runs();
     let run = run_by_policy(alloc, setup, policy, extras.trace, inputs, steps)?;
-    let text = section(
-        alloc,
-        setup.basin,
-        number,
-        &run,
-        None,
-        extras.flags,
-        extras.trace,
-    )?;
-    Ok((text, run.end))
+    sheet.tell(number, &run, None, extras.flags, extras.trace)?;
+    Ok(run.end)
 }

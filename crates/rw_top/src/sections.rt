@@ -7,19 +7,20 @@ ghost use Rattle.rw_io.specs.Outside.{change};
 ghost use Rattle.rw_method.specs.Catalogue.{AreInOrder};
 ghost use Rattle.rw_top.specs.Ready.{IsFit};
 ghost use Rattle.rw_top.specs.RunText.{IsRulesText};
-ghost use Rattle.rw_top.specs.Sections.{AppendsAll, AppendsOne, StopsAmong, StopsAtOne};
+ghost use Rattle.rw_top.specs.Sections.{AppendsAll, AppendsOne, StopsAmong, StopsAtOne, first_given};
 ghost use Rattle.rw_top.specs.Seen.{policy_of};
 
 use crate::Refusal;
 use crate::extras::Extras;
 use crate::policy::Policy;
-use crate::run::text_by_policy;
+use crate::run::tell_by_policy;
 use crate::setup::RunSetup;
 use rw_base::{Ledger, NoMemory, Steps};
 use rw_engine::RunEnd;
 use rw_inputs::{Batch, Inputs, apply};
 use rw_io::{Sink, WriteFault, write_all};
 use rw_model::Basin;
+use rw_report::Sheet;
 use std::alloc::Global;
 
 // Writes the section of the run from inputs, and answers how the run ended.
@@ -31,6 +32,7 @@ fn write_section<K: Sink, L: Ledger>(
     number: u32,
     inputs: &Inputs,
     steps: &mut Steps<L>,
+    sheet: &mut Sheet<'_>,
     out: &mut K,
 ) -> Result<RunEnd, Refusal>
     requires order { AreInOrder
@@ -38,17 +40,19 @@ fn write_section<K: Sink, L: Ledger>(
     requires fits { IsFit setup.now.basin.now policy.now }
     requires inputs { IsInputsOf setup.now.basin.now inputs.now }
     requires plain { extras.reuse ≡ false }
-    ensures { (before : Option Rows) → MatchResult result
+    requires sheet { sheet.old.basin ≡ setup.now.basin.now }
+    ensures out { (before : Option Rows) → MatchResult result
         (AppendsOne (IsRulesText setup.now.basin.now (policy_of policy.now) extras)
         number (record { before = before; inputs = inputs.now }) (change (K.seen out.old) (K.seen out.new)))
         (StopsAtOne (IsRulesText setup.now.basin.now (policy_of policy.now) extras)
         number (record { before = before; inputs = inputs.now }) (change (K.seen out.old) (K.seen out.new))) }
+    ensures sheet { sheet.new.basin ≡ sheet.old.basin }
 {
-    let (text, end) = match text_by_policy(alloc, setup, policy, extras, number, inputs, steps) {
-        Ok(pair) => pair,
+    let end = match tell_by_policy(alloc, setup, policy, extras, number, inputs, steps, sheet) {
+        Ok(end) => end,
         Err(NoMemory) => return Err(Refusal::NoMemory),
     };
-    match write_all(out, &text) {
+    match write_all(out, sheet.text()) {
         Ok(()) => Ok(end),
         Err(WriteFault) => Err(Refusal::CannotWrite),
     }
@@ -76,13 +80,65 @@ pub(crate) fn first_of(batches: &[Batch]) -> Option<(&Batch, &[Batch])>
     }
 }
 
+// Writes a section for inputs, and one after each batch that is left.
+fn write_from<K: Sink, L: Ledger>(
+    alloc: Global,
+    setup: &RunSetup<'_>,
+    policy: &Policy,
+    extras: Extras,
+    number: u32,
+    inputs: Inputs,
+    batches: &[Batch],
+    steps: &mut Steps<L>,
+    sheet: &mut Sheet<'_>,
+    out: &mut K,
+) -> Result<RunEnd, Refusal>
+    requires order { AreInOrder
+        (map (λ b. code (b.vtable, b.value)) setup.now.methods.now.methods.items) }
+    requires fits { IsFit setup.now.basin.now policy.now }
+    requires inputs { IsInputsOf setup.now.basin.now inputs }
+    requires batches { All (IsBatch setup.now.basin.now) batches.now }
+    requires few { number + length batches.now ≤ 64 }
+    requires plain { extras.reuse ≡ false }
+    requires sheet { sheet.old.basin ≡ setup.now.basin.now }
+    ensures { (before : Option Rows) → MatchResult result
+        (AppendsAll (IsRulesText setup.now.basin.now (policy_of policy.now) extras)
+        number (record { before = before; inputs = inputs }) batches.now (change (K.seen out.old) (K.seen out.new)))
+        (StopsAmong (IsRulesText setup.now.basin.now (policy_of policy.now) extras)
+        number (record { before = before; inputs = inputs }) batches.now (change (K.seen out.old) (K.seen out.new))) }
+{
+    let end = match write_section(
+        alloc, setup, policy, extras, number, &inputs, steps, sheet, out,
+    ) {
+        Ok(end) => end,
+        Err(refusal) => return Err(refusal),
+    };
+    match first_of(batches) {
+        None => Ok(end),
+        Some((batch, rest)) => match changed(alloc, setup.basin, inputs, batch) {
+            Ok(edited) => write_from(
+                alloc,
+                setup,
+                policy,
+                extras,
+                number + 1,
+                edited,
+                rest,
+                steps,
+                sheet,
+                out,
+            ),
+            Err(NoMemory) => Err(Refusal::NoMemory),
+        },
+    }
+}
+
 /// Writes a section for inputs and one after each batch of edits, and answers how the run of the last one ended.
 pub(crate) fn write_sections<K: Sink, L: Ledger>(
     alloc: Global,
     setup: &RunSetup<'_>,
     policy: &Policy,
     extras: Extras,
-    number: u32,
     inputs: Inputs,
     batches: &[Batch],
     steps: &mut Steps<L>,
@@ -93,33 +149,16 @@ pub(crate) fn write_sections<K: Sink, L: Ledger>(
     requires fits { IsFit setup.now.basin.now policy.now }
     requires inputs { IsInputsOf setup.now.basin.now inputs }
     requires batches { All (IsBatch setup.now.basin.now) batches.now }
-    requires few { number + length batches.now ≤ 64 }
+    requires few { length batches.now ≤ 64 }
     requires plain { extras.reuse ≡ false }
-    ensures { (before : Option Rows) → MatchResult result
+    ensures { MatchResult result
         (AppendsAll (IsRulesText setup.now.basin.now (policy_of policy.now) extras)
-        number (record { before = before; inputs = inputs }) batches.now (change (K.seen out.old) (K.seen out.new)))
+        0 (first_given inputs) batches.now (change (K.seen out.old) (K.seen out.new)))
         (StopsAmong (IsRulesText setup.now.basin.now (policy_of policy.now) extras)
-        number (record { before = before; inputs = inputs }) batches.now (change (K.seen out.old) (K.seen out.new))) }
+        0 (first_given inputs) batches.now (change (K.seen out.old) (K.seen out.new))) }
 {
-    let end = match write_section(alloc, setup, policy, extras, number, &inputs, steps, out) {
-        Ok(end) => end,
-        Err(refusal) => return Err(refusal),
-    };
-    match first_of(batches) {
-        None => Ok(end),
-        Some((batch, rest)) => match changed(alloc, setup.basin, inputs, batch) {
-            Ok(edited) => write_sections(
-                alloc,
-                setup,
-                policy,
-                extras,
-                number + 1,
-                edited,
-                rest,
-                steps,
-                out,
-            ),
-            Err(NoMemory) => Err(Refusal::NoMemory),
-        },
-    }
+    let mut sheet = Sheet::new(alloc, setup.basin);
+    write_from(
+        alloc, setup, policy, extras, 0, inputs, batches, steps, &mut sheet, out,
+    )
 }

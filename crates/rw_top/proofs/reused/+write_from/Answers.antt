@@ -1,4 +1,4 @@
-use Rattle.rw_top.proofs.Common.{ap, arith, change, length, subst, sym, ◌+◌}
+use Rattle.rw_top.proofs.Common.{ap, arith, change, length, subst, sym, ◌+◌, ◌∙◌}
 use Rattle.rw_inputs.specs.Edits.{IsBatch}
 use Rattle.rw_top.specs.Reused.{WritesFrom}
 use Rattle.rw_top.specs.RunText.{IsRulesText}
@@ -10,14 +10,14 @@ use Rattle.rw_top.proofs.reused.+write_from.Goals as goal
 pub returns-in-Err : goal.returns-in-Err
 returns-in-Err g t c = λ policy given means next. record {
   text = stops_here (IsRulesText c.args.session.now.setup.basin.now policy c.args.extras) c.args.number given c.args.batches.now _ c.in-Err.refusal
-      (c.in-Err.ensures policy given means next);
+      (c.in-Err.ensures.out policy given means next);
   counted = tt;
 }
 
 pub returns-in-None : goal.returns-in-None
 returns-in-None g t c = λ policy given means next.
     writes_last c.args.session.now.setup.basin.now policy c.args.extras c.args.number given c.args.session.now.state next c.args.batches.now _ _ c.in-Ok.end
-    c.in-None.ensures (c.in-Ok.ensures policy given means next)
+    c.in-None.ensures (c.in-Ok.ensures.out policy given means next)
 
 pub returns-in-Err-apply : goal.returns-in-Err-apply
 returns-in-Err-apply g t c = λ policy given means next.
@@ -25,7 +25,7 @@ returns-in-Err-apply g t c = λ policy given means next.
     record {
       text = stops_behind (IsRulesText c.args.session.now.setup.basin.now policy c.args.extras) c.args.number given c.args.batches.now
           (change (g.K.Sink.seen c.args.out.now) (g.K.Sink.seen c.write_run.new.out)) c.in-Ok.end
-          (omega (arith, some)) (c.in-Ok.ensures policy given means next);
+          (omega (arith, some)) (c.in-Ok.ensures.out policy given means next);
       counted = tt;
     }
 
@@ -40,7 +40,7 @@ write_from-requires g t c κs within =
     let batches = rest_of (IsBatch c.args.session.now.setup.basin.now) c.args.batches.now c.in-Some.batch.now c.in-Some.rest.now c.in-Some.ensures c.requires.batches in
     let kept = c.in-Ok-apply.ensures.kept.0 in (
       omega (arith, c.decreases, shorter),
-      (within.0, (within.1, (rw kept c.in-Ok-apply.ensures.applied.is, (rw kept c.requires.order, (rw kept batches, (omega (arith, few, shorter), c.requires.reuse)))))),
+      (within.0, (within.1, (rw kept c.in-Ok-apply.ensures.applied.is, (rw kept c.requires.order, (rw kept batches, (omega (arith, few, shorter), (c.requires.reuse, rw kept (c.in-Ok.ensures.sheet ∙ c.requires.sheet)))))))),
     )
 
 pub returns-in-Ok-apply : goal.returns-in-Ok-apply
@@ -57,7 +57,7 @@ returns-in-Ok-apply g t c = λ policy given means next.
     (change (g.K.Sink.seen c.args.out.now) (g.K.Sink.seen c.write_from.new.out)) (change c.args.steps.now c.write_from.new.steps) c.write_from.result)
     (sym c.in-Some.ensures)
     (writes_more basin policy c.args.extras c.args.number given old next c.in-Some.batch.now c.in-Some.rest.now new.inputs
-    (g.K.Sink.seen c.args.out.now) (g.K.Sink.seen c.write_run.new.out) (g.K.Sink.seen c.write_from.new.out) c.in-Ok.end (c.in-Ok.ensures policy given means next)
+    (g.K.Sink.seen c.args.out.now) (g.K.Sink.seen c.write_run.new.out) (g.K.Sink.seen c.write_from.new.out) c.in-Ok.end (c.in-Ok.ensures.out policy given means next)
     (values_from basin code given c.in-Some.batch.now old new next.inputs_are applies)
     (length new.reran) c.args.steps.now c.apply.new.steps c.write_from.new.steps c.in-Ok-apply.ensures.counted.each c.write_from.result
     (rw kept at (c.write_from.ensures policy (edited_given given new.inputs) (rw kept means) (rw kept behind))))

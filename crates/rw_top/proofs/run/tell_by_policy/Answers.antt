@@ -2,13 +2,16 @@ use Rattle.rw_top.proofs.RulesText.{section_by, untold}
 use Rattle.rw_top.specs.RunText.{policy_in_run}
 use Rattle.rw_top.specs.Seen.{policy_of}
 use Rattle.rw_base.proofs.Common.{None}
-use Rattle.rw_top.proofs.run.text_by_policy.Goals as goal
+use Rattle.rw_top.proofs.run.tell_by_policy.Goals as goal
 
-pub returns : goal.returns
-returns g c = λ before.
+pub tell-requires : goal.tell-requires
+tell-requires g c = record { closed = rw c.requires.sheet c.in_ok-run.ensures.closed }
+
+pub returns-clause-text : goal.returns-clause-text
+returns-clause-text g c = λ before.
     let basin = c.args.setup.now.basin.now in
     let policy = policy_of c.args.policy.now in
     section_by c.texts_of_runs.ensures.whole basin policy c.args.extras None c.args.number (record { before = before; inputs = c.args.inputs.now })
     c.in_ok-run.run' _ c.in_ok-run.ensures.run c.in_ok-run.ensures.kept
     (untold basin (policy_in_run basin policy) c.args.extras.reuse (record { before = before; inputs = c.args.inputs.now }) c.in_ok-run.ensures.run.log c.requires.plain)
-    c.in_ok-text.ensures.text
+    (rw c.requires.sheet at c.in_ok-tell.ensures.text)

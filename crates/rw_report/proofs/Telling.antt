@@ -1,0 +1,35 @@
+-- A line told from a list of values.
+use Rattle.rw_base.proofs.Common.{◌≡◌, ◌++◌, ◌+◌, ◌∙◌, ◌∷◌, List, Option, [], ap, append_assoc, append-nil, codes, decimal, refl, suc, suc-eq-add-one, sym, zero, ℕ, ℤ}
+use Rattle.std.proofs.Common.{length}
+use Rattle.rw_calendar.specs.Stamps.{end_of, stamp_text}
+use Rattle.rw_model.specs.Objects.{all_slots}
+use Rattle.rw_model.specs.Draft.{Draft}
+use Rattle.rw_report.specs.Section.{for_each, row, value_words}
+use Rattle.rw_report.specs.Sheet.{line_of, listed, values_words}
+
+-- one value more
+pub next_value : (values : ℕ → Option ℤ) (before : ℕ) → listed values before ++ values (before + 1) ∷ [] ≡ listed values (before + 1)
+next_value values before =
+    let e = suc-eq-add-one before in
+    ap (λ n. listed values before ++ values n ∷ []) (sym e) ∙ ap (λ n. listed values n) e
+
+words_more : (values : List (Option ℤ)) (value : Option ℤ)
+    → values_words (values ++ value ∷ []) ≡ values_words values ++ (codes "," ++ value_words value)
+words_more [] value = append-nil (codes "," ++ value_words value)
+words_more (first ∷ values) value =
+    ap (λ t. (codes "," ++ value_words first) ++ t) (words_more values value)
+    ∙ sym (append_assoc (codes "," ++ value_words first) (values_words values) (codes "," ++ value_words value))
+
+listed_words : (values : ℕ → Option ℤ) (count : ℕ)
+    → values_words (listed values count) ≡ for_each (λ slot. codes "," ++ value_words (values slot)) count
+listed_words values zero = refl
+listed_words values (suc before) =
+    words_more (listed values before) (values (suc before))
+    ∙ ap (λ t. t ++ (codes "," ++ value_words (values (suc before)))) (listed_words values before)
+
+-- the line of the values of all slots is that of the table
+pub row_told : (basin : Draft) (values : ℕ → ℕ → Option ℤ) (step : ℕ)
+    → line_of basin step (listed (λ slot. values slot step) (length (all_slots basin.objects))) ≡ row basin values step
+row_told basin values step =
+    ap (λ t. (decimal step ++ (codes "," ++ stamp_text (end_of basin.control.stamps step))) ++ (t ++ codes "\n"))
+    (listed_words (λ slot. values slot step) (length (all_slots basin.objects)))
