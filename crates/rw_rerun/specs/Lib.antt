@@ -2,3 +2,5 @@ pub mod Kept
 pub mod Session
 pub mod UnderWay
 pub mod Begun
+pub mod Spare
+pub mod Touched
