@@ -63,7 +63,7 @@ impl Batch {
     }
 
     /// The edits, one after another.
-    pub(crate) fn edits(&self) -> &[Edit]
+    pub fn edits(&self) -> &[Edit]
         ensures { result.now ≡ self.now }
     {
         self.edits.as_slice()

@@ -27,6 +27,7 @@ mod wrong;
 
 pub use batch::Batch;
 pub use change::apply;
+pub use edit::Edit;
 pub use edits::read_edits;
 pub use fault::{InputFault, InputKind};
 pub use inputs::Inputs;
