@@ -4,3 +4,4 @@ pub mod UnderWay
 pub mod Begun
 pub mod Spare
 pub mod Touched
+pub mod Edited

@@ -1,11 +1,13 @@
 -- An engine beside that of a session's run, from which the next run begins.
-use Rattle.std.specs.Prelude.{◌≡◌, ◌≤◌, ◌<◌, ◌+◌, ℕ, if◌then◌else◌, List, [], ◌∷◌, length, option_map, drop, take, slice_get, Option, Some, IsSome}
+use Rattle.std.specs.Prelude.{◌≡◌, ◌≤◌, ◌<◌, ◌+◌, ℕ, if◌then◌else◌, List, [], ◌∷◌, length, option_map, drop, take, slice_get, Option, Some, IfSome, IsSome}
 use Rattle.rw_base.specs.declared.number.Cell.{Cell}
 use Rattle.rw_model.specs.Draft.{Draft}
+use Rattle.rw_inputs.specs.Givens.{givens}
 use Rattle.rw_inputs.specs.Inputs.{Inputs, value_at}
 use Rattle.rw_series.specs.Series.{held, is_shared}
 use Rattle.rw_run.specs.Log.{Cells, Log, input_content}
 use Rattle.rw_run.specs.Next.{Policy}
+use Rattle.rw_run.specs.Runs.{placed}
 use Rattle.rw_record.specs.Record.{StepRecord}
 use Rattle.rw_engine.specs.Engine.{Engine}
 use Rattle.rw_engine.specs.Shows.{CanReplay, IsEngineOf, Shows}
@@ -13,6 +15,7 @@ use Rattle.rpl_verify.specs.Verified.{Accepted}
 use Rattle.rw_rules.specs.Rules.{policy_in}
 use Rattle.rw_rerun.specs.Begun.{HasTakenOver}
 use Rattle.rw_rerun.specs.Kept.{AreLinked}
+use Rattle.rw_rerun.specs.Session.{IsSessionOf, Session}
 use Rattle.rw_rerun.specs.UnderWay.{IsUnderWay}
 use Rattle.rw_rerun.specs.declared.pass.Pass.{Pass}
 use Rattle.rw_rerun.specs.declared.spare.Spare.{Spare}
@@ -70,3 +73,14 @@ pub record GivesAll (basin : Draft) (inputs : Inputs) (cells : List Cell) (old n
   pub trace : new.trace ≡ old.trace
   pub closed_steps : new.closed ≡ old.closed
   pub end : new.end ≡ old.end
+
+-- ---- of a session
+
+-- it stands in the session's run, behind timesteps of which each is kept
+pub record IsSpareIn (basin : Draft) (policy : Accepted) (session : Session) (log : Log) (spare : Spare) : Type 0 where
+  pub stands : StandsIn basin policy (placed [] (givens basin session.inputs)) log session.kept spare
+  pub known : AreKeptFrom session.kept 0 spare.behind
+
+-- so does a spare engine, if there is one
+abbrev pub MayBeSpare : Draft → Accepted → Session → Option Spare → Type 0
+MayBeSpare basin policy session spare = (is : IsSessionOf basin policy session) → IfSome spare (IsSpareIn basin policy session is.log)
