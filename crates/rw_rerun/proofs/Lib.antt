@@ -12,3 +12,5 @@ pub mod Beginning
 pub mod Order
 pub mod Standing
 pub mod Gives
+pub mod Edited
+pub mod Taken
