@@ -1,9 +1,10 @@
 // An engine beside that of a session's run, from which the next run begins.
-ghost use Rattle.std.specs.Prelude.{◌≡◌, ◌≤◌, ◌+◌, ◌-◌, All, IfOk, None, length, replicate, true};
+ghost use Rattle.std.specs.Prelude.{◌≡◌, ◌≤◌, ◌+◌, ◌-◌, All, IfOk, IfSome, None, length, replicate, true};
 ghost use Rattle.rw_inputs.specs.Inputs.{IsInputsOf};
 ghost use Rattle.rw_series.specs.Series.{IsCell};
 ghost use Rattle.rw_engine.specs.Shows.{CanReplay};
 ghost use Rattle.rw_model.specs.Turn.{IsStep};
+ghost use Rattle.rw_rerun.specs.Edited.{BecomesSpare};
 ghost use Rattle.rw_rerun.specs.Spare.{AreKeptFrom, BeginsBy, BringsTo, GivesAll, IsSpare};
 
 use crate::pass::Pass;
@@ -116,7 +117,8 @@ fn are_kept(kept: &[Option<StepRecord>], behind: u16) -> bool
     true
 }
 
-/// The engine of a run as a spare one of the next run, where each timestep is kept behind which that begins.
+/// The engine of a run, behind all timesteps, as a spare one of the next run, behind those that a batch leaves. There is none where
+/// less than half of them are left, since bringing it back would cost more than it gives, nor where one of the others isn't kept.
 pub(crate) fn spare_of(
     engine: Engine,
     basin: &Basin,
@@ -124,13 +126,27 @@ pub(crate) fn spare_of(
     inputs: &Inputs,
     cells: &[Cell],
     behind: u16,
-) -> Option<Spare> {
-    if !are_kept(kept, behind) {
+) -> Option<Spare>
+    requires many { length kept.now ≡ basin.now.control.stamps.count }
+    requires some { behind ≤ basin.now.control.stamps.count }
+    requires stands { IsSpare basin.now kept.now (record {
+      engine = engine;
+      behind = basin.now.control.stamps.count;
+    }) }
+    requires inputs { IsInputsOf basin.now inputs.now }
+    requires known { All (IsCell basin.now) cells.now }
+    ensures { IfSome result
+        (BecomesSpare basin.now inputs.now cells.now kept.now behind engine) }
+{
+    answered_code_is_safe();
+    code_keeps_promises();
+    let count = basin.control().stamps.count();
+    if behind < count - behind || !are_kept(kept, behind) {
         return None;
     }
     let mut spare = Spare {
         engine,
-        behind: basin.control().stamps.count(),
+        behind: count,
     };
     bring_back(&mut spare, basin, kept, behind);
     give_all(&mut spare.engine, basin, inputs, cells);
