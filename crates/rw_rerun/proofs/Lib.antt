@@ -12,3 +12,4 @@ pub mod Beginning
 pub mod Order
 pub mod Standing
 pub mod Gives
+pub mod Edited
