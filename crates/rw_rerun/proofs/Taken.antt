@@ -29,7 +29,7 @@ use Rattle.rw_rerun.specs.Spare.{AreKeptFrom, GivesAll, StandsIn}
 use Rattle.rw_rerun.specs.Touched.{CountsUntouched, is_untouched}
 use Rattle.rw_rerun.specs.declared.spare.Spare.{Spare}
 use Rattle.rw_rerun.proofs.Beginning.{takes_over}
-use Rattle.rw_rerun.proofs.Edited.{AreUntouched, alike_untouched, given_apart, given_reached, is_reached_by, placed_apart, untouched_are}
+use Rattle.rw_rerun.proofs.Edited.{AreUntouched, given_alike, given_anew, is_edited, not_given, untouched_first}
 use Rattle.rw_rerun.proofs.Showing.{placed_shown}
 use Rattle.rw_rerun.proofs.Standing.{told_by, unmoved_in}
 
@@ -133,7 +133,8 @@ told_in basin policy inputs records end linked =
 
 module _ (basin : Draft) (policy : Policy) (old new : Inputs) (batch : Batch) (cells : List Cell) (earlier end : Log) (was : List (Option StepRecord)) (behind : ℕ)
     (old_made : IsInputsOf basin old) (new_made : IsInputsOf basin new) (values : value_at new ≡ after_batch batch (value_at old))
-    (edited : AreEdited basin batch cells) (are : AreUntouched basin cells was behind) where
+    (edited : AreEdited basin batch cells)
+    (are : AreUntouched basin cells (placed [] (givens basin old)) (placed [] (givens basin new)) (take behind was) behind) where
   abbrev start : Log
   start = placed [] (givens basin new)
 
@@ -143,13 +144,13 @@ module _ (basin : Draft) (policy : Policy) (old new : Inputs) (batch : Batch) (c
   module _ (over : TakesOver basin policy new earlier those (placed [] (givens basin old)) start end (length are.records))
       (own : HasTakenOver basin policy old earlier those end (length are.records)) where
     module _ (before after : Engine) (showed : Shows basin before end) (gives : GivesAll basin new cells before after) where
-      cell_shown : (cell : Cell) (shared : Bool) → is_reached_by basin cells cell ≡ shared → held after.series cell ≡ cells_of basin over.log cell
+      cell_shown : (cell : Cell) (shared : Bool) → is_edited basin cells cell ≡ shared → held after.series cell ≡ cells_of basin over.log cell
       cell_shown cell true shared =
-          gives.holds cell ∙ given_reached basin new batch cells (held before.series) new_made edited cell shared
+          gives.holds cell ∙ given_anew basin batch new cells new_made edited (held before.series) cell shared
           ∙ sym (unmoved_in basin policy are.records 1 start over.log cell over.taken.linked (are.without cell shared))
       cell_shown cell false apart =
-          gives.holds cell ∙ given_apart basin new cells (held before.series) cell apart ∙ showed.cells cell
-          ∙ over.alike cell (placed_apart basin old new batch cells old_made new_made values edited cell apart)
+          gives.holds cell ∙ not_given basin new cells (held before.series) cell apart ∙ showed.cells cell
+          ∙ over.alike cell (given_alike basin batch old new cells old_made values edited cell apart)
 
       same_trace : trace_of end ≡ trace_of over.log
       same_trace = told_in basin policy old are.records end own.linked ∙ sym (told_in basin policy new are.records over.log over.taken.linked)
@@ -159,7 +160,7 @@ module _ (basin : Draft) (policy : Policy) (old new : Inputs) (batch : Batch) (c
 
       shown_given : Shows basin after over.log
       shown_given = record {
-        cells = λ cell. cell_shown cell (is_reached_by basin cells cell) refl;
+        cells = λ cell. cell_shown cell (is_edited basin cells cell) refl;
         trace = subst (λ (told : Option (List TraceEvent)). IfSome told (λ lines. lines ≡ trace_of over.log)) (sym gives.trace)
             (subst (λ (told : List TraceEvent). IfSome before.trace (λ lines. lines ≡ told)) same_trace showed.trace);
         closed_steps = gives.closed_steps ∙ showed.closed_steps ∙ same_closed;
@@ -180,13 +181,15 @@ pub takes_first : (basin : Draft) (policy : Policy) (old new : Inputs) (batch : 
     → length was ≡ basin.control.stamps.count → CountsUntouched basin cells was behind → AreKept basin policy earlier 1 was
     → AreLinked basin policy 1 (placed [] (givens basin old)) (take behind was) end → TakesFirst basin policy new cells earlier end was behind
 takes_first basin policy old new batch cells earlier end was behind framed old_made new_made values edited many untouched kept linked =
-    let are : AreUntouched basin cells was behind = untouched_are basin cells was behind untouched in
+    let one : Log = placed [] (givens basin old) in
+    let other : Log = placed [] (givens basin new) in
+    let are : AreUntouched basin cells one other (take behind was) behind =
+    untouched_first basin cells was behind one other untouched (λ cell apart. given_alike basin batch old new cells old_made values edited cell apart) in
     let near : length are.records ≤ basin.control.stamps.count = let same = are.many in let few = untouched.few in omega (arith, same, few, many) in
     let kept_here = subst (AreKept basin policy earlier 1) are.are (first_kept basin policy earlier 1 behind was kept) in
-    let linked_here = subst (λ ks. AreLinked basin policy 1 (placed [] (givens basin old)) ks end) are.are linked in
+    let linked_here = subst (λ ks. AreLinked basin policy 1 one ks end) are.are linked in
     first_taken basin policy old new batch cells earlier end was behind old_made new_made values edited are
-    (taken_by basin policy old earlier end are.records framed near kept_here linked_here new new_made
-    (alike_untouched basin old new batch cells was behind old_made new_made values edited are))
+    (taken_by basin policy old earlier end are.records framed near kept_here linked_here new new_made are.alike)
     (own_taken basin policy old earlier end are.records framed near kept_here linked_here old_made)
 
 -- ---- a spare engine behind a batch
