@@ -1,5 +1,5 @@
 -- The first timesteps that a batch doesn't touch, in the run of the inputs behind it.
-use Rattle.rw_base.proofs.Common.{◌≡◌, ◌≤◌, ◌<◌, ◌+◌, ◌∙◌, ℕ, zero, suc, Bool, true, false, List, [], ◌∷◌, ◌++◌, map, Contains, Option, Some, None, IsSome, IfSome, drop, drop_all, length, slice_get, take, take_all, refl, sym, ap, subst, arith, false≢true, same_Some}
+use Rattle.rw_base.proofs.Common.{◌≡◌, ◌≤◌, ◌<◌, ◌+◌, ◌∙◌, ℕ, zero, suc, Bool, true, false, List, [], ◌∷◌, ◌++◌, map, Contains, Option, Some, None, IsSome, IfSome, Ok, drop, drop_all, length, slice_get, take, take_all, refl, sym, ap, subst, arith, false≢true, same_Some}
 use Rattle.std.specs.List.{flat_map}
 use Rattle.rw_base.specs.declared.number.Cell.{Cell}
 use Rattle.rw_model.specs.Draft.{Draft}
@@ -18,14 +18,14 @@ use Rattle.rw_run.proofs.Passings.{begun, nothing_of}
 use Rattle.rw_run.proofs.Placed.{settled_at_rest, standing-placed, trace-placed}
 use Rattle.rw_record.specs.Record.{StepRecord}
 use Rattle.rw_engine.specs.Engine.{Engine}
-use Rattle.rw_engine.specs.Shows.{Shows}
-use Rattle.rpl_verify.specs.Verified.{Accepted}
+use Rattle.rw_engine.specs.Shows.{CanReplay, Shows}
+use Rattle.rpl_verify.specs.Verified.{Accepted, verified}
 use Rattle.rw_rules.specs.Rules.{policy_in}
 use Rattle.rw_rerun.specs.Begun.{AreAlikeIn, HasTakenOver, TakesOver}
-use Rattle.rw_rerun.specs.Edited.{AreEdited, HasComeBehind, LeavesFirst, TakesFirst}
+use Rattle.rw_rerun.specs.Edited.{AreEdited, BecomesSpare, HasComeBehind, LeavesFirst, TakesFirst}
 use Rattle.rw_rerun.specs.Kept.{AreKept, AreLinked, IsLinkOf}
 use Rattle.rw_rerun.specs.Session.{IsSessionOf, Session}
-use Rattle.rw_rerun.specs.Spare.{AreKeptFrom, GivesAll, StandsIn}
+use Rattle.rw_rerun.specs.Spare.{AreKeptFrom, BringsTo, GivesAll, IsSpare, StandsIn}
 use Rattle.rw_rerun.specs.Touched.{CountsUntouched, is_untouched}
 use Rattle.rw_rerun.specs.declared.spare.Spare.{Spare}
 use Rattle.rw_rerun.proofs.Beginning.{takes_over}
@@ -207,6 +207,26 @@ comes_behind basin policy old new batch cells earlier was spare given framed lea
       taken = subst (λ n. HasTakenOver basin (policy_in basin policy) new earlier (take n was) first.log n) (sym same) first.taken;
       shows = first.shows spare.engine given.engine stands.shows gives;
     }
+
+-- brought back and given the cells, the engine of a run is a spare one
+pub becomes_spare : (basin : Draft) (inputs : Inputs) (cells : List Cell) (was : List (Option StepRecord)) (behind count : ℕ) (engine : Engine) (back given : Spare)
+    → count ≡ basin.control.stamps.count → ((policy : Accepted) → verified basin policy.blocks ≡ Ok policy → IsFramed (policy_in basin policy))
+    → BringsTo basin was behind (record { engine = engine; behind = count }) back → given.behind ≡ back.behind
+    → GivesAll basin inputs cells back.engine given.engine → BecomesSpare basin inputs cells was behind engine given
+becomes_spare basin inputs cells was behind count engine back given count_is framed brings same gives = record {
+  behind_is = same ∙ brings.behind_is;
+  comes = λ policy old batch earlier leaves kept stands.
+      comes_behind basin policy old inputs batch cells earlier was back given (framed policy stands.made.fits)
+      (subst (LeavesFirst basin batch cells old inputs was) (sym brings.behind_is) leaves) kept
+      (brings.stands policy (placed [] (givens basin old)) earlier
+      (subst (λ n. StandsIn basin policy (placed [] (givens basin old)) earlier was (record { engine = engine; behind = n })) (sym count_is) stands)) same gives;
+}
+
+-- wherever it was brought, it can be given inputs
+pub can_give : (basin : Draft) (was : List (Option StepRecord)) (behind : ℕ) (old new : Spare) → IsSpare basin was old → BringsTo basin was behind old new
+    → CanReplay basin new.engine
+can_give basin was behind old new is brings =
+    let made = (brings.stands is.policy is.start is.end is.stands).made in record { series = made.series; notes = made.notes }
 
 -- a session's engine stands behind all timesteps of its run
 pub stands_behind_all : (basin : Draft) (policy : Accepted) (session : Session) (is : IsSessionOf basin policy session)
