@@ -1,5 +1,5 @@
 -- The first timesteps that a batch doesn't touch, in the run of the inputs behind it.
-use Rattle.rw_base.proofs.Common.{◌≡◌, ◌≤◌, ◌<◌, ◌+◌, ◌∙◌, ℕ, zero, suc, Bool, true, false, List, [], ◌∷◌, ◌++◌, map, Contains, Option, Some, None, IsSome, IfSome, Ok, drop, drop_all, length, slice_get, take, take_all, refl, sym, ap, subst, arith, false≢true, same_Some}
+use Rattle.rw_base.proofs.Common.{◌≡◌, ◌≤◌, ◌+◌, ◌∙◌, ℕ, zero, suc, Bool, true, false, List, [], ◌∷◌, ◌++◌, map, Option, Some, None, IsSome, IfSome, Ok, drop_all, length, take, take_all, refl, sym, ap, subst, arith, false≢true, same_Some}
 use Rattle.std.specs.List.{flat_map}
 use Rattle.rw_base.specs.declared.number.Cell.{Cell}
 use Rattle.rw_model.specs.Draft.{Draft}
@@ -12,7 +12,6 @@ use Rattle.rw_run.specs.Log.{Event, Log, cells_of, opened}
 use Rattle.rw_run.specs.Next.{Policy}
 use Rattle.rw_run.specs.RunOf.{last_closed, trace_of}
 use Rattle.rw_run.specs.Runs.{Leads, inside, placed, rests, standing}
-use Rattle.rw_run.specs.Step.{before_opening, events_of}
 use Rattle.rw_run.specs.declared.trace.TraceEvent.{TraceEvent}
 use Rattle.rw_run.proofs.Passings.{begun, nothing_of}
 use Rattle.rw_run.proofs.Placed.{settled_at_rest, standing-placed, trace-placed}
@@ -56,15 +55,17 @@ module _ (basin : Draft) (policy : Policy) (step : ℕ) where
       (subst (λ e. Leads basin policy (e ∷ log) (after ∷ others) last) (sym same) led.1)
       ∙ ap (λ e. log_after (after ∷ others) (e ∷ log)) same
 
-  one_link : (log one other : Log) (kept : StepRecord) → IsLinkOf basin policy step log kept one → IsLinkOf basin policy step log kept other → one ≡ other
+  one_link : (log one other : Log) (kept : StepRecord) → IsLinkOf basin policy step log kept one → IsLinkOf basin policy step log kept other
+      → one ≡ other
   one_link log one other kept link again =
       link.is
-      ∙ one_way (opened step ∷ log) (log_after (link.first ∷ link.events) (opened step ∷ log)) (log_after (again.first ∷ again.events) (opened step ∷ log))
-      link.first again.first link.events again.events link.timestep.goes again.timestep.goes link.timestep.leads again.timestep.leads
+      ∙ one_way (opened step ∷ log) (log_after (link.first ∷ link.events) (opened step ∷ log))
+      (log_after (again.first ∷ again.events) (opened step ∷ log)) link.first again.first link.events again.events link.timestep.goes again.timestep.goes link.timestep.leads again.timestep.leads
       ∙ sym again.is
 
 pub same_end : (basin : Draft) (policy : Policy) (records : List StepRecord) (step : ℕ) (log one other : Log)
-    → AreLinked basin policy step log (map (λ kept. Some kept) records) one → AreLinked basin policy step log (map (λ kept. Some kept) records) other → one ≡ other
+    → AreLinked basin policy step log (map (λ kept. Some kept) records) one → AreLinked basin policy step log (map (λ kept. Some kept) records) other
+    → one ≡ other
 same_end basin policy [] step log one other first second = first ∙ sym second
 same_end basin policy (kept ∷ rest) step log one other first second =
     let same : first.0 ≡ second.0 = one_link basin policy step log first.0 second.0 kept first.1 second.1 in
@@ -110,12 +111,15 @@ module _ (basin : Draft) (policy : Policy) (one : Inputs) (earlier end : Log) (r
     (near : length records ≤ basin.control.stamps.count) (kept : AreKept basin policy earlier 1 (map (λ kept. Some kept) records))
     (linked : AreLinked basin policy 1 (placed [] (givens basin one)) (map (λ kept. Some kept) records) end) where
   taken_by : (other : Inputs) → IsInputsOf basin other → AreAlikeIn basin (placed [] (givens basin one)) (placed [] (givens basin other)) records
-      → TakesOver basin policy other earlier (map (λ kept. Some kept) records) (placed [] (givens basin one)) (placed [] (givens basin other)) end (length records)
+      → TakesOver basin policy other earlier (map (λ kept. Some kept) records) (placed [] (givens basin one)) (placed [] (givens basin other)) end
+      (length records)
   taken_by other made alike =
+      let from : Log = placed [] (givens basin one) in
+      let start : Log = placed [] (givens basin other) in
       let more : 0 + length records ≡ length records = omega arith in
-      subst (TakesOver basin policy other earlier (map (λ kept. Some kept) records) (placed [] (givens basin one)) (placed [] (givens basin other)) end) more
-      (takes_over basin policy other earlier records 1 0 (placed [] (givens basin one)) (placed [] (givens basin other)) end [] framed refl (omega (arith, near))
-      linked (λ step far. begun (givens basin one) step) (none_taken basin policy other earlier made) kept alike)
+      subst (TakesOver basin policy other earlier (map (λ kept. Some kept) records) from start end) more
+      (takes_over basin policy other earlier records 1 0 from start end [] framed refl (omega (arith, near)) linked
+      (λ step far. begun (givens basin one) step) (none_taken basin policy other earlier made) kept alike)
 
   -- so they are behind their own
   own_taken : IsInputsOf basin one → HasTakenOver basin policy one earlier (map (λ kept. Some kept) records) end (length records)
@@ -131,8 +135,8 @@ told_in basin policy inputs records end linked =
     told_by basin policy records 1 (placed [] (givens basin inputs)) end linked
     ∙ ap (λ told. told ++ flat_map (λ (kept : StepRecord). kept.lines) records) (trace-placed [] (givens basin inputs))
 
-module _ (basin : Draft) (policy : Policy) (old new : Inputs) (batch : Batch) (cells : List Cell) (earlier end : Log) (was : List (Option StepRecord)) (behind : ℕ)
-    (old_made : IsInputsOf basin old) (new_made : IsInputsOf basin new) (values : value_at new ≡ after_batch batch (value_at old))
+module _ (basin : Draft) (policy : Policy) (old new : Inputs) (batch : Batch) (cells : List Cell) (earlier end : Log)
+    (was : List (Option StepRecord)) (behind : ℕ) (old_made : IsInputsOf basin old) (new_made : IsInputsOf basin new) (values : value_at new ≡ after_batch batch (value_at old))
     (edited : AreEdited basin batch cells)
     (are : AreUntouched basin cells (placed [] (givens basin old)) (placed [] (givens basin new)) (take behind was) behind) where
   abbrev start : Log
@@ -176,15 +180,16 @@ module _ (basin : Draft) (policy : Policy) (old new : Inputs) (batch : Batch) (c
       shows = λ before after showed gives. shown_given before after showed gives;
     }
 
-pub takes_first : (basin : Draft) (policy : Policy) (old new : Inputs) (batch : Batch) (cells : List Cell) (earlier end : Log) (was : List (Option StepRecord)) (behind : ℕ)
-    → IsFramed policy → IsInputsOf basin old → IsInputsOf basin new → value_at new ≡ after_batch batch (value_at old) → AreEdited basin batch cells
+pub takes_first : (basin : Draft) (policy : Policy) (old new : Inputs) (batch : Batch) (cells : List Cell) (earlier end : Log)
+    (was : List (Option StepRecord)) (behind : ℕ) → IsFramed policy → IsInputsOf basin old → IsInputsOf basin new → value_at new ≡ after_batch batch (value_at old) → AreEdited basin batch cells
     → length was ≡ basin.control.stamps.count → CountsUntouched basin cells was behind → AreKept basin policy earlier 1 was
     → AreLinked basin policy 1 (placed [] (givens basin old)) (take behind was) end → TakesFirst basin policy new cells earlier end was behind
 takes_first basin policy old new batch cells earlier end was behind framed old_made new_made values edited many untouched kept linked =
     let one : Log = placed [] (givens basin old) in
     let other : Log = placed [] (givens basin new) in
     let are : AreUntouched basin cells one other (take behind was) behind =
-    untouched_first basin cells was behind one other untouched (λ cell apart. given_alike basin batch old new cells old_made values edited cell apart) in
+    untouched_first basin cells was behind one other untouched
+    (λ cell apart. given_alike basin batch old new cells old_made values edited cell apart) in
     let near : length are.records ≤ basin.control.stamps.count = let same = are.many in let few = untouched.few in omega (arith, same, few, many) in
     let kept_here = subst (AreKept basin policy earlier 1) are.are (first_kept basin policy earlier 1 behind was kept) in
     let linked_here = subst (λ ks. AreLinked basin policy 1 one ks end) are.are linked in
@@ -194,13 +199,13 @@ takes_first basin policy old new batch cells earlier end was behind framed old_m
 
 -- ---- a spare engine behind a batch
 
-pub comes_behind : (basin : Draft) (policy : Accepted) (old new : Inputs) (batch : Batch) (cells : List Cell) (earlier : Log) (was : List (Option StepRecord))
-    (spare given : Spare) → IsFramed (policy_in basin policy) → LeavesFirst basin batch cells old new was spare.behind
+pub comes_behind : (basin : Draft) (policy : Accepted) (old new : Inputs) (batch : Batch) (cells : List Cell) (earlier : Log)
+    (was : List (Option StepRecord)) (spare given : Spare) → IsFramed (policy_in basin policy) → LeavesFirst basin batch cells old new was spare.behind
     → AreKept basin (policy_in basin policy) earlier 1 was → StandsIn basin policy (placed [] (givens basin old)) earlier was spare
     → given.behind ≡ spare.behind → GivesAll basin new cells spare.engine given.engine → HasComeBehind basin policy new earlier was given
 comes_behind basin policy old new batch cells earlier was spare given framed leaves kept stands same gives =
-    let first = takes_first basin (policy_in basin policy) old new batch cells earlier stands.log was spare.behind framed leaves.old_made leaves.new_made leaves.values
-    leaves.edited leaves.many leaves.untouched kept stands.before in record {
+    let first = takes_first basin (policy_in basin policy) old new batch cells earlier stands.log was spare.behind framed
+    leaves.old_made leaves.new_made leaves.values leaves.edited leaves.many leaves.untouched kept stands.before in record {
       made = gives.made policy stands.made;
       traced = subst IsSome (sym gives.trace) stands.traced;
       log = first.log;
@@ -209,8 +214,8 @@ comes_behind basin policy old new batch cells earlier was spare given framed lea
     }
 
 -- brought back and given the cells, the engine of a run is a spare one
-pub becomes_spare : (basin : Draft) (inputs : Inputs) (cells : List Cell) (was : List (Option StepRecord)) (behind count : ℕ) (engine : Engine) (back given : Spare)
-    → count ≡ basin.control.stamps.count → ((policy : Accepted) → verified basin policy.blocks ≡ Ok policy → IsFramed (policy_in basin policy))
+pub becomes_spare : (basin : Draft) (inputs : Inputs) (cells : List Cell) (was : List (Option StepRecord)) (behind count : ℕ) (engine : Engine)
+    (back given : Spare) → count ≡ basin.control.stamps.count → ((policy : Accepted) → verified basin policy.blocks ≡ Ok policy → IsFramed (policy_in basin policy))
     → BringsTo basin was behind (record { engine = engine; behind = count }) back → given.behind ≡ back.behind
     → GivesAll basin inputs cells back.engine given.engine → BecomesSpare basin inputs cells was behind engine given
 becomes_spare basin inputs cells was behind count engine back given count_is framed brings same gives = record {
@@ -219,18 +224,20 @@ becomes_spare basin inputs cells was behind count engine back given count_is fra
       comes_behind basin policy old inputs batch cells earlier was back given (framed policy stands.made.fits)
       (subst (LeavesFirst basin batch cells old inputs was) (sym brings.behind_is) leaves) kept
       (brings.stands policy (placed [] (givens basin old)) earlier
-      (subst (λ n. StandsIn basin policy (placed [] (givens basin old)) earlier was (record { engine = engine; behind = n })) (sym count_is) stands)) same gives;
+      (subst (λ n. StandsIn basin policy (placed [] (givens basin old)) earlier was (record { engine = engine; behind = n })) (sym count_is) stands))
+      same gives;
 }
 
 -- wherever it was brought, it can be given inputs
-pub can_give : (basin : Draft) (was : List (Option StepRecord)) (behind : ℕ) (old new : Spare) → IsSpare basin was old → BringsTo basin was behind old new
-    → CanReplay basin new.engine
+pub can_give : (basin : Draft) (was : List (Option StepRecord)) (behind : ℕ) (old new : Spare) → IsSpare basin was old
+    → BringsTo basin was behind old new → CanReplay basin new.engine
 can_give basin was behind old new is brings =
     let made = (brings.stands is.policy is.start is.end is.stands).made in record { series = made.series; notes = made.notes }
 
 -- a session's engine stands behind all timesteps of its run
 pub stands_behind_all : (basin : Draft) (policy : Accepted) (session : Session) (is : IsSessionOf basin policy session)
-    → StandsIn basin policy (placed [] (givens basin session.inputs)) is.log session.kept (record { engine = session.engine; behind = basin.control.stamps.count })
+    → StandsIn basin policy (placed [] (givens basin session.inputs)) is.log session.kept
+    (record { engine = session.engine; behind = basin.control.stamps.count })
 stands_behind_all basin policy session is =
     let count : ℕ = basin.control.stamps.count in
     let few : length session.kept ≤ count = let many = is.many in omega (arith, many) in record {
@@ -239,8 +246,8 @@ stands_behind_all basin policy session is =
       few = let many = is.many in omega (arith, many);
       log = is.log;
       shows = is.shows;
-      before = subst (λ ks. AreLinked basin (policy_in basin policy) 1 (placed [] (givens basin session.inputs)) ks is.log) (sym (take_all count session.kept few))
-          is.linked;
+      before = subst (λ ks. AreLinked basin (policy_in basin policy) 1 (placed [] (givens basin session.inputs)) ks is.log)
+          (sym (take_all count session.kept few)) is.linked;
       rest = subst (λ ks. AreLinked basin (policy_in basin policy) (count + 1) is.log ks is.log) (sym (drop_all count session.kept few)) refl;
     }
 
@@ -250,4 +257,5 @@ kept_untouched basin cells (Some kept) is = refl
 
 pub first_are_kept : (basin : Draft) (cells : List Cell) (was : List (Option StepRecord)) (behind : ℕ) → CountsUntouched basin cells was behind
     → AreKeptFrom was 0 behind
-first_are_kept basin cells was behind untouched = λ place entry first last there. kept_untouched basin cells entry (untouched.each place entry last there)
+first_are_kept basin cells was behind untouched =
+    λ place entry first last there. kept_untouched basin cells entry (untouched.each place entry last there)

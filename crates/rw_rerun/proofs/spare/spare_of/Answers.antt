@@ -1,7 +1,7 @@
-use Rattle.rw_base.proofs.Common.{ap, arith, refl, subst, sym, ◌∙◌, ◌≡◌}
+use Rattle.rw_base.proofs.Common.{ap, refl, subst, sym, ◌∙◌, ◌≡◌}
 use Rattle.rw_model.specs.declared.control.RunControl.{RunControl}
-use Rattle.rw_rerun.specs.Spare.{AreKeptFrom, IsSpare}
-use Rattle.rw_rerun.proofs.Taken.{becomes_spare, can_give, comes_behind, first_are_kept, same_end, stands_behind_all, takes_first}
+use Rattle.rw_rerun.specs.Spare.{IsSpare}
+use Rattle.rw_rerun.proofs.Taken.{becomes_spare, can_give}
 use Rattle.rw_rerun.proofs.spare.spare_of.Goals as goal
 
 pub bring_back-requires-clause-stands : goal.bring_back-requires-clause-stands
