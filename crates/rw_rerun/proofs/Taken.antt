@@ -60,7 +60,8 @@ module _ (basin : Draft) (policy : Policy) (step : ℕ) where
   one_link log one other kept link again =
       link.is
       ∙ one_way (opened step ∷ log) (log_after (link.first ∷ link.events) (opened step ∷ log))
-      (log_after (again.first ∷ again.events) (opened step ∷ log)) link.first again.first link.events again.events link.timestep.goes again.timestep.goes link.timestep.leads again.timestep.leads
+      (log_after (again.first ∷ again.events) (opened step ∷ log)) link.first again.first link.events again.events
+      link.timestep.goes again.timestep.goes link.timestep.leads again.timestep.leads
       ∙ sym again.is
 
 pub same_end : (basin : Draft) (policy : Policy) (records : List StepRecord) (step : ℕ) (log one other : Log)
@@ -136,8 +137,8 @@ told_in basin policy inputs records end linked =
     ∙ ap (λ told. told ++ flat_map (λ (kept : StepRecord). kept.lines) records) (trace-placed [] (givens basin inputs))
 
 module _ (basin : Draft) (policy : Policy) (old new : Inputs) (batch : Batch) (cells : List Cell) (earlier end : Log)
-    (was : List (Option StepRecord)) (behind : ℕ) (old_made : IsInputsOf basin old) (new_made : IsInputsOf basin new) (values : value_at new ≡ after_batch batch (value_at old))
-    (edited : AreEdited basin batch cells)
+    (was : List (Option StepRecord)) (behind : ℕ) (old_made : IsInputsOf basin old) (new_made : IsInputsOf basin new)
+    (values : value_at new ≡ after_batch batch (value_at old)) (edited : AreEdited basin batch cells)
     (are : AreUntouched basin cells (placed [] (givens basin old)) (placed [] (givens basin new)) (take behind was) behind) where
   abbrev start : Log
   start = placed [] (givens basin new)
@@ -181,8 +182,8 @@ module _ (basin : Draft) (policy : Policy) (old new : Inputs) (batch : Batch) (c
     }
 
 pub takes_first : (basin : Draft) (policy : Policy) (old new : Inputs) (batch : Batch) (cells : List Cell) (earlier end : Log)
-    (was : List (Option StepRecord)) (behind : ℕ) → IsFramed policy → IsInputsOf basin old → IsInputsOf basin new → value_at new ≡ after_batch batch (value_at old) → AreEdited basin batch cells
-    → length was ≡ basin.control.stamps.count → CountsUntouched basin cells was behind → AreKept basin policy earlier 1 was
+    (was : List (Option StepRecord)) (behind : ℕ) → IsFramed policy → IsInputsOf basin old → IsInputsOf basin new
+    → value_at new ≡ after_batch batch (value_at old) → AreEdited basin batch cells → length was ≡ basin.control.stamps.count → CountsUntouched basin cells was behind → AreKept basin policy earlier 1 was
     → AreLinked basin policy 1 (placed [] (givens basin old)) (take behind was) end → TakesFirst basin policy new cells earlier end was behind
 takes_first basin policy old new batch cells earlier end was behind framed old_made new_made values edited many untouched kept linked =
     let one : Log = placed [] (givens basin old) in
@@ -200,8 +201,8 @@ takes_first basin policy old new batch cells earlier end was behind framed old_m
 -- ---- a spare engine behind a batch
 
 pub comes_behind : (basin : Draft) (policy : Accepted) (old new : Inputs) (batch : Batch) (cells : List Cell) (earlier : Log)
-    (was : List (Option StepRecord)) (spare given : Spare) → IsFramed (policy_in basin policy) → LeavesFirst basin batch cells old new was spare.behind
-    → AreKept basin (policy_in basin policy) earlier 1 was → StandsIn basin policy (placed [] (givens basin old)) earlier was spare
+    (was : List (Option StepRecord)) (spare given : Spare) → IsFramed (policy_in basin policy)
+    → LeavesFirst basin batch cells old new was spare.behind → AreKept basin (policy_in basin policy) earlier 1 was → StandsIn basin policy (placed [] (givens basin old)) earlier was spare
     → given.behind ≡ spare.behind → GivesAll basin new cells spare.engine given.engine → HasComeBehind basin policy new earlier was given
 comes_behind basin policy old new batch cells earlier was spare given framed leaves kept stands same gives =
     let first = takes_first basin (policy_in basin policy) old new batch cells earlier stands.log was spare.behind framed
@@ -215,7 +216,8 @@ comes_behind basin policy old new batch cells earlier was spare given framed lea
 
 -- brought back and given the cells, the engine of a run is a spare one
 pub becomes_spare : (basin : Draft) (inputs : Inputs) (cells : List Cell) (was : List (Option StepRecord)) (behind count : ℕ) (engine : Engine)
-    (back given : Spare) → count ≡ basin.control.stamps.count → ((policy : Accepted) → verified basin policy.blocks ≡ Ok policy → IsFramed (policy_in basin policy))
+    (back given : Spare) → count ≡ basin.control.stamps.count
+    → ((policy : Accepted) → verified basin policy.blocks ≡ Ok policy → IsFramed (policy_in basin policy))
     → BringsTo basin was behind (record { engine = engine; behind = count }) back → given.behind ≡ back.behind
     → GivesAll basin inputs cells back.engine given.engine → BecomesSpare basin inputs cells was behind engine given
 becomes_spare basin inputs cells was behind count engine back given count_is framed brings same gives = record {
