@@ -183,7 +183,8 @@ module _ (basin : Draft) (policy : Policy) (old new : Inputs) (batch : Batch) (c
 
 pub takes_first : (basin : Draft) (policy : Policy) (old new : Inputs) (batch : Batch) (cells : List Cell) (earlier end : Log)
     (was : List (Option StepRecord)) (behind : ℕ) → IsFramed policy → IsInputsOf basin old → IsInputsOf basin new
-    → value_at new ≡ after_batch batch (value_at old) → AreEdited basin batch cells → length was ≡ basin.control.stamps.count → CountsUntouched basin cells was behind → AreKept basin policy earlier 1 was
+    → value_at new ≡ after_batch batch (value_at old) → AreEdited basin batch cells → length was ≡ basin.control.stamps.count
+    → CountsUntouched basin cells was behind → AreKept basin policy earlier 1 was
     → AreLinked basin policy 1 (placed [] (givens basin old)) (take behind was) end → TakesFirst basin policy new cells earlier end was behind
 takes_first basin policy old new batch cells earlier end was behind framed old_made new_made values edited many untouched kept linked =
     let one : Log = placed [] (givens basin old) in
@@ -202,8 +203,9 @@ takes_first basin policy old new batch cells earlier end was behind framed old_m
 
 pub comes_behind : (basin : Draft) (policy : Accepted) (old new : Inputs) (batch : Batch) (cells : List Cell) (earlier : Log)
     (was : List (Option StepRecord)) (spare given : Spare) → IsFramed (policy_in basin policy)
-    → LeavesFirst basin batch cells old new was spare.behind → AreKept basin (policy_in basin policy) earlier 1 was → StandsIn basin policy (placed [] (givens basin old)) earlier was spare
-    → given.behind ≡ spare.behind → GivesAll basin new cells spare.engine given.engine → HasComeBehind basin policy new earlier was given
+    → LeavesFirst basin batch cells old new was spare.behind → AreKept basin (policy_in basin policy) earlier 1 was
+    → StandsIn basin policy (placed [] (givens basin old)) earlier was spare → given.behind ≡ spare.behind
+    → GivesAll basin new cells spare.engine given.engine → HasComeBehind basin policy new earlier was given
 comes_behind basin policy old new batch cells earlier was spare given framed leaves kept stands same gives =
     let first = takes_first basin (policy_in basin policy) old new batch cells earlier stands.log was spare.behind framed
     leaves.old_made leaves.new_made leaves.values leaves.edited leaves.many leaves.untouched kept stands.before in record {
