@@ -13,3 +13,4 @@ pub mod Order
 pub mod Standing
 pub mod Gives
 pub mod Edited
+mod Named
