@@ -13,4 +13,5 @@ pub mod Order
 pub mod Standing
 pub mod Gives
 pub mod Edited
+mod Named
 pub mod Taken

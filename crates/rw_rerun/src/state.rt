@@ -14,7 +14,7 @@ use crate::pass::Pass;
 use crate::passing::{pass_all, pass_rest};
 use crate::setup::Setup;
 use crate::spare::{Spare, bring_back, bring_on, give_all, pass_from, spare_of};
-use crate::touched::{differing, untouched};
+use crate::touched::{edited, untouched};
 use rw_base::{Cell, Ledger, NoMemory, StepNo, Steps};
 use rw_engine::{Engine, Run, StepRecord};
 use rw_inputs::{Batch, Inputs, apply};
@@ -124,7 +124,7 @@ impl State {
             (λ done. self.new.reran) }
     {
         let inputs = apply(alloc, setup.basin, &self.inputs, batch)?;
-        let cells = differing(alloc, setup.basin, &self.inputs, &inputs)?;
+        let cells = edited(alloc, setup.basin, batch)?;
         let behind = untouched(setup.basin, &self.kept, &cells);
         if behind == setup.basin.control().stamps.count() {
             self.stay(alloc, setup.basin, inputs, &cells);
