@@ -25,12 +25,12 @@ use Rattle.rw_engine.proofs.Steps.{alone, begins_step, has_noted, trace_after}
 use Rattle.rw_engine.proofs.Traces.{shown_more}
 
 -- the closing of a timestep, and what stands before it
-record Closing (step : ℕ) (whole : Log) : Type 0 where
+pub record Closing (step : ℕ) (whole : Log) : Type 0 where
   pub before : Log
   pub is : whole ≡ closed step ∷ before
   pub within : standing before ≡ inside step
 
-closing : (step : ℕ) (event : Event) (events : List Event) (log : Log) → IsStepFrom step event events → standing log ≡ inside step → Closing step (log_after (event ∷ events) log)
+pub closing : (step : ℕ) (event : Event) (events : List Event) (log : Log) → IsStepFrom step event events → standing log ≡ inside step → Closing step (log_after (event ∷ events) log)
 closing step event [] log goes at = record { before = log; is = ap (λ e. e ∷ log) goes; within = at }
 closing step event (next ∷ events) log goes at = closing step next events (event ∷ log) goes.1 (sym (alone event log) ∙ goes.0)
 

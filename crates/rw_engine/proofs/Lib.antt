@@ -11,6 +11,7 @@ pub mod After
 pub mod Firings
 pub mod Records
 pub mod Again
+pub mod Backs
 pub mod Oldest
 pub mod Anyhow
 pub mod Runs

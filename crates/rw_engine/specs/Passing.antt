@@ -1,10 +1,11 @@
 -- A timestep, from its opening to its end, and a run.
-use Rattle.std.specs.Prelude.{◌≡◌, ◌≤◌, ℕ, ◌+◌, List, [], ◌∷◌, IfErr, IfOk, IsSome, Result, Ok, Err}
+use Rattle.std.specs.Prelude.{◌≡◌, ◌≤◌, ℕ, ◌+◌, ℤ, List, [], ◌∷◌, IfErr, IfOk, IsSome, Option, Result, Ok, Err, option_map}
 use Rattle.rw_base.specs.declared.memory.NoMemory.{NoMemory}
+use Rattle.rw_base.specs.declared.number.Cell.{Cell}
 use Rattle.rw_model.specs.Draft.{Draft}
-use Rattle.rw_series.specs.Series.{held}
+use Rattle.rw_series.specs.Series.{Sets, held}
 use Rattle.rw_run.specs.Frame.{IsFramed, log_after}
-use Rattle.rw_run.specs.Log.{Event, Log, opened}
+use Rattle.rw_run.specs.Log.{Event, Log, input_content, opened}
 use Rattle.rw_run.specs.Next.{Policy}
 use Rattle.rw_run.specs.Runs.{Leads, IsRun, placed, standing, rests, inside}
 use Rattle.rw_run.specs.RunOf.{IsRunOf, opened_by}
@@ -15,12 +16,12 @@ use Rattle.rw_record.specs.Record.{StepRecord}
 use Rattle.rw_inputs.specs.Inputs.{Inputs}
 use Rattle.rw_inputs.specs.Givens.{givens}
 use Rattle.rw_engine.specs.Engine.{Engine}
-use Rattle.rw_engine.specs.Records.{HasNoted, Records}
+use Rattle.rw_engine.specs.Records.{HasNoted, Records, RecordsThese}
 use Rattle.rw_engine.specs.declared.step_end.StepEnd.{StepEnd}
 use Rattle.rw_engine.specs.declared.step_end.StepEnd.TheVariants.{Closed as IsClosed, Fault as IsFault}
 use Rattle.rpl_verify.specs.Verified.{Accepted}
 use Rattle.rw_rules.specs.Rules.{policy_in}
-use Rattle.rw_engine.specs.Shows.{IsBefore, IsEngineOf, Shows, EndsBy, closed_by}
+use Rattle.rw_engine.specs.Shows.{CanReplay, CanShow, IsBefore, IsEngineOf, Shows, EndsBy, closed_by}
 
 -- in the new log this timestep has followed the old one up to its closing, and an engine that keeps a trace has noted it
 pub record ClosesStep (basin : Draft) (policy : Policy) (step : ℕ) (old new : Log) (engine : Engine) : Type 0 where
@@ -61,6 +62,28 @@ pub record Replays (basin : Draft) (kept : StepRecord) (old new : Engine) (resul
   pub before : (log : Log) → Shows basin old log → IfErr result (λ fault. Shows basin new log)
   pub keeps_trace : IsSome old.trace → IsSome new.trace
   pub closed_steps : IfOk result (λ done. new.closed ≡ kept.step)
+
+-- an engine has come back to this log, and is one of what it was one of
+pub record ComesBack (basin : Draft) (log : Log) (old new : Engine) : Type 0 where
+  pub made : (policy : Accepted) → IsEngineOf basin policy old → IsEngineOf basin policy new
+  pub can : CanReplay basin new
+  pub shows : Shows basin new log
+
+-- a call takes the timestep back of which this is the record: an engine that shows a log which ends with it shows the log before it
+pub record TakesBack (basin : Draft) (kept : StepRecord) (old new : Engine) : Type 0 where
+  pub back : (policy : Policy) (log : Log) (first : Event) (events : List Event) → IsTimestep basin policy kept.step log first events
+      → RecordsThese basin kept.step log (first ∷ events) kept → CanShow basin kept.step log
+      → Shows basin old (log_after (first ∷ events) (opened kept.step ∷ log)) → ComesBack basin log old new
+  pub keeps_trace : IsSome old.trace → IsSome new.trace
+
+-- a call makes a cell, with those that share its value, hold this input, or nothing, and leaves all else
+pub record GivesInput (basin : Draft) (cell : Cell) (value : Option ℤ) (old new : Engine) : Type 0 where
+  pub made : (policy : Accepted) → IsEngineOf basin policy old → IsEngineOf basin policy new
+  pub can : CanReplay basin new
+  pub cells : Sets basin cell (option_map input_content value) old.series new.series
+  pub trace : new.trace ≡ old.trace
+  pub closed_steps : new.closed ≡ old.closed
+  pub end : new.end ≡ old.end
 
 -- how many timesteps a call counts
 abbrev pub steps_of : Result StepEnd NoMemory → ℕ

@@ -7,7 +7,8 @@ use Rattle.rw_series.specs.Series.{held}
 use Rattle.rw_run.specs.Log.{Event, closed, fault, Log, cells_of}
 use Rattle.rw_run.specs.Runs.{standing, rests}
 use Rattle.rw_run.specs.RunOf.{trace_of, end_of, last_closed}
-use Rattle.rw_dispatch.specs.Stage.{IsHeldIn}
+use Rattle.rw_dispatch.specs.Stage.{AreBounded, IsHeldIn}
+use Rattle.rw_record.specs.Back.{AreCellsOf}
 use Rattle.rpl_verify.specs.Verified.{Accepted, verified}
 use Rattle.rw_rules.specs.Rules.{IsRulesOf}
 use Rattle.rw_engine.specs.Engine.{Engine}
@@ -43,6 +44,12 @@ pub record IsBefore (basin : Draft) (step : ℕ) (log : Log) : Type 0 where
   pub rest : standing log ≡ rests last
   pub next_one : step ≡ last + 1
   pub exists : step ≤ basin.control.stamps.count
+
+-- an engine of the basin can show the log, behind the timestep before this one: its cells hold what they can, and that one was closed last
+pub record CanShow (basin : Draft) (step : ℕ) (log : Log) : Type 0 where
+  pub cells : AreCellsOf basin (cells_of basin log)
+  pub bounded : AreBounded basin (cells_of basin log)
+  pub closed_steps : step ≡ last_closed log + 1
 
 abbrev pub EndsBy : StepEnd → ℕ → Event → Type 0
 EndsBy IsClosed step event = event ≡ closed step

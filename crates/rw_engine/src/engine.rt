@@ -1,4 +1,4 @@
-ghost use Rattle.std.specs.Prelude.{◌≤◌, ◌+◌, ◌↔◌, ℕ, List, [], map, IfOk, ◌≡◌, IsSome, Ok, true};
+ghost use Rattle.std.specs.Prelude.{◌≤◌, ◌+◌, ◌↔◌, ℕ, List, [], map, IfOk, IfSome, ◌≡◌, IsSome, Ok, true};
 ghost use Rattle.rw_model.specs.Draft.{Draft};
 ghost use Rattle.rw_method.specs.Catalogue.{AreInOrder};
 ghost use Rattle.rw_inputs.specs.Inputs.{IsInputsOf};
@@ -8,10 +8,11 @@ ghost use Rattle.rw_run.specs.Runs.{placed};
 ghost use Rattle.rw_run.specs.RunOf.{IsRunOf};
 ghost use Rattle.rw_model.specs.Turn.{IsStep};
 ghost use Rattle.rw_inputs.specs.Givens.{givens};
-ghost use Rattle.rw_series.specs.Series.{held};
+ghost use Rattle.rw_model.specs.Links.{IsBetween, bounds_in};
+ghost use Rattle.rw_series.specs.Series.{IsCell, held};
 ghost use Rattle.rw_record.specs.Noted.{AreHeld};
 ghost use Rattle.rw_engine.specs.Shows.{CanReplay, IsEngineOf, Shows};
-ghost use Rattle.rw_engine.specs.Passing.{Replays, RunsStep, steps_of};
+ghost use Rattle.rw_engine.specs.Passing.{GivesInput, Replays, RunsStep, TakesBack, steps_of};
 ghost use Rattle.rw_engine.specs.Picked.{RunsStepBy};
 ghost use Rattle.rw_engine.specs.Records.{CanWriteLines, HasNoted, RecordsOrNot};
 
@@ -20,7 +21,7 @@ use crate::state::State;
 use crate::step_end::StepEnd;
 use rpl_predef::Predefs;
 use rpl_verify::Verified;
-use rw_base::{Ledger, NoMemory, StepNo, Steps};
+use rw_base::{Cell, Ledger, NoMemory, Qty, StepNo, Steps};
 use rw_dispatch::{Oldest, Pick};
 use rw_inputs::Inputs;
 use rw_method::Catalogue;
@@ -178,6 +179,25 @@ impl Engine {
         ensures { Replays basin.now kept.now self.old self.new result }
     {
         self.state.replay(basin, kept)
+    }
+
+    /// Takes the timestep that was closed last back, by its record: the engine shows the log before it. It takes no memory.
+    pub fn take_back(&mut self, basin: &Basin, kept: &StepRecord)
+        requires made { CanReplay basin.now self.old }
+        ensures { TakesBack basin.now kept.now self.old self.new }
+    {
+        self.state.take_back(basin, kept)
+    }
+
+    /// Makes a cell, with those that share its value, hold an input, or nothing where none is given. It takes no memory.
+    pub fn give(&mut self, basin: &Basin, cell: Cell, value: Option<Qty>)
+        requires made { CanReplay basin.now self.old }
+        requires cell { IsCell basin.now cell }
+        requires within { IfSome value (λ value. IsBetween
+            (bounds_in basin.now.objects basin.now.links basin.now.bounds cell.slot.0) value) }
+        ensures { GivesInput basin.now cell value self.old self.new }
+    {
+        self.state.give(basin, cell, value)
     }
 
     /// What the run came to, or so far where timesteps are left. It takes no memory.

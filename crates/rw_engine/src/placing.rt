@@ -3,16 +3,30 @@ ghost use Rattle.std.specs.Prelude.{◌≡◌, ◌≤◌, option_map};
 ghost use Rattle.rw_model.specs.Draft.{IsSlot};
 ghost use Rattle.rw_series.specs.Series.{IsCell};
 ghost use Rattle.rw_inputs.specs.Inputs.{IsInputsOf, value_at};
-ghost use Rattle.rw_run.specs.Log.{Log};
+ghost use Rattle.rw_run.specs.Log.{Log, input_content};
 ghost use Rattle.rw_run.specs.Runs.{placed};
 ghost use Rattle.rw_dispatch.specs.Stage.{IsHeldIn};
 ghost use Rattle.rw_inputs.specs.Givens.{if_given, givens_of, givens};
 ghost use Rattle.rw_engine.specs.Held.{HoldsAll};
 
-use rw_base::{Cell, SlotNo, StepNo};
+use rw_base::{Cell, Qty, SlotNo, StepNo};
 use rw_inputs::Inputs;
 use rw_model::{Basin, Content, Writer};
 use rw_series::Series;
+
+/// What a cell holds of which this is given, if anything is.
+pub(crate) fn input(value: Option<Qty>) -> Option<Content>
+    ensures { result ≡ option_map input_content value }
+{
+    match value {
+        Some(value) => Some(Content {
+            value,
+            number: 0,
+            writer: Writer::Input,
+        }),
+        None => None,
+    }
+}
 
 // Places what is given to a cell, if something is.
 fn place_cell(basin: &Basin, inputs: &Inputs, series: &mut Series, cell: Cell)

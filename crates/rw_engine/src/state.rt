@@ -8,9 +8,11 @@ ghost use Rattle.rw_rules.specs.Firing.{IsRuleTurn};
 ghost use Rattle.rw_run.specs.RunOf.{IsRunOf};
 ghost use Rattle.rw_model.specs.Turn.{IsStep, IsTurn};
 ghost use Rattle.rw_engine.specs.Counts.{count_of};
+ghost use Rattle.rw_model.specs.Links.{IsBetween, bounds_in};
+ghost use Rattle.rw_series.specs.Series.{IsCell};
 ghost use Rattle.rw_dispatch.specs.Pick.{picked_at};
 ghost use Rattle.rw_dispatch.specs.Queue.{IsTaken};
-ghost use Rattle.rw_engine.specs.Passing.{Replays};
+ghost use Rattle.rw_engine.specs.Passing.{GivesInput, Replays, TakesBack};
 ghost use Rattle.rw_run.specs.Runs.{inside};
 ghost use Rattle.rw_engine.specs.Picked.{PicksAt, RunsStepBy};
 ghost use Rattle.rw_engine.specs.Shows.{CanReplay, IsEngineOf, Shows};
@@ -20,18 +22,18 @@ ghost use Rattle.rw_engine.specs.Records.{CanWriteLines, HasNoted, RecordsOrNot}
 
 use crate::counts::Counts;
 use crate::noting::{note_dispatch, note_firing};
-use crate::placing::place;
+use crate::placing::{input, place};
 use crate::replaying::{retell, write_again};
 use crate::setup::RunSetup;
 use crate::step_end::StepEnd;
 use crate::trace_lines::{tell, tell_firing};
 use crate::turn::next_turn;
 use rpl_verify::Verified;
-use rw_base::{NoMemory, ObjectNo, RuleNo, StepNo};
+use rw_base::{Cell, NoMemory, ObjectNo, Qty, RuleNo, StepNo};
 use rw_dispatch::{Pick, Queue, Workspace, judge_dispatch, make};
 use rw_inputs::Inputs;
 use rw_model::Basin;
-use rw_record::{Noted, StepRecord, take_back};
+use rw_record::{Noted, StepRecord, put_back, take_back};
 use rw_rules::Rules;
 use rw_run::law::again;
 use rw_run::{Run, RunEnd, RunFault, Trace, TraceEvent};
@@ -425,6 +427,32 @@ impl State {
     {
         again();
         self.pass_again(basin, kept)
+    }
+
+    /// Takes the timestep that was closed last back, by its record.
+    pub(crate) fn take_back(&mut self, basin: &Basin, kept: &StepRecord)
+        requires made { CanReplay basin.now (seen self.old) }
+        ensures back { TakesBack basin.now kept.now (seen self.old) (seen self.new) }
+        ensures sound { IsSoundState self.old → IsSoundState self.new }
+    {
+        self.noted.begin_step();
+        self.lines_before = self.run.trace.len().saturating_sub(kept.lines().len());
+        self.run.trace.truncate(self.lines_before);
+        put_back(basin, &mut self.run.series, kept.looked());
+        self.run.closed = kept.step().0.saturating_sub(1);
+        self.run.end = RunEnd::Settled;
+    }
+
+    /// Makes a cell hold an input, or nothing.
+    pub(crate) fn give(&mut self, basin: &Basin, cell: Cell, value: Option<Qty>)
+        requires made { CanReplay basin.now (seen self.old) }
+        requires cell { IsCell basin.now cell }
+        requires within { IfSome value (λ value. IsBetween
+            (bounds_in basin.now.objects basin.now.links basin.now.bounds cell.slot.0) value) }
+        ensures gives { GivesInput basin.now cell value (seen self.old) (seen self.new) }
+        ensures sound { IsSoundState self.old → IsSoundState self.new }
+    {
+        self.run.series.hold(basin, cell, input(value));
     }
 
     /// What the run comes to so far.

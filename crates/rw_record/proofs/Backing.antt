@@ -1,11 +1,11 @@
 -- Putting back what cells held.
-use Rattle.rw_record.proofs.Common.{Bool, Cell, Contains, Contains-append_right, Draft, Held, IsCell, IsSeriesOf, List, None, Series, Sets, [], ap, ap₂, arith, drop, false, false≢true, get_or_past, held, if◌then◌else◌, is_noted, is_same_cell, is_shared, length, nat_eq_equiv, nat_le, nat_tests, refl, subst, sym, true, ℕ, ◌&&◌, ◌-◌, ◌||◌, ◌∙◌, ◌∷◌, ◌≡◌, ◌≤◌}
+use Rattle.rw_record.proofs.Common.{Bool, Cell, Cells, Contains, Contains-append_right, Draft, Held, IsCell, IsSeriesOf, List, None, Series, Sets, [], ap, ap₂, arith, drop, false, false≢true, get_or_past, held, if◌then◌else◌, is_noted, is_same_cell, is_shared, length, nat_eq_equiv, nat_le, nat_tests, refl, subst, sym, true, ℕ, ◌&&◌, ◌-◌, ◌||◌, ◌∙◌, ◌∷◌, ◌≡◌, ◌≤◌}
 use Rattle.std.proofs.lemmas.List.{drop_all}
 use Rattle.rw_model.specs.Links.{is_same_link, link_of}
 use Rattle.rw_series.specs.Cells.{is_kept}
 use Rattle.rw_series.specs.Columns.{column_of}
 use Rattle.rw_series.proofs.Sharing.{among_group, known_number}
-use Rattle.rw_record.specs.Back.{is_cell}
+use Rattle.rw_record.specs.Back.{AreCellsOf, is_cell}
 use Rattle.rw_record.specs.Notes.{CanTakeBack}
 use Rattle.rw_record.proofs.Cells.{first_of, same_cell}
 
@@ -42,15 +42,18 @@ holds_nothing : (basin : Draft) (series : Series) (cell : Cell) → IsSeriesOf b
 holds_nothing basin series cell made none =
     rw (unkept basin series cell made none (nat_le 1 cell.slot.0 && nat_le cell.slot.0 (length series.columns)) refl) refl
 
+pub cells_held : (basin : Draft) (series : Series) → IsSeriesOf basin series → AreCellsOf basin (held series)
+cells_held basin series made = record { shared = made.shared; none = λ cell. holds_nothing basin series cell made }
+
 -- ---- one cell
 
-module _ (basin : Draft) (before : Series) (one : Held) (items : List Held) (was : IsSeriesOf basin before) where
-  rest_held : (now : Series) → CanTakeBack (held before) (held now) (one ∷ items) → (it : Held) → Contains items it → held before it.cell ≡ it.content
+module _ (basin : Draft) (before : Cells) (one : Held) (items : List Held) (was : AreCellsOf basin before) where
+  rest_held : (now : Series) → CanTakeBack before (held now) (one ∷ items) → (it : Held) → Contains items it → before it.cell ≡ it.content
   rest_held now can it has = can.held it (Contains-append_right (one ∷ []) items it has)
 
   -- it is put back
-  pub one_put : (old new : Series) → IsCell basin one.cell → Sets basin one.cell one.content old new → CanTakeBack (held before) (held old) (one ∷ items)
-      → CanTakeBack (held before) (held new) items
+  pub one_put : (old new : Series) → IsCell basin one.cell → Sets basin one.cell one.content old new → CanTakeBack before (held old) (one ∷ items)
+      → CanTakeBack before (held new) items
   one_put old new known sets can = record {
     held = rest_held old can;
     same = λ cell none. sets cell ∙ by cell none (is_shared basin one.cell cell) refl;
@@ -62,34 +65,34 @@ module _ (basin : Draft) (before : Series) (one : Held) (items : List Held) (was
           absurd (false≢true (sym none ∙ ap (is_shared basin one.cell) (same_cell cell one.cell same) ∙ shared_itself basin one.cell known))
 
       by : (cell : Cell) → is_noted items cell ≡ false → (shared : Bool) → is_shared basin one.cell cell ≡ shared
-          → (if shared then one.content else held old cell) ≡ held before cell
+          → (if shared then one.content else held old cell) ≡ before cell
       by cell none true shared = sym (can.held one (first_of one items)) ∙ was.shared one.cell cell known shared
       by cell none false shared =
           can.same cell (ap₂ (λ a b. a || b) (apart cell shared (is_same_cell cell one.cell) refl) none)
 
   -- it is none, and is passed over
-  pub one_passed : (old : Series) → IsSeriesOf basin old → is_cell basin one.cell ≡ false → CanTakeBack (held before) (held old) (one ∷ items)
-      → CanTakeBack (held before) (held old) items
+  pub one_passed : (old : Series) → IsSeriesOf basin old → is_cell basin one.cell ≡ false → CanTakeBack before (held old) (one ∷ items)
+      → CanTakeBack before (held old) items
   one_passed old made unknown can = record {
     held = rest_held old can;
     same = λ cell none. by cell none (is_same_cell cell one.cell) refl;
   }
     where
-      by : (cell : Cell) → is_noted items cell ≡ false → (same : Bool) → is_same_cell cell one.cell ≡ same → held old cell ≡ held before cell
+      by : (cell : Cell) → is_noted items cell ≡ false → (same : Bool) → is_same_cell cell one.cell ≡ same → held old cell ≡ before cell
       by cell none true same =
           let at = ap (is_cell basin) (same_cell cell one.cell same) ∙ unknown in
-          holds_nothing basin old cell made at ∙ sym (holds_nothing basin before cell was at)
+          holds_nothing basin old cell made at ∙ sym (was.none cell at)
       by cell none false apart = can.same cell (ap₂ (λ a b. a || b) apart none)
 
   pub one_back : (old new : Series) → IsSeriesOf basin old → (is_cell basin one.cell ≡ true → Sets basin one.cell one.content old new)
-      → (is_cell basin one.cell ≡ false → new ≡ old) → CanTakeBack (held before) (held old) (one ∷ items) → CanTakeBack (held before) (held new) items
+      → (is_cell basin one.cell ≡ false → new ≡ old) → CanTakeBack before (held old) (one ∷ items) → CanTakeBack before (held new) items
   one_back old new made put passed can = by (is_cell basin one.cell) refl
     where
-      by : (known : Bool) → is_cell basin one.cell ≡ known → CanTakeBack (held before) (held new) items
+      by : (known : Bool) → is_cell basin one.cell ≡ known → CanTakeBack before (held new) items
       by true known = one_put old new (IsCell-of basin one.cell known) (put known) can
-      by false unknown = subst (λ series. CanTakeBack (held before) (held series) items) (sym (passed unknown)) (one_passed old made unknown can)
+      by false unknown = subst (λ series. CanTakeBack before (held series) items) (sym (passed unknown)) (one_passed old made unknown can)
 
-pub all_back : (before now : Series) (items : List Held) (count : ℕ) → length items ≤ count → CanTakeBack (held before) (held now) (drop count items)
-    → (cell : Cell) → held now cell ≡ held before cell
+pub all_back : (before : Cells) (now : Series) (items : List Held) (count : ℕ) → length items ≤ count → CanTakeBack before (held now) (drop count items)
+    → (cell : Cell) → held now cell ≡ before cell
 all_back before now items count past can cell =
     can.same cell (ap (λ left. is_noted left cell) (drop_all count items past))

@@ -1,7 +1,8 @@
 ghost use Rattle.std.specs.Prelude.{◌≡◌, IsFalse, IsTrue};
 ghost use Rattle.rw_base.specs.declared.number.Cell.{Cell};
 ghost use Rattle.rw_series.specs.Series.{Series, IsSeriesOf, Sets, held};
-ghost use Rattle.rw_record.specs.Back.{is_cell};
+ghost use Rattle.rw_run.specs.Log.{Cells};
+ghost use Rattle.rw_record.specs.Back.{AreCellsOf, is_cell};
 ghost use Rattle.rw_record.specs.Noted.{noted_in};
 ghost use Rattle.rw_record.specs.Notes.{CanTakeBack};
 
@@ -32,13 +33,13 @@ pub fn take_back(basin: &Basin, series: &mut Series, noted: &Noted)
     put_back(basin, series, noted.as_slice());
 }
 
-// Puts back what these cells held.
-fn put_back(basin: &Basin, series: &mut Series, items: &[Held])
+/// Puts back what these cells held, in the same way.
+pub fn put_back(basin: &Basin, series: &mut Series, items: &[Held])
     requires made { IsSeriesOf basin.now series.old }
     ensures made { IsSeriesOf basin.now series.new }
-    ensures back { (before : Series) → IsSeriesOf basin.now before
-        → CanTakeBack (held before) (held series.old) items.now
-        → (cell : Cell) → held series.new cell ≡ held before cell }
+    ensures back { (before : Cells) → AreCellsOf basin.now before
+        → CanTakeBack before (held series.old) items.now
+        → (cell : Cell) → held series.new cell ≡ before cell }
 {
     for one in items {
         put_one(basin, series, one);

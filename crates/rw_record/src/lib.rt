@@ -11,7 +11,7 @@ mod noted;
 mod record;
 
 pub use alike::is_alike;
-pub use back::take_back;
+pub use back::{put_back, take_back};
 pub use noted::Noted;
 pub use record::{MOST_KEPT, StepRecord};
 pub use rw_run::Held;

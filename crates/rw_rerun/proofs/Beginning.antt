@@ -1,14 +1,17 @@
 -- A run that begins where a batch begins: the timesteps that it doesn't touch are taken over.
-use Rattle.rw_base.proofs.Common.{◌≡◌, ◌≤◌, ◌+◌, ◌∙◌, ℕ, suc, List, [], ◌∷◌, ◌++◌, map, Contains, Option, Some, length, length-append, append-nil, append_assoc, refl, sym, ap, subst, arith}
+use Rattle.rw_base.proofs.Common.{◌≡◌, ◌≤◌, ◌+◌, ◌∙◌, ℕ, zero, suc, false, List, [], ◌∷◌, ◌++◌, map, Contains, Option, Some, None, replicate, take, length, length-append, append-nil, append_assoc, refl, sym, ap, subst, arith}
 use Rattle.std.specs.List.{flat_map}
+use Rattle.std.proofs.lemmas.List.{length-replicate}
+use Rattle.rw_base.specs.declared.number.Cell.{Cell}
+use Rattle.rw_base.specs.declared.number.StepNo.{StepNo}
 use Rattle.rw_model.specs.Draft.{Draft}
 use Rattle.rw_inputs.specs.Givens.{givens}
 use Rattle.rw_inputs.specs.Inputs.{Inputs}
 use Rattle.rw_run.specs.Frame.{IsFramed, log_after}
 use Rattle.rw_run.specs.Log.{Event, Log, cells_of, opened}
 use Rattle.rw_run.specs.Next.{Policy}
-use Rattle.rw_run.specs.Runs.{placed}
-use Rattle.rw_run.specs.Reuse.{most_kept}
+use Rattle.rw_run.specs.Runs.{Leads, placed, rests, standing}
+use Rattle.rw_run.specs.Reuse.{AreRerun, most_kept}
 use Rattle.rw_run.specs.RunOf.{lines}
 use Rattle.rw_run.specs.Step.{cell_count, events_of, reached_by}
 use Rattle.rw_run.specs.Timestep.{IsTimestep}
@@ -19,14 +22,20 @@ use Rattle.rw_run.proofs.Passings.{closed_behind, nothing_of}
 use Rattle.rw_record.specs.Noted.{AreHeld}
 use Rattle.rw_record.specs.Record.{StepRecord}
 use Rattle.rw_engine.specs.Records.{RecordsThese}
-use Rattle.rw_engine.specs.Shows.{IsBefore}
+use Rattle.rw_engine.specs.Shows.{CanShow, IsBefore, Shows}
 use Rattle.rw_engine.proofs.Steps.{begins_step}
 use Rattle.rw_rerun.specs.Begun.{AreAlikeIn, HasTakenOver, TakesOver}
-use Rattle.rw_rerun.specs.Kept.{AreKept, AreLinked, IsKeptAs, IsLinkOf}
+use Rattle.rw_rerun.specs.Kept.{AreKept, AreLinked, IsKeptAs, IsLinkOf, changed}
+use Rattle.rw_rerun.specs.Session.{numbers_of}
+use Rattle.rw_rerun.specs.Spare.{BeginsBy}
+use Rattle.rw_rerun.specs.UnderWay.{stands_at}
+use Rattle.rw_rerun.specs.declared.pass.Pass.{Pass}
+use Rattle.rw_rerun.specs.declared.spare.Spare.{Spare}
 use Rattle.rw_rerun.proofs.Anew.{IsClosedIn, kept_again, these_again}
 use Rattle.rw_rerun.proofs.Begun.{alike_behind, rests_behind}
 use Rattle.rw_rerun.proofs.Keeping.{kept_more, linked_more, still_kept}
 use Rattle.rw_rerun.proofs.Reusing.{is_reused, taken_over}
+use Rattle.rw_rerun.proofs.Showing.{shown_behind}
 use Rattle.rw_rerun.proofs.Ways.{leads_more}
 
 -- ---- one timestep more
@@ -77,6 +86,9 @@ module _ (basin : Draft) (policy : Policy) (step last : ℕ) (one next : Log) (k
     before_on : IsBefore basin step now
     before_on = record { last = last; rest = taken.stands; next_one = next_one; exists = near }
 
+    shown_here : CanShow basin step now
+    shown_here = subst (λ s. CanShow basin s now) (sym next_one) taken.shown
+
     place_on : step ≡ 1 + length all_kept
     place_on = let many = taken.many in omega (arith, many, next_one)
 
@@ -87,6 +99,7 @@ module _ (basin : Draft) (policy : Policy) (step last : ℕ) (one next : Log) (k
       leads = leads_more basin policy (placed [] (givens basin inputs)) taken.events (opened step ∷ link.first ∷ link.events) now log_on taken.leads
           (begins_step basin policy (first_waiting basin now) now step before_on, timestep_on.leads);
       stands = rests_behind step link.first link.events (opened step ∷ now) timestep_on.goes;
+      shown = shown_behind basin step one now link.first link.events kept link.timestep.goes link.these shown_here;
       later = λ other far. closed_on.behind.events other (λ same. absurd (omega (arith, far, same))) ∙ taken.later other (omega (arith, far, next_one));
       rerun = taken_over basin earlier now log_on step [] closed_on.behind (λ other far. (nothing_of other now (none_yet other far)).0) taken.rerun
           (is_reused basin policy earlier log_on now step kept was closed_on.behind.opening held);
@@ -96,6 +109,7 @@ module _ (basin : Draft) (policy : Policy) (step last : ℕ) (one next : Log) (k
         first = link.first;
         events = link.events;
         timestep = timestep_on;
+        shown = shown_here;
         these = these_again basin policy next log_on now step kept kept_there held;
         is = refl;
         few_cells = link.few_cells;
@@ -152,3 +166,30 @@ takes_over basin policy inputs earlier (first ∷ rest) step last one other end 
       alike = λ cell same. more.alike cell
           (ap (λ log. cells_of basin log cell) link.is ∙ alike_behind basin (link.first ∷ link.events) (opened step ∷ one) (opened step ∷ other) cell same);
     }
+
+-- ---- a run on its way
+
+none_changed : (count : ℕ) (was : List (Option StepRecord)) → count ≤ length was → changed was (replicate count None) ≡ take count was
+none_changed zero was few = refl
+none_changed (suc count) [] few = absurd (omega (arith, few))
+none_changed (suc count) (one ∷ was) few = ap (λ rest. one ∷ rest) (none_changed count was (omega (arith, few)))
+
+pub begins_by : (spare : Spare) (pass : Pass) → pass.engine ≡ spare.engine → pass.changes.items ≡ replicate spare.behind None → pass.reran.items ≡ []
+    → pass.over ≡ false → BeginsBy spare pass
+begins_by spare pass same changes reran goes = record {
+  engine = same;
+  goes = λ basin policy inputs earlier log was few shows taken.
+      let now : changed was pass.changes.items ≡ take spare.behind was = ap (changed was) changes ∙ none_changed spare.behind was few in record {
+        many = ap length changes ∙ length-replicate spare.behind _;
+        log = log;
+        events = taken.events;
+        leads = taken.leads;
+        shows = subst (λ engine. Shows basin engine log) (sym same) shows;
+        stands = taken.stands ∙ sym (ap (λ o. stands_at o spare.behind) goes);
+        shown = λ same. taken.shown;
+        later = taken.later;
+        rerun = subst (λ (steps : List StepNo). AreRerun basin earlier log (numbers_of steps)) (sym reran) taken.rerun;
+        kept = subst (AreKept basin policy log 1) (sym now) taken.kept;
+        linked = subst (λ ks. AreLinked basin policy 1 (placed [] (givens basin inputs)) ks log) (sym now) taken.linked;
+      };
+}

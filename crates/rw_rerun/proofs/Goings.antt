@@ -1,5 +1,5 @@
 -- What each way of passing a timestep comes to.
-use Rattle.rw_base.proofs.Common.{◌≡◌, ◌≤◌, ◌+◌, ◌∙◌, ℕ, true, false, List, [], ◌∷◌, ◌++◌, Ok, Option, Some, None, IsSome, IfSome, length, length-append, refl, sym, ap, subst, arith}
+use Rattle.rw_base.proofs.Common.{◌≡◌, ◌≤◌, ◌+◌, ◌∙◌, ℕ, true, false, List, [], ◌∷◌, ◌++◌, Ok, Option, Some, None, IsSome, IfSome, length, length-append, false≢true, refl, sym, ap, subst, arith}
 use Rattle.rw_base.specs.declared.number.StepNo.{StepNo}
 use Rattle.rw_model.specs.Draft.{Draft}
 use Rattle.rw_model.specs.Turn.{IsStep}
@@ -9,7 +9,7 @@ use Rattle.rw_run.specs.Frame.{log_after}
 use Rattle.rw_run.specs.Log.{Cells, Event, Log, cells_of, closed, fault, opened}
 use Rattle.rw_run.specs.Next.{Policy}
 use Rattle.rw_run.specs.Reuse.{AreRerun, most_kept}
-use Rattle.rw_run.specs.RunOf.{lines}
+use Rattle.rw_run.specs.RunOf.{last_closed, lines}
 use Rattle.rw_run.specs.Runs.{Leads, rests, standing}
 use Rattle.rw_run.specs.Step.{before_closing, cell_count, events_of, reached_by}
 use Rattle.rw_run.specs.Timestep.{AreLooked, IsTimestep}
@@ -23,8 +23,9 @@ use Rattle.rw_record.specs.Record.{StepRecord}
 use Rattle.rw_engine.specs.Engine.{Engine}
 use Rattle.rw_engine.specs.Passing.{Passes, Replays, RunsStep}
 use Rattle.rw_engine.specs.Records.{HasNoted, RecordsOrNot}
-use Rattle.rw_engine.specs.Shows.{IsBefore, IsEngineOf}
+use Rattle.rw_engine.specs.Shows.{CanShow, IsBefore, IsEngineOf}
 use Rattle.rw_engine.specs.declared.step_end.StepEnd.TheVariants.{Closed as IsClosed, Fault as IsFault}
+use Rattle.rw_engine.proofs.Backs.{can_show}
 use Rattle.rpl_verify.specs.Verified.{Accepted}
 use Rattle.rw_rules.specs.Rules.{policy_in}
 use Rattle.rw_rerun.specs.Kept.{IsKept, IsKeptAs, IsLink}
@@ -33,7 +34,7 @@ use Rattle.rw_rerun.specs.UnderWay.{IsReplayable, GoesOn, IsPassOf, IsUnlike, st
 use Rattle.rw_rerun.specs.declared.pass.Pass.{Pass}
 use Rattle.rw_rerun.proofs.Anew.{IsClosedIn, kept_again, kept_anew, record_stands, these_again}
 use Rattle.rw_rerun.proofs.Reusing.{is_reused, not_reused, run_again, taken_over}
-use Rattle.rw_rerun.proofs.Ways.{before_next, none_on, none_open, not_kept, numbers_more, one_on}
+use Rattle.rw_rerun.proofs.Ways.{before_next, none_on, none_open, not_kept, numbers_more, one_on, shown_next}
 
 unlike_now : (series cells : Cells) (entry : Option StepRecord) → ((one : Held) → series one.cell ≡ cells one.cell)
     → IfSome entry (λ kept. ¬ AreHeld series kept.looked) → IfSome entry (λ kept. ¬ AreHeld cells kept.looked)
@@ -43,12 +44,13 @@ unlike_now series cells (Some kept) same unlike = λ are. unlike (λ one has. sa
 link_anew : (basin : Draft) (policy : Policy) (step : ℕ) (now log : Log) (first : Event) (events : List Event) (found : Option StepRecord)
     → IsTimestep basin policy step now first events → log ≡ log_after (first ∷ events) (opened step ∷ now)
     → events_of step log ≡ log_after (first ∷ events) (opened step ∷ []) → RecordsOrNot basin step now (first ∷ events) found
-    → IsKept basin policy log step found → IsLink basin policy step now found log
-link_anew basin policy step now log first events None timestep is own records kept = tt
-link_anew basin policy step now log first events (Some it) timestep is own records kept = record {
+    → IsKept basin policy log step found → CanShow basin step now → IsLink basin policy step now found log
+link_anew basin policy step now log first events None timestep is own records kept could = tt
+link_anew basin policy step now log first events (Some it) timestep is own records kept could = record {
   first = first;
   events = events;
   timestep = timestep;
+  shown = could;
   these = records.1;
   is = is;
   few_cells = subst (λ es. cell_count (flat_map (reached_by basin) es) ≤ most_kept) own kept.keepable.few_cells;
@@ -111,11 +113,14 @@ module _ (basin : Draft) (policy : Accepted) (step : ℕ) (old new : Pass) (made
           first = is.first;
           events = is.events;
           timestep = timestep;
+          shown = shown_next basin in_run inputs earlier was old new last step entry None way next_one there.there changes goes;
           these = these_again basin in_run earlier log now step kept is held_now;
           is = same;
           few_cells = subst (λ es. cell_count (flat_map (reached_by basin) es) ≤ most_kept) is.own is.keepable.few_cells;
           few_lines = subst (λ es. length (flat_map lines es) ≤ most_kept) is.own is.keepable.few_lines;
-        }));
+        }))
+        (λ same. can_show basin new.engine (step + 1) log (replays.made policy made.made).series passes.shows
+        (ap (λ n. n + 1) (sym (passes.shows.closed_steps ∙ ap last_closed ends))));
     each = let same = ap length reran in omega (arith, same);
     rises = omega arith;
     few = omega arith;
@@ -163,7 +168,9 @@ module _ (basin : Draft) (policy : Accepted) (step : ℕ) (old new : Pass) (made
           (link_anew basin in_run step now log closes.first closes.events found closes.timestep closes.is closed_in.own
           (records basin step now (closes.first ∷ closes.events) noted runs.closed_steps)
           (kept_anew basin in_run step log now closes.first closes.events closed_in closes.timestep new.engine noted (how_many basin (cells_of basin now)) found
-          (records basin step now (closes.first ∷ closes.events) noted runs.closed_steps)));
+          (records basin step now (closes.first ∷ closes.events) noted runs.closed_steps))
+          (shown_next basin in_run inputs earlier was old new last step entry (Some found) way next_one there.there changes goes))
+          (λ same. can_show basin new.engine (step + 1) log runs.made.series passes.shows (ap (λ n. n + 1) (sym runs.closed_steps)));
       each = one_more;
       rises = omega (arith, counted);
       few = omega (arith, counted);
@@ -191,7 +198,7 @@ module _ (basin : Draft) (policy : Accepted) (step : ℕ) (old new : Pass) (made
           (run_again basin earlier now log step (numbers_of old.reran.items) behind (λ other far. (nothing_of other now (none other far)).0) way.rerun
           (not_reused basin in_run earlier log now step entry (subst (λ s. IsKept basin in_run earlier s entry) (sym next_one) there.kept) behind.opening
           (unlike_now (held old.engine.series) (cells_of basin now) entry (λ one. way.shows.cells one.cell) fits))))
-          (not_kept basin in_run step log (ap (before_closing step) ends ∙ facts.1)) tt;
+          (not_kept basin in_run step log (ap (before_closing step) ends ∙ facts.1)) tt (λ same. absurd (false≢true (sym same ∙ ended)));
       each = one_more;
       rises = omega (arith, counted);
       few = omega (arith, counted);

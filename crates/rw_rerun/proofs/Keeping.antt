@@ -1,5 +1,5 @@
 -- What is kept of timesteps stays so behind a longer log, and what a run changes of it.
-use Rattle.rw_base.proofs.Common.{◌≡◌, ◌≢◌, ◌≤◌, ◌+◌, ◌∙◌, ℕ, zero, suc, List, [], ◌∷◌, ◌++◌, Option, Some, None, IsSome, unwrap_or, length, refl, sym, ap, subst, arith, same_Some, none-some, slice_get}
+use Rattle.rw_base.proofs.Common.{◌≡◌, ◌≢◌, ◌≤◌, ◌+◌, ◌∙◌, ℕ, zero, suc, List, [], ◌∷◌, ◌++◌, Option, Some, None, IsSome, unwrap_or, length, refl, sym, ap, subst, arith, same_Some, none-some, slice_get, drop, take}
 use Rattle.std.specs.List.{flat_map}
 use Rattle.rw_model.specs.Draft.{Draft}
 use Rattle.rw_run.specs.Behind.{IsBehind}
@@ -62,6 +62,34 @@ linked_more basin policy step first log end next [] entry at are is =
     (next, subst (λ k. IsLink basin policy k log entry next) here (subst (λ l. IsLink basin policy step l entry next) are is), refl)
 linked_more basin policy step first log end next (one ∷ kept) entry at are is =
     (are.0, are.1, linked_more basin policy step (first + 1) are.0 end next kept entry (omega (arith, at)) are.2 is)
+
+-- up to one of them, which leads to the others
+pub record SplitsAt (basin : Draft) (policy : Policy) (first here : ℕ) (start log end : Log) (was : List (Option StepRecord)) (count : ℕ) (entry : Option StepRecord) : Type 0 where
+  pub mid : Log
+  pub before : AreLinked basin policy first start (take count was) mid
+  pub link : IsLink basin policy here mid entry log
+  pub rest : AreLinked basin policy here mid (drop count was) end
+
+pub split_back : (basin : Draft) (policy : Policy) (first here : ℕ) (start log end : Log) (was : List (Option StepRecord)) (count : ℕ) (entry : Option StepRecord)
+    → here ≡ first + count → slice_get was count ≡ Some entry → AreLinked basin policy first start (take (suc count) was) log
+    → AreLinked basin policy (here + 1) log (drop (suc count) was) end → SplitsAt basin policy first here start log end was count entry
+split_back basin policy first here start log end [] count entry at there before rest = absurd (none-some _ there)
+split_back basin policy first here start log end (one ∷ was) zero entry at there before rest =
+    let same : first ≡ here = omega (arith, at) in
+    let link : IsLink basin policy here start one log =
+    subst (λ s. IsLink basin policy s start one log) same (subst (λ l. IsLink basin policy first start one l) (sym before.2) before.1) in record {
+      mid = start;
+      before = refl;
+      link = subst (λ e. IsLink basin policy here start e log) (same_Some one entry there) link;
+      rest = (log, link, rest);
+    }
+split_back basin policy first here start log end (one ∷ was) (suc count) entry at there before rest =
+    let more = split_back basin policy (first + 1) here before.0 log end was count entry (omega (arith, at)) there before.2 rest in record {
+      mid = more.mid;
+      before = (before.0, before.1, more.before);
+      link = more.link;
+      rest = more.rest;
+    }
 
 -- ---- changes
 

@@ -11,7 +11,7 @@ use Rattle.rw_run.specs.Reuse.{AreRerun}
 use Rattle.rw_run.specs.Runs.{IsOver, IsRun, Leads, placed, rests, standing}
 use Rattle.rw_run.specs.Step.{before_closing, before_opening, events_of}
 use Rattle.rw_record.specs.Record.{StepRecord}
-use Rattle.rw_engine.specs.Shows.{IsBefore, Shows}
+use Rattle.rw_engine.specs.Shows.{CanShow, IsBefore, Shows}
 use Rattle.rw_rerun.specs.Kept.{AreKept, AreLinked, IsKept, IsLink, changed}
 use Rattle.rw_rerun.specs.Session.{numbers_of}
 use Rattle.rw_rerun.specs.UnderWay.{IsUnderWay, stands_at}
@@ -57,14 +57,16 @@ module _ (basin : Draft) (policy : Policy) (inputs : Inputs) (earlier : Log) (wa
   -- one timestep more was passed
   pub one_on : (log : Log) (more : List Event) → Leads basin policy way.log more log → Shows basin new.engine log → standing log ≡ stands_at new.over step
       → IsBehind step way.log log → AreRerun basin earlier log (numbers_of new.reran.items) → IsKept basin policy log step (unwrap_or change entry)
-      → IsLink basin policy step way.log (unwrap_or change entry) log → IsUnderWay basin policy inputs earlier was new step
-  one_on log more leads shows stands behind rerun kept link = record {
+      → IsLink basin policy step way.log (unwrap_or change entry) log → (new.over ≡ false → CanShow basin (step + 1) log)
+      → IsUnderWay basin policy inputs earlier was new step
+  one_on log more leads shows stands behind rerun kept link could = record {
     many = so_many;
     log = log;
     events = way.events ++ more;
     leads = leads_more basin policy (placed [] (givens basin inputs)) way.events more way.log log way.leads leads;
     shows = shows;
     stands = stands;
+    shown = could;
     later = λ other far. behind.events other (λ same. absurd (omega (arith, far, same))) ∙ way.later other (omega (arith, far, next_one));
     rerun = rerun;
     kept = let many = kept_so_far in
@@ -84,6 +86,7 @@ module _ (basin : Draft) (policy : Policy) (inputs : Inputs) (earlier : Log) (wa
     leads = way.leads;
     shows = subst (λ e. Shows basin e way.log) (sym engine) way.shows;
     stands = way.stands ∙ ap (λ o. stands_at o last) was_over ∙ sym (ap (λ o. stands_at o step) is_over);
+    shown = λ ends. absurd (false≢true (sym ends ∙ is_over));
     later = λ other far. way.later other (omega (arith, far, next_one));
     rerun = subst (λ (steps : List StepNo). AreRerun basin earlier way.log (numbers_of steps)) (sym reran) way.rerun;
     kept = let many = kept_so_far in
@@ -102,6 +105,9 @@ module _ (basin : Draft) (policy : Policy) (inputs : Inputs) (earlier : Log) (wa
     exists = near;
   }
 
+  pub shown_next : old.over ≡ false → CanShow basin step way.log
+  shown_next goes = subst (λ s. CanShow basin s way.log) (sym next_one) (way.shown goes)
+
   pub none_open : (other : ℕ) → step ≤ other → events_of other way.log ≡ []
   none_open other far = way.later other (omega (arith, far, next_one))
 
@@ -112,14 +118,15 @@ pub first_way : (basin : Draft) (policy : Policy) (inputs : Inputs) (earlier : L
     → standing (placed [] (givens basin inputs)) ≡ rests 0
     → ((step : ℕ) → events_of step (placed [] (givens basin inputs)) ≡ [])
     → ((step : ℕ) → before_opening step (placed [] (givens basin inputs)) ≡ None)
-    → IsUnderWay basin policy inputs earlier was pass 0
-first_way basin policy inputs earlier was pass changes reran goes shows stands none unopened = record {
+    → CanShow basin 1 (placed [] (givens basin inputs)) → IsUnderWay basin policy inputs earlier was pass 0
+first_way basin policy inputs earlier was pass changes reran goes shows stands none unopened could = record {
   many = ap length changes;
   log = placed [] (givens basin inputs);
   events = [];
   leads = refl;
   shows = shows;
   stands = stands ∙ sym (ap (λ o. stands_at o 0) goes);
+  shown = λ same. could;
   later = λ other far. none other;
   rerun = subst (λ steps. AreRerun basin earlier (placed [] (givens basin inputs)) (numbers_of steps)) (sym reran) (record {
     rising = tt;

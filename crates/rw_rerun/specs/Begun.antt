@@ -1,5 +1,5 @@
 -- The first timesteps of a run, and how they go where other inputs were placed before them.
-use Rattle.std.specs.Prelude.{◌≡◌, ℕ, ◌+◌, ◌<◌, pos, length, Option, List, [], ◌∷◌, Contains, Some, None}
+use Rattle.std.specs.Prelude.{◌≡◌, ℕ, ◌+◌, ◌<◌, pos, length, Option, List, [], ◌∷◌, Contains, IsFalse, Some, None}
 use Rattle.std.specs.List.{flat_map}
 use Rattle.rw_base.specs.declared.number.Cell.{Cell}
 use Rattle.rw_model.specs.Draft.{Draft}
@@ -13,7 +13,9 @@ use Rattle.rw_run.specs.Runs.{Leads, placed, rests, standing}
 use Rattle.rw_run.specs.Step.{cells_reached, events_of, reached_by}
 use Rattle.rw_run.specs.Timestep.{IsTimestep}
 use Rattle.rw_run.specs.declared.held.Held.{Held}
+use Rattle.rw_record.specs.Noted.{is_noted}
 use Rattle.rw_record.specs.Record.{StepRecord}
+use Rattle.rw_engine.specs.Shows.{CanShow}
 use Rattle.rw_rerun.specs.Kept.{AreKept, AreLinked}
 use Rattle.rw_run.specs.Worked.{did, saw, stopped, x_to}
 
@@ -57,6 +59,7 @@ pub record HasTakenOver (basin : Draft) (policy : Policy) (inputs : Inputs) (ear
   pub events : List Event
   pub leads : Leads basin policy (placed [] (givens basin inputs)) events log
   pub stands : standing log ≡ rests step
+  pub shown : CanShow basin (step + 1) log
   pub later : (other : ℕ) → step < other → events_of other log ≡ []
   pub rerun : AreRerun basin earlier log []
   pub kept : AreKept basin policy log 1 all_kept
@@ -68,6 +71,11 @@ AreAlikeIn basin one other [] = Unit {0}
 AreAlikeIn basin one other (kept ∷ rest) =
     ((one_of : Held) → Contains kept.looked one_of → cells_of basin one one_of.cell ≡ cells_of basin other one_of.cell)
     × AreAlikeIn basin one other rest
+
+-- none of these records holds the cell
+abbrev pub AreWithout : Cell → List StepRecord → Type 0
+AreWithout cell [] = Unit {0}
+AreWithout cell (kept ∷ rest) = IsFalse (is_noted kept.looked cell) × AreWithout cell rest
 
 -- the timesteps of these records, too, are taken over, up to a log that holds alike what was alike before them
 pub record TakesOver (basin : Draft) (policy : Policy) (inputs : Inputs) (earlier : Log) (all_kept : List (Option StepRecord)) (one other end : Log) (step : ℕ) : Type 0 where

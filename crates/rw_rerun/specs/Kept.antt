@@ -11,6 +11,7 @@ use Rattle.rw_run.specs.Step.{before_closing, before_opening, cell_count, events
 use Rattle.rw_run.specs.Timestep.{IsTimestep}
 use Rattle.rw_record.specs.Record.{StepRecord}
 use Rattle.rw_engine.specs.Records.{RecordsThese}
+use Rattle.rw_engine.specs.Shows.{CanShow}
 
 -- the log closed the timestep, which has few enough cells and lines
 pub record IsKeepable (basin : Draft) (log : Log) (step : ℕ) : Type 0 where
@@ -41,11 +42,12 @@ AreKept basin policy log step (kept ∷ rest) = IsKept basin policy log step kep
 
 -- ---- how they stand one behind the other
 
--- behind this log the timestep went so up to the next one, where it is kept
+-- behind this log, which an engine of the basin can show, the timestep went so up to the next one, where it is kept
 pub record IsLinkOf (basin : Draft) (policy : Policy) (step : ℕ) (log : Log) (kept : StepRecord) (next : Log) : Type 0 where
   pub first : Event
   pub events : List Event
   pub timestep : IsTimestep basin policy step log first events
+  pub shown : CanShow basin step log
   pub these : RecordsThese basin step log (first ∷ events) kept
   pub is : next ≡ log_after (first ∷ events) (opened step ∷ log)
   pub few_cells : cell_count (flat_map (reached_by basin) (log_after (first ∷ events) (opened step ∷ []))) ≤ most_kept

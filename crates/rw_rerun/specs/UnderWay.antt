@@ -14,7 +14,7 @@ use Rattle.rw_run.specs.Step.{events_of}
 use Rattle.rw_record.specs.Noted.{AreHeld}
 use Rattle.rw_record.specs.Record.{StepRecord}
 use Rattle.rw_engine.specs.Records.{CanWriteLines}
-use Rattle.rw_engine.specs.Shows.{IsEngineOf, Shows}
+use Rattle.rw_engine.specs.Shows.{CanShow, IsEngineOf, Shows}
 use Rattle.rpl_verify.specs.Verified.{Accepted}
 use Rattle.rw_rules.specs.Rules.{policy_in}
 use Rattle.rw_rerun.specs.Kept.{AreKept, AreLinked, IsKept, changed}
@@ -34,6 +34,7 @@ pub record IsUnderWay (basin : Draft) (policy : Policy) (inputs : Inputs) (earli
   pub leads : Leads basin policy (placed [] (givens basin inputs)) events log
   pub shows : Shows basin pass.engine log
   pub stands : standing log ≡ stands_at pass.over step
+  pub shown : pass.over ≡ false → CanShow basin (step + 1) log
   -- no later timestep was opened
   pub later : (other : ℕ) → step < other → events_of other log ≡ []
   pub rerun : AreRerun basin earlier log (numbers_of pass.reran.items)

@@ -1,5 +1,6 @@
 //! How a run begins again, as a law: a function that does nothing, and whose contract is the law.
 ghost use Rattle.std.specs.Prelude.{◌≡◌, ◌≤◌, ℕ, ◌+◌, ◌++◌, List, [], Contains, Option, Some, length, map, pos};
+ghost use Rattle.std.specs.List.{flat_map};
 ghost use Rattle.rw_base.specs.declared.number.Cell.{Cell};
 ghost use Rattle.rw_model.specs.Draft.{Draft};
 ghost use Rattle.rw_model.specs.declared.control.AgendaOrder.TheVariants.{HighFirst};
@@ -7,13 +8,14 @@ ghost use Rattle.rw_run.specs.Dispatch.{cell_at};
 ghost use Rattle.rw_run.specs.Frame.{IsFramed, log_after};
 ghost use Rattle.rw_run.specs.Log.{Log, cells_of, input_content};
 ghost use Rattle.rw_run.specs.Next.{Policy};
+ghost use Rattle.rw_run.specs.RunOf.{trace_of};
 ghost use Rattle.rw_run.specs.Runs.{placed, rests, standing};
 ghost use Rattle.rw_run.specs.Worked.{basin_of, raised, raised_twice, three};
 ghost use Rattle.rw_inputs.specs.Inputs.{Inputs};
 ghost use Rattle.rw_record.specs.Record.{StepRecord};
 ghost use Rattle.rw_run.specs.Step.{events_of};
 ghost use Rattle.rw_rerun.specs.Kept.{AreKept, AreLinked};
-ghost use Rattle.rw_rerun.specs.Begun.{AreAlikeIn, AreTimesteps, HasTakenOver, HoldAlike, TakesOver, Went, cells_put, cells_touched, log_behind, raised_days};
+ghost use Rattle.rw_rerun.specs.Begun.{AreAlikeIn, AreTimesteps, HasTakenOver, AreWithout, HoldAlike, TakesOver, Went, cells_put, cells_touched, log_behind, raised_days};
 
 use rw_run::law::reuse;
 
@@ -50,6 +52,21 @@ pub fn taking_over()
         → AreAlikeIn basin one other records
         → TakesOver basin policy inputs earlier (all_kept ++ map (λ kept. Some kept) records)
         one other end (last + length records) }
+{}
+
+/// A cell that none of the records holds is as it was before their timesteps.
+pub fn unmoved()
+    ensures { (basin : Draft) (policy : Policy) (records : List StepRecord) (step : ℕ)
+        (log end : Log) (cell : Cell)
+        → AreLinked basin policy step log (map (λ kept. Some kept) records) end
+        → AreWithout cell records → cells_of basin end cell ≡ cells_of basin log cell }
+{}
+
+/// Kept timesteps tell the lines of their records, behind those that were told before.
+pub fn told()
+    ensures { (basin : Draft) (policy : Policy) (records : List StepRecord) (step : ℕ)
+        (log end : Log) → AreLinked basin policy step log (map (λ kept. Some kept) records) end
+        → trace_of end ≡ trace_of log ++ flat_map (λ (kept : StepRecord). kept.lines) records }
 {}
 
 /// Two days on which a rule looks at X go so where nothing is given, and where Y is given on the first one, which is held then.

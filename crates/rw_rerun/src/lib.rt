@@ -9,7 +9,9 @@ mod pass;
 mod passing;
 mod session;
 mod setup;
+mod spare;
 mod state;
+mod touched;
 
 pub use session::Session;
 pub use setup::Setup;

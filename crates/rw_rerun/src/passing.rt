@@ -120,6 +120,24 @@ fn pass_step<L: Ledger>(
     }
 }
 
+/// Passes the other timesteps, from behind so many, with what is kept of an earlier run to go by.
+pub(crate) fn pass_rest<L: Ledger>(
+    alloc: Global,
+    pass: &mut Pass,
+    setup: &Setup<'_>,
+    kept: &[Option<StepRecord>],
+    behind: u16,
+    steps: &mut Steps<L>,
+) -> Result<(), NoMemory> {
+    answered_code_is_safe();
+    code_keeps_promises();
+    for before in behind..setup.basin.control().stamps.count() {
+        let entry = &kept[usize::from(before)];
+        pass_step(alloc, pass, setup, entry, StepNo(before + 1), steps)?;
+    }
+    Ok(())
+}
+
 /// Passes all timesteps from inputs, with what is kept of an earlier run to go by.
 pub(crate) fn pass_all<L: Ledger>(
     alloc: Global,

@@ -11,13 +11,17 @@ ghost use Rattle.rw_rerun.specs.Session.{Applies, CountsRuns, IsSessionOf, IsSta
 
 use crate::exchange::{exchange, nothing_kept};
 use crate::pass::Pass;
-use crate::passing::pass_all;
+use crate::passing::{pass_all, pass_rest};
 use crate::setup::Setup;
-use rw_base::{Ledger, NoMemory, StepNo, Steps};
+use crate::spare::{Spare, bring_back, bring_on, give_all, pass_from, spare_of};
+use crate::touched::{edited, untouched};
+use rw_base::{Cell, Ledger, NoMemory, StepNo, Steps};
 use rw_engine::{Engine, Run, StepRecord};
 use rw_inputs::{Batch, Inputs, apply};
+use rw_model::Basin;
 use std::alloc::Global;
 use std::marker::Model;
+use std::mem::replace;
 
 /// How far a session has come: its inputs, the engine of their run, what is kept of each timestep, and which timesteps were run
 /// last.
@@ -27,6 +31,7 @@ pub struct State {
     pub(crate) engine: Engine,
     pub(crate) kept: Vec<Option<StepRecord>>,
     pub(crate) reran: Vec<StepNo>,
+    pub(crate) spare: Option<Spare>,
 }
 
 impl Model for State {
@@ -73,11 +78,12 @@ impl State {
             engine,
             kept,
             reran,
+            spare: None,
         })
     }
 
     // The run of inputs that has passed all timesteps takes the place of the one before it.
-    fn take(&mut self, inputs: Inputs, pass: Pass)
+    fn take(&mut self, basin: &Basin, inputs: Inputs, cells: &[Cell], behind: u16, pass: Pass)
         requires many { length pass.changes.items ≡ length self.old.kept }
         ensures { self.new ≡ record {
           inputs = inputs;
@@ -92,9 +98,10 @@ impl State {
             changes,
             over: _,
         } = pass;
+        let was = replace(&mut self.engine, engine);
+        self.spare = spare_of(was, basin, self.kept.as_slice(), &inputs, cells, behind);
         exchange(&mut self.kept, changes);
         self.inputs = inputs;
-        self.engine = engine;
         self.reran = reran;
     }
 
@@ -117,9 +124,47 @@ impl State {
             (λ done. self.new.reran) }
     {
         let inputs = apply(alloc, setup.basin, &self.inputs, batch)?;
-        let pass = pass_all(alloc, setup, &self.kept, &inputs, steps)?;
-        self.take(inputs, pass);
+        let cells = edited(alloc, setup.basin, batch)?;
+        let behind = untouched(setup.basin, &self.kept, &cells);
+        if behind == setup.basin.control().stamps.count() {
+            self.stay(alloc, setup.basin, inputs, &cells);
+            return Ok(());
+        }
+        let pass = match self.spare.take() {
+            None => pass_all(alloc, setup, &self.kept, &inputs, steps)?,
+            Some(spare) => self.pass_from(alloc, setup, spare, &inputs, &cells, behind, steps)?,
+        };
+        self.take(setup.basin, inputs, &cells, behind, pass);
         Ok(())
+    }
+
+    // No timestep is touched: only what is given changes.
+    fn stay(&mut self, alloc: Global, basin: &Basin, inputs: Inputs, cells: &[Cell]) {
+        give_all(&mut self.engine, basin, &inputs, cells);
+        if let Some(spare) = &mut self.spare {
+            give_all(&mut spare.engine, basin, &inputs, cells);
+        }
+        self.inputs = inputs;
+        self.reran = Vec::new(alloc);
+    }
+
+    // The run of the inputs after a batch, from behind the timesteps that it doesn't touch.
+    fn pass_from<L: Ledger>(
+        &self,
+        alloc: Global,
+        setup: &Setup<'_>,
+        mut spare: Spare,
+        inputs: &Inputs,
+        cells: &[Cell],
+        behind: u16,
+        steps: &mut Steps<L>,
+    ) -> Result<Pass, NoMemory> {
+        bring_back(&mut spare, setup.basin, &self.kept, behind);
+        bring_on(&mut spare, setup.basin, &self.kept, behind)?;
+        give_all(&mut spare.engine, setup.basin, inputs, cells);
+        let mut pass = pass_from(alloc, spare)?;
+        pass_rest(alloc, &mut pass, setup, &self.kept, behind, steps)?;
+        Ok(pass)
     }
 
     // What the run comes to.

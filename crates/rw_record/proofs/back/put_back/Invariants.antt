@@ -1,10 +1,11 @@
-use Rattle.rw_record.proofs.Common.{IsSeriesOf, Series, drop, held}
+use Rattle.rw_record.proofs.Common.{Cells, IsSeriesOf, drop, held}
+use Rattle.rw_record.specs.Back.{AreCellsOf}
 use Rattle.rw_record.specs.Notes.{CanTakeBack}
 use Rattle.rw_record.proofs.back.put_back.Given as goal
 
 abbrev pub invariant-loop-one : goal.invariant-loop-one
 invariant-loop-one l = record {
   made : IsSeriesOf l.basin l.series;
-  back : (before : Series) → IsSeriesOf l.basin before → CanTakeBack (held before) (held l.fn.series) l.items
-      → CanTakeBack (held before) (held l.series) (drop l.one-index l.items);
+  back : (before : Cells) → AreCellsOf l.basin before → CanTakeBack before (held l.fn.series) l.items
+      → CanTakeBack before (held l.series) (drop l.one-index l.items);
 }

@@ -9,6 +9,7 @@ use Rattle.rw_rules.specs.Rules.{policy_in}
 use Rattle.rw_rerun.specs.UnderWay.{IsUnderWay}
 use Rattle.rw_rerun.proofs.Counted.{wants_all}
 use Rattle.rw_rerun.proofs.Sessions.{entry_there, passes_on, replayed_here}
+use Rattle.rw_rerun.proofs.Showing.{placed_shown}
 use Rattle.rw_rerun.proofs.Ways.{first_way}
 use Rattle.rw_rerun.proofs.passing.pass_all.Goals as goal
 
@@ -19,7 +20,8 @@ loop-before-init g c =
       made = record { made = c.in_ok-engine.ensures.made; traced = c.in_ok-engine.ensures.kept };
       way = λ earlier kept.
           first_way basin (policy_in basin c.args.setup.now.policy.now) c.args.inputs.now earlier c.args.kept.now _ c.new-2.ensures.items c.new.ensures.items refl
-          c.in_ok-engine.ensures.shows (standing-placed [] inputs refl) (begun inputs) (λ step. (nothing_of step (placed [] inputs) (begun inputs step)).0);
+          c.in_ok-engine.ensures.shows (standing-placed [] inputs refl) (begun inputs) (λ step. (nothing_of step (placed [] inputs) (begun inputs step)).0)
+          (placed_shown basin c.args.inputs.now c.requires.inputs);
       each = let none = ap length c.new.ensures.items in omega (arith, none);
       few = omega arith;
     }

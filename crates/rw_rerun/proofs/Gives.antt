@@ -1,0 +1,36 @@
+-- What cells hold once inputs are given to them.
+use Rattle.rw_base.proofs.Common.{◌≡◌, ◌<◌, ◌+◌, ◌∙◌, ℕ, ℤ, if◌then◌else◌, List, [], ◌∷◌, Option, Some, None, IfSome, drop, get_or, length, option_map, sym, ap}
+use Rattle.std.proofs.lemmas.List.{at_drop_more}
+use Rattle.rw_base.specs.declared.number.Cell.{Cell}
+use Rattle.rw_model.specs.Draft.{Draft}
+use Rattle.rw_model.specs.Links.{IsBetween, bounds_in}
+use Rattle.rw_model.specs.declared.content.Content.{Content}
+use Rattle.rw_inputs.specs.Inputs.{Inputs, IsInputsOf, value_at}
+use Rattle.rw_series.specs.Series.{Series, Sets, held, is_shared}
+use Rattle.rw_run.specs.Log.{Cells, input_content}
+use Rattle.rw_rerun.specs.Spare.{given_all}
+
+pub within_given : (basin : Draft) (inputs : Inputs) → IsInputsOf basin inputs → (slot step : ℕ) (value : Option ℤ) → value ≡ value_at inputs slot step
+    → IfSome value (λ value. IsBetween (bounds_in basin.objects basin.links basin.bounds slot) value)
+within_given basin inputs made slot step None is = tt
+within_given basin inputs made slot step (Some value) is = (made.sound slot step value (sym is)).within
+
+given_same : (basin : Draft) (inputs : Inputs) (cells : List Cell) (one other : Cells) → ((cell : Cell) → one cell ≡ other cell) → (cell : Cell)
+    → given_all basin inputs cells one cell ≡ given_all basin inputs cells other cell
+given_same basin inputs [] one other same cell = same cell
+given_same basin inputs (first ∷ rest) one other same cell =
+    given_same basin inputs rest
+    (λ at. if is_shared basin first at then option_map input_content (value_at inputs first.slot.0 first.step.0) else one at)
+    (λ at. if is_shared basin first at then option_map input_content (value_at inputs first.slot.0 first.step.0) else other at)
+    (λ at. ap (λ there. if is_shared basin first at then option_map input_content (value_at inputs first.slot.0 first.step.0) else there) (same at)) cell
+
+pub gives_on : (basin : Draft) (inputs : Inputs) (cells : List Cell) (place : ℕ) (blank : Cell) (value : Option ℤ) (old new : Series) (was : Option Content) (cell : Cell)
+    → place < length cells → value ≡ value_at inputs (get_or cells place blank).slot.0 (get_or cells place blank).step.0
+    → Sets basin (get_or cells place blank) (option_map input_content value) old new → given_all basin inputs (drop place cells) (held old) cell ≡ was
+    → given_all basin inputs (drop (place + 1) cells) (held new) cell ≡ was
+gives_on basin inputs cells place blank value old new was cell near is sets same =
+    let first : Cell = get_or cells place blank in
+    given_same basin inputs (drop (place + 1) cells) (held new)
+    (λ at. if is_shared basin first at then option_map input_content (value_at inputs first.slot.0 first.step.0) else held old at)
+    (λ at. sets at ∙ ap (λ (v : Option ℤ). if is_shared basin first at then option_map input_content v else held old at) is) cell
+    ∙ sym (at_drop_more (λ (cs : List Cell). given_all basin inputs cs (held old) cell) cells place blank near) ∙ same

@@ -1,0 +1,13 @@
+use Rattle.rw_base.proofs.Common.{◌-◌, ◌≤◌}
+use Rattle.rw_rerun.specs.Spare.{BringsTo}
+use Rattle.rw_rerun.proofs.spare.bring_on.Given as goal
+
+abbrev pub invariant-loop-spare : goal.invariant-loop-spare
+invariant-loop-spare l = record {
+  less : l.spare.behind ≤ l.behind;
+  more : l.fn.spare.behind ≤ l.spare.behind;
+  brings : BringsTo l.basin l.kept l.spare.behind l.fn.spare l.spare;
+}
+
+abbrev pub decreases-loop-spare : goal.decreases-loop-spare
+decreases-loop-spare l = l.behind - l.spare.behind

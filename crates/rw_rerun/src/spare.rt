@@ -1,0 +1,177 @@
+// An engine beside that of a session's run, from which the next run begins.
+ghost use Rattle.std.specs.Prelude.{◌≡◌, ◌≤◌, ◌+◌, ◌-◌, All, IfOk, IfSome, None, length, replicate, true};
+ghost use Rattle.rw_inputs.specs.Inputs.{IsInputsOf};
+ghost use Rattle.rw_series.specs.Series.{IsCell};
+ghost use Rattle.rw_engine.specs.Shows.{CanReplay};
+ghost use Rattle.rw_model.specs.Turn.{IsStep};
+ghost use Rattle.rw_rerun.specs.Edited.{BecomesSpare};
+ghost use Rattle.rw_rerun.specs.Spare.{AreKeptFrom, BeginsBy, BringsTo, GivesAll, IsSpare};
+
+use crate::pass::Pass;
+use rpl_policy::law::code_keeps_promises;
+use rpl_verify::law::answered_code_is_safe;
+use rw_base::{Cell, NoMemory};
+use rw_engine::{Engine, StepRecord};
+use rw_inputs::Inputs;
+use rw_model::Basin;
+use std::alloc::Global;
+
+/// An engine that has come behind the first timesteps of a session's run, so many of them.
+#[derive(Drop)]
+pub(crate) struct Spare {
+    pub(crate) engine: Engine,
+    pub(crate) behind: u16,
+}
+
+// Takes the timestep back behind which it stands.
+fn go_back(spare: &mut Spare, basin: &Basin, kept: &[Option<StepRecord>])
+    requires some { 1 ≤ spare.old.behind }
+    requires stands { IsSpare basin.now kept.now spare.old }
+    requires known { AreKeptFrom kept.now (spare.old.behind - 1) spare.old.behind }
+    ensures { BringsTo basin.now kept.now (spare.old.behind - 1) spare.old spare.new }
+{
+    spare.behind = spare.behind - 1;
+    if let Some(record) = &kept[usize::from(spare.behind)] {
+        spare.engine.take_back(basin, record);
+    }
+}
+
+// Passes the timestep again before which it stands.
+fn go_on(
+    spare: &mut Spare,
+    basin: &Basin,
+    kept: &[Option<StepRecord>],
+    step: u16,
+) -> Result<(), NoMemory>
+    requires next_one { step ≡ spare.old.behind + 1 }
+    requires exists { IsStep basin.now step }
+    requires near { step ≤ length kept.now }
+    requires stands { IsSpare basin.now kept.now spare.old }
+    requires known { AreKeptFrom kept.now spare.old.behind step }
+    ensures { IfOk result (λ done. BringsTo basin.now kept.now step spare.old spare.new) }
+{
+    answered_code_is_safe();
+    code_keeps_promises();
+    let Some(record) = &kept[usize::from(spare.behind)] else {
+        return Ok(());
+    };
+    spare.engine.replay(basin, record)?;
+    spare.behind = step;
+    Ok(())
+}
+
+/// Brings it back before all timesteps but so many.
+pub(crate) fn bring_back(spare: &mut Spare, basin: &Basin, kept: &[Option<StepRecord>], behind: u16)
+    requires some { behind ≤ spare.old.behind }
+    requires stands { IsSpare basin.now kept.now spare.old }
+    requires known { AreKeptFrom kept.now behind spare.old.behind }
+    ensures { BringsTo basin.now kept.now behind spare.old spare.new }
+{
+    while behind < spare.behind {
+        go_back(spare, basin, kept);
+    }
+}
+
+/// Brings it behind so many timesteps.
+pub(crate) fn bring_on(
+    spare: &mut Spare,
+    basin: &Basin,
+    kept: &[Option<StepRecord>],
+    behind: u16,
+) -> Result<(), NoMemory>
+    requires some { spare.old.behind ≤ behind }
+    requires many { length kept.now ≡ basin.now.control.stamps.count }
+    requires near { behind ≤ length kept.now }
+    requires stands { IsSpare basin.now kept.now spare.old }
+    requires known { AreKeptFrom kept.now spare.old.behind behind }
+    ensures { IfOk result (λ done. BringsTo basin.now kept.now behind spare.old spare.new) }
+{
+    while spare.behind < behind {
+        let step = spare.behind + 1;
+        go_on(spare, basin, kept, step)?;
+    }
+    Ok(())
+}
+
+/// Gives these cells what the inputs give them.
+pub(crate) fn give_all(engine: &mut Engine, basin: &Basin, inputs: &Inputs, cells: &[Cell])
+    requires made { CanReplay basin.now engine.old }
+    requires inputs { IsInputsOf basin.now inputs.now }
+    requires known { All (IsCell basin.now) cells.now }
+    ensures { GivesAll basin.now inputs.now cells.now engine.old engine.new }
+{
+    for cell in cells {
+        engine.give(basin, *cell, inputs.value(*cell));
+    }
+}
+
+// Whether each timestep from this one on is kept.
+fn are_kept(kept: &[Option<StepRecord>], behind: u16) -> bool
+    ensures { (result ≡ true) → AreKeptFrom kept.now behind (length kept.now) }
+{
+    for place in usize::from(behind)..kept.len() {
+        if kept[place].is_none() {
+            return false;
+        }
+    }
+    true
+}
+
+/// The engine of a run, behind all timesteps, as a spare one of the next run, behind those that a batch leaves. There is none where
+/// less than half of them are left, since bringing it back would cost more than it gives, nor where one of the others isn't kept.
+pub(crate) fn spare_of(
+    engine: Engine,
+    basin: &Basin,
+    kept: &[Option<StepRecord>],
+    inputs: &Inputs,
+    cells: &[Cell],
+    behind: u16,
+) -> Option<Spare>
+    requires many { length kept.now ≡ basin.now.control.stamps.count }
+    requires some { behind ≤ basin.now.control.stamps.count }
+    requires stands { IsSpare basin.now kept.now (record {
+      engine = engine;
+      behind = basin.now.control.stamps.count;
+    }) }
+    requires inputs { IsInputsOf basin.now inputs.now }
+    requires known { All (IsCell basin.now) cells.now }
+    ensures { IfSome result
+        (BecomesSpare basin.now inputs.now cells.now kept.now behind engine) }
+{
+    answered_code_is_safe();
+    code_keeps_promises();
+    if usize::from(behind) * 2 < kept.len() || !are_kept(kept, behind) {
+        return None;
+    }
+    let mut spare = Spare {
+        engine,
+        behind: basin.control().stamps.count(),
+    };
+    bring_back(&mut spare, basin, kept, behind);
+    give_all(&mut spare.engine, basin, inputs, cells);
+    Some(spare)
+}
+
+// So many timesteps change nothing of what is kept.
+fn unchanged(alloc: Global, behind: u16) -> Result<Vec<Option<Option<StepRecord>>>, NoMemory>
+    ensures { IfOk result (λ changes. changes.items ≡ replicate behind None) }
+{
+    let mut changes = Vec::new(alloc);
+    for _step in 0..behind {
+        changes.push(None)?;
+    }
+    Ok(changes)
+}
+
+/// A run on its way that has taken over the timesteps behind which the engine stands.
+pub(crate) fn pass_from(alloc: Global, spare: Spare) -> Result<Pass, NoMemory>
+    ensures { IfOk result (BeginsBy spare) }
+{
+    let changes = unchanged(alloc, spare.behind)?;
+    Ok(Pass {
+        engine: spare.engine,
+        reran: Vec::new(alloc),
+        changes,
+        over: false,
+    })
+}

@@ -1,0 +1,182 @@
+// Which timesteps a batch touches.
+ghost use Rattle.std.specs.Prelude.{◌≡◌, ◌≤◌, ◌+◌, ◌^◌, ◌++◌, ◌↔◌, All, IfOk, IfSome, OnOk, length, map, true};
+ghost use Rattle.std.specs.List.{flat_map, list_any, range_with_len};
+ghost use Rattle.rw_inputs.specs.Edits.{IsBatch, IsEdit};
+ghost use Rattle.rw_inputs.specs.Inputs.{kept_slot};
+ghost use Rattle.rw_model.specs.Draft.{IsSlot};
+ghost use Rattle.rw_run.specs.Dispatch.{cell_at};
+ghost use Rattle.rw_run.specs.Step.{is_same_cell};
+ghost use Rattle.rw_record.specs.Noted.{is_noted};
+ghost use Rattle.rw_record.specs.Record.{AreRisingCells, IsBelow};
+ghost use Rattle.rw_rerun.specs.Edited.{AreEdited, cells_named};
+ghost use Rattle.rw_rerun.specs.Touched.{AreRisingIn, CountsBelow, CountsUntouched, is_reached, is_untouched};
+
+use rw_base::{Cell, NoMemory, SlotNo, StepNo};
+use rw_engine::{Held, StepRecord};
+use rw_inputs::{Batch, Edit};
+use rw_model::Basin;
+use std::alloc::Global;
+
+// The least of the slots that carry one value with the slot.
+fn least_of(basin: &Basin, slot: SlotNo) -> SlotNo
+    requires { IsSlot basin.now.objects slot.0 }
+    ensures { result.0 ≡ kept_slot basin.now slot.0 }
+{
+    match basin.group(slot).first() {
+        Some(least) => *least,
+        None => slot,
+    }
+}
+
+// Adds the cells of a slot at so many timesteps, from this one on.
+fn add_cells(cells: &mut Vec<Cell>, slot: SlotNo, first: u16, count: u16) -> Result<(), NoMemory>
+    requires few { first + count ≤ 2 ^ 16 }
+    ensures { OnOk result (cells.new.items
+        ≡ cells.old.items ++ map (cell_at slot.0) (range_with_len first count)) }
+{
+    for behind in 0..count {
+        let step = StepNo(first + behind);
+        cells.push(Cell { slot, step })?;
+    }
+    Ok(())
+}
+
+// Adds the cells that an edit names.
+fn add_edit(cells: &mut Vec<Cell>, basin: &Basin, edit: &Edit) -> Result<(), NoMemory>
+    requires { IsEdit basin.now edit.now }
+    ensures { OnOk result (cells.new.items ≡ cells.old.items ++ cells_named basin.now edit.now) }
+{
+    let slot = least_of(basin, SlotNo(edit.slot));
+    add_cells(cells, slot, edit.first, edit.last - edit.first + 1)
+}
+
+// Adds the cells that edits name.
+fn add_edits(cells: &mut Vec<Cell>, basin: &Basin, edits: &[Edit]) -> Result<(), NoMemory>
+    requires { All (IsEdit basin.now) edits.now }
+    ensures { OnOk result (cells.new.items
+        ≡ cells.old.items ++ flat_map (cells_named basin.now) edits.now) }
+{
+    for edit in edits {
+        add_edit(cells, basin, edit)?;
+    }
+    Ok(())
+}
+
+/// The cells that the edits of a batch name.
+pub(crate) fn edited(alloc: Global, basin: &Basin, batch: &Batch) -> Result<Vec<Cell>, NoMemory>
+    requires batch { IsBatch basin.now batch.now }
+    ensures { IfOk result (λ cells. AreEdited basin.now batch.now cells.items) }
+{
+    let mut cells = Vec::new(alloc);
+    add_edits(&mut cells, basin, batch.edits())?;
+    Ok(cells)
+}
+
+// Whether a cell is of a lower slot than another, or of the same slot at an earlier timestep.
+fn is_below(cell: Cell, other: Cell) -> bool
+    ensures { (result ≡ true) ↔ IsBelow cell other }
+{
+    cell.slot.0 < other.slot.0 || (cell.slot.0 == other.slot.0 && cell.step.0 < other.step.0)
+}
+
+// How many of the rising cells are below this one.
+fn below(looked: &[Held], cell: Cell) -> usize
+    requires { AreRisingCells looked.now }
+    ensures { CountsBelow looked.now cell result }
+{
+    let mut first = 0;
+    let mut last = looked.len();
+    while first < last {
+        let middle = first + (last - first) / 2;
+        if is_below(looked[middle].cell, cell) {
+            first = middle + 1;
+        } else {
+            last = middle;
+        }
+    }
+    first
+}
+
+// Whether both are one cell.
+fn is_same(cell: Cell, other: Cell) -> bool
+    ensures { result ≡ is_same_cell cell other }
+{
+    other.slot.0 == cell.slot.0 && other.step.0 == cell.step.0
+}
+
+// Whether a cell is one of these, which rise.
+fn is_among(looked: &[Held], cell: Cell) -> bool
+    requires { AreRisingCells looked.now }
+    ensures { result ≡ is_noted looked.now cell }
+{
+    let place = below(looked, cell);
+    if place < looked.len() {
+        return is_same(cell, looked[place].cell);
+    }
+    false
+}
+
+// Whether a cell of one of these slots is one of these.
+fn is_one_among(looked: &[Held], slots: &[SlotNo], step: StepNo) -> bool
+    requires { AreRisingCells looked.now }
+    ensures { result
+        ≡ list_any (λ (slot : SlotNo). is_noted looked.now (cell_at slot.0 step.0)) slots.now }
+{
+    for slot in slots {
+        if is_among(looked, Cell { slot: *slot, step }) {
+            return true;
+        }
+    }
+    false
+}
+
+// Whether a cell that shares its value with this one is one of these.
+fn is_reached(basin: &Basin, looked: &[Held], cell: Cell) -> bool
+    requires rising { AreRisingCells looked.now }
+    requires slot { IsSlot basin.now.objects cell.slot.0 }
+    ensures { result ≡ is_reached basin.now looked.now cell }
+{
+    is_one_among(looked, basin.group(cell.slot), cell.step)
+}
+
+// Whether one of these cells is reached.
+fn is_touched(basin: &Basin, looked: &[Held], cells: &[Cell]) -> bool
+    requires rising { AreRisingCells looked.now }
+    requires known { All (λ (cell : Cell). IsSlot basin.now.objects cell.slot.0) cells.now }
+    ensures { result ≡ list_any (is_reached basin.now looked.now) cells.now }
+{
+    for cell in cells {
+        if is_reached(basin, looked, *cell) {
+            return true;
+        }
+    }
+    false
+}
+
+// Whether a timestep is kept, and looked at none of these cells, nor reached one.
+fn is_untouched(basin: &Basin, entry: &Option<StepRecord>, cells: &[Cell]) -> bool
+    requires rising { IfSome entry.now (λ kept. AreRisingCells kept.looked) }
+    requires known { All (λ (cell : Cell). IsSlot basin.now.objects cell.slot.0) cells.now }
+    ensures { result ≡ is_untouched basin.now cells.now entry.now }
+{
+    match entry {
+        None => false,
+        Some(kept) => !is_touched(basin, kept.looked(), cells),
+    }
+}
+
+/// How many first timesteps are kept and look at none of these cells, nor reach one.
+pub(crate) fn untouched(basin: &Basin, kept: &[Option<StepRecord>], cells: &[Cell]) -> u16
+    requires many { length kept.now ≡ basin.now.control.stamps.count }
+    requires rising { AreRisingIn kept.now }
+    requires known { All (λ (cell : Cell). IsSlot basin.now.objects cell.slot.0) cells.now }
+    ensures { CountsUntouched basin.now cells.now kept.now result }
+{
+    let count = basin.control().stamps.count();
+    for before in 0..count {
+        if !is_untouched(basin, &kept[usize::from(before)], cells) {
+            return before;
+        }
+    }
+    count
+}
