@@ -1,6 +1,5 @@
 -- A line told from a list of values.
-use Rattle.rw_base.proofs.Common.{◌≡◌, ◌++◌, ◌+◌, ◌∙◌, ◌∷◌, List, Option, [], ap, append_assoc, append-nil, codes, decimal, refl, suc, suc-eq-add-one, sym, zero, ℕ, ℤ}
-use Rattle.std.proofs.Common.{length}
+use Rattle.rw_base.proofs.Common.{◌≡◌, ◌++◌, ◌+◌, ◌∙◌, ◌∷◌, ◌<◌, List, Option, [], ap, ap₂, append_assoc, append-nil, codes, decimal, get_or, length, refl, suc, take, take_more, suc-eq-add-one, sym, zero, ℕ, ℤ}
 use Rattle.rw_calendar.specs.Stamps.{end_of, stamp_text}
 use Rattle.rw_model.specs.Objects.{all_slots}
 use Rattle.rw_model.specs.Draft.{Draft}
@@ -12,6 +11,15 @@ pub next_value : (values : ℕ → Option ℤ) (before : ℕ) → listed values 
 next_value values before =
     let e = suc-eq-add-one before in
     ap (λ n. listed values before ++ values n ∷ []) (sym e) ∙ ap (λ n. listed values n) e
+
+-- one value more that is alike, of those that are there
+pub alike_more : (all : List (Option ℤ)) (values : ℕ → Option ℤ) (before place : ℕ) (value : Option ℤ) → place ≡ before → before < length all
+    → value ≡ get_or all place value → value ≡ values (before + 1) → take before all ≡ listed values before
+    → take (before + 1) all ≡ listed values (before + 1)
+alike_more all values before place value at within read same front =
+    take_more all before value within
+    ∙ ap₂ (λ t v. t ++ v ∷ []) front (sym (read ∙ ap (λ n. get_or all n value) at) ∙ same)
+    ∙ next_value values before
 
 words_more : (values : List (Option ℤ)) (value : Option ℤ)
     → values_words (values ++ value ∷ []) ≡ values_words values ++ (codes "," ++ value_words value)

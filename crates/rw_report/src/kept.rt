@@ -145,7 +145,7 @@ fn tell_line(
     }
 }
 
-// Sees to it that there are more lines than so many, where there are so many.
+// Sees to it that there is a line more than so many, where there are so many.
 fn make_room(
     alloc: Global,
     basin: &Basin,
@@ -164,25 +164,26 @@ fn make_room(
     Ok(())
 }
 
-// Appends the line of the timestep behind the first so many.
+// Appends the line of a timestep.
 fn push_line(
     alloc: Global,
     text: &mut String,
     lines: &mut Vec<KeptLine>,
     basin: &Basin,
     series: &Series,
-    before: u16,
+    step: u16,
 ) -> Result<(), NoMemory>
     requires lines { All (IsTold basin.now) lines.old.items }
-    requires next { before < vec_len lines.old }
-    requires last { before < basin.now.control.stamps.count }
+    requires room { step ≤ vec_len lines.old }
+    requires first { 1 ≤ step }
+    requires last { step ≤ basin.now.control.stamps.count }
     ensures told { All (IsTold basin.now) lines.new.items }
-    ensures count { vec_len lines.new ≡ vec_len lines.old }
+    ensures room { vec_len lines.new ≡ vec_len lines.old }
     ensures row { OnOk result (string_bytes text.new
-        ≡ string_bytes text.old ++ row basin.now (values_in (held series.now)) (before + 1)) }
+        ≡ string_bytes text.old ++ row basin.now (values_in (held series.now)) step) }
 {
-    let place = usize::from(before);
-    tell_line(alloc, &mut lines[place], basin, series, before + 1)?;
+    let place = usize::from(step - 1);
+    tell_line(alloc, &mut lines[place], basin, series, step)?;
     text.push_str(lines[place].text.as_str())?;
     Ok(())
 }
@@ -204,7 +205,7 @@ pub(crate) fn push_kept(
 {
     for before in 0..closed {
         make_room(alloc, basin, lines, before)?;
-        push_line(alloc, text, lines, basin, series, before)?;
+        push_line(alloc, text, lines, basin, series, before + 1)?;
     }
     Ok(())
 }
