@@ -1,6 +1,6 @@
 -- Cells that share their value hold alike after any log.
 use Rattle.rw_laws.proofs.Common.{AllByRecursion, Asked, Bool, Cell, Draft, IsSlot, List, Log, None, Shared-of, Some, [], among_group, ap, ap₂, arith, cells_of, false, if◌then◌else◌, inl, inr, is_shared, known_number, last_put, nat_tests, option_or, refl, sym, together_alike, true, written_by, ◌&&◌, ◌==◌, ◌∙◌, ◌∷◌, ◌≡◌, ◌⊎◌}
-use Rattle.rw_laws.specs.Links.{AreLinked}
+use Rattle.rw_laws.specs.Links.{HoldAsLinked}
 
 -- one of the puts is what they leave in the cell
 pub record Found (basin : Draft) (P : Asked → Type 0) (puts : List Asked) (cell : Cell) : Type 0 where
@@ -37,7 +37,7 @@ linked basin [] one other known shared = refl
 linked basin (event ∷ log) one other known shared =
     ap₂ (λ now before. option_or now before) (last_alike basin (written_by event) one other known shared) (linked basin log one other known shared)
 
-pub links : (basin : Draft) (log : Log) → AreLinked basin (cells_of basin log)
+pub links : (basin : Draft) (log : Log) → HoldAsLinked basin (cells_of basin log)
 links basin log one other known shared = linked basin log one other known.slot shared
 
 -- what puts leave in a cell: nothing, or the content of one of them

@@ -1,7 +1,7 @@
 -- What holds of every log of a run: priority is kept, and each object's slots are as dispatches leave them.
 use Rattle.rw_laws.proofs.Common.{All, All-nil, AllByRecursion, Bool, ByObject, CanAsk, Cell, Cells, Content, DividesByZero, Done, Draft, EndsOutside, Event, Fire, FireEnd, Firing, IsAfterOwn, IsBasin, IsFault, IsKind, IsPolicyOf, Kind, Left, List, Log, None, Object, Policy, Put, Rule, Some, Standing, Unknown, View, Writer, [], ap, arith, asked_for, cell_at, cells_of, closed, dispatch_of, due_is_rule, ended, false, fault, fired, idle, if◌then◌else◌, inl, input_content, inr, inside, is_same_object, is_shared, last_put, left_begins, left_by_others, left_by_own, looks_of, nat_tests, none-some, object_at, opened, option_map, option_or, over, own_puts_fall, placed, puts_are_apart, puts_written, refl, rests, same_Some, standing, subst, sym, true, value_in, view_of, weaker_all, written_by, ℕ, ℤ, ◌+◌, ◌<◌, ◌==◌, ◌∙◌, ◌∷◌, ◌≡◌, ◌≤◌}
 use Rattle.rw_run.specs.Log.{given}
-use Rattle.rw_laws.specs.Priority.{IsNoWeaker, KeepPriority, KeepsPriority}
+use Rattle.rw_laws.specs.Priority.{IsNoWeakerPut, KeepPriority, KeepsPriority}
 use Rattle.rw_laws.proofs.Came.{Came, Closes, Fires, Opens, asks, closes, ends, fires, opens}
 use Rattle.rw_laws.proofs.Dispatches.{Asked_of, Solves, asked_of, idles, solves, stops}
 use Rattle.rw_laws.proofs.OwnPuts.{later_all, own_after}
@@ -98,7 +98,7 @@ module _ (basin : Draft) (valid : IsBasin basin) (policy : Policy) (promise : Is
 
   quiet_priority : (log : Log) (event : Event) → written_by event ≡ [] → KeepsPriority basin (cells_of basin log) event
   quiet_priority log event none = record {
-    puts = subst (All (IsNoWeaker (cells_of basin log))) (sym none) (All-nil (IsNoWeaker (cells_of basin log)));
+    puts = subst (All (IsNoWeakerPut (cells_of basin log))) (sym none) (All-nil (IsNoWeakerPut (cells_of basin log)));
     inputs = λ cell content held writer. quiet log event none cell ∙ held;
   }
 

@@ -8,7 +8,7 @@ use Rattle.rw_run.specs.Log.{Cells, Log, cells_of}
 use Rattle.rw_run.specs.Next.{Policy}
 use Rattle.rw_run.specs.Step.{before_closing}
 use Rattle.rw_laws.specs.Balances.{AllBalanced}
-use Rattle.rw_laws.specs.Links.{AreLinked}
+use Rattle.rw_laws.specs.Links.{HoldAsLinked}
 use Rattle.rw_laws.specs.Priority.{KeepPriority}
 use Rattle.rw_laws.specs.Rules.{AllStandBy}
 
@@ -22,6 +22,6 @@ pub record KeepsStep (basin : Draft) (policy : Policy) (log : Log) (cells : Cell
 
 -- a log, and the run that it comes to: links and priorities, and each timestep that the table has
 pub record KeepsLaws (basin : Draft) (policy : Policy) (log : Log) (run : Run) : Type 0 where
-  pub links : AreLinked basin (held run.series)
+  pub links : HoldAsLinked basin (held run.series)
   pub priority : KeepPriority basin log
   pub steps : (step : ℕ) → 1 ≤ step → step ≤ run.closed → KeepsStep basin policy log (held run.series) step

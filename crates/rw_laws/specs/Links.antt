@@ -6,5 +6,5 @@ use Rattle.rw_series.specs.Series.{IsCell, is_shared}
 use Rattle.rw_run.specs.Log.{Cells}
 
 -- all cells of a link group are held alike: value, number and writer, or unknown
-abbrev pub AreLinked : Draft → Cells → Type 0
-AreLinked basin cells = (cell other : Cell) → IsCell basin cell → IsTrue (is_shared basin cell other) → cells cell ≡ cells other
+abbrev pub HoldAsLinked : Draft → Cells → Type 0
+HoldAsLinked basin cells = (cell other : Cell) → IsCell basin cell → IsTrue (is_shared basin cell other) → cells cell ≡ cells other

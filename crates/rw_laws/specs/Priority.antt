@@ -8,13 +8,13 @@ use Rattle.rw_model.specs.declared.writer.Writer.TheVariants.{Input}
 use Rattle.rw_run.specs.Log.{Asked, Cells, Event, given, Log, cells_of, held_after, written_by}
 
 -- a put to a cell that is known has no greater number than what the cell holds
-abbrev pub IsNoWeaker : Cells → Asked → Type 0
-IsNoWeaker cells put = ForSome (cells put.cell) (λ held. put.content.number ≤ held.number)
+abbrev pub IsNoWeakerPut : Cells → Asked → Type 0
+IsNoWeakerPut cells put = ForSome (cells put.cell) (λ held. put.content.number ≤ held.number)
 
 -- an event that finds this in the cells
 pub record KeepsPriority (basin : Draft) (cells : Cells) (event : Event) : Type 0 where
   -- each put that it writes is no weaker than what it replaces
-  pub puts : All (IsNoWeaker cells) (written_by event)
+  pub puts : All (IsNoWeakerPut cells) (written_by event)
   -- what an input gave stays
   pub inputs : (cell : Cell) (content : Content) → cells cell ≡ Some content → content.writer ≡ Input → held_after basin event cells cell ≡ Some content
 

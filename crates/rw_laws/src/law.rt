@@ -22,7 +22,7 @@ ghost use Rattle.rw_rules.specs.Rules.{policy_in};
 ghost use Rattle.rw_engine.specs.Passing.{ComesTo};
 ghost use Rattle.rw_laws.specs.Balances.{AllBalanced};
 ghost use Rattle.rw_laws.specs.Laws.{KeepsLaws};
-ghost use Rattle.rw_laws.specs.Links.{AreLinked};
+ghost use Rattle.rw_laws.specs.Links.{HoldAsLinked};
 ghost use Rattle.rw_laws.specs.Priority.{KeepPriority};
 ghost use Rattle.rw_laws.specs.Rules.{AllStandBy};
 ghost use Rattle.rw_laws.specs.Worked.{apart, by_rule, changed_after, dam, dam_events, dam_log, gage, held_low, inflow, put_at, started, torn, weakened};
@@ -53,7 +53,7 @@ pub fn every_run_of_code()
 /// All cells of a link group are held alike after any log.
 #[tactic(auto, using(crate::proofs::Linked::links))]
 pub fn links()
-    ensures { (basin : Draft) (log : Log) → AreLinked basin (cells_of basin log) }
+    ensures { (basin : Draft) (log : Log) → HoldAsLinked basin (cells_of basin log) }
 {}
 
 /// In every run, also one that ended in a fault: no put that is written has a greater number than what its cell holds, and
@@ -113,7 +113,7 @@ pub fn a_link()
 /// gage lets out more than flows in, a weaker rule writes over a stronger one, a rule never fired, and a timestep changes that
 /// was closed.
 pub fn no_runs()
-    ensures links { ¬ AreLinked linked_basin apart }
+    ensures links { ¬ HoldAsLinked linked_basin apart }
     ensures balance { ¬ AllBalanced gage 1 (cells_of gage torn) }
     ensures priority { ¬ KeepPriority gage weakened }
     ensures rules { ¬ AllStandBy dam held_low 1 started }

@@ -35,9 +35,9 @@ abbrev pub one_if_told : Counted → TraceEvent → ℕ
 one_if_told counted line = if tells counted line then 1 else 0
 
 -- how many of them the lines of a trace tell
-abbrev pub count_of : Counted → List TraceEvent → ℕ
-count_of counted [] = 0
-count_of counted (line ∷ lines) = one_if_told counted line + count_of counted lines
+abbrev pub lines_counted : Counted → List TraceEvent → ℕ
+lines_counted counted [] = 0
+lines_counted counted (line ∷ lines) = one_if_told counted line + lines_counted counted lines
 
 -- ---- what is stored
 
@@ -51,8 +51,8 @@ known_or_0 None = pos 0
 known_or_0 (Some value) = value
 
 -- what the slot of this number adds to the sum: its value, where it is a storage and known
-abbrev pub stored : Draft → Cells → (step slot : ℕ) → ℤ
-stored basin cells step slot =
+abbrev pub stored_in : Draft → Cells → (step slot : ℕ) → ℤ
+stored_in basin cells step slot =
     if is_storage basin slot then known_or_0 (values_in cells slot step) else pos 0
 
 -- the sum over the numbers 1, 2, .. up to this one
@@ -62,7 +62,7 @@ sum_to amount (suc before) = sum_to amount before +ℤ amount (suc before)
 
 -- what all reservoirs store at a timestep, where it is known
 abbrev pub storage_in : Draft → Cells → (step : ℕ) → ℤ
-storage_in basin cells step = sum_to (stored basin cells step) (length (all_slots basin.objects))
+storage_in basin cells step = sum_to (stored_in basin cells step) (length (all_slots basin.objects))
 
 -- at most so many times 10^17, up or down: a sum of so many quantities
 pub record IsSumOf (times : ℕ) (sum : ℤ) : Type 0 where
@@ -84,4 +84,4 @@ line_with seed word dispatches firings storage =
 -- the line on the run of the sample of a seed
 abbrev pub sample_line : Draft → (seed : ℕ) → Outcome → List ℕ
 sample_line basin seed run =
-    line_with seed (end_word run.end) (count_of Dispatches run.lines) (count_of Firings run.lines) (storage_in basin run.cells 365)
+    line_with seed (end_word run.end) (lines_counted Dispatches run.lines) (lines_counted Firings run.lines) (storage_in basin run.cells 365)

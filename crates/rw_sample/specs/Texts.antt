@@ -51,18 +51,18 @@ abbrev pub next_number : ℕ → ℕ
 next_number number = (number * 6364136223846793005 + 1442695040888963407) % 2 ^ 64
 
 -- the numbers that a seed gives: the seed itself, and then each from the one before it
-abbrev pub number_at : ℕ → ℕ → ℕ
-number_at seed zero = seed
-number_at seed (suc before) = next_number (number_at seed before)
+abbrev pub seeded_number : ℕ → ℕ → ℕ
+seeded_number seed zero = seed
+seeded_number seed (suc before) = next_number (seeded_number seed before)
 
 -- the inflow that a number gives, in m3 a day
-abbrev pub inflow_of : ℕ → ℕ
-inflow_of number = number / 2 ^ 33 % 1000
+abbrev pub seeded_inflow : ℕ → ℕ
+seeded_inflow number = number / 2 ^ 33 % 1000
 
 -- the first reservoir's inflow at a timestep
 abbrev pub inflow_words : ℕ → ℕ → List ℕ
 inflow_words seed step =
-    codes "D1.Inflow," ++ (decimal step ++ (codes "," ++ (decimal (inflow_of (number_at seed step)) ++ codes "\n")))
+    codes "D1.Inflow," ++ (decimal step ++ (codes "," ++ (decimal (seeded_inflow (seeded_number seed step)) ++ codes "\n")))
 
 -- and at the first timesteps, so many of them
 unfoldable pub inflow_rows : (seed count : ℕ) → List ℕ

@@ -1,7 +1,7 @@
 // How often something happened in a run, by its trace.
 ghost use Rattle.std.specs.Prelude.{◌≡◌, ◌≤◌, ◌+◌};
 ghost use Rattle.rw_run.specs.Trace.{lines_in};
-ghost use Rattle.rw_sample.specs.Line.{count_of, is_dispatch, is_firing, one_if_told, tells};
+ghost use Rattle.rw_sample.specs.Line.{lines_counted, is_dispatch, is_firing, one_if_told, tells};
 
 use rw_report::line_at;
 use rw_run::{Trace, TraceEvent};
@@ -56,7 +56,7 @@ fn count_behind(count: u64, counted: Counted, line: &TraceEvent) -> u64
 
 /// How many of them the trace tells.
 pub(crate) fn count_in(counted: Counted, trace: &Trace) -> u64
-    ensures { result ≡ count_of counted (lines_in trace.now) }
+    ensures { result ≡ lines_counted counted (lines_in trace.now) }
 {
     let mut count = 0u64;
     for place in 0..trace.len() {

@@ -1,7 +1,7 @@
 // The inputs of the sample.
 ghost use Rattle.std.specs.Prelude.{◌≡◌, ◌++◌, IfOk, OnOk, string_bytes, codes};
 ghost use Rattle.std.specs.Fmt.{decimal};
-ghost use Rattle.rw_sample.specs.Texts.{inflow_of, inflow_rows, next_number, sample_inputs};
+ghost use Rattle.rw_sample.specs.Texts.{seeded_inflow, inflow_rows, next_number, sample_inputs};
 
 use rw_base::NoMemory;
 use std::alloc::Global;
@@ -17,7 +17,7 @@ fn next_number(number: u64) -> u64
 
 // The inflow that a number gives, from 0 to 999.
 fn inflow_of(number: u64) -> u64
-    ensures { result ≡ inflow_of number }
+    ensures { result ≡ seeded_inflow number }
 {
     number / 8_589_934_592 % 1_000
 }

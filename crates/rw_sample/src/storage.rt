@@ -3,7 +3,7 @@ ghost use Rattle.std.specs.Prelude.{◌≡◌, ◌+ℤ◌, option_map};
 ghost use Rattle.rw_model.specs.Draft.{IsSlot};
 ghost use Rattle.rw_model.specs.declared.content.Content.{Content};
 ghost use Rattle.rw_series.specs.Series.{held};
-ghost use Rattle.rw_sample.specs.Line.{IsSumOf, is_storage, known_or_0, storage_in, stored};
+ghost use Rattle.rw_sample.specs.Line.{IsSumOf, is_storage, known_or_0, storage_in, stored_in};
 
 use rw_base::{Cell, SlotNo, StepNo};
 use rw_model::{Basin, Content};
@@ -30,7 +30,7 @@ fn known_or_0(content: Option<Content>) -> i128
 // What a slot adds to the sum.
 fn stored(basin: &Basin, series: &Series, step: StepNo, slot: SlotNo) -> i128
     requires { IsSlot basin.now.objects slot.0 }
-    ensures amount { result ≡ stored basin.now (held series.now) step.0 slot.0 }
+    ensures amount { result ≡ stored_in basin.now (held series.now) step.0 slot.0 }
     ensures bound { IsSumOf 1 result }
 {
     if is_storage(basin, slot) {

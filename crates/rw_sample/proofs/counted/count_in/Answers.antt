@@ -2,15 +2,15 @@ use Rattle.rw_base.proofs.Common.{◌≡◌, ◌≤◌, ◌+◌, ◌∷◌, Bool
 use Rattle.rw_run.specs.Trace.{lines_in}
 use Rattle.rw_run.specs.declared.trace.TraceEvent.{TraceEvent}
 use Rattle.rw_report.proofs.Growing.{here}
-use Rattle.rw_sample.specs.Line.{count_of, one_if_told, tells}
+use Rattle.rw_sample.specs.Line.{lines_counted, one_if_told, tells}
 use Rattle.rw_sample.specs.declared.counted.Counted.{Counted}
 use Rattle.rw_sample.proofs.counted.count_in.Goals as goal
 
 -- one line more is counted
 counts_on : (counted : Counted) (lines left : List TraceEvent) (line : TraceEvent) (count next whole : ℕ)
-    → count + count_of counted lines ≡ whole → lines ≡ line ∷ left → next ≡ count + one_if_told counted line → next + count_of counted left ≡ whole
+    → count + lines_counted counted lines ≡ whole → lines ≡ line ∷ left → next ≡ count + one_if_told counted line → next + lines_counted counted left ≡ whole
 counts_on counted lines left line count next whole before is more =
-    let split = ap (count_of counted) is in omega (arith, before, split, more)
+    let split = ap (lines_counted counted) is in omega (arith, before, split, more)
 
 at_most_1 : (counted : Counted) (line : TraceEvent) → one_if_told counted line ≤ 1
 at_most_1 counted line = by_test (tells counted line)
@@ -28,7 +28,7 @@ loop-place-preserved c =
     let one = at_most_1 c.args.counted line in
     let few = c.loop-place.invariant.few in
     record {
-      whole = counts_on c.args.counted (drop place lines) (drop (place + 1) lines) line c.loop-place.count c.count_behind-count.result (count_of c.args.counted lines)
+      whole = counts_on c.args.counted (drop place lines) (drop (place + 1) lines) line c.loop-place.count c.count_behind-count.result (lines_counted c.args.counted lines)
           c.loop-place.invariant.whole (here lines place line c.line_at.ensures) more;
       few = omega (arith, more, one, few);
     }

@@ -1,17 +1,17 @@
 use Rattle.rw_base.proofs.Common.{◌≡◌, ◌++◌, ◌+◌, ◌∙◌, ℕ, List, ap, codes, decimal, string_bytes, suc-eq-add-one}
 use Rattle.rw_report.proofs.Growing.{next}
-use Rattle.rw_sample.specs.Texts.{inflow_of, inflow_words, next_number, number_at}
+use Rattle.rw_sample.specs.Texts.{seeded_inflow, inflow_words, next_number, seeded_number}
 use Rattle.rw_sample.proofs.inputs.push_inflows.Goals as goal
 
 -- the number of the next row
-later : (seed before last number : ℕ) → last ≡ number_at seed before → number ≡ next_number last → number ≡ number_at seed (before + 1)
-later seed before last number is next = next ∙ ap next_number is ∙ ap (number_at seed) (suc-eq-add-one before)
+later : (seed before last number : ℕ) → last ≡ seeded_number seed before → number ≡ next_number last → number ≡ seeded_number seed (before + 1)
+later seed before last number is next = next ∙ ap next_number is ∙ ap (seeded_number seed) (suc-eq-add-one before)
 
 -- and the row
-row : (seed step number inflow : ℕ) (text new : List ℕ) → number ≡ number_at seed step → inflow ≡ inflow_of number
+row : (seed step number inflow : ℕ) (text new : List ℕ) → number ≡ seeded_number seed step → inflow ≡ seeded_inflow number
     → new ≡ text ++ (codes "D1.Inflow," ++ (decimal step ++ (codes "," ++ (decimal inflow ++ codes "\n")))) → new ≡ text ++ inflow_words seed step
 row seed step number inflow text new is flows added =
-    added ∙ ap (λ n. text ++ (codes "D1.Inflow," ++ (decimal step ++ (codes "," ++ (decimal n ++ codes "\n"))))) (flows ∙ ap inflow_of is)
+    added ∙ ap (λ n. text ++ (codes "D1.Inflow," ++ (decimal step ++ (codes "," ++ (decimal n ++ codes "\n"))))) (flows ∙ ap seeded_inflow is)
 
 pub loop-before-preserved : goal.loop-before-preserved
 loop-before-preserved c =

@@ -1,6 +1,6 @@
 use Rattle.rw_base.proofs.Common.{FitsSigned, ap, ap₂, arith, ints, rules, suc-eq-add-one, sym, to_z-of_z, w128, ℕ, ℤ, ◌+ℤ◌, ◌+◌, ◌∙◌, ◌≡◌}
 use Rattle.rw_series.specs.Series.{held}
-use Rattle.rw_sample.specs.Line.{IsSumOf, stored, sum_to}
+use Rattle.rw_sample.specs.Line.{IsSumOf, stored_in, sum_to}
 use Rattle.rw_sample.proofs.storage.storage_in.Goals as goal
 
 -- the sum up to the next number
@@ -22,6 +22,6 @@ loop-before-preserved c =
     let added = simp (to_z-of_z w128 _ more_fits) at c.plus-sum.ensures in
     rw (to_z-of_z w128 _ fits)
     record {
-      so_far = next_sum (stored c.args.basin.now (held c.args.series.now) c.args.step.0) c.loop-before.before _ _ _ c.loop-before.invariant.so_far c.stored.ensures.amount added;
+      so_far = next_sum (stored_in c.args.basin.now (held c.args.series.now) c.args.step.0) c.loop-before.before _ _ _ c.loop-before.invariant.so_far c.stored.ensures.amount added;
       bound = next_bound c.loop-before.before _ _ _ c.loop-before.invariant.bound c.stored.ensures.bound added;
     }
