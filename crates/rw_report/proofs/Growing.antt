@@ -1,10 +1,14 @@
 -- A text that grows part by part.
-use Rattle.rw_base.proofs.Common.{◌≡◌, ℕ, ◌+◌, List, ◌∷◌, ◌++◌, Some, sym, ap, ◌∙◌, drop, drop-cons, suc, append_assoc, suc-eq-add-one, slice_get, slice_get_within, get_or_from_slice_get}
+use Rattle.rw_base.proofs.Common.{◌≡◌, ℕ, ◌+◌, List, [], ◌∷◌, ◌++◌, Some, sym, ap, ◌∙◌, drop, drop-cons, suc, append_assoc, suc-eq-add-one, slice_get, slice_get_within, get_or_from_slice_get}
 use Rattle.rw_report.specs.Section.{for_each}
 
 -- two parts, one after the other
 pub both : (front text new first second : List ℕ) → text ≡ front ++ first → new ≡ text ++ second → new ≡ front ++ (first ++ second)
 both front text new first second is added = added ∙ ap (λ t. t ++ second) is ∙ append_assoc front first second
+
+-- a text that was taken empty
+pub afresh : (cleared new whole : List ℕ) → cleared ≡ [] → new ≡ cleared ++ whole → new ≡ whole
+afresh cleared new whole empty added = added ∙ ap (λ t. t ++ whole) empty
 
 -- what is written of one number more
 pub next : (words : ℕ → List ℕ) (before : ℕ) (front text new : List ℕ)

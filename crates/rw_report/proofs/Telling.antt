@@ -7,10 +7,15 @@ use Rattle.rw_report.specs.Section.{for_each, row, value_words}
 use Rattle.rw_report.specs.Sheet.{line_of, listed, values_words}
 
 -- one value more
-pub next_value : (values : ℕ → Option ℤ) (before : ℕ) → listed values before ++ values (before + 1) ∷ [] ≡ listed values (before + 1)
+next_value : (values : ℕ → Option ℤ) (before : ℕ) → listed values before ++ values (before + 1) ∷ [] ≡ listed values (before + 1)
 next_value values before =
     let e = suc-eq-add-one before in
     ap (λ n. listed values before ++ values n ∷ []) (sym e) ∙ ap (λ n. listed values n) e
+
+-- and one that was put behind those that there were
+pub value_put : (values : ℕ → Option ℤ) (before : ℕ) (old new : List (Option ℤ)) (value : Option ℤ)
+    → new ≡ old ++ value ∷ [] → old ≡ listed values before → value ≡ values (before + 1) → new ≡ listed values (before + 1)
+value_put values before old new value put front same = put ∙ ap₂ (λ t v. t ++ v ∷ []) front same ∙ next_value values before
 
 -- one value more that is alike, of those that are there
 pub alike_more : (all : List (Option ℤ)) (values : ℕ → Option ℤ) (before place : ℕ) (value : Option ℤ) → place ≡ before → before < length all
