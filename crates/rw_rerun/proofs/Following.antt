@@ -1,0 +1,159 @@
+-- The next run of a session, and the spare engine behind it.
+use Rattle.rw_base.proofs.Common.{◌≡◌, ◌≤◌, ◌+◌, ◌++◌, ◌∙◌, ℕ, List, [], Ok, Option, Some, None, IfSome, IsSome, length, map, replicate, take, drop, refl, sym, ap, subst, arith}
+use Rattle.rw_base.specs.declared.number.Cell.{Cell}
+use Rattle.rw_model.specs.Draft.{Draft}
+use Rattle.rw_inputs.specs.Edits.{Batch, after_batch}
+use Rattle.rw_inputs.specs.Givens.{givens}
+use Rattle.rw_inputs.specs.Inputs.{Inputs, IsInputsOf, value_at}
+use Rattle.rw_run.specs.Frame.{IsFramed}
+use Rattle.rw_run.specs.Log.{Log}
+use Rattle.rw_run.specs.Next.{Policy}
+use Rattle.rw_run.specs.Runs.{placed}
+use Rattle.rw_run.proofs.OneRun.{one_run}
+use Rattle.rw_record.specs.Record.{StepRecord}
+use Rattle.rw_engine.specs.Engine.{Engine}
+use Rattle.rpl_verify.specs.Verified.{Accepted}
+use Rattle.rw_rules.specs.Rules.{policy_in}
+use Rattle.rw_rerun.specs.Edited.{AreEdited, BecomesSpare, LeavesFirst}
+use Rattle.rw_rerun.specs.Kept.{AreLinked, changed}
+use Rattle.rw_rerun.specs.Next.{IsNext, PassesBehind}
+use Rattle.rw_rerun.specs.Session.{IsSessionOf, Session}
+use Rattle.rw_rerun.specs.Spare.{BeginsBy, BringsTo, GivesAll, IsSpare, IsSpareIn, MayBeSpare, StandsIn}
+use Rattle.rw_rerun.specs.Touched.{CountsUntouched}
+use Rattle.rw_rerun.specs.UnderWay.{IsUnderWay, PassesRest}
+use Rattle.rw_rerun.specs.declared.pass.Pass.{Pass}
+use Rattle.rw_rerun.specs.declared.spare.Spare.{Spare}
+use Rattle.rw_rerun.proofs.Keeping.{all_known, known_records, split_at, stay_first}
+use Rattle.rw_rerun.proofs.Sessions.{session_behind}
+use Rattle.rw_rerun.proofs.Taken.{comes_behind, first_are_kept, same_end, stands_behind_all}
+use Rattle.rw_rerun.proofs.Ways.{whole_way}
+
+abbrev nothing : Option (Option StepRecord)
+nothing = None
+
+-- a spare engine is brought behind the timesteps that are left, given the cells, and passes the others
+pub passes_behind : (basin : Draft) (policy : Accepted) (inputs : Inputs) (cells : List Cell) (was : List (Option StepRecord)) (behind : ℕ) (spare brought : Spare)
+    (given : Engine) (first last : Pass) (before after : ℕ) (done : Unit {0}) → IsFramed (policy_in basin policy) → behind ≤ length was
+    → BringsTo basin was behind spare brought → GivesAll basin inputs cells brought.engine given
+    → BeginsBy (record { engine = given; behind = brought.behind }) first → PassesRest basin policy was behind first last before after (Ok done)
+    → PassesBehind basin policy inputs cells was behind spare before after (Ok last)
+passes_behind basin policy inputs cells was behind spare brought given first last before after done framed near brings gives begins rest =
+    let in_run = policy_in basin policy in
+    let at : brought.behind ≡ behind = brings.behind_is in
+    let ready : Spare = record { engine = given; behind = brought.behind } in
+    let more = rest.grows in
+    let none = ap length begins.none in
+    let counted = rest.each in record {
+      made = rest.made;
+      goes = λ old batch earlier leaves kept stands.
+          let comes = comes_behind basin policy old inputs batch cells earlier was brought ready framed (subst (LeavesFirst basin batch cells old inputs was) (sym at) leaves)
+          kept (brings.stands policy (placed [] (givens basin old)) earlier stands) refl gives in
+          rest.goes inputs earlier kept (subst (IsUnderWay basin in_run inputs earlier was first) at
+          (begins.goes basin in_run inputs earlier comes.log was (omega (arith, at, near)) comes.shows comes.taken));
+      stay = ap (λ changes. take behind (changed was changes))
+          (more.1 ∙ ap (λ changes. changes ++ more.0) (begins.unchanged ∙ ap (λ n. replicate n nothing) at)) ∙ stay_first was behind more.0 near;
+      each = omega (arith, none, counted);
+      rises = rest.rises;
+      few = rest.few;
+    }
+
+module _ (basin : Draft) (policy : Accepted) (session : Session) (batch : Batch) (inputs : Inputs) (cells : List Cell) (behind : ℕ) (is : IsSessionOf basin policy session)
+    (values : value_at inputs ≡ after_batch batch (value_at session.inputs)) (given : IsInputsOf basin inputs) (edited : AreEdited basin batch cells)
+    (untouched : CountsUntouched basin cells session.kept behind) where
+  abbrev leaves : LeavesFirst basin batch cells session.inputs inputs session.kept behind
+  leaves = record {
+    old_made = is.given;
+    new_made = given;
+    values = values;
+    edited = edited;
+    many = is.many;
+    untouched = untouched;
+  }
+
+  pub next_is : (spare : Spare) (pass : Pass) (before after : ℕ) → IsSpareIn basin policy session is.log spare
+      → PassesBehind basin policy inputs cells session.kept behind spare before after (Ok pass) → IsNext basin policy session inputs cells behind pass
+  next_is spare pass before after stands passes = record {
+    is = is;
+    batch = batch;
+    leaves = leaves;
+    made = passes.made;
+    way = passes.goes session.inputs batch is.log leaves is.kept stands.stands;
+    stay = passes.stay;
+  }
+
+-- ---- the spare engine behind it
+
+module _ (basin : Draft) (policy : Accepted) (session : Session) (inputs : Inputs) (cells : List Cell) (behind : ℕ) (pass : Pass)
+    (next : IsNext basin policy session inputs cells behind pass) where
+  abbrev in_run : Policy
+  in_run = policy_in basin policy
+
+  abbrev now_kept : List (Option StepRecord)
+  now_kept = changed session.kept pass.changes.items
+
+  is_spare : (spare : Spare) → BecomesSpare basin inputs cells session.kept behind session.engine spare
+      → (is : IsSessionOf basin policy (session_behind basin policy inputs session.kept pass))
+      → IsSpareIn basin policy (session_behind basin policy inputs session.kept pass) is.log spare
+  is_spare spare becomes is =
+      let at : spare.behind ≡ behind = becomes.behind_is in
+      let start : Log = placed [] (givens basin inputs) in
+      let comes = becomes.comes policy session.inputs next.batch next.is.log next.leaves next.is.kept (stands_behind_all basin policy session next.is) in
+      let some = next.leaves.untouched.few in
+      let left = known_records session.kept behind some (first_are_kept basin cells session.kept behind next.leaves.untouched) in
+      let first : take spare.behind session.kept ≡ map (λ kept. Some kept) left.0 = ap (λ n. take n session.kept) at ∙ left.1 in
+      let stay : take spare.behind now_kept ≡ take spare.behind session.kept =
+      subst (λ n. take n now_kept ≡ take n session.kept) (sym at) next.stay in
+      let few : spare.behind ≤ length now_kept =
+      let all = is.many in let many = next.leaves.many in omega (arith, at, all, many, some) in
+      let same : next.way.log ≡ is.log =
+      one_run basin in_run (givens basin inputs) next.way.log is.log (whole_way basin in_run inputs next.is.log session.kept pass next.way) is.whole in
+      let split = split_at basin in_run 1 start next.way.log now_kept spare.behind (spare.behind + 1) (omega arith) few next.way.linked in
+      let met : split.0 ≡ comes.log =
+      same_end basin in_run left.0 1 start split.0 comes.log
+      (subst (λ kept. AreLinked basin in_run 1 start kept split.0) (stay ∙ first) split.1)
+      (subst (λ kept. AreLinked basin in_run 1 start kept comes.log) first comes.taken.linked) in record {
+        stands = record {
+          made = comes.made;
+          traced = comes.traced;
+          few = few;
+          log = comes.log;
+          shows = comes.shows;
+          before = subst (λ kept. AreLinked basin in_run 1 start kept comes.log) (sym stay) comes.taken.linked;
+          rest = subst (λ end. AreLinked basin in_run (spare.behind + 1) comes.log (drop spare.behind now_kept) end) same
+              (subst (λ log. AreLinked basin in_run (spare.behind + 1) log (drop spare.behind now_kept) next.way.log) met split.2);
+        };
+        known = λ place entry first_one last there. all_known now_kept left.0 spare.behind (stay ∙ first) place entry last there;
+      }
+
+  may_be : (spare : Option Spare) → IfSome spare (BecomesSpare basin inputs cells session.kept behind session.engine)
+      → MayBeSpare (session_behind basin policy inputs session.kept pass) spare
+  may_be None becomes = λ is. tt
+  may_be (Some spare) becomes = is_spare spare becomes
+
+  pub next_spare : (spare : Option Spare) → IfSome spare (BecomesSpare basin inputs cells session.kept behind session.engine)
+      → MayBeSpare (session_behind session.basin session.policy inputs session.kept pass) spare
+  next_spare spare becomes =
+      subst (λ of_basin. MayBeSpare (session_behind of_basin session.policy inputs session.kept pass) spare) (sym next.is.of_basin)
+      (subst (λ by_policy. MayBeSpare (session_behind basin by_policy inputs session.kept pass) spare) (sym next.is.by_policy) (may_be spare becomes))
+
+  -- ---- at its place
+
+  module _ (was : List (Option StepRecord)) (engine : Engine) (lent : session.kept ≡ was) (same : session.engine ≡ engine) where
+    pub stands_there : IsSpare basin was (record { engine = engine; behind = basin.control.stamps.count })
+    stands_there = record {
+      policy = policy;
+      start = placed [] (givens basin session.inputs);
+      end = next.is.log;
+      stands = subst (λ kept. StandsIn basin policy (placed [] (givens basin session.inputs)) next.is.log kept
+          (record { engine = engine; behind = basin.control.stamps.count })) lent
+          (subst (λ (one : Engine). StandsIn basin policy (placed [] (givens basin session.inputs)) next.is.log session.kept
+          (record { engine = one; behind = basin.control.stamps.count })) same (stands_behind_all basin policy session next.is));
+    }
+
+    pub spare_there : (spare : Option Spare) (now : Session) → IfSome spare (BecomesSpare basin inputs cells was behind engine)
+        → session_behind session.basin session.policy inputs session.kept pass ≡ now → MayBeSpare now spare
+    spare_there spare now becomes is =
+        subst (λ (one : Session). MayBeSpare one spare) is
+        (next_spare spare
+        (subst (λ kept. IfSome spare (BecomesSpare basin inputs cells kept behind session.engine)) (sym lent)
+        (subst (λ one. IfSome spare (BecomesSpare basin inputs cells was behind one)) (sym same) becomes)))
