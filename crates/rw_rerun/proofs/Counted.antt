@@ -2,14 +2,13 @@
 use Rattle.rw_base.proofs.Common.{◌≡◌, ◌≤◌, ◌+◌, ℕ, Err, List, Ok, Option, Result}
 use Rattle.std.specs.Prelude.{IsErrAnd}
 use Rattle.rw_base.specs.declared.memory.NoMemory.{NoMemory}
-use Rattle.rw_base.specs.declared.number.Cell.{Cell}
 use Rattle.rw_model.specs.Draft.{Draft}
 use Rattle.rw_inputs.specs.Inputs.{Inputs}
 use Rattle.rw_record.specs.Record.{StepRecord}
 use Rattle.rpl_verify.specs.Verified.{Accepted}
 use Rattle.rw_base.specs.declared.number.StepNo.{StepNo}
 use Rattle.rw_rerun.specs.Session.{CountsRuns}
-use Rattle.rw_rerun.specs.Next.{PassesBehind}
+use Rattle.rw_rerun.specs.Next.{PassesFrom}
 use Rattle.rw_rerun.specs.UnderWay.{GoesOn, PassesAll, PassesRest}
 use Rattle.rw_rerun.specs.declared.pass.Pass.{Pass}
 use Rattle.rw_rerun.specs.declared.spare.Spare.{Spare}
@@ -52,13 +51,13 @@ wants_rest basin policy was behind old new before after (Err fault) why is rises
   few = few;
 }
 
-pub wants_behind : (basin : Draft) (policy : Accepted) (inputs : Inputs) (cells : List Cell) (was : List (Option StepRecord)) (behind : ℕ) (spare : Spare)
-    (before after : ℕ) (result : Result Pass NoMemory) (why : NoMemory) → IsErrAnd result (λ fault. fault ≡ why) → before ≤ after
-    → after ≤ before + basin.control.stamps.count → PassesBehind basin policy inputs cells was behind spare before after result
-wants_behind basin policy inputs cells was behind spare before after (Ok pass) why is rises few = absurd is
-wants_behind basin policy inputs cells was behind spare before after (Err fault) why is rises few = record {
+pub wants_from : (basin : Draft) (policy : Accepted) (was : List (Option StepRecord)) (spare : Spare) (before after : ℕ) (result : Result Pass NoMemory)
+    (why : NoMemory) → IsErrAnd result (λ fault. fault ≡ why) → before ≤ after → after ≤ before + basin.control.stamps.count
+    → PassesFrom basin policy was spare before after result
+wants_from basin policy was spare before after (Ok pass) why is rises few = absurd is
+wants_from basin policy was spare before after (Err fault) why is rises few = record {
   made = tt;
-  goes = λ old batch earlier leaves kept stands. tt;
+  goes = λ inputs earlier log kept shows taken. tt;
   stay = tt;
   each = tt;
   rises = rises;

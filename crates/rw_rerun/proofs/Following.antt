@@ -1,5 +1,6 @@
 -- The next run of a session, and the spare engine behind it.
-use Rattle.rw_base.proofs.Common.{◌≡◌, ◌≤◌, ◌+◌, ◌++◌, ◌∙◌, ℕ, List, [], Ok, Option, Some, None, IfSome, IsSome, length, map, replicate, take, drop, refl, sym, ap, subst, arith}
+use Rattle.rw_base.proofs.Common.{◌≡◌, ◌≤◌, ◌+◌, ◌++◌, ◌∙◌, ℕ, List, [], Err, Ok, Result, Option, Some, None, IfOk, IfSome, length, map, take, drop, refl, sym, ap, subst, arith}
+use Rattle.rw_base.specs.declared.memory.NoMemory.{NoMemory}
 use Rattle.rw_base.specs.declared.number.Cell.{Cell}
 use Rattle.rw_model.specs.Draft.{Draft}
 use Rattle.rw_inputs.specs.Edits.{Batch, after_batch}
@@ -16,11 +17,11 @@ use Rattle.rpl_verify.specs.Verified.{Accepted}
 use Rattle.rw_rules.specs.Rules.{policy_in}
 use Rattle.rw_rerun.specs.Edited.{AreEdited, BecomesSpare, LeavesFirst}
 use Rattle.rw_rerun.specs.Kept.{AreLinked, changed}
-use Rattle.rw_rerun.specs.Next.{IsNext, PassesBehind}
+use Rattle.rw_rerun.specs.Next.{IsNext, IsReady, PassesBehind, PassesFrom, StayFirst}
 use Rattle.rw_rerun.specs.Session.{IsSessionOf, Session}
-use Rattle.rw_rerun.specs.Spare.{BeginsBy, BringsTo, GivesAll, IsSpare, IsSpareIn, MayBeSpare, StandsIn}
+use Rattle.rw_rerun.specs.Spare.{BeginsBy, IsSpare, IsSpareIn, MayBeSpare, StandsIn}
 use Rattle.rw_rerun.specs.Touched.{CountsUntouched}
-use Rattle.rw_rerun.specs.UnderWay.{IsUnderWay, PassesRest}
+use Rattle.rw_rerun.specs.UnderWay.{PassesRest}
 use Rattle.rw_rerun.specs.declared.pass.Pass.{Pass}
 use Rattle.rw_rerun.specs.declared.spare.Spare.{Spare}
 use Rattle.rw_rerun.proofs.Keeping.{all_known, known_records, split_at, stay_first}
@@ -28,33 +29,46 @@ use Rattle.rw_rerun.proofs.Sessions.{session_behind}
 use Rattle.rw_rerun.proofs.Taken.{comes_behind, first_are_kept, same_end, stands_behind_all}
 use Rattle.rw_rerun.proofs.Ways.{whole_way}
 
-abbrev nothing : Option (Option StepRecord)
-nothing = None
-
--- a spare engine is brought behind the timesteps that are left, given the cells, and passes the others
-pub passes_behind : (basin : Draft) (policy : Accepted) (inputs : Inputs) (cells : List Cell) (was : List (Option StepRecord)) (behind : ℕ) (spare brought : Spare)
-    (given : Engine) (first last : Pass) (before after : ℕ) (done : Unit {0}) → IsFramed (policy_in basin policy) → behind ≤ length was
-    → BringsTo basin was behind spare brought → GivesAll basin inputs cells brought.engine given
-    → BeginsBy (record { engine = given; behind = brought.behind }) first → PassesRest basin policy was behind first last before after (Ok done)
-    → PassesBehind basin policy inputs cells was behind spare before after (Ok last)
-passes_behind basin policy inputs cells was behind spare brought given first last before after done framed near brings gives begins rest =
+-- the other timesteps are passed, one by one
+pub passes_from : (basin : Draft) (policy : Accepted) (was : List (Option StepRecord)) (spare : Spare) (first last : Pass) (before after : ℕ) (done : Unit {0})
+    → spare.behind ≤ length was → BeginsBy spare first → PassesRest basin policy was spare.behind first last before after (Ok done)
+    → PassesFrom basin policy was spare before after (Ok last)
+passes_from basin policy was spare first last before after done near begins rest =
     let in_run = policy_in basin policy in
-    let at : brought.behind ≡ behind = brings.behind_is in
-    let ready : Spare = record { engine = given; behind = brought.behind } in
     let more = rest.grows in
     let none = ap length begins.none in
     let counted = rest.each in record {
       made = rest.made;
-      goes = λ old batch earlier leaves kept stands.
-          let comes = comes_behind basin policy old inputs batch cells earlier was brought ready framed (subst (LeavesFirst basin batch cells old inputs was) (sym at) leaves)
-          kept (brings.stands policy (placed [] (givens basin old)) earlier stands) refl gives in
-          rest.goes inputs earlier kept (subst (IsUnderWay basin in_run inputs earlier was first) at
-          (begins.goes basin in_run inputs earlier comes.log was (omega (arith, at, near)) comes.shows comes.taken));
-      stay = ap (λ changes. take behind (changed was changes))
-          (more.1 ∙ ap (λ changes. changes ++ more.0) (begins.unchanged ∙ ap (λ n. replicate n nothing) at)) ∙ stay_first was behind more.0 near;
+      goes = λ inputs earlier log kept shows taken. rest.goes inputs earlier kept (begins.goes basin in_run inputs earlier log was near shows taken);
+      stay = ap (λ changes. take spare.behind (changed was changes)) (more.1 ∙ ap (λ changes. changes ++ more.0) begins.unchanged)
+          ∙ stay_first was spare.behind more.0 near;
       each = omega (arith, none, counted);
       rises = rest.rises;
       few = rest.few;
+    }
+
+-- by a spare engine that was made ready
+stays_first : (was : List (Option StepRecord)) (behind other : ℕ) (result : Result Pass NoMemory) → other ≡ behind → IfOk result (StayFirst was other)
+    → IfOk result (StayFirst was behind)
+stays_first was behind other (Err fault) same stay = tt
+stays_first was behind other (Ok pass) same stay = subst (λ n. StayFirst was n pass) same stay
+
+pub passes_behind : (basin : Draft) (policy : Accepted) (inputs : Inputs) (cells : List Cell) (was : List (Option StepRecord)) (behind : ℕ) (old new : Spare)
+    (before after : ℕ) (result : Result Pass NoMemory) → IsFramed (policy_in basin policy) → IsReady basin inputs cells was behind old new
+    → PassesFrom basin policy was new before after result → PassesBehind basin policy inputs cells was behind old before after result
+passes_behind basin policy inputs cells was behind old new before after result framed ready passes =
+    let in_run = policy_in basin policy in
+    let at : ready.mid.behind ≡ behind = ready.brings.behind_is in record {
+      made = passes.made;
+      goes = λ given batch earlier leaves kept stands.
+          let comes = comes_behind basin policy given inputs batch cells earlier was ready.mid new framed
+          (subst (LeavesFirst basin batch cells given inputs was) (sym at) leaves) kept
+          (ready.brings.stands policy (placed [] (givens basin given)) earlier stands) ready.same ready.gives in
+          passes.goes inputs earlier comes.log kept comes.shows comes.taken;
+      stay = stays_first was behind new.behind result (ready.same ∙ at) passes.stay;
+      each = passes.each;
+      rises = passes.rises;
+      few = passes.few;
     }
 
 module _ (basin : Draft) (policy : Accepted) (session : Session) (batch : Batch) (inputs : Inputs) (cells : List Cell) (behind : ℕ) (is : IsSessionOf basin policy session)

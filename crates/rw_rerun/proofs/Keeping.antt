@@ -142,7 +142,7 @@ all_known was records zero are place entry last there = absurd (omega (arith, la
 all_known [] records (suc behind) are place entry last there = absurd (none-some _ there)
 all_known (one ∷ was) [] (suc behind) are place entry last there = absurd (let many = ap length are in omega (arith, many))
 all_known (one ∷ was) (kept ∷ records) (suc behind) are zero entry last there =
-    subst IsSome (sym (same_Some one (Some kept) (ap (λ ks. slice_get ks zero) are)) ∙ same_Some one entry there) tt
+    subst IsSome (sym (same_Some one (Some kept) (ap (λ ks. slice_get ks zero) are)) ∙ same_Some one entry there) refl
 all_known (one ∷ was) (kept ∷ records) (suc behind) are (suc place) entry last there =
     all_known was records behind (ap (drop 1) are) place entry (omega (arith, last)) there
 
