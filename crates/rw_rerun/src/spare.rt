@@ -202,13 +202,12 @@ pub(crate) fn spare_of(
 {
     answered_code_is_safe();
     code_keeps_promises();
-    let count = basin.control().stamps.count();
-    if behind < count - behind || !are_kept(kept, behind) {
+    if usize::from(behind) * 2 < kept.len() || !are_kept(kept, behind) {
         return None;
     }
     let mut spare = Spare {
         engine,
-        behind: count,
+        behind: basin.control().stamps.count(),
     };
     bring_back(&mut spare, basin, kept, behind);
     give_all(&mut spare.engine, basin, inputs, cells);
