@@ -17,15 +17,15 @@ use Rattle.rpl_verify.specs.Verified.{Accepted}
 use Rattle.rw_rules.specs.Rules.{policy_in}
 use Rattle.rw_rerun.specs.Edited.{AreEdited, BecomesSpare, LeavesFirst}
 use Rattle.rw_rerun.specs.Kept.{AreLinked, changed}
-use Rattle.rw_rerun.specs.Next.{IsNext, IsReady, PassesBehind, PassesFrom, StayFirst}
-use Rattle.rw_rerun.specs.Session.{IsSessionOf, Session}
+use Rattle.rw_rerun.specs.Next.{IsNext, IsReady, PassesBehind, PassesFrom, PassesNext, StayFirst}
+use Rattle.rw_rerun.specs.Session.{Applies, IsSessionOf, Session}
 use Rattle.rw_rerun.specs.Spare.{BeginsBy, IsSpare, IsSpareIn, MayBeSpare, StandsIn}
 use Rattle.rw_rerun.specs.Touched.{CountsUntouched}
 use Rattle.rw_rerun.specs.UnderWay.{PassesRest}
 use Rattle.rw_rerun.specs.declared.pass.Pass.{Pass}
 use Rattle.rw_rerun.specs.declared.spare.Spare.{Spare}
 use Rattle.rw_rerun.proofs.Keeping.{all_known, known_records, split_at, stay_first}
-use Rattle.rw_rerun.proofs.Sessions.{session_behind}
+use Rattle.rw_rerun.proofs.Sessions.{applies, session_behind}
 use Rattle.rw_rerun.proofs.Taken.{comes_behind, first_are_kept, same_end, stands_behind_all}
 use Rattle.rw_rerun.proofs.Ways.{whole_way}
 
@@ -71,29 +71,77 @@ passes_behind basin policy inputs cells was behind old new before after result f
       few = passes.few;
     }
 
-module _ (basin : Draft) (policy : Accepted) (session : Session) (batch : Batch) (inputs : Inputs) (cells : List Cell) (behind : ℕ) (is : IsSessionOf basin policy session)
-    (values : value_at inputs ≡ after_batch batch (value_at session.inputs)) (given : IsInputsOf basin inputs) (edited : AreEdited basin batch cells)
-    (untouched : CountsUntouched basin cells session.kept behind) where
-  abbrev leaves : LeavesFirst basin batch cells session.inputs inputs session.kept behind
-  leaves = record {
-    old_made = is.given;
-    new_made = given;
-    values = values;
-    edited = edited;
-    many = is.many;
-    untouched = untouched;
-  }
+-- ---- the next run of a session
 
-  pub next_is : (spare : Spare) (pass : Pass) (before after : ℕ) → IsSpareIn basin policy session is.log spare
-      → PassesBehind basin policy inputs cells session.kept behind spare before after (Ok pass) → IsNext basin policy session inputs cells behind pass
-  next_is spare pass before after stands passes = record {
-    is = is;
-    batch = batch;
-    leaves = leaves;
-    made = passes.made;
-    way = passes.goes session.inputs batch is.log leaves is.kept stands.stands;
-    stay = passes.stay;
-  }
+-- what its state keeps of the spare engine
+found_spare : (basin : Draft) (policy : Accepted) (session : Session) (is : IsSessionOf basin policy session) (found : Option Spare) → MayBeSpare session found
+    → IfSome found (IsSpareIn basin policy session is.log)
+found_spare basin policy session is found may =
+    let here : (same : IsSessionOf session.basin policy session) × (same.log ≡ is.log) =
+    subst (λ b. (same : IsSessionOf b policy session) × (same.log ≡ is.log)) (sym is.of_basin) (is, refl) in
+    let there : (same : IsSessionOf session.basin session.policy session) × (same.log ≡ is.log) =
+    subst (λ p. (same : IsSessionOf session.basin p session) × (same.log ≡ is.log)) (sym is.by_policy) here in
+    subst (λ b. IfSome found (IsSpareIn b policy session is.log)) is.of_basin
+    (subst (λ p. IfSome found (IsSpareIn session.basin p session is.log)) is.by_policy
+    (subst (λ log. IfSome found (IsSpareIn session.basin session.policy session log)) there.1 (may there.0)))
+
+pub spare_ready : (basin : Draft) (policy : Accepted) (session seen : Session) (is : IsSessionOf basin policy session) (kept found : Option Spare) (spare : Spare)
+    → seen ≡ session → MayBeSpare seen kept → found ≡ kept
+    → ((one : Session) (there : IsSessionOf basin policy one) → one.inputs ≡ seen.inputs → IfSome found (IsSpareIn basin policy one there.log)
+    → IsSpareIn basin policy one there.log spare) → IsSpareIn basin policy session is.log spare
+spare_ready basin policy session seen is kept found spare same may was ready =
+    ready session is (sym (ap (λ (s : Session). s.inputs) same))
+    (subst (λ one. IfSome one (IsSpareIn basin policy session is.log)) (sym was)
+    (found_spare basin policy session is kept (subst (λ (s : Session). MayBeSpare s kept) same may)))
+
+pub passes_next : (basin : Draft) (policy : Accepted) (session : Session) (inputs : Inputs) (cells : List Cell) (behind : ℕ) (was : List (Option StepRecord))
+    (spare : Spare) (before after : ℕ) (result : Result Pass NoMemory) (is : IsSessionOf basin policy session) → IsSpareIn basin policy session is.log spare
+    → session.kept ≡ was → PassesBehind basin policy inputs cells was behind spare before after result
+    → PassesNext basin policy session inputs cells behind before after result
+passes_next basin policy session inputs cells behind was spare before after (Err fault) is stands lent passes = record {
+  next = λ batch leaves. tt;
+  each = tt;
+  rises = passes.rises;
+  few = passes.few;
+}
+passes_next basin policy session inputs cells behind was spare before after (Ok pass) is stands lent passes =
+    let there : PassesBehind basin policy inputs cells session.kept behind spare before after (Ok pass) =
+    subst (λ kept. PassesBehind basin policy inputs cells kept behind spare before after (Ok pass)) (sym lent) passes in record {
+      next = λ batch leaves. record {
+        is = is;
+        batch = batch;
+        leaves = leaves;
+        made = there.made;
+        way = there.goes session.inputs batch is.log leaves is.kept stands.stands;
+        stay = there.stay;
+      };
+      each = passes.each;
+      rises = passes.rises;
+      few = passes.few;
+    }
+
+pub leaves_first : (basin : Draft) (policy : Accepted) (session : Session) (batch : Batch) (inputs : Inputs) (given cells : List Cell) (behind : ℕ)
+    (was : List (Option StepRecord)) → IsSessionOf basin policy session → value_at inputs ≡ after_batch batch (value_at session.inputs) → IsInputsOf basin inputs
+    → AreEdited basin batch given → given ≡ cells → session.kept ≡ was → CountsUntouched basin cells was behind
+    → LeavesFirst basin batch cells session.inputs inputs session.kept behind
+leaves_first basin policy session batch inputs given cells behind was is values made edited same lent untouched = record {
+  old_made = is.given;
+  new_made = made;
+  values = values;
+  edited = subst (AreEdited basin batch) same edited;
+  many = is.many;
+  untouched = subst (λ kept. CountsUntouched basin cells kept behind) (sym lent) untouched;
+}
+
+pub applies_next : (basin : Draft) (policy : Accepted) (session old new : Session) (batch : Batch) (inputs : Inputs) (cells : List Cell) (behind : ℕ) (pass : Pass)
+    (before after : ℕ) → PassesNext basin policy session inputs cells behind before after (Ok pass)
+    → LeavesFirst basin batch cells session.inputs inputs session.kept behind → old ≡ session
+    → new ≡ session_behind old.basin old.policy inputs old.kept pass → Applies basin policy batch session new
+applies_next basin policy session old new batch inputs cells behind pass before after passes leaves same is =
+    let next = passes.next batch leaves in
+    subst (Applies basin policy batch session)
+    (sym (is ∙ ap (λ (one : Session). session_behind one.basin one.policy inputs one.kept pass) same))
+    (applies basin policy batch inputs session pass next.is leaves.values leaves.new_made next.made next.way)
 
 -- ---- the spare engine behind it
 

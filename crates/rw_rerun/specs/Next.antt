@@ -25,7 +25,7 @@ use Rattle.rw_rerun.specs.declared.spare.Spare.{Spare}
 abbrev pub StayFirst : List (Option StepRecord) → ℕ → Pass → Type 0
 StayFirst was behind pass = take behind (changed was pass.changes.items) ≡ take behind was
 
--- a call brings a spare engine behind so many timesteps, and then gives the cells
+-- a spare engine was brought behind so many timesteps, and then given the cells
 pub record IsReady (basin : Draft) (inputs : Inputs) (cells : List Cell) (was : List (Option StepRecord)) (behind : ℕ) (old new : Spare) : Type 0 where
   pub mid : Spare
   pub brings : BringsTo basin was behind old mid
@@ -43,7 +43,7 @@ pub record PassesFrom (basin : Draft) (policy : Accepted) (was : List (Option St
   pub rises : before ≤ after
   pub few : after ≤ before + basin.control.stamps.count
 
--- a call comes behind all timesteps of the run after a batch by the spare engine of the run before, and counts those that it runs
+-- by the spare engine of the run before a call comes behind all timesteps of the run after a batch, and counts those that it runs
 pub record PassesBehind (basin : Draft) (policy : Accepted) (inputs : Inputs) (cells : List Cell) (was : List (Option StepRecord)) (behind : ℕ) (spare : Spare)
     (before after : ℕ) (result : Result Pass NoMemory) : Type 0 where
   pub made : IfOk result (λ pass. IsPassOf basin policy pass)
@@ -63,3 +63,12 @@ pub record IsNext (basin : Draft) (policy : Accepted) (session : Session) (input
   pub made : IsPassOf basin policy pass
   pub way : IsUnderWay basin (policy_in basin policy) inputs is.log session.kept pass basin.control.stamps.count
   pub stay : StayFirst session.kept behind pass
+
+-- a call passes all timesteps of the run after a batch that leaves so many first ones of a session's run, and counts those that it runs
+pub record PassesNext (basin : Draft) (policy : Accepted) (session : Session) (inputs : Inputs) (cells : List Cell) (behind : ℕ) (before after : ℕ)
+    (result : Result Pass NoMemory) : Type 0 where
+  pub next : (batch : Batch) → LeavesFirst basin batch cells session.inputs inputs session.kept behind
+      → IfOk result (IsNext basin policy session inputs cells behind)
+  pub each : IfOk result (λ pass. after ≡ before + length pass.reran.items)
+  pub rises : before ≤ after
+  pub few : after ≤ before + basin.control.stamps.count

@@ -22,27 +22,26 @@ use rw_model::Basin;
 use std::alloc::Global;
 
 // Brings it behind the timesteps that are left, and gives the cells anew.
-fn make_ready(
-    spare: &mut Spare,
+fn made_ready(
+    mut spare: Spare,
     basin: &Basin,
     kept: &[Option<StepRecord>],
     inputs: &Inputs,
     cells: &[Cell],
     behind: u16,
-) -> Result<(), NoMemory>
+) -> Result<Spare, NoMemory>
     requires many { length kept.now ≡ basin.now.control.stamps.count }
-    requires stands { IsSpare basin.now kept.now spare.old }
-    requires known { AreKeptFrom kept.now 0 spare.old.behind }
+    requires stands { IsSpare basin.now kept.now spare }
+    requires known { AreKeptFrom kept.now 0 spare.behind }
     requires inputs { IsInputsOf basin.now inputs.now }
     requires cells { All (IsCell basin.now) cells.now }
     requires near { behind ≤ length kept.now }
     requires left { AreKeptFrom kept.now 0 behind }
-    ensures { IfOk result
-        (λ done. IsReady basin.now inputs.now cells.now kept.now behind spare.old spare.new) }
+    ensures { IfOk result (IsReady basin.now inputs.now cells.now kept.now behind spare) }
 {
-    bring(spare, basin, kept, behind)?;
+    bring(&mut spare, basin, kept, behind)?;
     give_all(&mut spare.engine, basin, inputs, cells);
-    Ok(())
+    Ok(spare)
 }
 
 // Passes the timesteps before which it stands, one by one.
@@ -77,7 +76,7 @@ pub(crate) fn pass_behind<L: Ledger>(
     alloc: Global,
     setup: &Setup<'_>,
     kept: &[Option<StepRecord>],
-    mut spare: Spare,
+    spare: Spare,
     inputs: &Inputs,
     cells: &[Cell],
     behind: u16,
@@ -100,6 +99,6 @@ pub(crate) fn pass_behind<L: Ledger>(
 {
     answered_code_is_safe();
     code_keeps_promises();
-    make_ready(&mut spare, setup.basin, kept, inputs, cells, behind)?;
-    pass_others(alloc, setup, kept, spare, steps)
+    let ready = made_ready(spare, setup.basin, kept, inputs, cells, behind)?;
+    pass_others(alloc, setup, kept, ready, steps)
 }

@@ -1,4 +1,4 @@
-ghost use Rattle.std.specs.Prelude.{◌≡◌, ◌≤◌, map, IfErr, IfOk, IsSome, Ok};
+ghost use Rattle.std.specs.Prelude.{◌≡◌, ◌≤◌, All, map, length, IfErr, IfOk, IsSome, Ok};
 ghost use Rattle.rpl_verify.specs.Verified.{Accepted, verified};
 ghost use Rattle.rw_engine.specs.Passing.{ComesTo};
 ghost use Rattle.rw_inputs.specs.Edits.{IsBatch};
@@ -6,8 +6,10 @@ ghost use Rattle.rw_inputs.specs.Inputs.{IsInputsOf};
 ghost use Rattle.rw_method.specs.Catalogue.{AreInOrder};
 ghost use Rattle.rw_model.specs.Draft.{Draft};
 ghost use Rattle.rw_rules.specs.Rules.{policy_in};
+ghost use Rattle.rw_series.specs.Series.{IsCell};
 ghost use Rattle.rw_rerun.specs.Kept.{changed};
-ghost use Rattle.rw_rerun.specs.Next.{IsNext};
+ghost use Rattle.rw_rerun.specs.Next.{IsNext, PassesNext};
+ghost use Rattle.rw_rerun.specs.Spare.{AreKeptFrom};
 ghost use Rattle.rw_rerun.specs.Session.{Applies, CountsRuns, IsSessionOf, IsStarted};
 
 use crate::exchange::{exchange, nothing_kept};
@@ -102,6 +104,34 @@ impl<'a> State<'a> {
         })
     }
 
+    // Passes the timesteps of the run after a batch, which leaves so many first ones. After that there is no spare engine.
+    fn pass_next<L: Ledger>(
+        &mut self,
+        alloc: Global,
+        setup: &Setup<'_>,
+        inputs: &Inputs,
+        cells: &[Cell],
+        behind: u16,
+        steps: &mut Steps<L>,
+    ) -> Result<Pass, NoMemory>
+        requires made { IsSessionOf setup.now.basin.now setup.now.policy.now self.old }
+        requires order { AreInOrder
+            (map (λ b. code (b.vtable, b.value)) setup.now.methods.now.methods.items) }
+        requires inputs { IsInputsOf setup.now.basin.now inputs.now }
+        requires cells { All (IsCell setup.now.basin.now) cells.now }
+        requires near { behind ≤ length self.old.kept }
+        requires left { AreKeptFrom self.old.kept 0 behind }
+        ensures passes { PassesNext setup.now.basin.now setup.now.policy.now self.old inputs.now
+            cells.now behind steps.old steps.new result }
+        ensures same { self.new ≡ self.old }
+    {
+        let found = self.spare.take();
+        let spare = found_or_fresh(found, alloc, setup.basin, setup.policy, &self.inputs)?;
+        pass_behind(
+            alloc, setup, &self.kept, spare, inputs, cells, behind, steps,
+        )
+    }
+
     // Gives way to the run after a batch. Its engine becomes the spare one, for the run after that.
     fn give_way(
         &mut self,
@@ -135,7 +165,7 @@ impl<'a> State<'a> {
         self.reran = reran;
     }
 
-    // The run of the inputs after a batch, by what is kept of the run before. After want of memory there is no spare engine.
+    // The run of the inputs after a batch, by what is kept of the run before.
     pub(crate) fn apply<L: Ledger>(
         &mut self,
         alloc: Global,
@@ -153,14 +183,10 @@ impl<'a> State<'a> {
         ensures counted { CountsRuns setup.now.basin.now steps.old steps.new result
             (λ done. self.new.reran) }
     {
-        let inputs = apply(alloc, setup.basin, &self.inputs, batch)?;
         let cells = edited(alloc, setup.basin, batch)?;
+        let inputs = apply(alloc, setup.basin, &self.inputs, batch)?;
         let behind = left(setup.basin, &self.kept, &cells);
-        let found = self.spare.take();
-        let spare = found_or_fresh(found, alloc, setup.basin, setup.policy, &self.inputs)?;
-        let pass = pass_behind(
-            alloc, setup, &self.kept, spare, &inputs, &cells, behind, steps,
-        )?;
+        let pass = self.pass_next(alloc, setup, &inputs, &cells, behind, steps)?;
         self.give_way(setup, inputs, &cells, behind, pass);
         Ok(())
     }

@@ -1,5 +1,5 @@
 use Rattle.rw_base.proofs.Common.{refl}
-use Rattle.rw_rerun.proofs.next.make_ready.Goals as goal
+use Rattle.rw_rerun.proofs.next.made_ready.Goals as goal
 
 pub give_all-requires-clause-made : goal.give_all-requires-clause-made
 give_all-requires-clause-made c =
