@@ -13,5 +13,6 @@ pub mod Order
 pub mod Standing
 pub mod Gives
 pub mod Edited
+mod Named
 pub mod Taken
 pub mod Following

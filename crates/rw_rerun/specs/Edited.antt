@@ -1,12 +1,14 @@
 -- The cells of a batch, and the timesteps that it doesn't touch.
-use Rattle.std.specs.Prelude.{◌≡◌, Bool, IsFalse, List, [], Contains, Option, IfSome, IsSome, ℕ, length, take}
-use Rattle.std.specs.List.{All, list_any}
+use Rattle.std.specs.Prelude.{◌≡◌, IsFalse, List, [], Contains, Option, IsSome, ℕ, ◌+◌, ◌-◌, length, map, take}
+use Rattle.std.specs.List.{All, list_any, range_with_len}
 use Rattle.rw_base.specs.declared.number.Cell.{Cell}
 use Rattle.rw_model.specs.Draft.{Draft}
 use Rattle.rw_inputs.specs.Edits.{Batch, after_batch}
 use Rattle.rw_inputs.specs.Givens.{givens}
 use Rattle.rw_inputs.specs.Inputs.{Inputs, IsInputsOf, kept_slot, value_at}
+use Rattle.rw_inputs.specs.declared.edit.Edit.{Edit}
 use Rattle.rw_series.specs.Series.{IsCell}
+use Rattle.rw_run.specs.Dispatch.{cell_at}
 use Rattle.rw_run.specs.Log.{Log}
 use Rattle.rw_run.specs.Next.{Policy}
 use Rattle.rw_run.specs.Runs.{placed}
@@ -21,6 +23,10 @@ use Rattle.rw_rerun.specs.Kept.{AreKept}
 use Rattle.rw_rerun.specs.Spare.{GivesAll, StandsIn}
 use Rattle.rw_rerun.specs.Touched.{CountsUntouched}
 use Rattle.rw_rerun.specs.declared.spare.Spare.{Spare}
+
+-- the cells that an edit names, at the slot at which their values are kept
+abbrev pub cells_named : Draft → Edit → List Cell
+cells_named basin edit = map (cell_at (kept_slot basin edit.slot)) (range_with_len edit.first (edit.last - edit.first + 1))
 
 -- these are cells at which inputs are kept, and no input changes elsewhere
 pub record AreEdited (basin : Draft) (batch : Batch) (cells : List Cell) : Type 0 where

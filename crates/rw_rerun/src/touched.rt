@@ -1,29 +1,75 @@
 // Which timesteps a batch touches.
-ghost use Rattle.std.specs.Prelude.{◌≡◌, ◌↔◌, All, IfOk, IfSome, length, true};
-ghost use Rattle.std.specs.List.{list_any};
-ghost use Rattle.rw_inputs.specs.Edits.{IsBatch};
+ghost use Rattle.std.specs.Prelude.{◌≡◌, ◌≤◌, ◌+◌, ◌^◌, ◌++◌, ◌↔◌, All, IfOk, IfSome, OnOk, length, map, true};
+ghost use Rattle.std.specs.List.{flat_map, list_any, range_with_len};
+ghost use Rattle.rw_inputs.specs.Edits.{IsBatch, IsEdit};
+ghost use Rattle.rw_inputs.specs.Inputs.{kept_slot};
 ghost use Rattle.rw_model.specs.Draft.{IsSlot};
 ghost use Rattle.rw_run.specs.Dispatch.{cell_at};
 ghost use Rattle.rw_run.specs.Step.{is_same_cell};
 ghost use Rattle.rw_record.specs.Noted.{is_noted};
 ghost use Rattle.rw_record.specs.Record.{AreRisingCells, IsBelow};
-ghost use Rattle.rw_rerun.specs.Edited.{AreEdited};
+ghost use Rattle.rw_rerun.specs.Edited.{AreEdited, cells_named};
 ghost use Rattle.rw_rerun.specs.Touched.{AreRisingIn, CountsBelow, CountsUntouched, is_reached, is_untouched};
 
 use rw_base::{Cell, NoMemory, SlotNo, StepNo};
 use rw_engine::{Held, StepRecord};
-use rw_inputs::Batch;
+use rw_inputs::{Batch, Edit};
 use rw_model::Basin;
 use std::alloc::Global;
 
-/// The cells that a batch edits.
+// The least of the slots that carry one value with the slot.
+fn least_of(basin: &Basin, slot: SlotNo) -> SlotNo
+    requires { IsSlot basin.now.objects slot.0 }
+    ensures { result.0 ≡ kept_slot basin.now slot.0 }
+{
+    match basin.group(slot).first() {
+        Some(least) => *least,
+        None => slot,
+    }
+}
+
+// Adds the cells of a slot at so many timesteps, from this one on.
+fn add_cells(cells: &mut Vec<Cell>, slot: SlotNo, first: u16, count: u16) -> Result<(), NoMemory>
+    requires few { first + count ≤ 2 ^ 16 }
+    ensures { OnOk result (cells.new.items
+        ≡ cells.old.items ++ map (cell_at slot.0) (range_with_len first count)) }
+{
+    for behind in 0..count {
+        let step = StepNo(first + behind);
+        cells.push(Cell { slot, step })?;
+    }
+    Ok(())
+}
+
+// Adds the cells that an edit names.
+fn add_edit(cells: &mut Vec<Cell>, basin: &Basin, edit: &Edit) -> Result<(), NoMemory>
+    requires { IsEdit basin.now edit.now }
+    ensures { OnOk result (cells.new.items ≡ cells.old.items ++ cells_named basin.now edit.now) }
+{
+    let slot = least_of(basin, SlotNo(edit.slot));
+    add_cells(cells, slot, edit.first, edit.last - edit.first + 1)
+}
+
+// Adds the cells that edits name.
+fn add_edits(cells: &mut Vec<Cell>, basin: &Basin, edits: &[Edit]) -> Result<(), NoMemory>
+    requires { All (IsEdit basin.now) edits.now }
+    ensures { OnOk result (cells.new.items
+        ≡ cells.old.items ++ flat_map (cells_named basin.now) edits.now) }
+{
+    for edit in edits {
+        add_edit(cells, basin, edit)?;
+    }
+    Ok(())
+}
+
+/// The cells that the edits of a batch name.
 pub(crate) fn edited(alloc: Global, basin: &Basin, batch: &Batch) -> Result<Vec<Cell>, NoMemory>
-    requires { IsBatch basin.now batch.now }
+    requires batch { IsBatch basin.now batch.now }
     ensures { IfOk result (λ cells. AreEdited basin.now batch.now cells.items) }
 {
-    let _ = basin;
-    let _ = batch;
-    Ok(Vec::new(alloc))
+    let mut cells = Vec::new(alloc);
+    add_edits(&mut cells, basin, batch.edits())?;
+    Ok(cells)
 }
 
 // Whether a cell is of a lower slot than another, or of the same slot at an earlier timestep.
