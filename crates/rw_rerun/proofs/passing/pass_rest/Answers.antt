@@ -36,8 +36,8 @@ returns-in_err-pass_step g c =
     let most = c.loop-before.invariant.few in
     let rises = c.pass_step.ensures.rises in
     let few = c.pass_step.ensures.few in
-    wants_rest basin c.args.setup.now.policy.now c.args.kept.now c.args.behind c.args.pass.now _ c.args.steps.now _ c.from_residual-in_err-pass_step.result _
-    c.from_residual-in_err-pass_step.ensures.1 (omega (arith, were, rises)) (omega (arith, most, few, near))
+    wants_rest basin c.args.setup.now.policy.now c.args.kept.now c.args.behind c.args.pass.now _ c.args.steps.now _ c.from_residual.result _
+    c.from_residual.ensures.1 (omega (arith, were, rises)) (omega (arith, most, few, near))
 
 pub loop-before-preserved : goal.loop-before-preserved
 loop-before-preserved g c =
