@@ -29,8 +29,16 @@ exchange-requires g c =
 pub invariant_of-self : goal.invariant_of-self
 invariant_of-self g c =
     let lent : c.args.self.now.kept ≡ c.deref.result.now = sym (ap (λ (s : Session). s.kept) c.self.view_is) ∙ sym c.deref.ensures.value in
+    let with_both : Engine → List (Option StepRecord) → Session = λ engine kept. record {
+      basin = c.self.inside.basin.now;
+      policy = c.self.inside.policy.now;
+      inputs = c.args.inputs;
+      engine = engine;
+      kept = kept;
+      reran = c.args.pass.reran.items;
+    } in
     spare_there c.args.setup.now.basin.now c.args.setup.now.policy.now c.args.self.now c.args.inputs c.args.cells.now c.args.behind c.args.pass c.requires
     c.deref.result.now _ lent (sym (ap (λ (s : Session). s.engine) c.self.view_is) ∙ sym c.replace-was.ensures.value) c.spare_of.result _ c.spare_of.ensures
     (ap (λ (s : Session). session_behind s.basin s.policy c.args.inputs s.kept c.args.pass) (sym c.self.view_is)
-    ∙ ap (λ (ks : List (Option StepRecord)). session_behind c.self.inside.basin.now c.self.inside.policy.now c.args.inputs ks c.args.pass)
-    (sym c.exchange.ensures))
+    ∙ ap (with_both c.args.pass.engine) (sym c.exchange.ensures)
+    ∙ ap (λ (engine : Engine). with_both engine c.exchange.new.kept.items) (sym c.replace-was.ensures.after))
