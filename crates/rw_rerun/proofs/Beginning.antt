@@ -178,6 +178,8 @@ pub begins_by : (spare : Spare) (pass : Pass) → pass.engine ≡ spare.engine �
     → pass.over ≡ false → BeginsBy spare pass
 begins_by spare pass same changes reran goes = record {
   engine = same;
+  none = reran;
+  unchanged = changes;
   goes = λ basin policy inputs earlier log was few shows taken.
       let now : changed was pass.changes.items ≡ take spare.behind was = ap (changed was) changes ∙ none_changed spare.behind was few in record {
         many = ap length changes ∙ length-replicate spare.behind _;

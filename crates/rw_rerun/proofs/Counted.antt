@@ -8,8 +8,10 @@ use Rattle.rw_record.specs.Record.{StepRecord}
 use Rattle.rpl_verify.specs.Verified.{Accepted}
 use Rattle.rw_base.specs.declared.number.StepNo.{StepNo}
 use Rattle.rw_rerun.specs.Session.{CountsRuns}
-use Rattle.rw_rerun.specs.UnderWay.{GoesOn, PassesAll}
+use Rattle.rw_rerun.specs.Next.{PassesFrom}
+use Rattle.rw_rerun.specs.UnderWay.{GoesOn, PassesAll, PassesRest}
 use Rattle.rw_rerun.specs.declared.pass.Pass.{Pass}
+use Rattle.rw_rerun.specs.declared.spare.Spare.{Spare}
 
 pub wants : (basin : Draft) (policy : Accepted) (step : ℕ) (Fits : Option StepRecord → Type 0) (old new : Pass) (before after : ℕ)
     (result : Result (Unit {0}) NoMemory) (why : NoMemory) → IsErrAnd result (λ fault. fault ≡ why) → before ≤ after → after ≤ before + 1
@@ -18,6 +20,7 @@ wants basin policy step Fits old new before after (Ok done) why is rises few = a
 wants basin policy step Fits old new before after (Err fault) why is rises few = record {
   made = tt;
   goes = λ inputs earlier was last entry framed there fits next_one way. tt;
+  grows = tt;
   each = tt;
   rises = rises;
   few = few;
@@ -35,6 +38,32 @@ wants_all basin policy inputs was before after (Err fault) why is rises few = re
   few = few;
 }
 
+pub wants_rest : (basin : Draft) (policy : Accepted) (was : List (Option StepRecord)) (behind : ℕ) (old new : Pass) (before after : ℕ)
+    (result : Result (Unit {0}) NoMemory) (why : NoMemory) → IsErrAnd result (λ fault. fault ≡ why) → before ≤ after
+    → after ≤ before + basin.control.stamps.count → PassesRest basin policy was behind old new before after result
+wants_rest basin policy was behind old new before after (Ok done) why is rises few = absurd is
+wants_rest basin policy was behind old new before after (Err fault) why is rises few = record {
+  made = tt;
+  goes = λ inputs earlier kept way. tt;
+  grows = tt;
+  each = tt;
+  rises = rises;
+  few = few;
+}
+
+pub wants_from : (basin : Draft) (policy : Accepted) (was : List (Option StepRecord)) (spare : Spare) (before after : ℕ) (result : Result Pass NoMemory)
+    (why : NoMemory) → IsErrAnd result (λ fault. fault ≡ why) → before ≤ after → after ≤ before + basin.control.stamps.count
+    → PassesFrom basin policy was spare before after result
+wants_from basin policy was spare before after (Ok pass) why is rises few = absurd is
+wants_from basin policy was spare before after (Err fault) why is rises few = record {
+  made = tt;
+  goes = λ inputs earlier log kept shows taken. tt;
+  stay = tt;
+  each = tt;
+  rises = rises;
+  few = few;
+}
+
 -- what goes on where more is known
 pub weaker : (basin : Draft) (policy : Accepted) (step : ℕ) (Fits Known : Option StepRecord → Type 0) (old new : Pass) (before after : ℕ)
     (result : Result (Unit {0}) NoMemory) → ((entry : Option StepRecord) → Known entry → Fits entry)
@@ -43,6 +72,7 @@ weaker basin policy step Fits Known old new before after result known on = recor
   made = on.made;
   goes = λ inputs earlier was last entry framed there fits next_one way.
       on.goes inputs earlier was last entry framed there (known entry fits) next_one way;
+  grows = on.grows;
   each = on.each;
   rises = on.rises;
   few = on.few;

@@ -69,6 +69,7 @@ module _ (basin : Draft) (policy : Accepted) (step : ℕ) (old new : Pass) (made
         none_on basin in_run inputs earlier was old new last step entry (Some None) way next_one there.there changes was_over is_over engine reran
         (nothing_of step way.log (none_open basin in_run inputs earlier was old new last step entry (Some None) way next_one there.there changes step (omega arith))).1
         refl;
+    grows = (Some None ∷ [], changes);
     each = let same = ap length reran in omega (arith, same);
     rises = omega arith;
     few = omega arith;
@@ -121,6 +122,7 @@ module _ (basin : Draft) (policy : Accepted) (step : ℕ) (old new : Pass) (made
         }))
         (λ same. can_show basin new.engine (step + 1) log (replays.made policy made.made).series passes.shows
         (ap (λ n. n + 1) (sym (passes.shows.closed_steps ∙ ap last_closed ends))));
+    grows = (None ∷ [], changes);
     each = let same = ap length reran in omega (arith, same);
     rises = omega arith;
     few = omega arith;
@@ -171,6 +173,7 @@ module _ (basin : Draft) (policy : Accepted) (step : ℕ) (old new : Pass) (made
           (records basin step now (closes.first ∷ closes.events) noted runs.closed_steps))
           (shown_next basin in_run inputs earlier was old new last step entry (Some found) way next_one there.there changes goes))
           (λ same. can_show basin new.engine (step + 1) log runs.made.series passes.shows (ap (λ n. n + 1) (sym runs.closed_steps)));
+      grows = (Some found ∷ [], changes);
       each = one_more;
       rises = omega (arith, counted);
       few = omega (arith, counted);
@@ -199,6 +202,7 @@ module _ (basin : Draft) (policy : Accepted) (step : ℕ) (old new : Pass) (made
           (not_reused basin in_run earlier log now step entry (subst (λ s. IsKept basin in_run earlier s entry) (sym next_one) there.kept) behind.opening
           (unlike_now (held old.engine.series) (cells_of basin now) entry (λ one. way.shows.cells one.cell) fits))))
           (not_kept basin in_run step log (ap (before_closing step) ends ∙ facts.1)) tt (λ same. absurd (false≢true (sym same ∙ ended)));
+      grows = (Some None ∷ [], changes);
       each = one_more;
       rises = omega (arith, counted);
       few = omega (arith, counted);

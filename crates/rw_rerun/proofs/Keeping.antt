@@ -1,5 +1,5 @@
 -- What is kept of timesteps stays so behind a longer log, and what a run changes of it.
-use Rattle.rw_base.proofs.Common.{◌≡◌, ◌≢◌, ◌≤◌, ◌+◌, ◌∙◌, ℕ, zero, suc, List, [], ◌∷◌, ◌++◌, Option, Some, None, IsSome, unwrap_or, length, refl, sym, ap, subst, arith, same_Some, none-some, slice_get, drop, take}
+use Rattle.rw_base.proofs.Common.{◌≡◌, ◌≢◌, ◌≤◌, ◌<◌, ◌+◌, ◌∙◌, ℕ, zero, suc, List, [], ◌∷◌, ◌++◌, map, replicate, Option, Some, None, IsSome, unwrap_or, length, refl, sym, ap, subst, arith, false≢true, same_Some, none-some, slice_get, drop, take}
 use Rattle.std.specs.List.{flat_map}
 use Rattle.rw_model.specs.Draft.{Draft}
 use Rattle.rw_run.specs.Behind.{IsBehind}
@@ -10,6 +10,7 @@ use Rattle.rw_run.specs.RunOf.{lines}
 use Rattle.rw_run.specs.Step.{before_closing, before_opening, cell_count, events_of, reached_by}
 use Rattle.rw_record.specs.Record.{StepRecord}
 use Rattle.rw_rerun.specs.Kept.{AreKept, AreLinked, IsKept, IsKeepable, IsLink, changed}
+use Rattle.rw_rerun.specs.Spare.{AreKeptFrom}
 
 -- by what it closed and its events
 pub keepable_same : (basin : Draft) (step : ℕ) (log other : Log) → before_closing step other ≡ before_closing step log → events_of step other ≡ events_of step log
@@ -91,6 +92,17 @@ split_back basin policy first here start log end (one ∷ was) (suc count) entry
       rest = more.rest;
     }
 
+-- they split at each place
+pub split_at : (basin : Draft) (policy : Policy) (first : ℕ) (start end : Log) (was : List (Option StepRecord)) (count next : ℕ) → next ≡ first + count
+    → count ≤ length was → AreLinked basin policy first start was end
+    → (mid : Log) × AreLinked basin policy first start (take count was) mid × AreLinked basin policy next mid (drop count was) end
+split_at basin policy first start end was zero next at few linked =
+    let here : first ≡ next = omega (arith, at) in (start, refl, subst (λ s. AreLinked basin policy s start was end) here linked)
+split_at basin policy first start end [] (suc count) next at few linked = absurd (omega (arith, few))
+split_at basin policy first start end (one ∷ was) (suc count) next at few linked =
+    let more = split_at basin policy (first + 1) linked.0 end was count next (omega (arith, at)) (omega (arith, few)) linked.2 in
+    (more.0, (linked.0, linked.1, more.1), more.2)
+
 -- ---- changes
 
 pub changed_more : (was : List (Option StepRecord)) (changes : List (Option (Option StepRecord))) (entry : Option StepRecord) (change : Option (Option StepRecord))
@@ -115,3 +127,31 @@ kept_there basin policy log first zero (one ∷ was) entry are there =
 kept_there basin policy log first (suc place) (one ∷ was) entry are there =
     let here : (first + 1) + place ≡ first + suc place = omega arith in
     subst (λ step. IsKept basin policy log step entry) here (kept_there basin policy log (first + 1) place was entry are.1 there)
+
+-- first timesteps of which nothing is changed stay
+pub stay_first : (was : List (Option StepRecord)) (behind : ℕ) (more : List (Option (Option StepRecord))) → behind ≤ length was
+    → take behind (changed was (replicate behind None ++ more)) ≡ take behind was
+stay_first was zero more few = refl
+stay_first [] (suc behind) more few = absurd (omega (arith, few))
+stay_first (one ∷ was) (suc behind) more few = ap (λ rest. one ∷ rest) (stay_first was behind more (omega (arith, few)))
+
+-- first timesteps of which each is kept
+pub all_known : (was : List (Option StepRecord)) (records : List StepRecord) (behind : ℕ) → take behind was ≡ map (λ kept. Some kept) records
+    → (place : ℕ) (entry : Option StepRecord) → place < behind → slice_get was place ≡ Some entry → IsSome entry
+all_known was records zero are place entry last there = absurd (omega (arith, last))
+all_known [] records (suc behind) are place entry last there = absurd (none-some _ there)
+all_known (one ∷ was) [] (suc behind) are place entry last there = absurd (let many = ap length are in omega (arith, many))
+all_known (one ∷ was) (kept ∷ records) (suc behind) are zero entry last there =
+    subst IsSome (sym (same_Some one (Some kept) (ap (λ ks. slice_get ks zero) are)) ∙ same_Some one entry there) refl
+all_known (one ∷ was) (kept ∷ records) (suc behind) are (suc place) entry last there =
+    all_known was records behind (ap (drop 1) are) place entry (omega (arith, last)) there
+
+-- and there are their records
+pub known_records : (was : List (Option StepRecord)) (behind : ℕ) → behind ≤ length was → AreKeptFrom was 0 behind
+    → (records : List StepRecord) × (take behind was ≡ map (λ kept. Some kept) records)
+known_records was zero few known = ([], refl)
+known_records [] (suc behind) few known = absurd (omega (arith, few))
+known_records (None ∷ was) (suc behind) few known = absurd (false≢true (known zero None (omega arith) (omega arith) refl))
+known_records (Some kept ∷ was) (suc behind) few known =
+    let more = known_records was behind (omega (arith, few)) (λ place entry first last there. known (suc place) entry (omega arith) (omega (arith, last)) there) in
+    (kept ∷ more.0, ap (λ rest. Some kept ∷ rest) more.1)

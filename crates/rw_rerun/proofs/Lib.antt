@@ -15,3 +15,4 @@ pub mod Gives
 pub mod Edited
 mod Named
 pub mod Taken
+pub mod Following

@@ -1,5 +1,5 @@
 -- A run on its way, one timestep on.
-use Rattle.rw_base.proofs.Common.{◌≡◌, ◌<◌, ◌≤◌, ◌+◌, ◌∙◌, ℕ, Bool, true, false, List, [], ◌∷◌, ◌++◌, Option, Some, None, IsSome, unwrap_or, length, length-append, refl, sym, ap, subst, arith, false≢true, slice_get, slice_get_within}
+use Rattle.rw_base.proofs.Common.{◌≡◌, ◌<◌, ◌≤◌, ◌+◌, ◌∙◌, ℕ, Bool, true, false, List, [], ◌∷◌, ◌++◌, Option, Some, None, IsSome, unwrap_or, length, append_assoc, length-append, refl, sym, ap, subst, arith, false≢true, slice_get, slice_get_within}
 use Rattle.rw_base.specs.declared.number.StepNo.{StepNo}
 use Rattle.rw_model.specs.Draft.{Draft}
 use Rattle.rw_inputs.specs.Givens.{givens}
@@ -14,7 +14,7 @@ use Rattle.rw_record.specs.Record.{StepRecord}
 use Rattle.rw_engine.specs.Shows.{CanShow, IsBefore, Shows}
 use Rattle.rw_rerun.specs.Kept.{AreKept, AreLinked, IsKept, IsLink, changed}
 use Rattle.rw_rerun.specs.Session.{numbers_of}
-use Rattle.rw_rerun.specs.UnderWay.{IsUnderWay, stands_at}
+use Rattle.rw_rerun.specs.UnderWay.{Grows, IsUnderWay, stands_at}
 use Rattle.rw_rerun.specs.declared.pass.Pass.{Pass}
 use Rattle.rw_rerun.proofs.Keeping.{changed_more, kept_more, length_changed, linked_more, still_kept}
 
@@ -30,6 +30,12 @@ not_kept basin policy step log none = λ keepable. absurd (false≢true (subst I
 pub numbers_more : (steps : List StepNo) (step : StepNo) → numbers_of (steps ++ step ∷ []) ≡ numbers_of steps ++ step.0 ∷ []
 numbers_more [] step = refl
 numbers_more (first ∷ steps) step = ap (λ rest. first.0 ∷ rest) (numbers_more steps step)
+
+pub grows_on : (old mid new : Pass) → Grows old mid → Grows mid new → Grows old new
+grows_on old mid new first more = (
+  first.0 ++ more.0,
+  more.1 ∙ ap (λ changes. changes ++ more.0) first.1 ∙ append_assoc old.changes.items first.0 more.0,
+)
 
 module _ (basin : Draft) (policy : Policy) (inputs : Inputs) (earlier : Log) (was : List (Option StepRecord)) (old new : Pass) (last step : ℕ)
     (entry : Option StepRecord) (change : Option (Option StepRecord)) (way : IsUnderWay basin policy inputs earlier was old last) (next_one : step ≡ last + 1)

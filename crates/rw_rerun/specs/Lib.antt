@@ -5,3 +5,4 @@ pub mod Begun
 pub mod Spare
 pub mod Touched
 pub mod Edited
+pub mod Next

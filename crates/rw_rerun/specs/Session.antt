@@ -16,8 +16,10 @@ use Rattle.rpl_verify.specs.Verified.{Accepted}
 use Rattle.rw_rules.specs.Rules.{policy_in}
 use Rattle.rw_rerun.specs.Kept.{AreKept, AreLinked}
 
--- its inputs, the engine of their run, what is kept of each timestep, and the timesteps that its last run ran
+-- what it is a session of, its inputs, the engine of their run, what is kept of each timestep, and the timesteps that its last run ran
 pub record Session : Type 0 where
+  pub basin : Draft
+  pub policy : Accepted
   pub inputs : Inputs
   pub engine : Engine
   pub kept : List (Option StepRecord)
@@ -28,6 +30,8 @@ numbers_of steps = map (λ (step : StepNo). step.0) steps
 
 -- it has come to the whole run of its inputs, and keeps each timestep that can be kept
 pub record IsSessionOf (basin : Draft) (policy : Accepted) (session : Session) : Type 0 where
+  pub of_basin : session.basin ≡ basin
+  pub by_policy : session.policy ≡ policy
   pub given : IsInputsOf basin session.inputs
   pub made : IsEngineOf basin policy session.engine
   pub traced : IsSome session.engine.trace

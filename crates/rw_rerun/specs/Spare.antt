@@ -1,5 +1,5 @@
 -- An engine beside that of a session's run, from which the next run begins.
-use Rattle.std.specs.Prelude.{◌≡◌, ◌≤◌, ◌<◌, ◌+◌, ℕ, if◌then◌else◌, List, [], ◌∷◌, length, option_map, drop, take, slice_get, Option, Some, IfSome, IsSome}
+use Rattle.std.specs.Prelude.{◌≡◌, ◌≤◌, ◌<◌, ◌+◌, ℕ, if◌then◌else◌, List, [], ◌∷◌, length, option_map, drop, take, replicate, slice_get, Option, Some, None, IfSome, IsSome}
 use Rattle.rw_base.specs.declared.number.Cell.{Cell}
 use Rattle.rw_model.specs.Draft.{Draft}
 use Rattle.rw_inputs.specs.Givens.{givens}
@@ -23,6 +23,8 @@ use Rattle.rw_rerun.specs.declared.spare.Spare.{Spare}
 -- a run is on its way behind the timesteps that a spare engine has taken over
 pub record BeginsBy (spare : Spare) (pass : Pass) : Type 0 where
   pub engine : pass.engine ≡ spare.engine
+  pub none : pass.reran.items ≡ []
+  pub unchanged : pass.changes.items ≡ replicate spare.behind None
   pub goes : (basin : Draft) (policy : Policy) (inputs : Inputs) (earlier log : Log) (was : List (Option StepRecord))
       → spare.behind ≤ length was → Shows basin spare.engine log
       → HasTakenOver basin policy inputs earlier (take spare.behind was) log spare.behind
@@ -43,6 +45,12 @@ pub record StandsIn (basin : Draft) (policy : Accepted) (start end : Log) (was :
 -- so in some run
 pub record IsSpare (basin : Draft) (was : List (Option StepRecord)) (spare : Spare) : Type 0 where
   pub policy : Accepted
+  pub start : Log
+  pub end : Log
+  pub stands : StandsIn basin policy start end was spare
+
+-- so in some run of this policy
+pub record IsSpareBy (basin : Draft) (policy : Accepted) (was : List (Option StepRecord)) (spare : Spare) : Type 0 where
   pub start : Log
   pub end : Log
   pub stands : StandsIn basin policy start end was spare
@@ -82,5 +90,6 @@ pub record IsSpareIn (basin : Draft) (policy : Accepted) (session : Session) (lo
   pub known : AreKeptFrom session.kept 0 spare.behind
 
 -- so does a spare engine, if there is one
-abbrev pub MayBeSpare : Draft → Accepted → Session → Option Spare → Type 0
-MayBeSpare basin policy session spare = (is : IsSessionOf basin policy session) → IfSome spare (IsSpareIn basin policy session is.log)
+abbrev pub MayBeSpare : Session → Option Spare → Type 0
+MayBeSpare session spare =
+    (is : IsSessionOf session.basin session.policy session) → IfSome spare (IsSpareIn session.basin session.policy session is.log)

@@ -1,5 +1,5 @@
 -- A run on its way, timestep by timestep, with an earlier one to go by.
-use Rattle.std.specs.Prelude.{◌≡◌, ◌≤◌, ◌<◌, ◌+◌, ℕ, Bool, true, false, List, [], length, IfOk, IfSome, IsSome, Option, Some, Result, slice_get}
+use Rattle.std.specs.Prelude.{◌≡◌, ◌≤◌, ◌<◌, ◌+◌, ◌++◌, ℕ, Bool, true, false, List, [], length, IfOk, IfSome, IsSome, Option, Some, Result, slice_get}
 use Rattle.rw_base.specs.declared.memory.NoMemory.{NoMemory}
 use Rattle.rw_model.specs.Draft.{Draft}
 use Rattle.rw_inputs.specs.Givens.{givens}
@@ -56,6 +56,10 @@ pub record IsEntry (basin : Draft) (policy : Policy) (earlier : Log) (was : List
   pub there : slice_get was last ≡ Some entry
   pub kept : IsKept basin policy earlier (last + 1) entry
 
+-- what it changes of what is kept of the timesteps before stays as it is
+abbrev pub Grows : Pass → Pass → Type 0
+Grows old new = (more : List (Option (Option StepRecord))) × (new.changes.items ≡ old.changes.items ++ more)
+
 -- a call comes behind one timestep more, where what is kept of it is so, and counts it if it is run
 pub record GoesOn (basin : Draft) (policy : Accepted) (step : ℕ) (Fits : Option StepRecord → Type 0) (old new : Pass) (before after : ℕ) (result : Result (Unit {0}) NoMemory) : Type 0 where
   pub made : IfOk result (λ done. IsPassOf basin policy new)
@@ -63,6 +67,7 @@ pub record GoesOn (basin : Draft) (policy : Accepted) (step : ℕ) (Fits : Optio
       → IsFramed (policy_in basin policy) → IsEntry basin (policy_in basin policy) earlier was last entry → Fits entry → step ≡ last + 1
       → IsUnderWay basin (policy_in basin policy) inputs earlier was old last
       → IfOk result (λ done. IsUnderWay basin (policy_in basin policy) inputs earlier was new step)
+  pub grows : IfOk result (λ done. Grows old new)
   pub each : IfOk result (λ done. after + length old.reran.items ≡ before + length new.reran.items)
   pub rises : before ≤ after
   pub few : after ≤ before + 1
@@ -75,7 +80,18 @@ IsUnlike pass entry = IfSome entry (λ kept. ¬ AreHeld (held pass.engine.series
 abbrev pub AreReplayable : Draft → List (Option StepRecord) → Type 0
 AreReplayable basin was = (place : ℕ) (kept : StepRecord) → slice_get was place ≡ Some (Some kept) → IsReplayable basin (place + 1) kept
 
--- a call comes behind all timesteps, with what was kept of an earlier run to go by, and counts those that it runs
+-- a call comes from behind so many timesteps behind all, with what was kept of an earlier run to go by, and counts those that it runs
+pub record PassesRest (basin : Draft) (policy : Accepted) (was : List (Option StepRecord)) (behind : ℕ) (old new : Pass) (before after : ℕ) (result : Result (Unit {0}) NoMemory) : Type 0 where
+  pub made : IfOk result (λ done. IsPassOf basin policy new)
+  pub goes : (inputs : Inputs) (earlier : Log) → AreKept basin (policy_in basin policy) earlier 1 was
+      → IsUnderWay basin (policy_in basin policy) inputs earlier was old behind
+      → IfOk result (λ done. IsUnderWay basin (policy_in basin policy) inputs earlier was new basin.control.stamps.count)
+  pub grows : IfOk result (λ done. Grows old new)
+  pub each : IfOk result (λ done. after + length old.reran.items ≡ before + length new.reran.items)
+  pub rises : before ≤ after
+  pub few : after ≤ before + basin.control.stamps.count
+
+-- a call comes behind all timesteps from inputs on, and counts those that it runs
 pub record PassesAll (basin : Draft) (policy : Accepted) (inputs : Inputs) (was : List (Option StepRecord)) (before after : ℕ) (result : Result Pass NoMemory) : Type 0 where
   pub made : IfOk result (λ pass. IsPassOf basin policy pass)
   pub goes : (earlier : Log) → AreKept basin (policy_in basin policy) earlier 1 was

@@ -5,6 +5,7 @@
 
 mod exchange;
 pub mod law;
+mod next;
 mod pass;
 mod passing;
 mod session;

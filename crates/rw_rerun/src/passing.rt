@@ -6,7 +6,7 @@ ghost use Rattle.rw_method.specs.Catalogue.{AreInOrder};
 ghost use Rattle.rw_model.specs.Turn.{IsStep};
 ghost use Rattle.rw_record.specs.Noted.{AreHeld};
 ghost use Rattle.rw_series.specs.Series.{held};
-ghost use Rattle.rw_rerun.specs.UnderWay.{IsReplayable, AreReplayable, GoesOn, IsPassOf, IsUnlike, PassesAll};
+ghost use Rattle.rw_rerun.specs.UnderWay.{IsReplayable, AreReplayable, GoesOn, IsPassOf, IsUnlike, PassesAll, PassesRest};
 
 use crate::pass::Pass;
 use crate::setup::Setup;
@@ -128,7 +128,18 @@ pub(crate) fn pass_rest<L: Ledger>(
     kept: &[Option<StepRecord>],
     behind: u16,
     steps: &mut Steps<L>,
-) -> Result<(), NoMemory> {
+) -> Result<(), NoMemory>
+    requires fits { verified setup.now.basin.now setup.now.policy.now.blocks
+        ≡ Ok setup.now.policy.now }
+    requires order { AreInOrder
+        (map (λ b. code (b.vtable, b.value)) setup.now.methods.now.methods.items) }
+    requires made { IsPassOf setup.now.basin.now setup.now.policy.now pass.old }
+    requires many { length kept.now ≡ setup.now.basin.now.control.stamps.count }
+    requires some { behind ≤ setup.now.basin.now.control.stamps.count }
+    requires can { AreReplayable setup.now.basin.now kept.now }
+    ensures { PassesRest setup.now.basin.now setup.now.policy.now kept.now behind
+        pass.old pass.new steps.old steps.new result }
+{
     answered_code_is_safe();
     code_keeps_promises();
     for before in behind..setup.basin.control().stamps.count() {
@@ -156,8 +167,6 @@ pub(crate) fn pass_all<L: Ledger>(
     ensures { PassesAll setup.now.basin.now setup.now.policy.now inputs.now kept.now
         steps.old steps.new result }
 {
-    answered_code_is_safe();
-    code_keeps_promises();
     let engine = Engine::for_run(alloc, setup.basin, setup.policy, inputs)?;
     let mut pass = Pass {
         engine,
@@ -165,9 +174,6 @@ pub(crate) fn pass_all<L: Ledger>(
         changes: Vec::new(alloc),
         over: false,
     };
-    for before in 0..setup.basin.control().stamps.count() {
-        let entry = &kept[usize::from(before)];
-        pass_step(alloc, &mut pass, setup, entry, StepNo(before + 1), steps)?;
-    }
+    pass_rest(alloc, &mut pass, setup, kept, 0, steps)?;
     Ok(pass)
 }

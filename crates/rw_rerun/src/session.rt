@@ -26,7 +26,7 @@ pub struct Session<'a> {
     /// What its runs go by.
     pub setup: Setup<'a>,
     /// How far it has come.
-    pub state: State,
+    pub state: State<'a>,
 }
 
 impl<'a> Session<'a> {

@@ -1,14 +1,17 @@
 // An engine beside that of a session's run, from which the next run begins.
-ghost use Rattle.std.specs.Prelude.{◌≡◌, ◌≤◌, ◌+◌, ◌-◌, All, IfOk, IfSome, None, length, replicate, true};
+ghost use Rattle.std.specs.Prelude.{◌≡◌, ◌≤◌, ◌+◌, ◌-◌, All, IfOk, IfSome, None, Ok, length, replicate, true};
+ghost use Rattle.rpl_verify.specs.Verified.{verified};
 ghost use Rattle.rw_inputs.specs.Inputs.{IsInputsOf};
 ghost use Rattle.rw_series.specs.Series.{IsCell};
 ghost use Rattle.rw_engine.specs.Shows.{CanReplay};
 ghost use Rattle.rw_model.specs.Turn.{IsStep};
 ghost use Rattle.rw_rerun.specs.Edited.{BecomesSpare};
-ghost use Rattle.rw_rerun.specs.Spare.{AreKeptFrom, BeginsBy, BringsTo, GivesAll, IsSpare};
+ghost use Rattle.rw_rerun.specs.Session.{IsSessionOf, Session};
+ghost use Rattle.rw_rerun.specs.Spare.{AreKeptFrom, BeginsBy, BringsTo, GivesAll, IsSpare, IsSpareIn};
 
 use crate::pass::Pass;
 use rpl_policy::law::code_keeps_promises;
+use rpl_verify::Verified;
 use rpl_verify::law::answered_code_is_safe;
 use rw_base::{Cell, NoMemory};
 use rw_engine::{Engine, StepRecord};
@@ -21,6 +24,44 @@ use std::alloc::Global;
 pub(crate) struct Spare {
     pub(crate) engine: Engine,
     pub(crate) behind: u16,
+}
+
+/// An engine of these inputs that stands before all timesteps.
+pub(crate) fn fresh(
+    alloc: Global,
+    basin: &Basin,
+    policy: &Verified,
+    inputs: &Inputs,
+) -> Result<Spare, NoMemory>
+    requires fits { verified basin.now policy.now.blocks ≡ Ok policy.now }
+    requires inputs { IsInputsOf basin.now inputs.now }
+    ensures { (session : Session) (is : IsSessionOf basin.now policy.now session)
+        → session.inputs ≡ inputs.now
+        → IfOk result (IsSpareIn basin.now policy.now session is.log) }
+{
+    let engine = Engine::for_run(alloc, basin, policy, inputs)?;
+    Ok(Spare { engine, behind: 0 })
+}
+
+/// The spare engine of a session's run, which is a fresh one where there is none yet.
+pub(crate) fn found_or_fresh(
+    found: Option<Spare>,
+    alloc: Global,
+    basin: &Basin,
+    policy: &Verified,
+    inputs: &Inputs,
+) -> Result<Spare, NoMemory>
+    requires fits { verified basin.now policy.now.blocks ≡ Ok policy.now }
+    requires inputs { IsInputsOf basin.now inputs.now }
+    ensures { (session : Session) (is : IsSessionOf basin.now policy.now session)
+        → session.inputs ≡ inputs.now
+        → IfSome found (IsSpareIn basin.now policy.now session is.log)
+        → IfOk result (IsSpareIn basin.now policy.now session is.log) }
+{
+    match found {
+        Some(spare) => Ok(spare),
+        None => fresh(alloc, basin, policy, inputs),
+    }
 }
 
 // Takes the timestep back behind which it stands.
@@ -91,6 +132,27 @@ pub(crate) fn bring_on(
         go_on(spare, basin, kept, step)?;
     }
     Ok(())
+}
+
+/// Brings it, back or on, behind so many timesteps.
+pub(crate) fn bring(
+    spare: &mut Spare,
+    basin: &Basin,
+    kept: &[Option<StepRecord>],
+    behind: u16,
+) -> Result<(), NoMemory>
+    requires many { length kept.now ≡ basin.now.control.stamps.count }
+    requires near { behind ≤ length kept.now }
+    requires stands { IsSpare basin.now kept.now spare.old }
+    requires known { AreKeptFrom kept.now 0 spare.old.behind }
+    requires left { AreKeptFrom kept.now 0 behind }
+    ensures { IfOk result (λ done. BringsTo basin.now kept.now behind spare.old spare.new) }
+{
+    if behind < spare.behind {
+        bring_back(spare, basin, kept, behind);
+        return Ok(());
+    }
+    bring_on(spare, basin, kept, behind)
 }
 
 /// Gives these cells what the inputs give them.

@@ -1,4 +1,4 @@
-ghost use Rattle.std.specs.Prelude.{◌≡◌, ◌≤◌, map, length, IfErr, IfOk, IsSome, Ok};
+ghost use Rattle.std.specs.Prelude.{◌≡◌, ◌≤◌, All, map, length, IfErr, IfOk, IsSome, Ok};
 ghost use Rattle.rpl_verify.specs.Verified.{Accepted, verified};
 ghost use Rattle.rw_engine.specs.Passing.{ComesTo};
 ghost use Rattle.rw_inputs.specs.Edits.{IsBatch};
@@ -6,15 +6,20 @@ ghost use Rattle.rw_inputs.specs.Inputs.{IsInputsOf};
 ghost use Rattle.rw_method.specs.Catalogue.{AreInOrder};
 ghost use Rattle.rw_model.specs.Draft.{Draft};
 ghost use Rattle.rw_rules.specs.Rules.{policy_in};
+ghost use Rattle.rw_series.specs.Series.{IsCell};
 ghost use Rattle.rw_rerun.specs.Kept.{changed};
+ghost use Rattle.rw_rerun.specs.Next.{IsNext, PassesNext};
+ghost use Rattle.rw_rerun.specs.Spare.{AreKeptFrom};
 ghost use Rattle.rw_rerun.specs.Session.{Applies, CountsRuns, IsSessionOf, IsStarted};
 
 use crate::exchange::{exchange, nothing_kept};
+use crate::next::pass_behind;
 use crate::pass::Pass;
-use crate::passing::{pass_all, pass_rest};
+use crate::passing::pass_all;
 use crate::setup::Setup;
-use crate::spare::{Spare, bring_back, bring_on, give_all, pass_from, spare_of};
-use crate::touched::{edited, untouched};
+use crate::spare::{Spare, found_or_fresh, spare_of};
+use crate::touched::{edited, left};
+use rpl_verify::Verified;
 use rw_base::{Cell, Ledger, NoMemory, StepNo, Steps};
 use rw_engine::{Engine, Run, StepRecord};
 use rw_inputs::{Batch, Inputs, apply};
@@ -24,9 +29,11 @@ use std::marker::Model;
 use std::mem::replace;
 
 /// How far a session has come: its inputs, the engine of their run, what is kept of each timestep, and which timesteps were run
-/// last.
+/// last. Beside that it has an engine from which its next run begins, unless none is made yet.
 #[derive(Drop)]
-pub struct State {
+pub struct State<'a> {
+    pub(crate) basin: &'a Basin,
+    pub(crate) policy: &'a Verified,
     pub(crate) inputs: Inputs,
     pub(crate) engine: Engine,
     pub(crate) kept: Vec<Option<StepRecord>>,
@@ -34,27 +41,40 @@ pub struct State {
     pub(crate) spare: Option<Spare>,
 }
 
-impl Model for State {
+impl<'a> Model for State<'a> {
     ghost use Rattle.rw_rerun.specs.Session as specs;
 
     ghost Value = { specs.Session };
 
+    ghost use Rattle.rw_rerun.specs.Spare.{MayBeSpare};
+
     ghost view = { λ s. record {
+      basin = s.basin.now;
+      policy = s.policy.now;
       inputs = s.inputs;
       engine = s.engine;
       kept = s.kept.items;
       reran = s.reran.items;
     } };
+
+    ghost invariant = { λ s. MayBeSpare (record {
+      basin = s.basin.now;
+      policy = s.policy.now;
+      inputs = s.inputs;
+      engine = s.engine;
+      kept = s.kept.items;
+      reran = s.reran.items;
+    }) s.spare };
 }
 
-impl State {
+impl<'a> State<'a> {
     // The run of inputs, of which no timestep is kept yet.
     pub(crate) fn start<L: Ledger>(
         alloc: Global,
-        setup: &Setup<'_>,
+        setup: &Setup<'a>,
         inputs: Inputs,
         steps: &mut Steps<L>,
-    ) -> Result<State, NoMemory>
+    ) -> Result<State<'a>, NoMemory>
         requires fits { verified setup.now.basin.now setup.now.policy.now.blocks
             ≡ Ok setup.now.policy.now }
         requires order { AreInOrder
@@ -74,6 +94,8 @@ impl State {
         } = pass;
         exchange(&mut kept, changes);
         Ok(State {
+            basin: setup.basin,
+            policy: setup.policy,
             inputs,
             engine,
             kept,
@@ -82,10 +104,48 @@ impl State {
         })
     }
 
-    // The run of inputs that has passed all timesteps takes the place of the one before it.
-    fn take(&mut self, basin: &Basin, inputs: Inputs, cells: &[Cell], behind: u16, pass: Pass)
-        requires many { length pass.changes.items ≡ length self.old.kept }
+    // Passes the timesteps of the run after a batch, which leaves so many first ones. After that there is no spare engine.
+    fn pass_next<L: Ledger>(
+        &mut self,
+        alloc: Global,
+        setup: &Setup<'_>,
+        inputs: &Inputs,
+        cells: &[Cell],
+        behind: u16,
+        steps: &mut Steps<L>,
+    ) -> Result<Pass, NoMemory>
+        requires made { IsSessionOf setup.now.basin.now setup.now.policy.now self.old }
+        requires order { AreInOrder
+            (map (λ b. code (b.vtable, b.value)) setup.now.methods.now.methods.items) }
+        requires inputs { IsInputsOf setup.now.basin.now inputs.now }
+        requires cells { All (IsCell setup.now.basin.now) cells.now }
+        requires near { behind ≤ length self.old.kept }
+        requires left { AreKeptFrom self.old.kept 0 behind }
+        ensures passes { PassesNext setup.now.basin.now setup.now.policy.now self.old inputs.now
+            cells.now behind steps.old steps.new result }
+        ensures same { self.new ≡ self.old }
+    {
+        let found = self.spare.take();
+        let spare = found_or_fresh(found, alloc, setup.basin, setup.policy, &self.inputs)?;
+        pass_behind(
+            alloc, setup, &self.kept, spare, inputs, cells, behind, steps,
+        )
+    }
+
+    // Gives way to the run after a batch. Its engine becomes the spare one, for the run after that.
+    fn give_way(
+        &mut self,
+        setup: &Setup<'_>,
+        inputs: Inputs,
+        cells: &[Cell],
+        behind: u16,
+        pass: Pass,
+    )
+        requires { IsNext setup.now.basin.now setup.now.policy.now self.old inputs cells.now behind
+            pass }
         ensures { self.new ≡ record {
+          basin = self.old.basin;
+          policy = self.old.policy;
           inputs = inputs;
           engine = pass.engine;
           kept = changed self.old.kept pass.changes.items;
@@ -99,7 +159,7 @@ impl State {
             over: _,
         } = pass;
         let was = replace(&mut self.engine, engine);
-        self.spare = spare_of(was, basin, self.kept.as_slice(), &inputs, cells, behind);
+        self.spare = spare_of(was, setup.basin, &self.kept, &inputs, cells, behind);
         exchange(&mut self.kept, changes);
         self.inputs = inputs;
         self.reran = reran;
@@ -123,48 +183,12 @@ impl State {
         ensures counted { CountsRuns setup.now.basin.now steps.old steps.new result
             (λ done. self.new.reran) }
     {
-        let inputs = apply(alloc, setup.basin, &self.inputs, batch)?;
         let cells = edited(alloc, setup.basin, batch)?;
-        let behind = untouched(setup.basin, &self.kept, &cells);
-        if behind == setup.basin.control().stamps.count() {
-            self.stay(alloc, setup.basin, inputs, &cells);
-            return Ok(());
-        }
-        let pass = match self.spare.take() {
-            None => pass_all(alloc, setup, &self.kept, &inputs, steps)?,
-            Some(spare) => self.pass_from(alloc, setup, spare, &inputs, &cells, behind, steps)?,
-        };
-        self.take(setup.basin, inputs, &cells, behind, pass);
+        let inputs = apply(alloc, setup.basin, &self.inputs, batch)?;
+        let behind = left(setup.basin, &self.kept, &cells);
+        let pass = self.pass_next(alloc, setup, &inputs, &cells, behind, steps)?;
+        self.give_way(setup, inputs, &cells, behind, pass);
         Ok(())
-    }
-
-    // No timestep is touched: only what is given changes.
-    fn stay(&mut self, alloc: Global, basin: &Basin, inputs: Inputs, cells: &[Cell]) {
-        give_all(&mut self.engine, basin, &inputs, cells);
-        if let Some(spare) = &mut self.spare {
-            give_all(&mut spare.engine, basin, &inputs, cells);
-        }
-        self.inputs = inputs;
-        self.reran = Vec::new(alloc);
-    }
-
-    // The run of the inputs after a batch, from behind the timesteps that it doesn't touch.
-    fn pass_from<L: Ledger>(
-        &self,
-        alloc: Global,
-        setup: &Setup<'_>,
-        mut spare: Spare,
-        inputs: &Inputs,
-        cells: &[Cell],
-        behind: u16,
-        steps: &mut Steps<L>,
-    ) -> Result<Pass, NoMemory> {
-        bring_back(&mut spare, setup.basin, &self.kept, behind);
-        bring_on(&mut spare, setup.basin, &self.kept, behind)?;
-        give_all(&mut spare.engine, setup.basin, inputs, cells);
-        let mut pass = pass_from(alloc, spare)?;
-        pass_rest(alloc, &mut pass, setup, &self.kept, behind, steps)?;
-        Ok(pass)
     }
 
     // What the run comes to.

@@ -180,3 +180,20 @@ pub(crate) fn untouched(basin: &Basin, kept: &[Option<StepRecord>], cells: &[Cel
     }
     count
 }
+
+// Of so many cells it is asked which timesteps they touch.
+const FEW: usize = 200;
+
+/// How many first timesteps a batch leaves as they are, by its cells: none where these are many, since each is looked for in each
+/// timestep.
+pub(crate) fn left(basin: &Basin, kept: &[Option<StepRecord>], cells: &[Cell]) -> u16
+    requires many { length kept.now ≡ basin.now.control.stamps.count }
+    requires rising { AreRisingIn kept.now }
+    requires known { All (λ (cell : Cell). IsSlot basin.now.objects cell.slot.0) cells.now }
+    ensures { CountsUntouched basin.now cells.now kept.now result }
+{
+    if cells.len() > FEW {
+        return 0;
+    }
+    untouched(basin, kept, cells)
+}

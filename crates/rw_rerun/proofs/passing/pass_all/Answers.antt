@@ -1,89 +1,35 @@
-use Rattle.rw_base.proofs.Common.{Some, [], ap, arith, length, refl, slice_get, subst, ◌<◌, ◌≡◌}
-use Rattle.rw_model.specs.declared.control.RunControl.{RunControl}
+use Rattle.rw_base.proofs.Common.{[], ap, arith, length, refl, ◌≡◌}
 use Rattle.rw_inputs.specs.Givens.{givens}
 use Rattle.rw_run.proofs.Passings.{begun, nothing_of}
 use Rattle.rw_run.proofs.Placed.{standing-placed}
-use Rattle.rw_run.specs.Frame.{IsFramed}
 use Rattle.rw_run.specs.Runs.{placed}
 use Rattle.rw_rules.specs.Rules.{policy_in}
-use Rattle.rw_rerun.specs.UnderWay.{IsUnderWay}
 use Rattle.rw_rerun.proofs.Counted.{wants_all}
-use Rattle.rw_rerun.proofs.Sessions.{entry_there, passes_on, replayed_here}
 use Rattle.rw_rerun.proofs.Showing.{placed_shown}
 use Rattle.rw_rerun.proofs.Ways.{first_way}
 use Rattle.rw_rerun.proofs.passing.pass_all.Goals as goal
 
-pub loop-before-init : goal.loop-before-init
-loop-before-init g c =
-    let basin = c.args.setup.now.basin.now in
-    let inputs = givens basin c.args.inputs.now in record {
-      made = record { made = c.in_ok-engine.ensures.made; traced = c.in_ok-engine.ensures.kept };
-      way = λ earlier kept.
-          first_way basin (policy_in basin c.args.setup.now.policy.now) c.args.inputs.now earlier c.args.kept.now _ c.new-2.ensures.items c.new.ensures.items refl
-          c.in_ok-engine.ensures.shows (standing-placed [] inputs refl) (begun inputs) (λ step. (nothing_of step (placed [] inputs) (begun inputs step)).0)
-          (placed_shown basin c.args.inputs.now c.requires.inputs);
-      each = let none = ap length c.new.ensures.items in omega (arith, none);
-      few = omega arith;
-    }
+pub pass_rest-requires-clause-made : goal.pass_rest-requires-clause-made
+pass_rest-requires-clause-made g c = record { made = c.in_ok-engine.ensures.made; traced = c.in_ok-engine.ensures.kept }
 
-pub pass_step-requires-clause-can : goal.pass_step-requires-clause-can
-pass_step-requires-clause-can g c =
-    let basin = c.args.setup.now.basin.now in
-    let steps = ap (λ (k : RunControl). k.stamps.count) c.control.ensures in
-    let near : c.loop-before.before < basin.control.stamps.count = let test = c.loop-before-test.true in let value = c.count-before-end.ensures.value in omega arith in
-    replayed_here basin c.args.kept.now c.loop-before.before c.index-kept-from.result c.requires.can
-    (entry_there c.args.kept.now c.loop-before.before c.from.result basin.control.stamps.count c.index-kept-from.result c.from.ensures near c.requires.many
-    c.index-kept-from.is)
-
-pub returns-in_err-pass_step : goal.returns-in_err-pass_step
-returns-in_err-pass_step g c =
-    let basin = c.args.setup.now.basin.now in
-    let steps = ap (λ (k : RunControl). k.stamps.count) c.control.ensures in
-    let near : c.loop-before.before < basin.control.stamps.count = let test = c.loop-before-test.true in let value = c.count-before-end.ensures.value in omega arith in
-    let was = c.loop-before.invariant.each in
-    let most = c.loop-before.invariant.few in
-    let rises = c.pass_step.ensures.rises in
-    let few = c.pass_step.ensures.few in
-    wants_all basin c.args.setup.now.policy.now c.args.inputs.now c.args.kept.now c.args.steps.now _ c.from_residual-in_err-pass_step.result _
-    c.from_residual-in_err-pass_step.ensures.1 (omega (arith, was, rises)) (omega (arith, most, few, near))
-
-pub loop-before-preserved : goal.loop-before-preserved
-loop-before-preserved g c =
-    let basin = c.args.setup.now.basin.now in
-    let policy = c.args.setup.now.policy.now in
-    let steps = ap (λ (k : RunControl). k.stamps.count) c.control.ensures in
-    let near : c.loop-before.before < basin.control.stamps.count = let test = c.loop-before-test.true in let value = c.count-before-end.ensures.value in omega arith in
-    let there : slice_get c.args.kept.now c.loop-before.before ≡ Some c.index-kept-from.result =
-    entry_there c.args.kept.now c.loop-before.before c.from.result basin.control.stamps.count c.index-kept-from.result c.from.ensures near c.requires.many
-    c.index-kept-from.is in
-    let framed : IsFramed (policy_in basin policy) =
-    (c.code_keeps_promises.ensures basin policy.blocks policy.budgets (c.answered_code_is_safe.ensures.accepted basin policy.blocks policy c.requires.fits)).framed in
-    let was = c.loop-before.invariant.each in
-    let most = c.loop-before.invariant.few in
-    let more = c.in_ok-pass_step.ensures.each in
-    let few = c.in_ok-pass_step.ensures.few in record {
-      made = c.in_ok-pass_step.ensures.made;
-      way = λ earlier kept.
-          passes_on basin policy c.args.inputs.now earlier c.args.kept.now c.loop-before.before c.index-kept-from.result c.loop-before.pass c.pass_step.new.pass
-          c.loop-before.steps c.pass_step.new.steps _ framed there kept c.in_ok-pass_step.ensures (c.loop-before.invariant.way earlier kept);
-      each = omega (arith, was, more);
-      few = omega (arith, most, few);
-    }
+pub returns-in_err-pass_rest : goal.returns-in_err-pass_rest
+returns-in_err-pass_rest g c =
+    wants_all c.args.setup.now.basin.now c.args.setup.now.policy.now c.args.inputs.now c.args.kept.now c.args.steps.now _
+    c.from_residual-in_err-pass_rest.result _ c.from_residual-in_err-pass_rest.ensures.1 c.pass_rest.ensures.rises c.pass_rest.ensures.few
 
 pub returns : goal.returns
 returns g c =
     let basin = c.args.setup.now.basin.now in
-    let policy = c.args.setup.now.policy.now in
-    let steps = ap (λ (k : RunControl). k.stamps.count) c.control.ensures in
-    let last : c.loop-before.before ≡ basin.control.stamps.count =
-    let test = c.loop-before-test.false in let end = c.loop-before.auto.before-end in let value = c.count-before-end.ensures.value in omega arith in
-    let was = c.loop-before.invariant.each in
-    let most = c.loop-before.invariant.few in record {
-      made = c.loop-before.invariant.made;
+    let inputs = givens basin c.args.inputs.now in
+    let none = ap length c.new.ensures.items in
+    let counted = c.in_ok-pass_rest.ensures.each in record {
+      made = c.in_ok-pass_rest.ensures.made;
       goes = λ earlier kept.
-          subst (λ n. IsUnderWay basin (policy_in basin policy) c.args.inputs.now earlier c.args.kept.now c.loop-before.pass n) last
-          (c.loop-before.invariant.way earlier kept);
-      each = was;
-      rises = omega (arith, was);
-      few = omega (arith, most, last);
+          c.in_ok-pass_rest.ensures.goes c.args.inputs.now earlier kept
+          (first_way basin (policy_in basin c.args.setup.now.policy.now) c.args.inputs.now earlier c.args.kept.now _ c.new-2.ensures.items c.new.ensures.items refl
+          c.in_ok-engine.ensures.shows (standing-placed [] inputs refl) (begun inputs) (λ step. (nothing_of step (placed [] inputs) (begun inputs step)).0)
+          (placed_shown basin c.args.inputs.now c.requires.inputs));
+      each = omega (arith, none, counted);
+      rises = c.in_ok-pass_rest.ensures.rises;
+      few = c.in_ok-pass_rest.ensures.few;
     }

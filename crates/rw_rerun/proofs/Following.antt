@@ -1,0 +1,221 @@
+-- The next run of a session, and the spare engine behind it.
+use Rattle.rw_base.proofs.Common.{◌≡◌, ◌≤◌, ◌+◌, ◌++◌, ◌∙◌, ℕ, List, [], Err, Ok, Result, Option, Some, None, IfOk, IfSome, length, map, take, drop, refl, sym, ap, subst, arith}
+use Rattle.rw_base.specs.declared.memory.NoMemory.{NoMemory}
+use Rattle.rw_base.specs.declared.number.Cell.{Cell}
+use Rattle.rw_model.specs.Draft.{Draft}
+use Rattle.rw_inputs.specs.Edits.{Batch, after_batch}
+use Rattle.rw_inputs.specs.Givens.{givens}
+use Rattle.rw_inputs.specs.Inputs.{Inputs, IsInputsOf, value_at}
+use Rattle.rw_run.specs.Frame.{IsFramed}
+use Rattle.rw_run.specs.Log.{Log}
+use Rattle.rw_run.specs.Next.{Policy}
+use Rattle.rw_run.specs.Runs.{placed}
+use Rattle.rw_run.proofs.OneRun.{one_run}
+use Rattle.rw_record.specs.Record.{StepRecord}
+use Rattle.rw_engine.specs.Engine.{Engine}
+use Rattle.rpl_verify.specs.Verified.{Accepted}
+use Rattle.rw_rules.specs.Rules.{policy_in}
+use Rattle.rw_rerun.specs.Edited.{AreEdited, BecomesSpare, LeavesFirst}
+use Rattle.rw_rerun.specs.Kept.{AreLinked, changed}
+use Rattle.rw_rerun.specs.Next.{IsNext, IsReady, PassesBehind, PassesFrom, PassesNext, StayFirst}
+use Rattle.rw_rerun.specs.Session.{Applies, IsSessionOf, Session}
+use Rattle.rw_rerun.specs.Spare.{BeginsBy, IsSpare, IsSpareIn, MayBeSpare, StandsIn}
+use Rattle.rw_rerun.specs.Touched.{CountsUntouched}
+use Rattle.rw_rerun.specs.UnderWay.{PassesRest}
+use Rattle.rw_rerun.specs.declared.pass.Pass.{Pass}
+use Rattle.rw_rerun.specs.declared.spare.Spare.{Spare}
+use Rattle.rw_rerun.proofs.Keeping.{all_known, known_records, split_at, stay_first}
+use Rattle.rw_rerun.proofs.Sessions.{applies, session_behind}
+use Rattle.rw_rerun.proofs.Taken.{comes_behind, first_are_kept, same_end, stands_behind_all}
+use Rattle.rw_rerun.proofs.Ways.{whole_way}
+
+-- the other timesteps are passed, one by one
+pub passes_from : (basin : Draft) (policy : Accepted) (was : List (Option StepRecord)) (spare : Spare) (first last : Pass) (before after : ℕ) (done : Unit {0})
+    → spare.behind ≤ length was → BeginsBy spare first → PassesRest basin policy was spare.behind first last before after (Ok done)
+    → PassesFrom basin policy was spare before after (Ok last)
+passes_from basin policy was spare first last before after done near begins rest =
+    let in_run = policy_in basin policy in
+    let more = rest.grows in
+    let none = ap length begins.none in
+    let counted = rest.each in record {
+      made = rest.made;
+      goes = λ inputs earlier log kept shows taken. rest.goes inputs earlier kept (begins.goes basin in_run inputs earlier log was near shows taken);
+      stay = ap (λ changes. take spare.behind (changed was changes)) (more.1 ∙ ap (λ changes. changes ++ more.0) begins.unchanged)
+          ∙ stay_first was spare.behind more.0 near;
+      each = omega (arith, none, counted);
+      rises = rest.rises;
+      few = rest.few;
+    }
+
+-- by a spare engine that was made ready
+stays_first : (was : List (Option StepRecord)) (behind other : ℕ) (result : Result Pass NoMemory) → other ≡ behind → IfOk result (StayFirst was other)
+    → IfOk result (StayFirst was behind)
+stays_first was behind other (Err fault) same stay = tt
+stays_first was behind other (Ok pass) same stay = subst (λ n. StayFirst was n pass) same stay
+
+pub passes_behind : (basin : Draft) (policy : Accepted) (inputs : Inputs) (cells : List Cell) (was : List (Option StepRecord)) (behind : ℕ) (old new : Spare)
+    (before after : ℕ) (result : Result Pass NoMemory) → IsFramed (policy_in basin policy) → IsReady basin inputs cells was behind old new
+    → PassesFrom basin policy was new before after result → PassesBehind basin policy inputs cells was behind old before after result
+passes_behind basin policy inputs cells was behind old new before after result framed ready passes =
+    let in_run = policy_in basin policy in
+    let at : ready.mid.behind ≡ behind = ready.brings.behind_is in record {
+      made = passes.made;
+      goes = λ given batch earlier leaves kept stands.
+          let comes = comes_behind basin policy given inputs batch cells earlier was ready.mid new framed
+          (subst (LeavesFirst basin batch cells given inputs was) (sym at) leaves) kept
+          (ready.brings.stands policy (placed [] (givens basin given)) earlier stands) ready.same ready.gives in
+          passes.goes inputs earlier comes.log kept comes.shows comes.taken;
+      stay = stays_first was behind new.behind result (ready.same ∙ at) passes.stay;
+      each = passes.each;
+      rises = passes.rises;
+      few = passes.few;
+    }
+
+-- ---- the next run of a session
+
+-- what its state keeps of the spare engine
+found_spare : (basin : Draft) (policy : Accepted) (session : Session) (is : IsSessionOf basin policy session) (found : Option Spare) → MayBeSpare session found
+    → IfSome found (IsSpareIn basin policy session is.log)
+found_spare basin policy session is found may =
+    let here : (same : IsSessionOf session.basin policy session) × (same.log ≡ is.log) =
+    subst (λ b. (same : IsSessionOf b policy session) × (same.log ≡ is.log)) (sym is.of_basin) (is, refl) in
+    let there : (same : IsSessionOf session.basin session.policy session) × (same.log ≡ is.log) =
+    subst (λ p. (same : IsSessionOf session.basin p session) × (same.log ≡ is.log)) (sym is.by_policy) here in
+    subst (λ b. IfSome found (IsSpareIn b policy session is.log)) is.of_basin
+    (subst (λ p. IfSome found (IsSpareIn session.basin p session is.log)) is.by_policy
+    (subst (λ log. IfSome found (IsSpareIn session.basin session.policy session log)) there.1 (may there.0)))
+
+pub spare_ready : (basin : Draft) (policy : Accepted) (session seen : Session) (is : IsSessionOf basin policy session) (kept found : Option Spare) (spare : Spare)
+    → seen ≡ session → MayBeSpare seen kept → found ≡ kept
+    → ((one : Session) (there : IsSessionOf basin policy one) → one.inputs ≡ seen.inputs → IfSome found (IsSpareIn basin policy one there.log)
+    → IsSpareIn basin policy one there.log spare) → IsSpareIn basin policy session is.log spare
+spare_ready basin policy session seen is kept found spare same may was ready =
+    ready session is (sym (ap (λ (s : Session). s.inputs) same))
+    (subst (λ one. IfSome one (IsSpareIn basin policy session is.log)) (sym was)
+    (found_spare basin policy session is kept (subst (λ (s : Session). MayBeSpare s kept) same may)))
+
+pub passes_next : (basin : Draft) (policy : Accepted) (session : Session) (inputs : Inputs) (cells : List Cell) (behind : ℕ) (was : List (Option StepRecord))
+    (spare : Spare) (before after : ℕ) (result : Result Pass NoMemory) (is : IsSessionOf basin policy session) → IsSpareIn basin policy session is.log spare
+    → session.kept ≡ was → PassesBehind basin policy inputs cells was behind spare before after result
+    → PassesNext basin policy session inputs cells behind before after result
+passes_next basin policy session inputs cells behind was spare before after (Err fault) is stands lent passes = record {
+  next = λ batch leaves. tt;
+  each = tt;
+  rises = passes.rises;
+  few = passes.few;
+}
+passes_next basin policy session inputs cells behind was spare before after (Ok pass) is stands lent passes =
+    let there : PassesBehind basin policy inputs cells session.kept behind spare before after (Ok pass) =
+    subst (λ kept. PassesBehind basin policy inputs cells kept behind spare before after (Ok pass)) (sym lent) passes in record {
+      next = λ batch leaves. record {
+        is = is;
+        batch = batch;
+        leaves = leaves;
+        made = there.made;
+        way = there.goes session.inputs batch is.log leaves is.kept stands.stands;
+        stay = there.stay;
+      };
+      each = passes.each;
+      rises = passes.rises;
+      few = passes.few;
+    }
+
+pub leaves_first : (basin : Draft) (policy : Accepted) (session : Session) (batch : Batch) (inputs : Inputs) (given cells : List Cell) (behind : ℕ)
+    (was : List (Option StepRecord)) → IsSessionOf basin policy session → value_at inputs ≡ after_batch batch (value_at session.inputs) → IsInputsOf basin inputs
+    → AreEdited basin batch given → given ≡ cells → session.kept ≡ was → CountsUntouched basin cells was behind
+    → LeavesFirst basin batch cells session.inputs inputs session.kept behind
+leaves_first basin policy session batch inputs given cells behind was is values made edited same lent untouched = record {
+  old_made = is.given;
+  new_made = made;
+  values = values;
+  edited = subst (AreEdited basin batch) same edited;
+  many = is.many;
+  untouched = subst (λ kept. CountsUntouched basin cells kept behind) (sym lent) untouched;
+}
+
+pub applies_next : (basin : Draft) (policy : Accepted) (session old new : Session) (batch : Batch) (inputs : Inputs) (cells : List Cell) (behind : ℕ) (pass : Pass)
+    (before after : ℕ) → PassesNext basin policy session inputs cells behind before after (Ok pass)
+    → LeavesFirst basin batch cells session.inputs inputs session.kept behind → old ≡ session
+    → new ≡ session_behind old.basin old.policy inputs old.kept pass → Applies basin policy batch session new
+applies_next basin policy session old new batch inputs cells behind pass before after passes leaves same is =
+    let next = passes.next batch leaves in
+    subst (Applies basin policy batch session)
+    (sym (is ∙ ap (λ (one : Session). session_behind one.basin one.policy inputs one.kept pass) same))
+    (applies basin policy batch inputs session pass next.is leaves.values leaves.new_made next.made next.way)
+
+-- ---- the spare engine behind it
+
+module _ (basin : Draft) (policy : Accepted) (session : Session) (inputs : Inputs) (cells : List Cell) (behind : ℕ) (pass : Pass)
+    (next : IsNext basin policy session inputs cells behind pass) where
+  abbrev in_run : Policy
+  in_run = policy_in basin policy
+
+  abbrev now_kept : List (Option StepRecord)
+  now_kept = changed session.kept pass.changes.items
+
+  is_spare : (spare : Spare) → BecomesSpare basin inputs cells session.kept behind session.engine spare
+      → (is : IsSessionOf basin policy (session_behind basin policy inputs session.kept pass))
+      → IsSpareIn basin policy (session_behind basin policy inputs session.kept pass) is.log spare
+  is_spare spare becomes is =
+      let at : spare.behind ≡ behind = becomes.behind_is in
+      let start : Log = placed [] (givens basin inputs) in
+      let comes = becomes.comes policy session.inputs next.batch next.is.log next.leaves next.is.kept (stands_behind_all basin policy session next.is) in
+      let some = next.leaves.untouched.few in
+      let left = known_records session.kept behind some (first_are_kept basin cells session.kept behind next.leaves.untouched) in
+      let first : take spare.behind session.kept ≡ map (λ kept. Some kept) left.0 = ap (λ n. take n session.kept) at ∙ left.1 in
+      let stay : take spare.behind now_kept ≡ take spare.behind session.kept =
+      subst (λ n. take n now_kept ≡ take n session.kept) (sym at) next.stay in
+      let few : spare.behind ≤ length now_kept =
+      let all = is.many in let many = next.leaves.many in omega (arith, at, all, many, some) in
+      let same : next.way.log ≡ is.log =
+      one_run basin in_run (givens basin inputs) next.way.log is.log (whole_way basin in_run inputs next.is.log session.kept pass next.way) is.whole in
+      let split = split_at basin in_run 1 start next.way.log now_kept spare.behind (spare.behind + 1) (omega arith) few next.way.linked in
+      let met : split.0 ≡ comes.log =
+      same_end basin in_run left.0 1 start split.0 comes.log
+      (subst (λ kept. AreLinked basin in_run 1 start kept split.0) (stay ∙ first) split.1)
+      (subst (λ kept. AreLinked basin in_run 1 start kept comes.log) first comes.taken.linked) in record {
+        stands = record {
+          made = comes.made;
+          traced = comes.traced;
+          few = few;
+          log = comes.log;
+          shows = comes.shows;
+          before = subst (λ kept. AreLinked basin in_run 1 start kept comes.log) (sym stay) comes.taken.linked;
+          rest = subst (λ end. AreLinked basin in_run (spare.behind + 1) comes.log (drop spare.behind now_kept) end) same
+              (subst (λ log. AreLinked basin in_run (spare.behind + 1) log (drop spare.behind now_kept) next.way.log) met split.2);
+        };
+        known = λ place entry first_one last there. all_known now_kept left.0 spare.behind (stay ∙ first) place entry last there;
+      }
+
+  may_be : (spare : Option Spare) → IfSome spare (BecomesSpare basin inputs cells session.kept behind session.engine)
+      → MayBeSpare (session_behind basin policy inputs session.kept pass) spare
+  may_be None becomes = λ is. tt
+  may_be (Some spare) becomes = is_spare spare becomes
+
+  pub next_spare : (spare : Option Spare) → IfSome spare (BecomesSpare basin inputs cells session.kept behind session.engine)
+      → MayBeSpare (session_behind session.basin session.policy inputs session.kept pass) spare
+  next_spare spare becomes =
+      subst (λ of_basin. MayBeSpare (session_behind of_basin session.policy inputs session.kept pass) spare) (sym next.is.of_basin)
+      (subst (λ by_policy. MayBeSpare (session_behind basin by_policy inputs session.kept pass) spare) (sym next.is.by_policy) (may_be spare becomes))
+
+  -- ---- at its place
+
+  module _ (was : List (Option StepRecord)) (engine : Engine) (lent : session.kept ≡ was) (same : session.engine ≡ engine) where
+    pub stands_there : IsSpare basin was (record { engine = engine; behind = basin.control.stamps.count })
+    stands_there = record {
+      policy = policy;
+      start = placed [] (givens basin session.inputs);
+      end = next.is.log;
+      stands = subst (λ kept. StandsIn basin policy (placed [] (givens basin session.inputs)) next.is.log kept
+          (record { engine = engine; behind = basin.control.stamps.count })) lent
+          (subst (λ (one : Engine). StandsIn basin policy (placed [] (givens basin session.inputs)) next.is.log session.kept
+          (record { engine = one; behind = basin.control.stamps.count })) same (stands_behind_all basin policy session next.is));
+    }
+
+    pub spare_there : (spare : Option Spare) (now : Session) → IfSome spare (BecomesSpare basin inputs cells was behind engine)
+        → session_behind session.basin session.policy inputs session.kept pass ≡ now → MayBeSpare now spare
+    spare_there spare now becomes is =
+        subst (λ (one : Session). MayBeSpare one spare) is
+        (next_spare spare
+        (subst (λ kept. IfSome spare (BecomesSpare basin inputs cells kept behind session.engine)) (sym lent)
+        (subst (λ one. IfSome spare (BecomesSpare basin inputs cells was behind one)) (sym same) becomes)))

@@ -1,0 +1,11 @@
+use Rattle.rw_base.proofs.Common.{refl}
+use Rattle.rw_rerun.proofs.next.made_ready.Goals as goal
+
+pub give_all-requires-clause-made : goal.give_all-requires-clause-made
+give_all-requires-clause-made c =
+    let is = c.requires.stands in
+    let brought = c.in_ok-bring.ensures.stands is.policy is.start is.end is.stands in
+    record { series = brought.made.series; notes = brought.made.notes }
+
+pub returns : goal.returns
+returns c = record { mid = _; brings = c.in_ok-bring.ensures; same = refl; gives = c.give_all.ensures }
