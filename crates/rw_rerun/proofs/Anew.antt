@@ -16,7 +16,7 @@ use Rattle.rw_record.specs.Noted.{AreHeld, AreOnce}
 use Rattle.rw_record.specs.Record.{StepRecord}
 use Rattle.rw_engine.specs.Records.{HasNoted, IsTooLarge, Records, RecordsOrNot, RecordsThese, lines_of_step}
 use Rattle.rw_engine.specs.Engine.{Engine}
-use Rattle.rw_rerun.specs.Kept.{IsKept, IsKeptAs, IsKeepable}
+use Rattle.rw_rerun.specs.Kept.{IsKeptOrNot, IsKeptAs, IsKeepable}
 use Rattle.rw_rerun.proofs.Reusing.{length_after, reached_after, reached_events}
 
 at_most : (most n : ℕ) → ¬ (most < n) → n ≤ most
@@ -70,7 +70,7 @@ module _ (basin : Draft) (policy : Policy) (step : ℕ) (log old : Log) (first :
         ∙ sym (how_many own noted.cells noted.once (looked_own noted.cells noted.looked))
         ∙ how_many (first ∷ events) noted.cells noted.once noted.looked
 
-    pub kept_anew : (found : Option StepRecord) → RecordsOrNot basin step old (first ∷ events) found → IsKept basin policy log step found
+    pub kept_anew : (found : Option StepRecord) → RecordsOrNot basin step old (first ∷ events) found → IsKeptOrNot basin policy log step found
     kept_anew None large = λ keepable. by keepable large
       where
         by : IsKeepable basin log step → IsTooLarge basin step (first ∷ events) → ⊥
@@ -124,7 +124,7 @@ module _ (basin : Draft) (policy : Policy) (earlier log now : Log) (step : ℕ) 
     can = is.these.can;
   }
 
-  pub kept_again : IsClosedIn step log now is.first is.events → IsTimestep basin policy step now is.first is.events → IsKept basin policy log step (Some kept)
+  pub kept_again : IsClosedIn step log now is.first is.events → IsTimestep basin policy step now is.first is.events → IsKeptOrNot basin policy log step (Some kept)
   kept_again closed timestep = record {
     keepable = record {
       closing = closed.closing;

@@ -25,8 +25,8 @@ use Rattle.rw_engine.specs.Records.{RecordsThese}
 use Rattle.rw_engine.specs.Shows.{CanShow, IsBefore, Shows}
 use Rattle.rw_engine.proofs.Steps.{begins_step}
 use Rattle.rw_rerun.specs.Begun.{AreAlikeIn, HasTakenOver, TakesOver}
-use Rattle.rw_rerun.specs.Kept.{AreKept, AreLinked, IsKeptAs, IsLinkOf, changed}
-use Rattle.rw_rerun.specs.Session.{numbers_of}
+use Rattle.rw_rerun.specs.Kept.{AreKept, AreStepLinks, IsKeptAs, IsLinkOf, changed}
+use Rattle.rw_rerun.specs.Session.{numbers_of_steps}
 use Rattle.rw_rerun.specs.Spare.{BeginsBy}
 use Rattle.rw_rerun.specs.UnderWay.{stands_at}
 use Rattle.rw_rerun.specs.declared.pass.Pass.{Pass}
@@ -135,7 +135,7 @@ held_there basin step one other events kept these alike = λ one_of has. sym (al
 
 pub takes_over : (basin : Draft) (policy : Policy) (inputs : Inputs) (earlier : Log) (records : List StepRecord) (step last : ℕ) (one other end : Log)
     (all_kept : List (Option StepRecord)) → IsFramed policy → step ≡ last + 1 → last + length records ≤ basin.control.stamps.count
-    → AreLinked basin policy step one (map (λ kept. Some kept) records) end → ((other : ℕ) → step ≤ other → events_of other one ≡ [])
+    → AreStepLinks basin policy step one (map (λ kept. Some kept) records) end → ((other : ℕ) → step ≤ other → events_of other one ≡ [])
     → HasTakenOver basin policy inputs earlier all_kept other last → AreKept basin policy earlier step (map (λ kept. Some kept) records)
     → AreAlikeIn basin one other records
     → TakesOver basin policy inputs earlier (all_kept ++ map (λ kept. Some kept) records) one other end (last + length records)
@@ -190,8 +190,8 @@ begins_by spare pass same changes reran goes = record {
         stands = taken.stands ∙ sym (ap (λ o. stands_at o spare.behind) goes);
         shown = λ same. taken.shown;
         later = taken.later;
-        rerun = subst (λ (steps : List StepNo). AreRerun basin earlier log (numbers_of steps)) (sym reran) taken.rerun;
+        rerun = subst (λ (steps : List StepNo). AreRerun basin earlier log (numbers_of_steps steps)) (sym reran) taken.rerun;
         kept = subst (AreKept basin policy log 1) (sym now) taken.kept;
-        linked = subst (λ ks. AreLinked basin policy 1 (placed [] (givens basin inputs)) ks log) (sym now) taken.linked;
+        linked = subst (λ ks. AreStepLinks basin policy 1 (placed [] (givens basin inputs)) ks log) (sym now) taken.linked;
       };
 }

@@ -12,7 +12,7 @@ use Rattle.rw_run.specs.Runs.{Leads, rests, standing}
 use Rattle.rw_run.specs.Step.{cells_reached, cells_with, reached_by}
 use Rattle.rw_run.proofs.Agains.{alike_each, alike_events}
 use Rattle.rw_record.proofs.Cells.{reached_at, shared_in}
-use Rattle.rw_rerun.specs.Begun.{AreTimesteps, HoldAlike, Went, cells_put, cells_touched, events_in, log_behind}
+use Rattle.rw_rerun.specs.Begun.{TimestepsGo, HoldAlike, Went, cells_put, cells_touched, events_in, log_behind}
 
 pub alike_behind : (basin : Draft) (events : List Event) (one other : Log) (cell : Cell) → cells_of basin one cell ≡ cells_of basin other cell
     → cells_of basin (log_after events one) cell ≡ cells_of basin (log_after events other) cell
@@ -75,8 +75,8 @@ Reuses = (basin : Draft) (policy : Policy) (step : ℕ) (old other end : Log) (f
     → Leads basin policy (opened step ∷ other) (first ∷ events) (log_after (first ∷ events) (opened step ∷ other))
 
 pub timesteps : Reuses → (basin : Draft) (policy : Policy) (step last : ℕ) (one other : Log) (steps : List Went) → IsFramed policy
-    → AreTimesteps basin policy step steps one → standing other ≡ rests last → step ≡ last + 1 → HoldAlike basin one other (cells_touched basin steps)
-    → AreTimesteps basin policy step steps other
+    → TimestepsGo basin policy step steps one → standing other ≡ rests last → step ≡ last + 1 → HoldAlike basin one other (cells_touched basin steps)
+    → TimestepsGo basin policy step steps other
 timesteps reuse basin policy step last one other [] framed are rest next_one same = tt
 timesteps reuse basin policy step last one other (first ∷ steps) framed are rest next_one same = (
   record {

@@ -16,7 +16,7 @@ use Rattle.rw_engine.specs.Engine.{Engine}
 use Rattle.rpl_verify.specs.Verified.{Accepted}
 use Rattle.rw_rules.specs.Rules.{policy_in}
 use Rattle.rw_rerun.specs.Edited.{AreEdited, BecomesSpare, LeavesFirst}
-use Rattle.rw_rerun.specs.Kept.{AreLinked, changed}
+use Rattle.rw_rerun.specs.Kept.{AreStepLinks, changed}
 use Rattle.rw_rerun.specs.Next.{IsNext, IsReady, PassesBehind, PassesFrom, PassesNext, StayFirst}
 use Rattle.rw_rerun.specs.Session.{Applies, IsSessionOf, Session}
 use Rattle.rw_rerun.specs.Spare.{BeginsBy, IsSpare, IsSpareIn, MayBeSpare, StandsIn}
@@ -172,17 +172,17 @@ module _ (basin : Draft) (policy : Accepted) (session : Session) (inputs : Input
       let split = split_at basin in_run 1 start next.way.log now_kept spare.behind (spare.behind + 1) (omega arith) few next.way.linked in
       let met : split.0 ≡ comes.log =
       same_end basin in_run left.0 1 start split.0 comes.log
-      (subst (λ kept. AreLinked basin in_run 1 start kept split.0) (stay ∙ first) split.1)
-      (subst (λ kept. AreLinked basin in_run 1 start kept comes.log) first comes.taken.linked) in record {
+      (subst (λ kept. AreStepLinks basin in_run 1 start kept split.0) (stay ∙ first) split.1)
+      (subst (λ kept. AreStepLinks basin in_run 1 start kept comes.log) first comes.taken.linked) in record {
         stands = record {
           made = comes.made;
           traced = comes.traced;
           few = few;
           log = comes.log;
           shows = comes.shows;
-          before = subst (λ kept. AreLinked basin in_run 1 start kept comes.log) (sym stay) comes.taken.linked;
-          rest = subst (λ end. AreLinked basin in_run (spare.behind + 1) comes.log (drop spare.behind now_kept) end) same
-              (subst (λ log. AreLinked basin in_run (spare.behind + 1) log (drop spare.behind now_kept) next.way.log) met split.2);
+          before = subst (λ kept. AreStepLinks basin in_run 1 start kept comes.log) (sym stay) comes.taken.linked;
+          rest = subst (λ end. AreStepLinks basin in_run (spare.behind + 1) comes.log (drop spare.behind now_kept) end) same
+              (subst (λ log. AreStepLinks basin in_run (spare.behind + 1) log (drop spare.behind now_kept) next.way.log) met split.2);
         };
         known = λ place entry first_one last there. all_known now_kept left.0 spare.behind (stay ∙ first) place entry last there;
       }

@@ -28,8 +28,8 @@ use Rattle.rw_engine.specs.declared.step_end.StepEnd.TheVariants.{Closed as IsCl
 use Rattle.rw_engine.proofs.Backs.{can_show}
 use Rattle.rpl_verify.specs.Verified.{Accepted}
 use Rattle.rw_rules.specs.Rules.{policy_in}
-use Rattle.rw_rerun.specs.Kept.{IsKept, IsKeptAs, IsLink}
-use Rattle.rw_rerun.specs.Session.{numbers_of}
+use Rattle.rw_rerun.specs.Kept.{IsKeptOrNot, IsKeptAs, IsStepLink}
+use Rattle.rw_rerun.specs.Session.{numbers_of_steps}
 use Rattle.rw_rerun.specs.UnderWay.{IsReplayable, GoesOn, IsPassOf, IsUnlike, stands_at}
 use Rattle.rw_rerun.specs.declared.pass.Pass.{Pass}
 use Rattle.rw_rerun.proofs.Anew.{IsClosedIn, kept_again, kept_anew, record_stands, these_again}
@@ -44,7 +44,7 @@ unlike_now series cells (Some kept) same unlike = λ are. unlike (λ one has. sa
 link_anew : (basin : Draft) (policy : Policy) (step : ℕ) (now log : Log) (first : Event) (events : List Event) (found : Option StepRecord)
     → IsTimestep basin policy step now first events → log ≡ log_after (first ∷ events) (opened step ∷ now)
     → events_of step log ≡ log_after (first ∷ events) (opened step ∷ []) → RecordsOrNot basin step now (first ∷ events) found
-    → IsKept basin policy log step found → CanShow basin step now → IsLink basin policy step now found log
+    → IsKeptOrNot basin policy log step found → CanShow basin step now → IsStepLink basin policy step now found log
 link_anew basin policy step now log first events None timestep is own records kept could = tt
 link_anew basin policy step now log first events (Some it) timestep is own records kept could = record {
   first = first;
@@ -82,7 +82,7 @@ module _ (basin : Draft) (policy : Accepted) (step : ℕ) (old new : Pass) (made
     made = record { made = replays.made policy made.made; traced = replays.keeps_trace made.traced };
     goes = λ inputs earlier was last entry framed there fits next_one way.
         let is : IsKeptAs basin in_run earlier step kept =
-        subst (IsKept basin in_run earlier step) fits (subst (λ s. IsKept basin in_run earlier s entry) (sym next_one) there.kept) in
+        subst (IsKeptOrNot basin in_run earlier step) fits (subst (λ s. IsKeptOrNot basin in_run earlier s entry) (sym next_one) there.kept) in
         let now : Log = way.log in
         let held_now : AreHeld (cells_of basin now) kept.looked = λ one has. sym (way.shows.cells one.cell) ∙ alike one has in
         let rest : standing now ≡ rests last = way.stands ∙ ap (λ o. stands_at o last) goes in
@@ -106,11 +106,11 @@ module _ (basin : Draft) (policy : Accepted) (step : ℕ) (old new : Pass) (made
         subst (λ l. IsClosedIn step l now is.first is.events) (sym same) (record { behind = facts.0; own = facts.1; closing = facts.2 }) in
         one_on basin in_run inputs earlier was old new last step entry None way next_one there.there changes log passes.events passes.leads passes.shows
         (ap standing ends ∙ sym (ap (λ o. stands_at o step) still_goes)) closed_in.behind
-        (subst (λ (steps : List StepNo). AreRerun basin earlier log (numbers_of steps)) (sym reran)
-        (taken_over basin earlier now log step (numbers_of old.reran.items) closed_in.behind (λ other far. (nothing_of other now (none other far)).0) way.rerun
+        (subst (λ (steps : List StepNo). AreRerun basin earlier log (numbers_of_steps steps)) (sym reran)
+        (taken_over basin earlier now log step (numbers_of_steps old.reran.items) closed_in.behind (λ other far. (nothing_of other now (none other far)).0) way.rerun
         (is_reused basin in_run earlier log now step kept is closed_in.behind.opening held_now)))
-        (subst (IsKept basin in_run log step) (sym fits) (kept_again basin in_run earlier log now step kept is held_now closed_in timestep))
-        (subst (λ kept. IsLink basin in_run step now kept log) (sym fits) (record {
+        (subst (IsKeptOrNot basin in_run log step) (sym fits) (kept_again basin in_run earlier log now step kept is held_now closed_in timestep))
+        (subst (λ kept. IsStepLink basin in_run step now kept log) (sym fits) (record {
           first = is.first;
           events = is.events;
           timestep = timestep;
@@ -134,10 +134,10 @@ module _ (basin : Draft) (policy : Accepted) (step : ℕ) (old new : Pass) (made
     one_more : after + length old.reran.items ≡ before + length new.reran.items
     one_more = let all = ap length reran in let more = length-append old.reran.items (number ∷ []) in omega (arith, all, more, counted)
 
-    listed : (earlier log : Log) → AreRerun basin earlier log (numbers_of old.reran.items ++ step ∷ []) → AreRerun basin earlier log (numbers_of new.reran.items)
+    listed : (earlier log : Log) → AreRerun basin earlier log (numbers_of_steps old.reran.items ++ step ∷ []) → AreRerun basin earlier log (numbers_of_steps new.reran.items)
     listed earlier log are =
         subst (AreRerun basin earlier log)
-        (ap (λ n. numbers_of old.reran.items ++ n ∷ []) (sym at) ∙ sym (numbers_more old.reran.items number) ∙ ap numbers_of (sym reran)) are
+        (ap (λ n. numbers_of_steps old.reran.items ++ n ∷ []) (sym at) ∙ sym (numbers_more old.reran.items number) ∙ ap numbers_of_steps (sym reran)) are
 
     pub run_goes : (found : Option StepRecord) → new.over ≡ false → RunsStep basin policy step old.engine new.engine (Ok IsClosed)
         → ((basin : Draft) (step : ℕ) (old : Log) (events : List Event) → HasNoted basin step old events new.engine → new.engine.closed ≡ step
@@ -162,8 +162,8 @@ module _ (basin : Draft) (policy : Accepted) (step : ℕ) (old new : Pass) (made
           one_on basin in_run inputs earlier was old new last step entry (Some found) way next_one there.there changes log passes.events passes.leads passes.shows
           (ap (λ e. standing (e ∷ passes.before)) passes.ends ∙ sym (ap (λ o. stands_at o step) still_goes)) closed_in.behind
           (listed earlier log
-          (run_again basin earlier now log step (numbers_of old.reran.items) closed_in.behind (λ other far. (nothing_of other now (none other far)).0) way.rerun
-          (not_reused basin in_run earlier log now step entry (subst (λ s. IsKept basin in_run earlier s entry) (sym next_one) there.kept) closed_in.behind.opening
+          (run_again basin earlier now log step (numbers_of_steps old.reran.items) closed_in.behind (λ other far. (nothing_of other now (none other far)).0) way.rerun
+          (not_reused basin in_run earlier log now step entry (subst (λ s. IsKeptOrNot basin in_run earlier s entry) (sym next_one) there.kept) closed_in.behind.opening
           (unlike_now (held old.engine.series) (cells_of basin now) entry (λ one. way.shows.cells one.cell) fits))))
           (kept_anew basin in_run step log now closes.first closes.events closed_in closes.timestep new.engine noted (how_many basin (cells_of basin now)) found
           (records basin step now (closes.first ∷ closes.events) noted runs.closed_steps))
@@ -198,8 +198,8 @@ module _ (basin : Draft) (policy : Accepted) (step : ℕ) (old new : Pass) (made
           one_on basin in_run inputs earlier was old new last step entry (Some None) way next_one there.there changes log passes.events passes.leads passes.shows
           (ap standing ends ∙ sym (ap (λ o. stands_at o step) ended)) behind
           (listed earlier log
-          (run_again basin earlier now log step (numbers_of old.reran.items) behind (λ other far. (nothing_of other now (none other far)).0) way.rerun
-          (not_reused basin in_run earlier log now step entry (subst (λ s. IsKept basin in_run earlier s entry) (sym next_one) there.kept) behind.opening
+          (run_again basin earlier now log step (numbers_of_steps old.reran.items) behind (λ other far. (nothing_of other now (none other far)).0) way.rerun
+          (not_reused basin in_run earlier log now step entry (subst (λ s. IsKeptOrNot basin in_run earlier s entry) (sym next_one) there.kept) behind.opening
           (unlike_now (held old.engine.series) (cells_of basin now) entry (λ one. way.shows.cells one.cell) fits))))
           (not_kept basin in_run step log (ap (before_closing step) ends ∙ facts.1)) tt (λ same. absurd (false≢true (sym same ∙ ended)));
       grows = (Some None ∷ [], changes);

@@ -9,7 +9,7 @@ use Rattle.rw_run.specs.Reuse.{most_kept}
 use Rattle.rw_run.specs.RunOf.{lines}
 use Rattle.rw_run.specs.Step.{before_closing, before_opening, cell_count, events_of, reached_by}
 use Rattle.rw_record.specs.Record.{StepRecord}
-use Rattle.rw_rerun.specs.Kept.{AreKept, AreLinked, IsKept, IsKeepable, IsLink, changed}
+use Rattle.rw_rerun.specs.Kept.{AreKept, AreStepLinks, IsKeptOrNot, IsKeepable, IsStepLink, changed}
 use Rattle.rw_rerun.specs.Spare.{AreKeptFrom}
 
 -- by what it closed and its events
@@ -22,8 +22,8 @@ keepable_same basin step log other closings events is = record {
 }
 
 kept_same : (basin : Draft) (policy : Policy) (step : ℕ) (log other : Log) (entry : Option StepRecord) → before_opening step other ≡ before_opening step log
-    → before_closing step other ≡ before_closing step log → events_of step other ≡ events_of step log → IsKept basin policy log step entry
-    → IsKept basin policy other step entry
+    → before_closing step other ≡ before_closing step log → events_of step other ≡ events_of step log → IsKeptOrNot basin policy log step entry
+    → IsKeptOrNot basin policy other step entry
 kept_same basin policy step log other None openings closings events is =
     λ keepable. is (keepable_same basin step other log (sym closings) (sym events) keepable)
 kept_same basin policy step log other (Some kept) openings closings events is = record {
@@ -48,40 +48,40 @@ still_kept basin policy step first log other (entry ∷ kept) behind near are =
     )
 
 pub kept_more : (basin : Draft) (policy : Policy) (step first : ℕ) (log : Log) (kept : List (Option StepRecord)) (entry : Option StepRecord)
-    → step ≡ first + length kept → AreKept basin policy log first kept → IsKept basin policy log step entry
+    → step ≡ first + length kept → AreKept basin policy log first kept → IsKeptOrNot basin policy log step entry
     → AreKept basin policy log first (kept ++ entry ∷ [])
 kept_more basin policy step first log [] entry at are is =
-    let here : step ≡ first = omega (arith, at) in (subst (λ k. IsKept basin policy log k entry) here is, tt)
+    let here : step ≡ first = omega (arith, at) in (subst (λ k. IsKeptOrNot basin policy log k entry) here is, tt)
 kept_more basin policy step first log (one ∷ kept) entry at are is =
     (are.0, kept_more basin policy step (first + 1) log kept entry (omega (arith, at)) are.1 is)
 
 pub linked_more : (basin : Draft) (policy : Policy) (step first : ℕ) (log end next : Log) (kept : List (Option StepRecord)) (entry : Option StepRecord)
-    → step ≡ first + length kept → AreLinked basin policy first log kept end → IsLink basin policy step end entry next
-    → AreLinked basin policy first log (kept ++ entry ∷ []) next
+    → step ≡ first + length kept → AreStepLinks basin policy first log kept end → IsStepLink basin policy step end entry next
+    → AreStepLinks basin policy first log (kept ++ entry ∷ []) next
 linked_more basin policy step first log end next [] entry at are is =
     let here : step ≡ first = omega (arith, at) in
-    (next, subst (λ k. IsLink basin policy k log entry next) here (subst (λ l. IsLink basin policy step l entry next) are is), refl)
+    (next, subst (λ k. IsStepLink basin policy k log entry next) here (subst (λ l. IsStepLink basin policy step l entry next) are is), refl)
 linked_more basin policy step first log end next (one ∷ kept) entry at are is =
     (are.0, are.1, linked_more basin policy step (first + 1) are.0 end next kept entry (omega (arith, at)) are.2 is)
 
 -- up to one of them, which leads to the others
 pub record SplitsAt (basin : Draft) (policy : Policy) (first here : ℕ) (start log end : Log) (was : List (Option StepRecord)) (count : ℕ) (entry : Option StepRecord) : Type 0 where
   pub mid : Log
-  pub before : AreLinked basin policy first start (take count was) mid
-  pub link : IsLink basin policy here mid entry log
-  pub rest : AreLinked basin policy here mid (drop count was) end
+  pub before : AreStepLinks basin policy first start (take count was) mid
+  pub link : IsStepLink basin policy here mid entry log
+  pub rest : AreStepLinks basin policy here mid (drop count was) end
 
 pub split_back : (basin : Draft) (policy : Policy) (first here : ℕ) (start log end : Log) (was : List (Option StepRecord)) (count : ℕ) (entry : Option StepRecord)
-    → here ≡ first + count → slice_get was count ≡ Some entry → AreLinked basin policy first start (take (suc count) was) log
-    → AreLinked basin policy (here + 1) log (drop (suc count) was) end → SplitsAt basin policy first here start log end was count entry
+    → here ≡ first + count → slice_get was count ≡ Some entry → AreStepLinks basin policy first start (take (suc count) was) log
+    → AreStepLinks basin policy (here + 1) log (drop (suc count) was) end → SplitsAt basin policy first here start log end was count entry
 split_back basin policy first here start log end [] count entry at there before rest = absurd (none-some _ there)
 split_back basin policy first here start log end (one ∷ was) zero entry at there before rest =
     let same : first ≡ here = omega (arith, at) in
-    let link : IsLink basin policy here start one log =
-    subst (λ s. IsLink basin policy s start one log) same (subst (λ l. IsLink basin policy first start one l) (sym before.2) before.1) in record {
+    let link : IsStepLink basin policy here start one log =
+    subst (λ s. IsStepLink basin policy s start one log) same (subst (λ l. IsStepLink basin policy first start one l) (sym before.2) before.1) in record {
       mid = start;
       before = refl;
-      link = subst (λ e. IsLink basin policy here start e log) (same_Some one entry there) link;
+      link = subst (λ e. IsStepLink basin policy here start e log) (same_Some one entry there) link;
       rest = (log, link, rest);
     }
 split_back basin policy first here start log end (one ∷ was) (suc count) entry at there before rest =
@@ -94,10 +94,10 @@ split_back basin policy first here start log end (one ∷ was) (suc count) entry
 
 -- they split at each place
 pub split_at : (basin : Draft) (policy : Policy) (first : ℕ) (start end : Log) (was : List (Option StepRecord)) (count next : ℕ) → next ≡ first + count
-    → count ≤ length was → AreLinked basin policy first start was end
-    → (mid : Log) × AreLinked basin policy first start (take count was) mid × AreLinked basin policy next mid (drop count was) end
+    → count ≤ length was → AreStepLinks basin policy first start was end
+    → (mid : Log) × AreStepLinks basin policy first start (take count was) mid × AreStepLinks basin policy next mid (drop count was) end
 split_at basin policy first start end was zero next at few linked =
-    let here : first ≡ next = omega (arith, at) in (start, refl, subst (λ s. AreLinked basin policy s start was end) here linked)
+    let here : first ≡ next = omega (arith, at) in (start, refl, subst (λ s. AreStepLinks basin policy s start was end) here linked)
 split_at basin policy first start end [] (suc count) next at few linked = absurd (omega (arith, few))
 split_at basin policy first start end (one ∷ was) (suc count) next at few linked =
     let more = split_at basin policy (first + 1) linked.0 end was count next (omega (arith, at)) (omega (arith, few)) linked.2 in
@@ -119,14 +119,14 @@ length_changed (one ∷ was) (change ∷ changes) few = ap suc (length_changed w
 
 -- of one timestep
 pub kept_there : (basin : Draft) (policy : Policy) (log : Log) (first place : ℕ) (was : List (Option StepRecord)) (entry : Option StepRecord)
-    → AreKept basin policy log first was → slice_get was place ≡ Some entry → IsKept basin policy log (first + place) entry
+    → AreKept basin policy log first was → slice_get was place ≡ Some entry → IsKeptOrNot basin policy log (first + place) entry
 kept_there basin policy log first place [] entry are there = absurd (none-some _ there)
 kept_there basin policy log first zero (one ∷ was) entry are there =
     let here : first ≡ first + zero = omega arith in
-    subst (λ step. IsKept basin policy log step entry) here (subst (IsKept basin policy log first) (same_Some one entry there) are.0)
+    subst (λ step. IsKeptOrNot basin policy log step entry) here (subst (IsKeptOrNot basin policy log first) (same_Some one entry there) are.0)
 kept_there basin policy log first (suc place) (one ∷ was) entry are there =
     let here : (first + 1) + place ≡ first + suc place = omega arith in
-    subst (λ step. IsKept basin policy log step entry) here (kept_there basin policy log (first + 1) place was entry are.1 there)
+    subst (λ step. IsKeptOrNot basin policy log step entry) here (kept_there basin policy log (first + 1) place was entry are.1 there)
 
 -- first timesteps of which nothing is changed stay
 pub stay_first : (was : List (Option StepRecord)) (behind : ℕ) (more : List (Option (Option StepRecord))) → behind ≤ length was

@@ -14,7 +14,7 @@ use Rattle.rw_run.specs.Step.{before_opening, looked_at, reached_by}
 use Rattle.rw_run.specs.declared.held.Held.{Held}
 use Rattle.rw_record.specs.Noted.{AreHeld}
 use Rattle.rw_record.specs.Record.{StepRecord}
-use Rattle.rw_rerun.specs.Kept.{IsKept, IsKeptAs}
+use Rattle.rw_rerun.specs.Kept.{IsKeptOrNot, IsKeptAs}
 
 -- ---- what events reach, whichever of them is the newest
 
@@ -109,7 +109,7 @@ module _ (basin : Draft) (policy : Policy) (earlier later now : Log) (step : ℕ
       ap (λ log. cells_of basin log one.cell) (sym same_other) ∙ sym alike ∙ ap (λ log. cells_of basin log one.cell) same_one ∙ sym both.1
 
   -- where there is no record, or one that isn't alike, it isn't reused
-  pub not_reused : (entry : Option StepRecord) → IsKept basin policy earlier step entry → before_opening step later ≡ Some now
+  pub not_reused : (entry : Option StepRecord) → IsKeptOrNot basin policy earlier step entry → before_opening step later ≡ Some now
       → IfSome entry (λ kept. ¬ AreHeld (cells_of basin now) kept.looked) → ¬ IsReused basin earlier later step
   not_reused None is opening unlike = λ reused. is (record { closing = reused.closed; few_cells = reused.few_cells; few_lines = reused.few_lines })
   not_reused (Some kept) is opening unlike = λ reused. unlike (is_alike kept is opening reused)

@@ -13,8 +13,8 @@ use Rattle.rw_run.proofs.OneRun.{one_run}
 use Rattle.rw_record.specs.Record.{AreRisingCells, StepRecord}
 use Rattle.rpl_verify.specs.Verified.{Accepted}
 use Rattle.rw_rules.specs.Rules.{policy_in}
-use Rattle.rw_rerun.specs.Kept.{AreKept, IsKept, IsKeepable, changed}
-use Rattle.rw_rerun.specs.Session.{Applies, IsSessionOf, IsStarted, Session, numbers_of}
+use Rattle.rw_rerun.specs.Kept.{AreKept, IsKeptOrNot, IsKeepable, changed}
+use Rattle.rw_rerun.specs.Session.{Applies, IsSessionOf, IsStarted, Session, numbers_of_steps}
 use Rattle.rw_rerun.specs.Touched.{AreRisingIn}
 use Rattle.rw_rerun.specs.UnderWay.{AreReplayable, GoesOn, IsEntry, IsReplayable, IsPassOf, IsUnderWay}
 use Rattle.rw_rerun.specs.declared.pass.Pass.{Pass}
@@ -89,7 +89,7 @@ replayed_from : (basin : Draft) (policy : Policy) (log : Log) (first place : ℕ
     → slice_get was place ≡ Some (Some kept) → IsReplayable basin (first + place) kept
 replayed_from basin policy log first place [] kept are there = absurd (none-some _ there)
 replayed_from basin policy log first zero (entry ∷ was) kept are there =
-    let is = subst (IsKept basin policy log first) (same_Some entry (Some kept) there) are.0 in
+    let is = subst (IsKeptOrNot basin policy log first) (same_Some entry (Some kept) there) are.0 in
     let here : first ≡ first + zero = omega arith in record { step_is = is.these.step_is ∙ here; can = is.these.can }
 replayed_from basin policy log first (suc place) (entry ∷ was) kept are there =
     let here : (first + 1) + place ≡ first + suc place = omega arith in
@@ -108,12 +108,12 @@ applies basin policy batch inputs old pass session values given made way = recor
   is = is_session basin policy inputs session.log old.kept pass given made session.many way old.basin old.policy session.of_basin session.by_policy;
   values = values;
   rerun = λ earlier run'.
-      subst (λ log. AreRerun basin log way.log (numbers_of pass.reran.items))
+      subst (λ log. AreRerun basin log way.log (numbers_of_steps pass.reran.items))
       (one_run basin (policy_in basin policy) (givens basin old.inputs) session.log earlier session.whole run') way.rerun;
 }
 
 -- the cells of each record rise
-rising_in : (basin : Draft) (policy : Policy) (log : Log) (step : ℕ) (entry : Option StepRecord) → IsKept basin policy log step entry
+rising_in : (basin : Draft) (policy : Policy) (log : Log) (step : ℕ) (entry : Option StepRecord) → IsKeptOrNot basin policy log step entry
     → IfSome entry (λ kept. AreRisingCells kept.looked)
 rising_in basin policy log step None is = tt
 rising_in basin policy log step (Some kept) is = is.these.rising
@@ -137,7 +137,7 @@ pub entry_is : (basin : Draft) (policy : Policy) (earlier : Log) (was : List (Op
     → AreKept basin policy earlier 1 was → slice_get was place ≡ Some entry → IsEntry basin policy earlier was place entry
 entry_is basin policy earlier was place entry are there =
     let here : 1 + place ≡ place + 1 = omega arith in
-    record { there = there; kept = subst (λ step. IsKept basin policy earlier step entry) here (kept_there basin policy earlier 1 place was entry are there) }
+    record { there = there; kept = subst (λ step. IsKeptOrNot basin policy earlier step entry) here (kept_there basin policy earlier 1 place was entry are there) }
 
 -- a call that comes behind it
 pub passes_on : (basin : Draft) (policy : Accepted) (inputs : Inputs) (earlier : Log) (was : List (Option StepRecord)) (place : ℕ) (entry : Option StepRecord)

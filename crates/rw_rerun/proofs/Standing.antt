@@ -23,7 +23,7 @@ use Rattle.rw_engine.proofs.Backs.{taken}
 use Rattle.rw_engine.proofs.Steps.{trace_after}
 use Rattle.rw_rules.specs.Rules.{policy_in}
 use Rattle.rw_rerun.specs.Begun.{AreWithout}
-use Rattle.rw_rerun.specs.Kept.{AreLinked, IsLinkOf}
+use Rattle.rw_rerun.specs.Kept.{AreStepLinks, IsLinkOf}
 use Rattle.rw_rerun.specs.Spare.{BringsTo, StandsIn}
 use Rattle.rw_rerun.specs.UnderWay.{IsReplayable}
 use Rattle.rw_rerun.specs.declared.spare.Spare.{Spare}
@@ -38,14 +38,14 @@ link_unmoved basin policy step log next kept cell link none =
     ∙ (taken basin policy step log link.first link.events kept.looked link.timestep link.these.looked).same cell none
 
 pub unmoved_in : (basin : Draft) (policy : Policy) (records : List StepRecord) (step : ℕ) (log end : Log) (cell : Cell)
-    → AreLinked basin policy step log (map (λ kept. Some kept) records) end → AreWithout cell records → cells_of basin end cell ≡ cells_of basin log cell
+    → AreStepLinks basin policy step log (map (λ kept. Some kept) records) end → AreWithout cell records → cells_of basin end cell ≡ cells_of basin log cell
 unmoved_in basin policy [] step log end cell linked without = ap (λ l. cells_of basin l cell) linked
 unmoved_in basin policy (first ∷ rest) step log end cell linked without =
     unmoved_in basin policy rest (step + 1) linked.0 end cell linked.2 without.1
     ∙ link_unmoved basin policy step log linked.0 first cell linked.1 without.0
 
 pub told_by : (basin : Draft) (policy : Policy) (records : List StepRecord) (step : ℕ) (log end : Log)
-    → AreLinked basin policy step log (map (λ kept. Some kept) records) end
+    → AreStepLinks basin policy step log (map (λ kept. Some kept) records) end
     → trace_of end ≡ trace_of log ++ flat_map (λ (kept : StepRecord). kept.lines) records
 told_by basin policy [] step log end linked = ap trace_of linked ∙ sym (append-nil (trace_of log))
 told_by basin policy (first ∷ rest) step log end linked =
@@ -77,8 +77,8 @@ goes_back basin was old new kept some is there takes = record {
       let count : ℕ = old.behind - 1 in
       let more : old.behind ≡ suc count = omega (arith, some) in
       let split = split_back basin (policy_in basin policy) 1 old.behind start stands.log end was count (Some kept) (omega (arith, some)) there
-      (subst (λ n. AreLinked basin (policy_in basin policy) 1 start (take n was) stands.log) more stands.before)
-      (subst (λ n. AreLinked basin (policy_in basin policy) (old.behind + 1) stands.log (drop n was) end) more stands.rest) in
+      (subst (λ n. AreStepLinks basin (policy_in basin policy) 1 start (take n was) stands.log) more stands.before)
+      (subst (λ n. AreStepLinks basin (policy_in basin policy) (old.behind + 1) stands.log (drop n was) end) more stands.rest) in
       let back = link_back basin (policy_in basin policy) old.behind split.mid stands.log kept old new split.link takes stands.shows in
       let next_one : old.behind ≡ new.behind + 1 = omega (arith, is, some) in record {
         made = back.made policy stands.made;
@@ -86,9 +86,9 @@ goes_back basin was old new kept some is there takes = record {
         few = let few = stands.few in omega (arith, is, few);
         log = split.mid;
         shows = back.shows;
-        before = subst (λ n. AreLinked basin (policy_in basin policy) 1 start (take n was) split.mid) (sym is) split.before;
-        rest = subst (λ n. AreLinked basin (policy_in basin policy) n split.mid (drop new.behind was) end) next_one
-            (subst (λ n. AreLinked basin (policy_in basin policy) old.behind split.mid (drop n was) end) (sym is) split.rest);
+        before = subst (λ n. AreStepLinks basin (policy_in basin policy) 1 start (take n was) split.mid) (sym is) split.before;
+        rest = subst (λ n. AreStepLinks basin (policy_in basin policy) n split.mid (drop new.behind was) end) next_one
+            (subst (λ n. AreStepLinks basin (policy_in basin policy) old.behind split.mid (drop n was) end) (sym is) split.rest);
       };
 }
 
@@ -135,8 +135,8 @@ goes_on basin was next old new kept done framed exists on at there replays = rec
       let is : new.behind ≡ old.behind + 1 = at ∙ on in
       let within = slice_get_within was old.behind (Some kept) there in
       let here = get_or_from_slice_get was old.behind (Some kept) (Some kept) there in
-      let linked : AreLinked basin in_run step stands.log (Some kept ∷ drop step was) end =
-      subst (λ ks. AreLinked basin in_run step stands.log ks end)
+      let linked : AreStepLinks basin in_run step stands.log (Some kept ∷ drop step was) end =
+      subst (λ ks. AreStepLinks basin in_run step stands.log ks end)
       (drop_more was old.behind (Some kept) within ∙ ap (λ (k : Option StepRecord). k ∷ drop step was) here) stands.rest in
       let many : length (take old.behind was) ≡ old.behind = length_taken old.behind was (omega (arith, within)) in record {
         made = replays.made policy stands.made;
@@ -144,11 +144,11 @@ goes_on basin was next old new kept done framed exists on at there replays = rec
         few = omega (arith, is, within);
         log = linked.0;
         shows = link_on basin in_run step stands.log linked.0 kept old new done (framed policy stands.made.fits) exists linked.1 replays stands.shows;
-        before = subst (λ n. AreLinked basin in_run 1 start (take n was) linked.0) (sym is)
-            (subst (λ ks. AreLinked basin in_run 1 start ks linked.0)
+        before = subst (λ n. AreStepLinks basin in_run 1 start (take n was) linked.0) (sym is)
+            (subst (λ ks. AreStepLinks basin in_run 1 start ks linked.0)
             (sym (take_more was old.behind (Some kept) within ∙ ap (λ (k : Option StepRecord). take old.behind was ++ k ∷ []) here))
             (linked_more basin in_run step 1 start stands.log linked.0 (take old.behind was) (Some kept) (omega (arith, many)) stands.before linked.1));
-        rest = subst (λ n. AreLinked basin in_run (n + 1) linked.0 (drop n was) end) (sym is) linked.2;
+        rest = subst (λ n. AreStepLinks basin in_run (n + 1) linked.0 (drop n was) end) (sym is) linked.2;
       };
 }
 
@@ -157,8 +157,8 @@ pub replays_on : (basin : Draft) (policy : Accepted) (start end : Log) (was : Li
 replays_on basin policy start end was spare kept stands there =
     let within = slice_get_within was spare.behind (Some kept) there in
     let here = get_or_from_slice_get was spare.behind (Some kept) (Some kept) there in
-    let linked : AreLinked basin (policy_in basin policy) (spare.behind + 1) stands.log (Some kept ∷ drop (spare.behind + 1) was) end =
-    subst (λ ks. AreLinked basin (policy_in basin policy) (spare.behind + 1) stands.log ks end)
+    let linked : AreStepLinks basin (policy_in basin policy) (spare.behind + 1) stands.log (Some kept ∷ drop (spare.behind + 1) was) end =
+    subst (λ ks. AreStepLinks basin (policy_in basin policy) (spare.behind + 1) stands.log ks end)
     (drop_more was spare.behind (Some kept) within ∙ ap (λ (k : Option StepRecord). k ∷ drop (spare.behind + 1) was) here) stands.rest in
     let link : IsLinkOf basin (policy_in basin policy) (spare.behind + 1) stands.log kept linked.0 = linked.1 in
     record { step_is = link.these.step_is; can = link.these.can }

@@ -22,7 +22,7 @@ use Rattle.rpl_verify.specs.Verified.{Accepted, verified}
 use Rattle.rw_rules.specs.Rules.{policy_in}
 use Rattle.rw_rerun.specs.Begun.{AreAlikeIn, HasTakenOver, TakesOver}
 use Rattle.rw_rerun.specs.Edited.{AreEdited, BecomesSpare, HasComeBehind, LeavesFirst, TakesFirst}
-use Rattle.rw_rerun.specs.Kept.{AreKept, AreLinked, IsLinkOf}
+use Rattle.rw_rerun.specs.Kept.{AreKept, AreStepLinks, IsLinkOf}
 use Rattle.rw_rerun.specs.Session.{IsSessionOf, Session}
 use Rattle.rw_rerun.specs.Spare.{AreKeptFrom, BringsTo, GivesAll, IsSpare, StandsIn}
 use Rattle.rw_rerun.specs.Touched.{CountsUntouched, is_untouched}
@@ -65,13 +65,13 @@ module _ (basin : Draft) (policy : Policy) (step : ℕ) where
       ∙ sym again.is
 
 pub same_end : (basin : Draft) (policy : Policy) (records : List StepRecord) (step : ℕ) (log one other : Log)
-    → AreLinked basin policy step log (map (λ kept. Some kept) records) one → AreLinked basin policy step log (map (λ kept. Some kept) records) other
+    → AreStepLinks basin policy step log (map (λ kept. Some kept) records) one → AreStepLinks basin policy step log (map (λ kept. Some kept) records) other
     → one ≡ other
 same_end basin policy [] step log one other first second = first ∙ sym second
 same_end basin policy (kept ∷ rest) step log one other first second =
     let same : first.0 ≡ second.0 = one_link basin policy step log first.0 second.0 kept first.1 second.1 in
     same_end basin policy rest (step + 1) second.0 one other
-    (subst (λ l. AreLinked basin policy (step + 1) l (map (λ kept. Some kept) rest) one) same first.2) second.2
+    (subst (λ l. AreStepLinks basin policy (step + 1) l (map (λ kept. Some kept) rest) one) same first.2) second.2
 
 -- ---- before all timesteps
 
@@ -110,7 +110,7 @@ alike_self basin log (kept ∷ rest) = (λ one has. refl, alike_self basin log r
 -- as many are taken over behind any inputs with which all is held alike that they hold
 module _ (basin : Draft) (policy : Policy) (one : Inputs) (earlier end : Log) (records : List StepRecord) (framed : IsFramed policy)
     (near : length records ≤ basin.control.stamps.count) (kept : AreKept basin policy earlier 1 (map (λ kept. Some kept) records))
-    (linked : AreLinked basin policy 1 (placed [] (givens basin one)) (map (λ kept. Some kept) records) end) where
+    (linked : AreStepLinks basin policy 1 (placed [] (givens basin one)) (map (λ kept. Some kept) records) end) where
   taken_by : (other : Inputs) → IsInputsOf basin other → AreAlikeIn basin (placed [] (givens basin one)) (placed [] (givens basin other)) records
       → TakesOver basin policy other earlier (map (λ kept. Some kept) records) (placed [] (givens basin one)) (placed [] (givens basin other)) end
       (length records)
@@ -130,7 +130,7 @@ module _ (basin : Draft) (policy : Policy) (one : Inputs) (earlier end : Log) (r
       (same_end basin policy records 1 (placed [] (givens basin one)) own.log end own.taken.linked linked) own.taken
 
 told_in : (basin : Draft) (policy : Policy) (inputs : Inputs) (records : List StepRecord) (end : Log)
-    → AreLinked basin policy 1 (placed [] (givens basin inputs)) (map (λ kept. Some kept) records) end
+    → AreStepLinks basin policy 1 (placed [] (givens basin inputs)) (map (λ kept. Some kept) records) end
     → trace_of end ≡ flat_map (λ (kept : StepRecord). kept.lines) records
 told_in basin policy inputs records end linked =
     told_by basin policy records 1 (placed [] (givens basin inputs)) end linked
@@ -185,7 +185,7 @@ pub takes_first : (basin : Draft) (policy : Policy) (old new : Inputs) (batch : 
     (was : List (Option StepRecord)) (behind : ℕ) → IsFramed policy → IsInputsOf basin old → IsInputsOf basin new
     → value_at new ≡ after_batch batch (value_at old) → AreEdited basin batch cells → length was ≡ basin.control.stamps.count
     → CountsUntouched basin cells was behind → AreKept basin policy earlier 1 was
-    → AreLinked basin policy 1 (placed [] (givens basin old)) (take behind was) end → TakesFirst basin policy new cells earlier end was behind
+    → AreStepLinks basin policy 1 (placed [] (givens basin old)) (take behind was) end → TakesFirst basin policy new cells earlier end was behind
 takes_first basin policy old new batch cells earlier end was behind framed old_made new_made values edited many untouched kept linked =
     let one : Log = placed [] (givens basin old) in
     let other : Log = placed [] (givens basin new) in
@@ -194,7 +194,7 @@ takes_first basin policy old new batch cells earlier end was behind framed old_m
     (λ cell apart. given_alike basin batch old new cells old_made values edited cell apart) in
     let near : length are.records ≤ basin.control.stamps.count = let same = are.many in let few = untouched.few in omega (arith, same, few, many) in
     let kept_here = subst (AreKept basin policy earlier 1) are.are (first_kept basin policy earlier 1 behind was kept) in
-    let linked_here = subst (λ ks. AreLinked basin policy 1 one ks end) are.are linked in
+    let linked_here = subst (λ ks. AreStepLinks basin policy 1 one ks end) are.are linked in
     first_taken basin policy old new batch cells earlier end was behind old_made new_made values edited are
     (taken_by basin policy old earlier end are.records framed near kept_here linked_here new new_made are.alike)
     (own_taken basin policy old earlier end are.records framed near kept_here linked_here old_made)
@@ -250,9 +250,9 @@ stands_behind_all basin policy session is =
       few = let many = is.many in omega (arith, many);
       log = is.log;
       shows = is.shows;
-      before = subst (λ ks. AreLinked basin (policy_in basin policy) 1 (placed [] (givens basin session.inputs)) ks is.log)
+      before = subst (λ ks. AreStepLinks basin (policy_in basin policy) 1 (placed [] (givens basin session.inputs)) ks is.log)
           (sym (take_all count session.kept few)) is.linked;
-      rest = subst (λ ks. AreLinked basin (policy_in basin policy) (count + 1) is.log ks is.log) (sym (drop_all count session.kept few)) refl;
+      rest = subst (λ ks. AreStepLinks basin (policy_in basin policy) (count + 1) is.log ks is.log) (sym (drop_all count session.kept few)) refl;
     }
 
 kept_untouched : (basin : Draft) (cells : List Cell) (entry : Option StepRecord) → is_untouched basin cells entry ≡ true → IsSome entry

@@ -12,8 +12,8 @@ use Rattle.rw_run.specs.Runs.{IsOver, IsRun, Leads, placed, rests, standing}
 use Rattle.rw_run.specs.Step.{before_closing, before_opening, events_of}
 use Rattle.rw_record.specs.Record.{StepRecord}
 use Rattle.rw_engine.specs.Shows.{CanShow, IsBefore, Shows}
-use Rattle.rw_rerun.specs.Kept.{AreKept, AreLinked, IsKept, IsLink, changed}
-use Rattle.rw_rerun.specs.Session.{numbers_of}
+use Rattle.rw_rerun.specs.Kept.{AreKept, AreStepLinks, IsKeptOrNot, IsStepLink, changed}
+use Rattle.rw_rerun.specs.Session.{numbers_of_steps}
 use Rattle.rw_rerun.specs.UnderWay.{Grows, IsUnderWay, stands_at}
 use Rattle.rw_rerun.specs.declared.pass.Pass.{Pass}
 use Rattle.rw_rerun.proofs.Keeping.{changed_more, kept_more, length_changed, linked_more, still_kept}
@@ -24,10 +24,10 @@ leads_more basin policy old [] last mid new one other = subst (λ log. Leads bas
 leads_more basin policy old (event ∷ first) last mid new one other = (one.0, leads_more basin policy (event ∷ old) first last mid new one.1 other)
 
 -- nothing is kept of a timestep that wasn't closed
-pub not_kept : (basin : Draft) (policy : Policy) (step : ℕ) (log : Log) → before_closing step log ≡ None → IsKept basin policy log step None
+pub not_kept : (basin : Draft) (policy : Policy) (step : ℕ) (log : Log) → before_closing step log ≡ None → IsKeptOrNot basin policy log step None
 not_kept basin policy step log none = λ keepable. absurd (false≢true (subst IsSome none keepable.closing))
 
-pub numbers_more : (steps : List StepNo) (step : StepNo) → numbers_of (steps ++ step ∷ []) ≡ numbers_of steps ++ step.0 ∷ []
+pub numbers_more : (steps : List StepNo) (step : StepNo) → numbers_of_steps (steps ++ step ∷ []) ≡ numbers_of_steps steps ++ step.0 ∷ []
 numbers_more [] step = refl
 numbers_more (first ∷ steps) step = ap (λ rest. first.0 ∷ rest) (numbers_more steps step)
 
@@ -52,18 +52,18 @@ module _ (basin : Draft) (policy : Policy) (inputs : Inputs) (earlier : Log) (wa
   changed_now : changed was new.changes.items ≡ changed was old.changes.items ++ unwrap_or change entry ∷ []
   changed_now = ap (changed was) changes ∙ changed_more was old.changes.items entry change (ap (slice_get was) way.many ∙ there)
 
-  linked_now : (log : Log) → IsLink basin policy step way.log (unwrap_or change entry) log
-      → AreLinked basin policy 1 (placed [] (givens basin inputs)) (changed was new.changes.items) log
+  linked_now : (log : Log) → IsStepLink basin policy step way.log (unwrap_or change entry) log
+      → AreStepLinks basin policy 1 (placed [] (givens basin inputs)) (changed was new.changes.items) log
   linked_now log link =
       let many = kept_so_far in
-      subst (λ kept. AreLinked basin policy 1 (placed [] (givens basin inputs)) kept log) (sym changed_now)
+      subst (λ kept. AreStepLinks basin policy 1 (placed [] (givens basin inputs)) kept log) (sym changed_now)
       (linked_more basin policy step 1 (placed [] (givens basin inputs)) way.log log (changed was old.changes.items) (unwrap_or change entry)
       (omega (arith, many, next_one)) way.linked link)
 
   -- one timestep more was passed
   pub one_on : (log : Log) (more : List Event) → Leads basin policy way.log more log → Shows basin new.engine log → standing log ≡ stands_at new.over step
-      → IsBehind step way.log log → AreRerun basin earlier log (numbers_of new.reran.items) → IsKept basin policy log step (unwrap_or change entry)
-      → IsLink basin policy step way.log (unwrap_or change entry) log → (new.over ≡ false → CanShow basin (step + 1) log)
+      → IsBehind step way.log log → AreRerun basin earlier log (numbers_of_steps new.reran.items) → IsKeptOrNot basin policy log step (unwrap_or change entry)
+      → IsStepLink basin policy step way.log (unwrap_or change entry) log → (new.over ≡ false → CanShow basin (step + 1) log)
       → IsUnderWay basin policy inputs earlier was new step
   one_on log more leads shows stands behind rerun kept link could = record {
     many = so_many;
@@ -94,12 +94,12 @@ module _ (basin : Draft) (policy : Policy) (inputs : Inputs) (earlier : Log) (wa
     stands = way.stands ∙ ap (λ o. stands_at o last) was_over ∙ sym (ap (λ o. stands_at o step) is_over);
     shown = λ ends. absurd (false≢true (sym ends ∙ is_over));
     later = λ other far. way.later other (omega (arith, far, next_one));
-    rerun = subst (λ (steps : List StepNo). AreRerun basin earlier way.log (numbers_of steps)) (sym reran) way.rerun;
+    rerun = subst (λ (steps : List StepNo). AreRerun basin earlier way.log (numbers_of_steps steps)) (sym reran) way.rerun;
     kept = let many = kept_so_far in
         subst (AreKept basin policy way.log 1) (sym changed_now)
         (kept_more basin policy step 1 way.log (changed was old.changes.items) (unwrap_or change entry) (omega (arith, many, next_one)) way.kept
-        (subst (λ c. IsKept basin policy way.log step (unwrap_or c entry)) (sym nothing) (not_kept basin policy step way.log unclosed)));
-    linked = linked_now way.log (subst (λ c. IsLink basin policy step way.log (unwrap_or c entry) way.log) (sym nothing) tt);
+        (subst (λ c. IsKeptOrNot basin policy way.log step (unwrap_or c entry)) (sym nothing) (not_kept basin policy step way.log unclosed)));
+    linked = linked_now way.log (subst (λ c. IsStepLink basin policy step way.log (unwrap_or c entry) way.log) (sym nothing) tt);
   }
 
   -- the timestep may be passed
@@ -134,7 +134,7 @@ first_way basin policy inputs earlier was pass changes reran goes shows stands n
   stands = stands ∙ sym (ap (λ o. stands_at o 0) goes);
   shown = λ same. could;
   later = λ other far. none other;
-  rerun = subst (λ steps. AreRerun basin earlier (placed [] (givens basin inputs)) (numbers_of steps)) (sym reran) (record {
+  rerun = subst (λ steps. AreRerun basin earlier (placed [] (givens basin inputs)) (numbers_of_steps steps)) (sym reran) (record {
     rising = tt;
     those = λ step. (
       λ (k, less, same). absurd (omega (arith, less)),
@@ -142,7 +142,7 @@ first_way basin policy inputs earlier was pass changes reran goes shows stands n
     );
   });
   kept = subst (λ cs. AreKept basin policy (placed [] (givens basin inputs)) 1 (changed was cs)) (sym changes) tt;
-  linked = subst (λ cs. AreLinked basin policy 1 (placed [] (givens basin inputs)) (changed was cs) (placed [] (givens basin inputs))) (sym changes) refl;
+  linked = subst (λ cs. AreStepLinks basin policy 1 (placed [] (givens basin inputs)) (changed was cs) (placed [] (givens basin inputs))) (sym changes) refl;
 }
 
 over_by : (basin : Draft) (is_over : Bool) → IsOver basin (stands_at is_over basin.control.stamps.count)

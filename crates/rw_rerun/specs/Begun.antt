@@ -16,7 +16,7 @@ use Rattle.rw_run.specs.declared.held.Held.{Held}
 use Rattle.rw_record.specs.Noted.{is_noted}
 use Rattle.rw_record.specs.Record.{StepRecord}
 use Rattle.rw_engine.specs.Shows.{CanShow}
-use Rattle.rw_rerun.specs.Kept.{AreKept, AreLinked}
+use Rattle.rw_rerun.specs.Kept.{AreKept, AreStepLinks}
 use Rattle.rw_run.specs.Worked.{did, saw, stopped, x_to}
 
 -- a closed timestep as it went: its first event, and those behind it
@@ -33,11 +33,11 @@ log_behind step [] log = log
 log_behind step (one ∷ rest) log = log_behind (step + 1) rest (log_after (events_in one) (opened step ∷ log))
 
 -- each of them goes so behind those before it
-abbrev pub AreTimesteps : Draft → Policy → ℕ → List Went → Log → Type 0
-AreTimesteps basin policy step [] log = Unit {0}
-AreTimesteps basin policy step (one ∷ rest) log =
+abbrev pub TimestepsGo : Draft → Policy → ℕ → List Went → Log → Type 0
+TimestepsGo basin policy step [] log = Unit {0}
+TimestepsGo basin policy step (one ∷ rest) log =
     IsTimestep basin policy step log one.first one.events
-    × AreTimesteps basin policy (step + 1) rest (log_after (events_in one) (opened step ∷ log))
+    × TimestepsGo basin policy (step + 1) rest (log_after (events_in one) (opened step ∷ log))
 
 -- the cells at which they looked, and those that their puts reached
 abbrev pub cells_touched : Draft → List Went → List Cell
@@ -63,7 +63,7 @@ pub record HasTakenOver (basin : Draft) (policy : Policy) (inputs : Inputs) (ear
   pub later : (other : ℕ) → step < other → events_of other log ≡ []
   pub rerun : AreRerun basin earlier log []
   pub kept : AreKept basin policy log 1 all_kept
-  pub linked : AreLinked basin policy 1 (placed [] (givens basin inputs)) all_kept log
+  pub linked : AreStepLinks basin policy 1 (placed [] (givens basin inputs)) all_kept log
 
 -- each cell of these records is held alike behind both logs
 abbrev pub AreAlikeIn : Draft → Log → Log → List StepRecord → Type 0

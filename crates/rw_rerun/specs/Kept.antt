@@ -31,14 +31,14 @@ pub record IsKeptAs (basin : Draft) (policy : Policy) (log : Log) (step : ℕ) (
   pub these : RecordsThese basin step old (first ∷ events) kept
 
 -- there is a record exactly where the timestep can be kept
-abbrev pub IsKept : Draft → Policy → Log → ℕ → Option StepRecord → Type 0
-IsKept basin policy log step None = ¬ IsKeepable basin log step
-IsKept basin policy log step (Some kept) = IsKeptAs basin policy log step kept
+abbrev pub IsKeptOrNot : Draft → Policy → Log → ℕ → Option StepRecord → Type 0
+IsKeptOrNot basin policy log step None = ¬ IsKeepable basin log step
+IsKeptOrNot basin policy log step (Some kept) = IsKeptAs basin policy log step kept
 
 -- so for each timestep, from this one on
 abbrev pub AreKept : Draft → Policy → Log → ℕ → List (Option StepRecord) → Type 0
 AreKept basin policy log step [] = Unit {0}
-AreKept basin policy log step (kept ∷ rest) = IsKept basin policy log step kept × AreKept basin policy log (step + 1) rest
+AreKept basin policy log step (kept ∷ rest) = IsKeptOrNot basin policy log step kept × AreKept basin policy log (step + 1) rest
 
 -- ---- how they stand one behind the other
 
@@ -53,15 +53,15 @@ pub record IsLinkOf (basin : Draft) (policy : Policy) (step : ℕ) (log : Log) (
   pub few_cells : cell_count (flat_map (reached_by basin) (log_after (first ∷ events) (opened step ∷ []))) ≤ most_kept
   pub few_lines : length (flat_map lines (log_after (first ∷ events) (opened step ∷ []))) ≤ most_kept
 
-abbrev pub IsLink : Draft → Policy → ℕ → Log → Option StepRecord → Log → Type 0
-IsLink basin policy step log None next = Unit {0}
-IsLink basin policy step log (Some kept) next = IsLinkOf basin policy step log kept next
+abbrev pub IsStepLink : Draft → Policy → ℕ → Log → Option StepRecord → Log → Type 0
+IsStepLink basin policy step log None next = Unit {0}
+IsStepLink basin policy step log (Some kept) next = IsLinkOf basin policy step log kept next
 
 -- from this log on, up to the last one, timestep by timestep
-abbrev pub AreLinked : Draft → Policy → ℕ → Log → List (Option StepRecord) → Log → Type 0
-AreLinked basin policy step log [] end = end ≡ log
-AreLinked basin policy step log (kept ∷ rest) end =
-    (next : Log) × IsLink basin policy step log kept next × AreLinked basin policy (step + 1) next rest end
+abbrev pub AreStepLinks : Draft → Policy → ℕ → Log → List (Option StepRecord) → Log → Type 0
+AreStepLinks basin policy step log [] end = end ≡ log
+AreStepLinks basin policy step log (kept ∷ rest) end =
+    (next : Log) × IsStepLink basin policy step log kept next × AreStepLinks basin policy (step + 1) next rest end
 
 -- ---- what a run changes of it
 

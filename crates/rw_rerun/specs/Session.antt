@@ -14,7 +14,7 @@ use Rattle.rw_engine.specs.Engine.{Engine}
 use Rattle.rw_engine.specs.Shows.{IsEngineOf, Shows}
 use Rattle.rpl_verify.specs.Verified.{Accepted}
 use Rattle.rw_rules.specs.Rules.{policy_in}
-use Rattle.rw_rerun.specs.Kept.{AreKept, AreLinked}
+use Rattle.rw_rerun.specs.Kept.{AreKept, AreStepLinks}
 
 -- what it is a session of, its inputs, the engine of their run, what is kept of each timestep, and the timesteps that its last run ran
 pub record Session : Type 0 where
@@ -25,8 +25,8 @@ pub record Session : Type 0 where
   pub kept : List (Option StepRecord)
   pub reran : List StepNo
 
-abbrev pub numbers_of : List StepNo → List ℕ
-numbers_of steps = map (λ (step : StepNo). step.0) steps
+abbrev pub numbers_of_steps : List StepNo → List ℕ
+numbers_of_steps steps = map (λ (step : StepNo). step.0) steps
 
 -- it has come to the whole run of its inputs, and keeps each timestep that can be kept
 pub record IsSessionOf (basin : Draft) (policy : Accepted) (session : Session) : Type 0 where
@@ -40,20 +40,20 @@ pub record IsSessionOf (basin : Draft) (policy : Accepted) (session : Session) :
   pub shows : Shows basin session.engine log
   pub many : length session.kept ≡ basin.control.stamps.count
   pub kept : AreKept basin (policy_in basin policy) log 1 session.kept
-  pub linked : AreLinked basin (policy_in basin policy) 1 (placed [] (givens basin session.inputs)) session.kept log
+  pub linked : AreStepLinks basin (policy_in basin policy) 1 (placed [] (givens basin session.inputs)) session.kept log
 
 -- it was started: each timestep was run that the run opened
 pub record IsStarted (basin : Draft) (policy : Accepted) (inputs : Inputs) (session : Session) : Type 0 where
   pub is : IsSessionOf basin policy session
   pub inputs_are : session.inputs ≡ inputs
-  pub opened_steps : AreOpened is.log (numbers_of session.reran)
+  pub opened_steps : AreOpened is.log (numbers_of_steps session.reran)
 
 -- a batch of edits was applied: the timesteps were run that aren't as they were in the run before
 pub record Applies (basin : Draft) (policy : Accepted) (batch : Batch) (old new : Session) : Type 0 where
   pub is : IsSessionOf basin policy new
   pub values : value_at new.inputs ≡ after_batch batch (value_at old.inputs)
   pub rerun : (earlier : Log) → IsRun basin (policy_in basin policy) (givens basin old.inputs) earlier
-      → AreRerun basin earlier is.log (numbers_of new.reran)
+      → AreRerun basin earlier is.log (numbers_of_steps new.reran)
 
 -- a call counts the timesteps that it runs, and at most all where memory wants
 pub record CountsRuns {A : Type 0} (basin : Draft) (before after : ℕ) (result : Result A NoMemory) (reran : A → List StepNo) : Type 0 where

@@ -14,7 +14,7 @@ use Rattle.rw_engine.specs.Shows.{CanReplay, IsEngineOf, Shows}
 use Rattle.rpl_verify.specs.Verified.{Accepted}
 use Rattle.rw_rules.specs.Rules.{policy_in}
 use Rattle.rw_rerun.specs.Begun.{HasTakenOver}
-use Rattle.rw_rerun.specs.Kept.{AreLinked}
+use Rattle.rw_rerun.specs.Kept.{AreStepLinks}
 use Rattle.rw_rerun.specs.Session.{IsSessionOf, Session}
 use Rattle.rw_rerun.specs.UnderWay.{IsUnderWay}
 use Rattle.rw_rerun.specs.declared.pass.Pass.{Pass}
@@ -39,8 +39,8 @@ pub record StandsIn (basin : Draft) (policy : Accepted) (start end : Log) (was :
   pub few : spare.behind ≤ length was
   pub log : Log
   pub shows : Shows basin spare.engine log
-  pub before : AreLinked basin (policy_in basin policy) 1 start (take spare.behind was) log
-  pub rest : AreLinked basin (policy_in basin policy) (spare.behind + 1) log (drop spare.behind was) end
+  pub before : AreStepLinks basin (policy_in basin policy) 1 start (take spare.behind was) log
+  pub rest : AreStepLinks basin (policy_in basin policy) (spare.behind + 1) log (drop spare.behind was) end
 
 -- so in some run
 pub record IsSpare (basin : Draft) (was : List (Option StepRecord)) (spare : Spare) : Type 0 where

@@ -17,8 +17,8 @@ use Rattle.rw_engine.specs.Records.{CanWriteLines}
 use Rattle.rw_engine.specs.Shows.{CanShow, IsEngineOf, Shows}
 use Rattle.rpl_verify.specs.Verified.{Accepted}
 use Rattle.rw_rules.specs.Rules.{policy_in}
-use Rattle.rw_rerun.specs.Kept.{AreKept, AreLinked, IsKept, changed}
-use Rattle.rw_rerun.specs.Session.{numbers_of}
+use Rattle.rw_rerun.specs.Kept.{AreKept, AreStepLinks, IsKeptOrNot, changed}
+use Rattle.rw_rerun.specs.Session.{numbers_of_steps}
 use Rattle.rw_rerun.specs.declared.pass.Pass.{Pass}
 
 -- where a run stands behind so many timesteps
@@ -37,9 +37,9 @@ pub record IsUnderWay (basin : Draft) (policy : Policy) (inputs : Inputs) (earli
   pub shown : pass.over ≡ false → CanShow basin (step + 1) log
   -- no later timestep was opened
   pub later : (other : ℕ) → step < other → events_of other log ≡ []
-  pub rerun : AreRerun basin earlier log (numbers_of pass.reran.items)
+  pub rerun : AreRerun basin earlier log (numbers_of_steps pass.reran.items)
   pub kept : AreKept basin policy log 1 (changed was pass.changes.items)
-  pub linked : AreLinked basin policy 1 (placed [] (givens basin inputs)) (changed was pass.changes.items) log
+  pub linked : AreStepLinks basin policy 1 (placed [] (givens basin inputs)) (changed was pass.changes.items) log
 
 -- its engine is one of the basin and the policy, and keeps a trace
 pub record IsPassOf (basin : Draft) (policy : Accepted) (pass : Pass) : Type 0 where
@@ -54,7 +54,7 @@ pub record IsReplayable (basin : Draft) (step : ℕ) (kept : StepRecord) : Type 
 -- what is kept of the timestep behind this one, as it went in the earlier run
 pub record IsEntry (basin : Draft) (policy : Policy) (earlier : Log) (was : List (Option StepRecord)) (last : ℕ) (entry : Option StepRecord) : Type 0 where
   pub there : slice_get was last ≡ Some entry
-  pub kept : IsKept basin policy earlier (last + 1) entry
+  pub kept : IsKeptOrNot basin policy earlier (last + 1) entry
 
 -- what it changes of what is kept of the timesteps before stays as it is
 abbrev pub Grows : Pass → Pass → Type 0

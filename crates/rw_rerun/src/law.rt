@@ -14,8 +14,8 @@ ghost use Rattle.rw_run.specs.Worked.{basin_of, raised, raised_twice, three};
 ghost use Rattle.rw_inputs.specs.Inputs.{Inputs};
 ghost use Rattle.rw_record.specs.Record.{StepRecord};
 ghost use Rattle.rw_run.specs.Step.{events_of};
-ghost use Rattle.rw_rerun.specs.Kept.{AreKept, AreLinked};
-ghost use Rattle.rw_rerun.specs.Begun.{AreAlikeIn, AreTimesteps, HasTakenOver, AreWithout, HoldAlike, TakesOver, Went, cells_put, cells_touched, log_behind, raised_days};
+ghost use Rattle.rw_rerun.specs.Kept.{AreKept, AreStepLinks};
+ghost use Rattle.rw_rerun.specs.Begun.{AreAlikeIn, TimestepsGo, HasTakenOver, AreWithout, HoldAlike, TakesOver, Went, cells_put, cells_touched, log_behind, raised_days};
 
 use rw_run::law::reuse;
 
@@ -23,10 +23,10 @@ use rw_run::law::reuse;
 /// A cell that was alike before them is alike behind them, and one to which they put nothing holds what it held.
 pub fn begun()
     ensures timesteps { (basin : Draft) (policy : Policy) (step last : ℕ) (one other : Log)
-        (steps : List Went) → IsFramed policy → AreTimesteps basin policy step steps one
+        (steps : List Went) → IsFramed policy → TimestepsGo basin policy step steps one
         → standing other ≡ rests last → step ≡ last + 1
         → HoldAlike basin one other (cells_touched basin steps)
-        → AreTimesteps basin policy step steps other }
+        → TimestepsGo basin policy step steps other }
     ensures alike { (basin : Draft) (step : ℕ) (one other : Log) (steps : List Went) (cell : Cell)
         → cells_of basin one cell ≡ cells_of basin other cell
         → cells_of basin (log_behind step steps one) cell
@@ -45,7 +45,7 @@ pub fn taking_over()
         (records : List StepRecord) (step last : ℕ) (one other end : Log)
         (all_kept : List (Option StepRecord)) → IsFramed policy → step ≡ last + 1
         → last + length records ≤ basin.control.stamps.count
-        → AreLinked basin policy step one (map (λ kept. Some kept) records) end
+        → AreStepLinks basin policy step one (map (λ kept. Some kept) records) end
         → ((other : ℕ) → step ≤ other → events_of other one ≡ [])
         → HasTakenOver basin policy inputs earlier all_kept other last
         → AreKept basin policy earlier step (map (λ kept. Some kept) records)
@@ -58,21 +58,21 @@ pub fn taking_over()
 pub fn unmoved()
     ensures { (basin : Draft) (policy : Policy) (records : List StepRecord) (step : ℕ)
         (log end : Log) (cell : Cell)
-        → AreLinked basin policy step log (map (λ kept. Some kept) records) end
+        → AreStepLinks basin policy step log (map (λ kept. Some kept) records) end
         → AreWithout cell records → cells_of basin end cell ≡ cells_of basin log cell }
 {}
 
 /// Kept timesteps tell the lines of their records, behind those that were told before.
 pub fn told()
     ensures { (basin : Draft) (policy : Policy) (records : List StepRecord) (step : ℕ)
-        (log end : Log) → AreLinked basin policy step log (map (λ kept. Some kept) records) end
+        (log end : Log) → AreStepLinks basin policy step log (map (λ kept. Some kept) records) end
         → trace_of end ≡ trace_of log ++ flat_map (λ (kept : StepRecord). kept.lines) records }
 {}
 
 /// Two days on which a rule looks at X go so where nothing is given, and where Y is given on the first one, which is held then.
 pub fn worked_beginning()
-    ensures first { AreTimesteps (basin_of HighFirst 2) raised 1 raised_days [] }
-    ensures again { AreTimesteps (basin_of HighFirst 2) raised 1 raised_days (placed [] three) }
+    ensures first { TimestepsGo (basin_of HighFirst 2) raised 1 raised_days [] }
+    ensures again { TimestepsGo (basin_of HighFirst 2) raised 1 raised_days (placed [] three) }
     ensures whole { log_behind 1 raised_days (placed [] three)
         ≡ log_after raised_twice (placed [] three) }
     ensures held { cells_of (basin_of HighFirst 2) (log_behind 1 raised_days (placed [] three))
