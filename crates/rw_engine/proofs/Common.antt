@@ -6,14 +6,14 @@ pub use Rattle.rw_dispatch.specs.Answer.{Tells, event_of, written_in}
 pub use Rattle.rw_dispatch.specs.Stage.{AreBounded, IsHeldIn, IsStageOf, Leaves, stage}
 pub use Rattle.rw_model.specs.Turn.{IsStep}
 pub use Rattle.rw_dispatch.specs.declared.dispatch_end.DispatchEnd.{DispatchEnd}
-pub use Rattle.rw_engine.specs.Counts.{HasCount, count_at, raised_at, room}
+pub use Rattle.rw_engine.specs.Counts.{HasCount, count_of, raised, room}
 pub use Rattle.rw_engine.specs.Engine.{Engine}
 pub use Rattle.rw_inputs.specs.Givens.{givens, givens_of, givens_to, if_given}
 pub use Rattle.rw_engine.specs.Held.{HoldsAll}
 pub use Rattle.rw_engine.specs.Lines.{TraceGrows, fault_by, fault_of_rule, lines_by, lines_of_rule}
 pub use Rattle.rw_engine.specs.Passing.{ComesTo, Passes}
 pub use Rattle.rw_engine.specs.Shows.{IsBefore, IsEngineOf, Shows, closed_by}
-pub use Rattle.rw_engine.specs.State.{DoesEvent, GoesByEvent, GoesToState, HoldsWithin, IsOnTheWay, IsRevocable, IsStill, IsWithinStep, KeepsWithin, Reached, ended_with, ending, left, seen}
+pub use Rattle.rw_engine.specs.State.{DoesEvent, GoesByEvent, GoesToState, HoldsWithin, IsOnTheWay, IsRevocable, IsStill, IsWithinStep, KeepsWithin, Reached, ended_by, ending, left, seen}
 pub use Rattle.rw_engine.specs.declared.state.State.{State}
 pub use Rattle.rw_inputs.specs.Inputs.{Inputs, IsInputsOf, value_at}
 pub use Rattle.rw_method.specs.declared.put.Put.{Put}

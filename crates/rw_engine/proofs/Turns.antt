@@ -16,7 +16,7 @@ use Rattle.rw_run.specs.Waiting.{waiting}
 use Rattle.rw_series.specs.Fire.{Fire}
 use Rattle.rw_series.specs.declared.fire.FireEnd.{FireEnd}
 use Rattle.rw_series.specs.declared.fire.FireEnd.TheVariants.{Done, Unknown, ZeroDivisor as DividesByZero, OutOfRange}
-use Rattle.rw_engine.specs.Picked.{CountsTurns, LeadsBy, most_turns, one_turn_more, turn_after, turn_behind, turns_after}
+use Rattle.rw_engine.specs.Picked.{CountsTurns, LeadsBy, most_turns, next_turn, turn_after, turn_behind, turns_after}
 use Rattle.rw_engine.specs.State.{CountsTurn, turns_at_most}
 use Rattle.rw_engine.specs.declared.step_end.StepEnd.{StepEnd}
 use Rattle.rw_engine.proofs.Raises.{room_falls}
@@ -25,10 +25,10 @@ use Rattle.rw_engine.proofs.Raises.{room_falls}
 
 -- of a dispatch that ended so, where the turn was raised before
 pub counts_dispatch : (basin : Draft) (looked : List Look) (object step before after : ℕ) (event : Event) (ended : DispatchEnd) → Ends basin looked object step event ended
-    → after ≡ one_turn_more before → before ≤ after → CountsTurn before after event
+    → after ≡ next_turn before → before ≤ after → CountsTurn before after event
 counts_dispatch basin looked object step before after event ended ends is rises = rw (ends.is, is) (by ended (rw (← is) rises))
   where
-    by : (e : DispatchEnd) → before ≤ one_turn_more before → CountsTurn before (one_turn_more before) (event_of basin looked object step (answer_of e ends.asked ends.written))
+    by : (e : DispatchEnd) → before ≤ next_turn before → CountsTurn before (next_turn before) (event_of basin looked object step (answer_of e ends.asked ends.written))
     by IsIdle rises = record { least = omega arith; same = λ calm. refl }
     by IsSolved rises = record { least = omega arith; same = λ calm. refl }
     by (IsConflict slot held solves) rises = record { least = rises; same = λ calm. absurd (calm tt) }

@@ -7,7 +7,7 @@ ghost use Rattle.rpl_verify.specs.Verified.{Accepted, verified};
 ghost use Rattle.rw_rules.specs.Firing.{IsRuleTurn};
 ghost use Rattle.rw_run.specs.RunOf.{IsRunOf};
 ghost use Rattle.rw_model.specs.Turn.{IsStep, IsTurn};
-ghost use Rattle.rw_engine.specs.Counts.{count_at};
+ghost use Rattle.rw_engine.specs.Counts.{count_of};
 ghost use Rattle.rw_model.specs.Links.{IsBetween, bounds_in};
 ghost use Rattle.rw_series.specs.Series.{IsCell};
 ghost use Rattle.rw_dispatch.specs.Pick.{picked_at};
@@ -16,7 +16,7 @@ ghost use Rattle.rw_engine.specs.Passing.{GivesInput, Replays, TakesBack};
 ghost use Rattle.rw_run.specs.Runs.{inside};
 ghost use Rattle.rw_engine.specs.Picked.{PicksAt, RunsStepBy};
 ghost use Rattle.rw_engine.specs.Shows.{CanReplay, IsEngineOf, Shows};
-ghost use Rattle.rw_engine.specs.State.{seen, Begins, DoesEvent, HasPassed, HasReplayed, HoldsBefore, HoldsDue, HoldsWithin, IsCleared, IsOpened, IsSoundState, IsStateOf, IsWithinStep, OnlyTells, ended_with, step_end};
+ghost use Rattle.rw_engine.specs.State.{seen, Begins, DoesEvent, HasPassed, HasReplayed, HoldsBefore, HoldsDue, HoldsWithin, IsCleared, IsOpened, IsSoundState, IsStateOf, IsWithinStep, OnlyTells, ended_by, step_end};
 ghost use Rattle.rw_dispatch.specs.Stage.{IsHeldIn};
 ghost use Rattle.rw_engine.specs.Records.{CanWriteLines, HasNoted, RecordsOrNot};
 
@@ -143,7 +143,7 @@ impl State {
 
     // Ends the run by the fault, if there is one.
     fn end_by(&mut self, fault: Option<RunFault>) -> bool
-        ensures state { self.new ≡ ended_with fault self.old }
+        ensures state { self.new ≡ ended_by fault self.old }
         ensures end { result ≡ is_some fault }
     {
         match fault {
@@ -171,7 +171,7 @@ impl State {
         requires order { AreInOrder
             (map (λ b. code (b.vtable, b.value)) setup.now.methods.now.methods.items) }
         requires turn { IsTurn setup.now.basin.now object.0 step.0 }
-        requires below { count_at self.old.counts object.0
+        requires below { count_of self.old.counts object.0
             < setup.now.basin.now.control.object_limit }
         ensures { (place : ℕ) (waits : List ℕ)
             → IsTaken place waits object.0 self.old.queue.waiting
@@ -239,7 +239,7 @@ impl State {
         requires within { IsWithinStep setup.now.basin.now setup.now.policy.now self.old }
         requires idle { self.old.queue.waiting ≡ [] }
         requires turn { IsRuleTurn setup.now.basin.now setup.now.policy.now rule.0 step.0 }
-        requires below { count_at self.old.firings rule.0 < setup.now.basin.now.control.rule_limit }
+        requires below { count_of self.old.firings rule.0 < setup.now.basin.now.control.rule_limit }
         ensures { DoesEvent setup.now.basin.now setup.now.policy.now None step.0 self.old self.new
             (HoldsDue setup.now.basin.now setup.now.policy.now self.old step.0
             (Some rule.0)) result }
