@@ -80,7 +80,8 @@ fn list(
     series: &Series,
     step: StepNo,
 ) -> Result<(), NoMemory>
-    ensures { OnOk result (values.new.items ≡ listed (λ slot. values_in (held series.now) slot step.0)
+    ensures { OnOk result (values.new.items
+        ≡ listed (λ slot. values_in (held series.now) slot step.0)
         (length (all_slots basin.now.objects))) }
 {
     values.clear();
@@ -95,7 +96,8 @@ fn list(
 fn is_current(line: &KeptLine, basin: &Basin, series: &Series, step: u16) -> bool
     requires told { IsTold basin.now line.now }
     requires first { 1 ≤ step }
-    ensures { result ≡ true → string_bytes line.now.text ≡ row basin.now (values_in (held series.now)) step }
+    ensures { result ≡ true → string_bytes line.now.text
+        ≡ row basin.now (values_in (held series.now)) step }
 {
     if line.step != step || line.values.len() != usize::from(basin.slot_count()) {
         return false;
@@ -114,7 +116,8 @@ fn tell_anew(
     requires first { 1 ≤ step }
     requires last { step ≤ basin.now.control.stamps.count }
     ensures told { IsTold basin.now line.new }
-    ensures row { OnOk result (string_bytes line.new.text ≡ row basin.now (values_in (held series.now)) step) }
+    ensures row { OnOk result (string_bytes line.new.text
+        ≡ row basin.now (values_in (held series.now)) step) }
 {
     line.step = 0;
     line.text.clear();
@@ -136,7 +139,8 @@ fn tell_line(
     requires first { 1 ≤ step }
     requires last { step ≤ basin.now.control.stamps.count }
     ensures told { IsTold basin.now line.new }
-    ensures row { OnOk result (string_bytes line.new.text ≡ row basin.now (values_in (held series.now)) step) }
+    ensures row { OnOk result (string_bytes line.new.text
+        ≡ row basin.now (values_in (held series.now)) step) }
 {
     if is_current(line, basin, series, step) {
         Ok(())

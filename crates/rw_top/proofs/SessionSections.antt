@@ -14,7 +14,7 @@ use Rattle.rw_run.specs.Runs.{IsRun}
 use Rattle.rw_run.specs.declared.run.Run.{Run}
 use Rattle.rw_rules.specs.Rules.{policy_in}
 use Rattle.rpl_verify.specs.Verified.{Accepted}
-use Rattle.rw_rerun.specs.Session.{Applies, IsSessionOf, IsStarted, Session, numbers_of_steps}
+use Rattle.rw_rerun.specs.Session.{Applies, IsSessionOf, IsStarted, Session, numbers_of}
 use Rattle.rw_top.specs.Policy.{Policy as Rules}
 use Rattle.rw_top.specs.Reused.{IsNextSection, WritesFrom, told_of}
 use Rattle.rw_top.specs.RunText.{ComesBy, CountsRun, CountsSections, IsCodeOf, IsRerun, IsRulesText, policy_in_run}
@@ -33,7 +33,7 @@ later_told true reran is = absurd cc
 pub later_number : (number : ℕ) → (number + 1 == 0) ≡ false
 later_number number = grind (arith, nat_tests)
 
-length_numbers : (steps : List StepNo) → length steps ≡ length (numbers_of_steps steps)
+length_numbers : (steps : List StepNo) → length steps ≡ length (numbers_of steps)
 length_numbers steps = sym (length-map steps (λ (step : StepNo). step.0))
 
 -- the inputs after a batch
@@ -49,7 +49,7 @@ module _ (basin : Draft) (policy : Rules) (code : Accepted) (means : IsCodeOf ba
     log = started.is.log;
     run = means.runs inputs started.is.log (subst (λ i. IsRun basin (policy_in basin code) (givens basin i) started.is.log) started.inputs_are started.is.whole);
     rerun = refl;
-    count = (numbers_of_steps session.reran, started.opened_steps, length_numbers session.reran);
+    count = (numbers_of session.reran, started.opened_steps, length_numbers session.reran);
   }
 
   -- and one to which a batch was applied
@@ -65,7 +65,7 @@ module _ (basin : Draft) (policy : Rules) (code : Accepted) (means : IsCodeOf ba
         run = means.runs new.inputs applies.is.log applies.is.whole;
         rerun = subst (IsRerun basin (policy_in_run basin policy) true (edited_given given new.inputs) applies.is.log)
             (sym (later_told (number == 0) new.reran later)) (was.log, before, rerun);
-        count = (was.log, numbers_of_steps new.reran, before, rerun, length_numbers new.reran);
+        count = (was.log, numbers_of new.reran, before, rerun, length_numbers new.reran);
       }
 
   -- the section of its run

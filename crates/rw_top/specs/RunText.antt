@@ -2,7 +2,7 @@
 use Rattle.std.specs.Prelude.{◌≡◌, ◌+◌, ℕ, Bool, true, false, List, length, IsSomeAnd, Option, Some, None, Ok}
 use Rattle.rw_base.specs.declared.number.StepNo.{StepNo}
 use Rattle.rw_run.specs.Reuse.{AreOpened, AreRerun}
-use Rattle.rw_rerun.specs.Session.{numbers_of_steps}
+use Rattle.rw_rerun.specs.Session.{numbers_of}
 use Rattle.rw_rules.specs.Rules.{policy_in}
 use Rattle.rw_engine.specs.Passing.{ComesTo}
 use Rattle.rw_inputs.specs.Edits.{Batch}
@@ -106,7 +106,7 @@ abbrev pub IsRerun : Draft → Policy → (reuse : Bool) → Given → Log → O
 IsRerun basin policy false given log reran = reran ≡ None
 IsRerun basin policy true given log None = given.before ≡ None
 IsRerun basin policy true given log (Some steps) =
-    IsSomeAnd given.before (λ before. (earlier : Log) × IsRun basin policy (givens basin before) earlier × AreRerun basin earlier log (numbers_of_steps steps))
+    IsSomeAnd given.before (λ before. (earlier : Log) × IsRun basin policy (givens basin before) earlier × AreRerun basin earlier log (numbers_of steps))
 
 -- the section of the run by it, in which each firing is verified
 pub record IsRulesText (basin : Draft) (policy : Rules) (extras : Extras) (number : ℕ) (given : Given) (end : RunEnd) (text : List ℕ) : Type 0 where
