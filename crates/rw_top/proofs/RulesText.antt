@@ -1,6 +1,6 @@
 -- The run by a policy, from the run by its code, and its section.
 use Rattle.rw_top.proofs.Common.{Declared, IsRunText, List, Err, None, Ok, Option, Result, RunEnd, [], arith, false, refl, subst, sym, ℕ, ℤ, ◌∙◌, ◌≡◌}
-use Rattle.rw_base.proofs.Common.{Bool, IsOk, IsSome, IsTrue}
+use Rattle.rw_base.proofs.Common.{Bool, IsOk, IsSome, IsTrue, ap}
 use Rattle.rw_base.specs.declared.number.Cell.{Cell}
 use Rattle.rw_base.specs.declared.number.StepNo.{StepNo}
 use Rattle.rw_engine.specs.Passing.{ComesTo}
@@ -98,6 +98,11 @@ code_of_ruleset basin rules code same accepted means firings = record {
 abbrev pub TextsOfRuns : Type 0
 TextsOfRuns = (basin : Draft) (batch : ℕ) (log : Log) (run : Run) (reran : Option (List StepNo)) (flags trace : Bool) → IsRunOf basin log run
     → (IsTrue trace → IsSome run.trace) → whole_of basin batch (outcome_of run) reran flags trace ≡ whole_of basin batch (outcome_by basin log) reran flags trace
+
+-- what a sheet tells is of its basin
+pub of_basin : (own basin : Draft) (number : ℕ) (run : Run) (reran : Option (List StepNo)) (extras : Extras) (text : List ℕ) → own ≡ basin
+    → text ≡ whole_of own number (outcome_of run) reran extras.flags extras.trace → text ≡ whole_of basin number (outcome_of run) reran extras.flags extras.trace
+of_basin own basin number run reran extras text same is = is ∙ ap (λ b. whole_of b number (outcome_of run) reran extras.flags extras.trace) same
 
 -- the section of what the run comes to, with the timesteps that were run again
 pub section_by : TextsOfRuns → (basin : Draft) (policy : Rules) (extras : Extras) (reran : Option (List StepNo)) (number : ℕ) (given : Given) (run : Run) (text : List ℕ)

@@ -8,8 +8,8 @@ returns-in-Ok-write_all-clause-out g c = λ policy given means next. record {
   later = c.in-Ok-write_all.ensures.later;
 }
 
-pub returns-clause-out : goal.returns-clause-out
-returns-clause-out g c = λ policy given means next. (
+pub returns-in-Err-write_all-clause-out : goal.returns-in-Err-write_all-clause-out
+returns-in-Err-write_all-clause-out g c = λ policy given means next. (
   c.in-Ok.end,
   c.tell_run.new.sheet.text,
   c.in-Ok.ensures.text policy given means next,

@@ -1,4 +1,4 @@
-use Rattle.rw_top.proofs.RulesText.{section_by, untold}
+use Rattle.rw_top.proofs.RulesText.{of_basin, section_by, untold}
 use Rattle.rw_top.specs.RunText.{policy_in_run}
 use Rattle.rw_top.specs.Seen.{policy_of}
 use Rattle.rw_base.proofs.Common.{None}
@@ -14,4 +14,4 @@ returns-clause-text g c = λ before.
     section_by c.texts_of_runs.ensures.whole basin policy c.args.extras None c.args.number (record { before = before; inputs = c.args.inputs.now })
     c.in_ok-run.run' _ c.in_ok-run.ensures.run c.in_ok-run.ensures.kept
     (untold basin (policy_in_run basin policy) c.args.extras.reuse (record { before = before; inputs = c.args.inputs.now }) c.in_ok-run.ensures.run.log c.requires.plain)
-    (rw c.requires.sheet at c.in_ok-tell.ensures.text)
+    (of_basin c.args.sheet.now.basin basin c.args.number c.in_ok-run.run' None c.args.extras _ c.requires.sheet c.in_ok-tell.ensures.text)

@@ -20,7 +20,8 @@ returns-in-None g t c = λ before.
 pub returns-in-Err-changed : goal.returns-in-Err-changed
 returns-in-Err-changed g t c = λ before.
     let some = ap length c.in-Some.ensures in
-    stops_behind (IsRulesText c.args.setup.now.basin.now (policy_of c.args.policy.now) c.args.extras) c.args.number (record { before = before; inputs = c.args.inputs }) c.args.batches.now _ c.in-Ok.end
+    stops_behind (IsRulesText c.args.setup.now.basin.now (policy_of c.args.policy.now) c.args.extras) c.args.number (record { before = before; inputs = c.args.inputs }) c.args.batches.now
+    (change (g.K.Sink.seen c.args.out.now) (g.K.Sink.seen c.write_section.new.out)) c.in-Ok.end
     (omega (arith, some)) (c.in-Ok.ensures.out before)
 
 pub write_from-requires : goal.write_from-requires

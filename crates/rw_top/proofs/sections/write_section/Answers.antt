@@ -8,8 +8,8 @@ returns-in-Ok-write_all-clause-out g c = λ before. record {
   later = c.in-Ok-write_all.ensures.later;
 }
 
-pub returns-clause-out : goal.returns-clause-out
-returns-clause-out g c = λ before. (
+pub returns-in-Err-write_all-clause-out : goal.returns-in-Err-write_all-clause-out
+returns-in-Err-write_all-clause-out g c = λ before. (
   c.in-Ok.end,
   c.tell_by_policy.new.sheet.text,
   c.in-Ok.ensures.text before,
