@@ -17,7 +17,7 @@ use Rattle.rpl_verify.proofs.VerifiedFacts.{each as budget_each, length-rules, r
 use Rattle.rpl_compile.specs.Budgets.{budgets_from, budgets_of}
 use Rattle.rpl_compile.specs.Translate.{Callee, blocks_from, predefined_callees, translate}
 use Rattle.rw_top.specs.Budgets.{budget_in, check_text}
-use Rattle.rw_top.specs.Policy.{Policy, Ruleset, Code, IsPolicyOf}
+use Rattle.rw_top.specs.Policy.{PolicyFile, Ruleset, Code, IsPolicyFileOf}
 use Rattle.rw_top.proofs.BudgetLemmas.{is_declared, its_block}
 
 -- ---- each rule has budgets
@@ -38,8 +38,8 @@ block_of blocks (suc r) low high =
     let there = got (rules_from 1 blocks) r (omega (arith, many, high)) in
     (there.0, rule_is 1 blocks r ∙ there.1)
 
-pub each : (as_code : Bool) (basin : Draft) (text : List ℕ) (policy : Policy) (number : ℕ)
-    → IsPolicyOf as_code basin text policy → 1 ≤ number → number ≤ rules_in policy → IsSome (budget_in policy number)
+pub each : (as_code : Bool) (basin : Draft) (text : List ℕ) (policy : PolicyFile) (number : ℕ)
+    → IsPolicyFileOf as_code basin text policy → 1 ≤ number → number ≤ rules_in policy → IsSome (budget_in policy number)
 each as_code basin text (Ruleset rules) number is low high = is_there (budget_of rules) _ (is_declared rules number low high)
 each as_code basin text (Code blocks budgets) number is low high =
     let block = block_of blocks number low high in

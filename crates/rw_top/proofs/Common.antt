@@ -19,15 +19,15 @@ pub use Rattle.rw_run.specs.declared.run.RunEnd.{RunEnd}
 pub use Rattle.rw_series.specs.Series.{Series, held}
 pub use Rattle.rw_top.specs.Budgets.{counts_line, functions_in, line_if, rule_line, rules_in}
 pub use Rattle.rw_top.specs.Call.{Call}
-pub use Rattle.rw_top.specs.Command.{AskFor, AskNothing, Asks, Names, command_of, files_of, order, path_of, place_in, simulates, takes_code}
+pub use Rattle.rw_top.specs.Command.{AskForCommand, AskNothing, AskOne, ReadsFile, command_said, files_of, reading_order, path_of, place_among, simulation_of, takes_code}
 pub use Rattle.rw_words.specs.Command.{Command}
 pub use Rattle.rw_top.specs.Promise.{Promise, RefusedCommand, RefusedWords, WasRefused, Wrote, WroteCheck, WroteCode, WroteRun}
-pub use Rattle.rw_top.specs.Reading.{Accepts, AcceptsAll, AreRead, Files, HoldsTooLong, IsHonest, IsHonestOfAll, IsHonestUpTo, IsTextAt, IsTooLong, Reaches, ReadsInputs, ReadsModel, ReadsPolicy, RefusesInputs, RefusesModel, RefusesPolicy, SaysAt, WasRead, reads_code}
-pub use Rattle.rw_top.specs.Reason.{BadEdits, BadInputs, BadModel, BadPolicy, IsFound, IsHonestFor, LongFile, Reason, file_of, policy_status, status_by}
+pub use Rattle.rw_top.specs.Reading.{Accepts, AcceptsAll, AreRead, FilesRead, HoldsTooLong, IsHonest, IsHonestOfAll, IsHonestUpTo, IsTextAt, IsTooLong, Reaches, ReadsInputs, ReadsModel, ReadsPolicy, RefusesInputs, RefusesModel, RefusesPolicy, SaysAt, WasRead, reads_code}
+pub use Rattle.rw_top.specs.Reason.{BadEdits, BadInputs, BadModel, BadPolicy, IsFoundReason, IsHonestFor, LongFile, Reason, file_of, policy_status, status_by}
 pub use Rattle.rw_top.specs.Refusal.{Cause, EndsWith, FailsToRead, FileCause, FindsTooLong, IsPolicyRefusal, WasFound, reason_of, refusal_after, status_of}
-pub use Rattle.rw_top.specs.RunText.{IsRunText, text_of}
+pub use Rattle.rw_top.specs.RunText.{IsRunText, section_text}
 pub use Rattle.rw_top.specs.Seen.{files_seen, policy_of}
-pub use Rattle.rw_top.specs.Written.{IsTextOf, Tells, WritesAll, WritesFront, status_of_end}
+pub use Rattle.rw_top.specs.Written.{IsTextOf, TellsLine, WritesAll, WritesFront, status_of_end}
 pub use Rattle.rw_words.specs.declared.job.Job.{Job}
 pub use Rattle.rw_top.specs.declared.refusal.File.{File}
 pub use Rattle.rw_top.specs.declared.refusal.Refusal.{Refusal}

@@ -1,5 +1,5 @@
 -- A refusal that is due is given, and none is given that isn't.
-use Rattle.rw_top.proofs.Common.{AcceptsAll, AreRead, Cause, Change, Command, EndsWith, FailsToRead, File, Files, IfSome, IsFound, IsHonest, IsHonestFor, IsHonestOfAll, IsHonestUpTo, IsSome, IsSomeAnd, List, LongFile, None, Option, Reason, Refusal, Rose, ShelfView, SinkView, Some, WasFound, cases_lt, file_of, inl, inr, order, path_of, refl, status_by, status_of, ℕ, ◌∙◌, ◌≡◌}
+use Rattle.rw_top.proofs.Common.{AcceptsAll, AreRead, Cause, Change, Command, EndsWith, FailsToRead, File, FilesRead, IfSome, IsFoundReason, IsHonest, IsHonestFor, IsHonestOfAll, IsHonestUpTo, IsSome, IsSomeAnd, List, LongFile, None, Option, Reason, Refusal, Rose, ShelfView, SinkView, Some, WasFound, cases_lt, file_of, inl, inr, reading_order, path_of, refl, status_by, status_of, ℕ, ◌∙◌, ◌≡◌}
 use Rattle.rw_top.specs.Reading.{LacksCell}
 use Rattle.rw_top.specs.declared.refusal.File.TheVariants.{Model}
 use Rattle.rw_top.specs.declared.refusal.Refusal.TheVariants.{CannotRead, CannotWrite, NoMemory, NoCell}
@@ -20,34 +20,34 @@ module _ (command : Command) (shelf : Change ShelfView) where
   told_by : (file : File) → IsHonestUpTo command shelf file → IsToldUpTo command shelf.before.holds file
   told_by file honest = λ it least. told_at shelf (path_of command it) (honest it least)
 
-  is_found : (reason : Reason) → WasFound command shelf reason → IsFound command shelf.before.holds reason
+  is_found : (reason : Reason) → WasFound command shelf reason → IsFoundReason command shelf.before.holds reason
   is_found (LongFile file) found = found.holds_too_long
   is_found reason found = found
 
   -- no fault of a file comes before a reason that is found of an honest shelf
   no_fault : (file : File) → FailsToRead command shelf file → (reason : Reason)
-      → IsFound command shelf.before.holds reason → IsHonestFor command shelf reason → ⊥
+      → IsFoundReason command shelf.before.holds reason → IsHonestFor command shelf reason → ⊥
   no_fault file fails reason found honest =
-      elim (cases_lt (order (file_of reason)) (order file)) [
+      elim (cases_lt (reading_order (file_of reason)) (reading_order file)) [
         | inl before ↦ not_found command shelf.before.holds reason (told_by (file_of reason) honest) (fails.reached (file_of reason) (names command shelf.before.holds reason found) before) found
         | inr least ↦ stands_at shelf (path_of command file) (honest file least) fails.rose
       ]
 
   -- where the text was written, nothing had to be refused
-  pub none_due : (files : Files) → AreRead command shelf.before.holds files
-      → (reason : Reason) → IsFound command shelf.before.holds reason
+  pub none_due : (files : FilesRead) → AreRead command shelf.before.holds files
+      → (reason : Reason) → IsFoundReason command shelf.before.holds reason
       → IsHonestFor command shelf reason → ⊥
   none_due files read reason found honest =
       not_found command shelf.before.holds reason (told_by (file_of reason) honest)
       (accepts_read command shelf.before.holds files read (file_of reason) (names command shelf.before.holds reason found)) found
 
   -- and the cell was there
-  pub none_lacks : (files : Files) → AreRead command shelf.before.holds files → LacksCell command shelf.before.holds → IsHonestOfAll command shelf → ⊥
+  pub none_lacks : (files : FilesRead) → AreRead command shelf.before.holds files → LacksCell command shelf.before.holds → IsHonestOfAll command shelf → ⊥
   none_lacks files read lacks honest = cell_clash command shelf.before.holds files (told_at shelf (path_of command Model) (honest Model)) read lacks
 
   module _ (out : Change SinkView) where
     -- what has to be refused is
-    pub due : (why : Refusal) → Cause command shelf out why → (reason : Reason) → IsFound command shelf.before.holds reason
+    pub due : (why : Refusal) → Cause command shelf out why → (reason : Reason) → IsFoundReason command shelf.before.holds reason
         → IsHonestFor command shelf reason → EndsWith (status_by reason) (status_of why)
     due (CannotRead file) cause reason found honest = absurd (no_fault file cause.0 reason found honest)
     due CannotWrite cause reason found honest = absurd (none_due cause.0.0 cause.0.1 reason found honest)

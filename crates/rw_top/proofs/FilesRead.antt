@@ -1,5 +1,5 @@
 -- Files that were read one after the other.
-use Rattle.rw_top.proofs.Common.{AreRead, Change, Command, Err, FileCause, Files, Holds, IfSome, IsSome, IsSomeAnd, Refusal, ShelfView, sym, List, None, Option, Reaches, ReadsInputs, ReadsModel, ReadsPolicy, SaysAt, Some, option_map, policy_of, subst, ℕ, ◌≡◌}
+use Rattle.rw_top.proofs.Common.{AreRead, Change, Command, Err, FileCause, FilesRead, Holds, IfSome, IsSome, IsSomeAnd, Refusal, ShelfView, sym, List, None, Option, Reaches, ReadsInputs, ReadsModel, ReadsPolicy, SaysAt, Some, option_map, policy_of, subst, ℕ, ◌≡◌}
 use Rattle.rw_inputs.specs.Edits.{Batch}
 use Rattle.rw_inputs.specs.Inputs.{Inputs as Given}
 use Rattle.rw_base.specs.declared.number.Cell.{Cell}
@@ -63,7 +63,7 @@ edits_earlier command holds now same basin found items says =
     let one : now ≡ holds = λ i path. same path i in
     subst (λ h. SaysAt command Edits found (λ x. AreReadAs command h basin (items x))) one says
 
-abbrev files_with : Draft → Behind → Option Cell → Files
+abbrev files_with : Draft → Behind → Option Cell → FilesRead
 files_with basin behind cell = record {
   basin = basin;
   policy = option_map policy_of behind.policy;

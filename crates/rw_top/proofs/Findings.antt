@@ -1,15 +1,15 @@
 -- What is found of a file is one thing, where the shelf tells what its path holds: the file is accepted, or refused with
 -- one status, or too long.
-use Rattle.rw_top.proofs.Common.{Accepts, AcceptsAll, AreRead, BadEdits, BadInputs, BadModel, BadPolicy, Command, Err, FILE_MAX, File, Files, Holds, HoldsTooLong, IfSome, InputRefusal, IsFound, IsSome, IsSomeAnd, IsTooLong, List, LongFile, ModelRefusal, Names, None, Ok, Option, Reaches, ReadsInputs, ReadsModel, ReadsPolicy, Reason, Refuses, RefusesInputs, RefusesModel, RefusesPolicy, SaysAt, Some, WasRead, ap, ap₂, arith, cases_lt, file_of, inl, inr, length, model_of, order, path_of, policy_status, reads_code, refl, status_by, subst, sym, ℕ, ◌<◌, ◌∙◌, ◌≡◌, ◌≤◌, ◌⊎◌}
+use Rattle.rw_top.proofs.Common.{Accepts, AcceptsAll, AreRead, BadEdits, BadInputs, BadModel, BadPolicy, Command, Err, FILE_MAX, File, FilesRead, Holds, HoldsTooLong, IfSome, InputRefusal, IsFoundReason, IsSome, IsSomeAnd, IsTooLong, List, LongFile, ModelRefusal, ReadsFile, None, Ok, Option, Reaches, ReadsInputs, ReadsModel, ReadsPolicy, Reason, Refuses, RefusesInputs, RefusesModel, RefusesPolicy, SaysAt, Some, WasRead, ap, ap₂, arith, cases_lt, file_of, inl, inr, length, model_of, reading_order, path_of, policy_status, reads_code, refl, status_by, subst, sym, ℕ, ◌<◌, ◌∙◌, ◌≡◌, ◌≤◌, ◌⊎◌}
 use Rattle.rw_model.specs.Draft.{Draft}
 use Rattle.rw_inputs.specs.EditRows.{edits_of}
 use Rattle.rw_inputs.specs.Edits.{Batch}
 use Rattle.rw_inputs.specs.Inputs.{Inputs as Given}
-use Rattle.rw_top.specs.Cell.{cell_of}
+use Rattle.rw_top.specs.Cell.{cell_asked}
 use Rattle.std.specs.Prelude.{option_and_then}
 use Rattle.rw_top.specs.Command.{Source, AtPath, OfSample, path_in, source_of}
 use Rattle.rw_top.specs.Reading.{HasText, LacksCell, ReadsEdits, RefusesEdits}
-use Rattle.rw_top.specs.Policy.{Policy as Rules, PolicyRefusal, RefusesText}
+use Rattle.rw_top.specs.Policy.{PolicyFile as Rules, PolicyRefusal, RefusesText}
 use Rattle.rw_top.specs.declared.refusal.File.TheVariants.{Model, Policy, Inputs, Edits}
 use Rattle.rw_top.proofs.CommandLemmas.{is_there}
 use Rattle.rw_top.proofs.OneReading.{one_policy_status, policy_clash, refuses_clash}
@@ -56,7 +56,7 @@ not_named None none some = absurd cc
 not_named (Some path) none some = absurd cc
 
 -- files of one place are one
-one_file : (a b : File) → order a ≡ order b → a ≡ b
+one_file : (a b : File) → reading_order a ≡ reading_order b → a ≡ b
 one_file Model Model same = refl
 one_file Policy Policy same = refl
 one_file Inputs Inputs same = refl
@@ -65,7 +65,7 @@ one_file a b same = absurd (omega (arith, same))
 
 -- the shelf tells of that file, and of each that is read before it
 abbrev pub IsToldUpTo : Command → Holds → File → Type 0
-IsToldUpTo command holds file = (it : File) → order it ≤ order file → IsTold command holds it
+IsToldUpTo command holds file = (it : File) → reading_order it ≤ reading_order file → IsTold command holds it
 
 module _ (command : Command) (holds : Holds) where
   -- a model is read as one basin, and isn't refused where it is read
@@ -77,10 +77,10 @@ module _ (command : Command) (holds : Holds) where
       cc
 
   -- where the files were read, the cell is there
-  pub cell_clash : (files : Files) → IsTold command holds Model → AreRead command holds files → LacksCell command holds → ⊥
+  pub cell_clash : (files : FilesRead) → IsTold command holds Model → AreRead command holds files → LacksCell command holds → ⊥
   cell_clash files told read lacks =
       let basin = one_basin lacks.basin files.basin told lacks.model read.model in
-      let none : files.cell ≡ None = read.cell.is ∙ ap (cell_of command) (sym basin) ∙ lacks.none in
+      let none : files.cell ≡ None = read.cell.is ∙ ap (cell_asked command) (sym basin) ∙ lacks.none in
       not_named files.cell none (read.cell.some lacks.seeks)
 
   model_clash : (why : ModelRefusal) (b : Draft) → IsTold command holds Model
@@ -182,7 +182,7 @@ module _ (command : Command) (holds : Holds) where
   not_accepted file status told accepted (inr long) = too_long file told long.0 (accepted_text file accepted)
 
   -- each reason is a finding of its file
-  finding : (reason : Reason) → IsFound command holds reason → Finding (file_of reason) (status_by reason)
+  finding : (reason : Reason) → IsFoundReason command holds reason → Finding (file_of reason) (status_by reason)
   finding (BadModel why) found = inl (refl, (why, found))
   finding (BadPolicy why) found = inl (why, refl, found)
   finding (BadInputs why) found = inl (refl, (why, found))
@@ -200,7 +200,7 @@ module _ (command : Command) (holds : Holds) where
   reaches_policy basin model Edits named before = absurd (omega (arith, before))
 
   policy_there : (basin : Draft) (policy : Option Rules) → SaysAt command Policy policy (ReadsPolicy command holds basin)
-      → Names command Policy → Accepts command holds Policy
+      → ReadsFile command Policy → Accepts command holds Policy
   policy_there basin None says named = absurd (not_named (source_of command Policy) says named)
   policy_there basin (Some policy) says named = (basin, policy, says)
 
@@ -212,7 +212,7 @@ module _ (command : Command) (holds : Holds) where
   reaches_inputs basin policy model says Edits named before = absurd (omega (arith, before))
 
   inputs_there : (basin : Draft) (inputs : Option Given) → SaysAt command Inputs inputs (ReadsInputs command holds basin)
-      → Names command Inputs → Accepts command holds Inputs
+      → ReadsFile command Inputs → Accepts command holds Inputs
   inputs_there basin None says named = absurd (not_named (source_of command Inputs) says named)
   inputs_there basin (Some inputs) says named = (basin, inputs, says)
 
@@ -231,7 +231,7 @@ module _ (command : Command) (holds : Holds) where
       let one : now ≡ holds = λ i path. same path i in subst (λ h. Reaches command h file) (sym one) reached
 
   edits_there : (basin : Draft) (edits : Option (List Batch)) → SaysAt command Edits edits (ReadsEdits command holds basin)
-      → Names command Edits → Accepts command holds Edits
+      → ReadsFile command Edits → Accepts command holds Edits
   edits_there basin None says named = absurd (not_named (source_of command Edits) says named)
   edits_there basin (Some batches) says named = (basin, batches, says)
 
@@ -244,19 +244,19 @@ module _ (command : Command) (holds : Holds) where
   accepts_all basin policy inputs edits model rules given batches Inputs named = inputs_there basin inputs given named
   accepts_all basin policy inputs edits model rules given batches Edits named = edits_there basin edits batches named
 
-  pub accepts_read : (files : Files) → AreRead command holds files → AcceptsAll command holds
+  pub accepts_read : (files : FilesRead) → AreRead command holds files → AcceptsAll command holds
   accepts_read files read =
       accepts_all files.basin files.policy files.inputs files.edits read.model read.policy read.inputs read.edits
 
   -- the file of a reason is read
-  pub names : (reason : Reason) → IsFound command holds reason → Names command (file_of reason)
+  pub names : (reason : Reason) → IsFoundReason command holds reason → ReadsFile command (file_of reason)
   names (BadModel why) found = is_there (source_of command Model) (HasText holds Model found.text) found.read
   names (BadPolicy why) found = is_there (source_of command Policy) (HasText holds Policy found.text) found.read
   names (BadInputs why) found = is_there (source_of command Inputs) (HasText holds Inputs found.text) found.read
   names (BadEdits why) found = is_there (source_of command Edits) (HasText holds Edits found.text) found.read
   names (LongFile file) found = sourced (source_of command file) (is_there (path_of command file) (IsTooLong holds) found.longer)
 
-  reached : (reason : Reason) → IsFound command holds reason → Reaches command holds (file_of reason)
+  reached : (reason : Reason) → IsFoundReason command holds reason → Reaches command holds (file_of reason)
   reached (BadModel why) found = reaches_model
   reached (BadPolicy why) found = reaches_policy found.basin found.model
   reached (BadInputs why) found = found.reached
@@ -265,18 +265,18 @@ module _ (command : Command) (holds : Holds) where
 
   -- where the file of a reason is accepted, the reason isn't found
   pub not_found : (reason : Reason) → IsToldUpTo command holds (file_of reason)
-      → Accepts command holds (file_of reason) → IsFound command holds reason → ⊥
+      → Accepts command holds (file_of reason) → IsFoundReason command holds reason → ⊥
   not_found reason told accepted found =
       not_accepted (file_of reason) (status_by reason) told accepted (finding reason found)
 
   -- of two reasons, the file of the one that is read first isn't accepted; and of one file they bring one status
   pub one_reason : (a b : Reason) → IsToldUpTo command holds (file_of a)
-      → IsFound command holds a → IsFound command holds b → status_by b ≡ status_by a
+      → IsFoundReason command holds a → IsFoundReason command holds b → status_by b ≡ status_by a
   one_reason a b told found other =
-      elim (cases_lt (order (file_of b)) (order (file_of a))) [
+      elim (cases_lt (reading_order (file_of b)) (reading_order (file_of a))) [
         | inl before ↦
             absurd (not_found b (λ it least. told it (omega (arith, least, before))) (reached a found (file_of b) (names b other) before) other)
-        | inr least ↦ elim (cases_lt (order (file_of a)) (order (file_of b))) [
+        | inr least ↦ elim (cases_lt (reading_order (file_of a)) (reading_order (file_of b))) [
           | inl before ↦ absurd (not_found a told (reached b other (file_of a) (names a found) before) found)
           | inr most ↦
               let same : file_of b ≡ file_of a = one_file (file_of b) (file_of a) (omega (arith, least, most)) in

@@ -1,5 +1,5 @@
 -- A call on one plain reservoir, by the law on the text of its run.
-use Rattle.rw_top.proofs.Common.{Call, Command, Fault, GrowsBy, IfOk, IsFirstText, IsRunText, IsSomeAnd, IsTextOf, List, None, Option, Promise, Reads, ReadsInputs, RunEnd, SaysAt, Settled, Some, WritesAll, [], ap, arith, false, model_of, refl, simulates, status_of_end, subst, sym, ℕ, ℤ, ◌↔◌, ◌∙◌, ◌∷◌, ◌≡◌, ◌≤◌}
+use Rattle.rw_top.proofs.Common.{Call, Command, Fault, GrowsBy, IfOk, IsFirstText, IsRunText, IsSomeAnd, IsTextOf, List, None, Option, Promise, Reads, ReadsInputs, RunEnd, SaysAt, Settled, Some, WritesAll, [], ap, arith, false, model_of, refl, simulation_of, status_of_end, subst, sym, ℕ, ℤ, ◌↔◌, ◌∙◌, ◌∷◌, ◌≡◌, ◌≤◌}
 use Rattle.rw_plain_reservoir.specs.FirstForm.{FirstModel, IsFirstForm, IsFirstFlows}
 use Rattle.rw_inputs.specs.Inputs.{Inputs as Given}
 use Rattle.rw_model.proofs.Common.{IsBasin, Draft}
@@ -23,13 +23,13 @@ is_settled (Fault why) is = absurd (omega (arith, is))
 -- what was written is the text of the basin and the inputs that the shelf tells
 its_text : (call : Call) (model : FirstModel) (inflows outflows : List ℤ)
     (first : IsFirstCall call model inflows outflows) (end : RunEnd) (texts : List (List ℕ)) (basin : Draft) (inputs : Option Given)
-    → SaysAt (simulates first.model_path first.inputs_path) Inputs inputs
-    (ReadsInputs (simulates first.model_path first.inputs_path) call.shelf.before.holds basin)
+    → SaysAt (simulation_of first.model_path first.inputs_path) Inputs inputs
+    (ReadsInputs (simulation_of first.model_path first.inputs_path) call.shelf.before.holds basin)
     → IsSomeAnd inputs (λ given. AreSections (IsPlainText basin no_extras) 0 (first_given given) [] end texts)
     → (text : List ℕ) × (texts ≡ text ∷ []) × IsRunText first.basin no_rules no_extras None 0 first.inputs end text
 its_text call model inflows outflows first end texts basin None says is = absurd is
 its_text call model inflows outflows first end texts basin (Some inputs) says is =
-    let command : Command = simulates first.model_path first.inputs_path in
+    let command : Command = simulation_of first.model_path first.inputs_path in
     let holds = call.shelf.before.holds in
     let same = one_basin command holds basin first.basin first.told_model says.model first.read.model in
     let bytes = same_text command holds Inputs says.text first.read.text first.told_inputs says.read first.read.read in
@@ -52,7 +52,7 @@ pub first_call : ((basin : Draft) (model : FirstModel) (inputs : Given) (inflows
     × GrowsBy call.out.before.contents call.out.after.contents text × ((fault ≡ None) ↔ (status ≡ 0))
 first_call first_form basins call status model inflows outflows promise low first =
     let done = promise.done low in
-    let command : Command = simulates first.model_path first.inputs_path in
+    let command : Command = simulation_of first.model_path first.inputs_path in
     let wrote = of_command call.words done.command command done.asked first.asked
     (λ it. WritesAll it call.shelf.before.holds call.out status) done.text in
     let files = wrote.0 in

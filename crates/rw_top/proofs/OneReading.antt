@@ -8,7 +8,7 @@ use Rattle.rw_inputs.specs.Inputs.{Inputs, value_at}
 use Rattle.rpl_code.specs.declared.block.Block.{Block}
 use Rattle.rpl_tree.specs.Budget.{Budget}
 use Rattle.rpl_verify.specs.Budget.{ruling}
-use Rattle.rw_top.specs.Policy.{BadCode, Unread, Misfit, Policy, Ruleset, Code, PolicyRefusal, BadRules, BadBlocks, RulesRefusal, BadGrammar, BadNode, IsCodeOf, IsPolicyOf, IsRulesetOf, RefusesCode, RefusesRules, RefusesText}
+use Rattle.rw_top.specs.Policy.{BadCode, Unread, Misfit, PolicyFile, Ruleset, Code, PolicyRefusal, BadRules, BadBlocks, RulesRefusal, BadGrammar, BadNode, IsCodeOf, IsPolicyFileOf, IsRulesetOf, RefusesCode, RefusesRules, RefusesText}
 
 -- inputs that are refused aren't read
 pub refuses_clash : (basin : Draft) (text : List ℕ) (inputs : Inputs) (why : InputRefusal)
@@ -49,8 +49,8 @@ code_clash basin text blocks budgets (Misfit why) h k =
 pub one_kind : (as_code : Bool) → as_code ≡ true → as_code ≡ false → ⊥
 one_kind as_code h k = let both : true ≡ false = sym h ∙ k in cc
 
-pub policy_clash : (as_code : Bool) (basin : Draft) (text : List ℕ) (policy : Policy) (why : PolicyRefusal)
-    → IsPolicyOf as_code basin text policy → RefusesText as_code basin text why → ⊥
+pub policy_clash : (as_code : Bool) (basin : Draft) (text : List ℕ) (policy : PolicyFile) (why : PolicyRefusal)
+    → IsPolicyFileOf as_code basin text policy → RefusesText as_code basin text why → ⊥
 policy_clash as_code basin text (Ruleset rules) (BadRules why) h k = rules_clash basin text rules why h.1 k.1
 policy_clash as_code basin text (Ruleset rules) (BadBlocks why) h k = one_kind as_code k.0 h.0
 policy_clash as_code basin text (Code blocks budgets) (BadRules why) h k = one_kind as_code h.0 k.0

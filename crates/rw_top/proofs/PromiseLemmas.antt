@@ -1,5 +1,5 @@
 -- A call that wrote its run, or was refused, keeps the promise.
-use Rattle.rw_top.proofs.Common.{Asks, Call, Cause, Command, Fault, Files, IsTextOf, Job, List, None, Promise, Refusal, RefusedCommand, RefusedWords, RunEnd, Settled, Some, WasRefused, WritesAll, Wrote, arith, inl, inr, status_of, status_of_end, ℕ, ◌∙◌, ◌≡◌, ◌≤◌}
+use Rattle.rw_top.proofs.Common.{AskForCommand, Call, Cause, Command, Fault, FilesRead, IsTextOf, Job, List, None, Promise, Refusal, RefusedCommand, RefusedWords, RunEnd, Settled, Some, WasRefused, WritesAll, Wrote, arith, inl, inr, status_of, status_of_end, ℕ, ◌∙◌, ◌≡◌, ◌≤◌}
 use Rattle.rw_words.specs.declared.job.Job.TheVariants.{Simulate, Check, Compile, Run, Why, Sample}
 use Rattle.rw_top.specs.declared.refusal.Refusal.TheVariants.{Words, NoMemory}
 use Rattle.rw_top.specs.Promise.{UnreadWords}
@@ -13,7 +13,7 @@ at_most_1 : (end : RunEnd) → status_of_end end ≤ 1
 at_most_1 Settled = omega arith
 at_most_1 (Fault why) = omega arith
 
-status_at_most_1 : (job : Job) (extras : Extras) (files : Files) (status : ℕ) (texts : List (List ℕ)) → IsTextOf job extras files status texts → status ≤ 1
+status_at_most_1 : (job : Job) (extras : Extras) (files : FilesRead) (status : ℕ) (texts : List (List ℕ)) → IsTextOf job extras files status texts → status ≤ 1
 status_at_most_1 Simulate extras files status texts is = let most = at_most_1 is.0 in omega (arith, most, is.1)
 status_at_most_1 Check extras files status texts is = omega (arith, is.0)
 status_at_most_1 Compile extras files status texts is = omega (arith, is.0)
@@ -79,7 +79,7 @@ module _ (call : Call) (held : (path : List ℕ) → call.shelf.after.holds path
   pub promised_refusal : (why : Refusal) (status : ℕ) → status ≡ status_of why → RefusedCommand call why → Promise call status
   promised_refusal why status is was =
       let least = at_least_2 why in
-      let cause : (command : Command) → Asks call.words command → Cause command call.shelf call.out why =
+      let cause : (command : Command) → AskForCommand call.words command → Cause command call.shelf call.out why =
       λ command asks. of_command call.words was.command command was.asked asks (λ it. Cause it call.shelf call.out why) was.cause in
       record {
         done = λ below. absurd (omega arith);

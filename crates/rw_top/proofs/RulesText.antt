@@ -23,9 +23,9 @@ use Rattle.rpl_types.specs.Judged.{Refusal as NodeRefusal}
 use Rattle.rpl_types.specs.Nodes.{Types}
 use Rattle.rpl_verify.specs.Budget.{AreAccepted}
 use Rattle.rpl_verify.specs.Verified.{Accepted}
-use Rattle.rw_top.specs.Policy.{Policy as Rules, Ruleset, Code}
+use Rattle.rw_top.specs.Policy.{PolicyFile as Rules, Ruleset, Code}
 use Rattle.rw_top.specs.RunText.{ComesBy, IsCodeOf, IsRerun, IsRulesText, policy_in_run}
-use Rattle.rw_top.specs.Sections.{Given}
+use Rattle.rw_top.specs.Sections.{GivenInputs}
 use Rattle.rw_top.specs.declared.extras.Extras.{Extras}
 
 -- what is accepted has types
@@ -105,7 +105,7 @@ pub of_basin : (own basin : Draft) (number : ℕ) (run : Run) (reran : Option (L
 of_basin own basin number run reran extras text same is = is ∙ ap (λ b. whole_of b number (outcome_of run) reran extras.flags extras.trace) same
 
 -- the section of what the run comes to, with the timesteps that were run again
-pub section_by : TextsOfRuns → (basin : Draft) (policy : Rules) (extras : Extras) (reran : Option (List StepNo)) (number : ℕ) (given : Given) (run : Run) (text : List ℕ)
+pub section_by : TextsOfRuns → (basin : Draft) (policy : Rules) (extras : Extras) (reran : Option (List StepNo)) (number : ℕ) (given : GivenInputs) (run : Run) (text : List ℕ)
     → (comes : ComesBy basin policy given.inputs run) → (IsTrue extras.trace → IsSome run.trace)
     → IsRerun basin (policy_in_run basin policy) extras.reuse given comes.log reran
     → text ≡ whole_of basin number (outcome_of run) reran extras.flags extras.trace → IsRulesText basin policy extras number given run.end text
@@ -122,5 +122,5 @@ section_by texts basin policy extras reran number given run text comes kept agai
 }
 
 -- none are told where timesteps aren't reused
-pub untold : (basin : Draft) (policy : Policy) (reuse : Bool) (given : Given) (log : Log) → reuse ≡ false → IsRerun basin policy reuse given log None
+pub untold : (basin : Draft) (policy : Policy) (reuse : Bool) (given : GivenInputs) (log : Log) → reuse ≡ false → IsRerun basin policy reuse given log None
 untold basin policy reuse given log plain = subst (λ r. IsRerun basin policy r given log None) (sym plain) refl

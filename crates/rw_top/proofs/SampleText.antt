@@ -1,5 +1,5 @@
 -- The files of the sample, and the line on its run.
-use Rattle.rw_top.proofs.Common.{Command, Declared, File, Files, Holds, IsSomeAnd, Job, List, None, Ok, Option, Reads, ReadsInputs, ReadsModel, ReadsPolicy, Some, WasRead, ap, false, length, model_of, option_map, place_in, files_of, refl, reads_code, subst, sym, takes_code, ℕ, ◌∙◌, ◌∷◌, [], ◌≡◌, ◌≤◌}
+use Rattle.rw_top.proofs.Common.{Command, Declared, File, FilesRead, Holds, IsSomeAnd, Job, List, None, Ok, Option, Reads, ReadsInputs, ReadsModel, ReadsPolicy, Some, WasRead, ap, false, length, model_of, option_map, place_among, files_of, refl, reads_code, subst, sym, takes_code, ℕ, ◌∙◌, ◌∷◌, [], ◌≡◌, ◌≤◌}
 use Rattle.rw_base.proofs.Common.{Bool, IsSome, arith, ◌&&◌}
 use Rattle.rw_inputs.specs.Inputs.{Inputs}
 use Rattle.rw_model.proofs.Common.{Draft}
@@ -11,7 +11,7 @@ use Rattle.rw_sample.proofs.Short.{rules_short}
 use Rattle.rw_sample.specs.Line.{sample_line}
 use Rattle.rw_sample.specs.Texts.{sample_inputs, sample_model, sample_rules}
 use Rattle.rw_top.specs.Command.{Source, AtPath, OfSample, named_source, sample_text, source_at, source_of}
-use Rattle.rw_top.specs.Policy.{IsPolicyOf, IsRulesetOf, Policy as Rules, Ruleset, is_code}
+use Rattle.rw_top.specs.Policy.{IsPolicyFileOf, IsRulesetOf, PolicyFile as Rules, Ruleset, is_code}
 use Rattle.rw_top.specs.Reading.{HasText}
 use Rattle.rw_top.specs.RunText.{ComesBy, IsSampleText}
 use Rattle.rw_top.specs.Written.{IsOne, OfBoth}
@@ -23,7 +23,7 @@ use Rattle.rw_top.specs.declared.extras.Extras.{Extras}
 
 -- where the text of a file comes from, by the job and the words
 abbrev source_by : File → List (List ℕ) → Job → Option Source
-source_by file paths job = option_map (λ place. source_at job paths place) (place_in (files_of job) file)
+source_by file paths job = option_map (λ place. source_at job paths place) (place_among (files_of job) file)
 
 -- what was read of a file of the sample is its text
 text_made : (command : Command) (holds : Holds) (file : File) (text : List ℕ) (seed : ℕ) → source_of command file ≡ Some (OfSample seed)
@@ -75,12 +75,12 @@ sample_by outcomes basin policy inputs seed run text comes kept is = record {
 }
 
 -- of the files of a command
-of_both : (files : Files) (policy : Rules) (inputs : Inputs) → files.policy ≡ Some policy → files.inputs ≡ Some inputs
+of_both : (files : FilesRead) (policy : Rules) (inputs : Inputs) → files.policy ≡ Some policy → files.inputs ≡ Some inputs
     → (P : Rules → Inputs → Type 0) → P policy inputs → OfBoth files P
 of_both files policy inputs has_policy has_inputs P is =
     subst (λ o. IsSomeAnd o (λ p. IsSomeAnd files.inputs (P p))) (sym has_policy) (subst (λ o. IsSomeAnd o (P policy)) (sym has_inputs) is)
 
-pub one_sample : (extras : Extras) (files : Files) (policy : Rules) (inputs : Inputs) (seed : ℕ) → files.policy ≡ Some policy
+pub one_sample : (extras : Extras) (files : FilesRead) (policy : Rules) (inputs : Inputs) (seed : ℕ) → files.policy ≡ Some policy
     → files.inputs ≡ Some inputs → (text : List ℕ) → IsSampleText files.basin policy inputs seed text
     → IsOne (Sample seed) extras files 0 text
 one_sample extras files policy inputs seed has_policy has_inputs text is =

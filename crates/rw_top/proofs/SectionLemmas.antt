@@ -1,11 +1,11 @@
 -- Sections that are written one behind another.
-use Rattle.rw_top.proofs.Common.{Change, Err, Files, GrowsBy, GrowsBy-trans, IsSomeAnd, Job, List, MatchResult, None, Ok, Option, PrefixGrew, PrefixGrew-right, Refusal, Result, RunEnd, SinkView, Some, [], ap, change, inr, length, refl, status_of_end, subst, sym, ℕ, ◌++◌, ◌+◌, ◌∙◌, ◌∷◌, ◌≡◌, ◌≤◌}
+use Rattle.rw_top.proofs.Common.{Change, Err, FilesRead, GrowsBy, GrowsBy-trans, IsSomeAnd, Job, List, MatchResult, None, Ok, Option, PrefixGrew, PrefixGrew-right, Refusal, Result, RunEnd, SinkView, Some, [], ap, change, inr, length, refl, status_of_end, subst, sym, ℕ, ◌++◌, ◌+◌, ◌∙◌, ◌∷◌, ◌≡◌, ◌≤◌}
 use Rattle.rw_base.proofs.Common.{All, append-nil, append_assoc, arith}
 use Rattle.std.proofs.lemmas.List.Elements.{All-head, All-tail}
 use Rattle.rw_inputs.specs.Edits.{Batch, after_batch}
 use Rattle.rw_inputs.specs.Inputs.{Inputs, value_at}
-use Rattle.rw_top.specs.Sections.{AppendsAll, AppendsFirst, AppendsOne, AreFirstSections, AreSections, StopsAmong, StopsAtOne, Given, edited_given, first_given, joined}
-use Rattle.rw_top.specs.Policy.{Policy as Rules}
+use Rattle.rw_top.specs.Sections.{AppendsAll, AppendsFirst, AppendsOne, AreFirstSections, AreSections, StopsAmong, StopsAtOne, GivenInputs, edited_given, first_given, joined_sections}
+use Rattle.rw_top.specs.Policy.{PolicyFile as Rules}
 use Rattle.rw_top.specs.RunText.{CountsSections, IsPlainText, IsRulesText}
 use Rattle.rw_top.specs.Written.{Appends, AppendsFront, CountsOfFiles, IsFrontOf, IsOne, OfBoth, Stops, batches_in}
 use Rattle.rw_words.specs.declared.job.Job.TheVariants.{Simulate, Run}
@@ -24,8 +24,8 @@ grown old now text grew = subst (λ t. GrowsBy old now t) (sym (append-nil text)
 
 -- one text alone
 pub one_grown : (old now : Option (List ℕ)) (texts : List (List ℕ)) (text : List ℕ) → texts ≡ text ∷ []
-    → GrowsBy old now (joined texts) → GrowsBy old now text
-one_grown old now texts text one grew = subst (λ t. GrowsBy old now t) (ap joined one ∙ append-nil text) grew
+    → GrowsBy old now (joined_sections texts) → GrowsBy old now text
+one_grown old now texts text one grew = subst (λ t. GrowsBy old now t) (ap joined_sections one ∙ append-nil text) grew
 
 -- what holds of all holds behind the first
 pub rest_of : {A : Type 0} (P : A → Type 0) (all : List A) (first : A) (rest : List A) → all ≡ first ∷ rest → All P all → All P rest
@@ -34,15 +34,15 @@ rest_of P all first rest is holds = All-tail P first rest (subst (All P) is hold
 pub first_of_all : {A : Type 0} (P : A → Type 0) (all : List A) (first : A) (rest : List A) → all ≡ first ∷ rest → All P all → P first
 first_of_all P all first rest is holds = All-head P first rest (subst (All P) is holds)
 
-module _ (IsSection : ℕ → Given → RunEnd → List ℕ → Type 0) where
+module _ (IsSection : ℕ → GivenInputs → RunEnd → List ℕ → Type 0) where
   -- the section is the last one
-  pub last_section : (number : ℕ) (given : Given) (out : Change SinkView) (end : RunEnd)
+  pub last_section : (number : ℕ) (given : GivenInputs) (out : Change SinkView) (end : RunEnd)
       → AppendsOne IsSection number given out end → AppendsAll IsSection number given [] out end
   last_section number given out end one =
       record { texts = one.text ∷ []; are = (one.text, refl, one.is); grew = grown out.before.contents out.after.contents one.text one.grew }
 
   -- it stops at the first one
-  pub stops_here : (number : ℕ) (given : Given) (batches : List Batch) (out : Change SinkView) (why : Refusal)
+  pub stops_here : (number : ℕ) (given : GivenInputs) (batches : List Batch) (out : Change SinkView) (why : Refusal)
       → StopsAtOne IsSection number given out why → StopsAmong IsSection number given batches out why
   stops_here number given batches out NoMemory stops =
       record { texts = []; are = tt; fewer = omega arith; grew = still out.before.contents out.after.contents stops }
@@ -51,12 +51,12 @@ module _ (IsSection : ℕ → Given → RunEnd → List ℕ → Type 0) where
   stops_here number given batches out why stops = absurd stops
 
   -- memory is wanting behind it
-  pub stops_behind : (number : ℕ) (given : Given) (batches : List Batch) (out : Change SinkView) (end : RunEnd) → 1 ≤ length batches
+  pub stops_behind : (number : ℕ) (given : GivenInputs) (batches : List Batch) (out : Change SinkView) (end : RunEnd) → 1 ≤ length batches
       → AppendsOne IsSection number given out end → AppendsFirst IsSection number given batches out
   stops_behind number given batches out end more one =
       record { texts = one.text ∷ []; are = (end, one.is); fewer = more; grew = grown out.before.contents out.after.contents one.text one.grew }
 
-  module _ (number : ℕ) (given : Given) (edited : Inputs) (batch : Batch) (batches : List Batch) (old now after : SinkView) (end : RunEnd)
+  module _ (number : ℕ) (given : GivenInputs) (edited : Inputs) (batch : Batch) (batches : List Batch) (old now after : SinkView) (end : RunEnd)
       (one : AppendsOne IsSection number given (change old now) end)
       (values : value_at edited ≡ after_batch batch (value_at given.inputs)) where
     -- more sections follow
@@ -65,7 +65,7 @@ module _ (IsSection : ℕ → Given → RunEnd → List ℕ → Type 0) where
     more_sections last more = record {
       texts = one.text ∷ more.texts;
       are = (end, one.text, more.texts, refl, one.is, (edited, values, more.are));
-      grew = GrowsBy-trans old.contents now.contents after.contents one.text (joined more.texts) one.grew more.grew;
+      grew = GrowsBy-trans old.contents now.contents after.contents one.text (joined_sections more.texts) one.grew more.grew;
     }
 
     first_with : (texts : List (List ℕ)) → AreFirstSections IsSection (number + 1) (edited_given given edited) batches texts
@@ -80,14 +80,14 @@ module _ (IsSection : ℕ → Given → RunEnd → List ℕ → Type 0) where
       texts = one.text ∷ stops.texts;
       are = first_with stops.texts stops.are;
       fewer = let few = stops.fewer in omega (arith, few);
-      grew = GrowsBy-trans old.contents now.contents after.contents one.text (joined stops.texts) one.grew stops.grew;
+      grew = GrowsBy-trans old.contents now.contents after.contents one.text (joined_sections stops.texts) one.grew stops.grew;
     }
     stops_later CannotWrite stops = record {
       done = one.text ∷ stops.done;
       text = stops.text;
       are = first_with (stops.done ++ stops.text ∷ []) stops.are;
-      grew = subst (λ t. PrefixGrew old.contents after.contents t) (sym (append_assoc one.text (joined stops.done) stops.text))
-          (PrefixGrew-right old.contents now.contents after.contents one.text (joined stops.done ++ stops.text) one.grew stops.grew);
+      grew = subst (λ t. PrefixGrew old.contents after.contents t) (sym (append_assoc one.text (joined_sections stops.done) stops.text))
+          (PrefixGrew-right old.contents now.contents after.contents one.text (joined_sections stops.done ++ stops.text) one.grew stops.grew);
       rose = let least = one.later in let rose = stops.rose in omega (arith, least, rose);
     }
     stops_later why stops = absurd stops
@@ -101,17 +101,17 @@ module _ (IsSection : ℕ → Given → RunEnd → List ℕ → Type 0) where
 -- ---- of a job
 
 -- one text that was made
-pub made_whole : (job : Job) (extras : Extras) (files : Files) (out : Change SinkView) (status : ℕ) (text : List ℕ) → IsOne job extras files status text
+pub made_whole : (job : Job) (extras : Extras) (files : FilesRead) (out : Change SinkView) (status : ℕ) (text : List ℕ) → IsOne job extras files status text
     → GrowsBy out.before.contents out.after.contents text → Appends job extras files out status
 made_whole job extras files out status text one grew =
     record { texts = text ∷ []; is = one.0; grew = grown out.before.contents out.after.contents text grew }
 
-pub made_front : (job : Job) (extras : Extras) (files : Files) (out : Change SinkView) (status : ℕ) (text : List ℕ) → IsOne job extras files status text
+pub made_front : (job : Job) (extras : Extras) (files : FilesRead) (out : Change SinkView) (status : ℕ) (text : List ℕ) → IsOne job extras files status text
     → PrefixGrew out.before.contents out.after.contents text → AppendsFront job extras files out
 made_front job extras files out status text one grew = record { done = []; text = text; is = one.1; grew = grew }
 
 -- a run without rules
-pub one_run : (extras : Extras) (files : Files) (inputs : Inputs) (end : RunEnd) (status : ℕ) (text : List ℕ) → files.inputs ≡ Some inputs
+pub one_run : (extras : Extras) (files : FilesRead) (inputs : Inputs) (end : RunEnd) (status : ℕ) (text : List ℕ) → files.inputs ≡ Some inputs
     → status ≡ status_of_end end → IsPlainText files.basin extras 0 (first_given inputs) end text → IsOne Simulate extras files status text
 one_run extras files inputs end status text there same is = (
   (end, same, subst (λ o. IsSomeAnd o (λ i. AreSections (IsPlainText files.basin extras) 0 (first_given i) [] end (text ∷ []))) (sym there) (text, refl, is)),
@@ -119,7 +119,7 @@ one_run extras files inputs end status text there same is = (
 )
 
 -- runs by rules
-module _ (files : Files) (policy : Rules) (inputs : Inputs) (has_policy : files.policy ≡ Some policy) (has_inputs : files.inputs ≡ Some inputs) where
+module _ (files : FilesRead) (policy : Rules) (inputs : Inputs) (has_policy : files.policy ≡ Some policy) (has_inputs : files.inputs ≡ Some inputs) where
   with_both : (P : Rules → Inputs → Type 0) → P policy inputs → OfBoth files P
   with_both P is =
       subst (λ o. IsSomeAnd o (λ p. IsSomeAnd files.inputs (P p))) (sym has_policy) (subst (λ o. IsSomeAnd o (P policy)) (sym has_inputs) is)

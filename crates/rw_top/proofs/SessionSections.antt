@@ -14,11 +14,11 @@ use Rattle.rw_run.specs.Runs.{IsRun}
 use Rattle.rw_run.specs.declared.run.Run.{Run}
 use Rattle.rw_rules.specs.Rules.{policy_in}
 use Rattle.rpl_verify.specs.Verified.{Accepted}
-use Rattle.rw_rerun.specs.Session.{Applies, IsSessionOf, IsStarted, Session, numbers_of}
-use Rattle.rw_top.specs.Policy.{Policy as Rules}
+use Rattle.rw_rerun.specs.Session.{Applies, IsSessionOf, IsStarted, Session, numbers_of_steps}
+use Rattle.rw_top.specs.Policy.{PolicyFile as Rules}
 use Rattle.rw_top.specs.Reused.{IsNextSection, WritesFrom, told_of}
 use Rattle.rw_top.specs.RunText.{ComesBy, CountsRun, CountsSections, IsCodeOf, IsRerun, IsRulesText, policy_in_run}
-use Rattle.rw_top.specs.Sections.{AppendsOne, CountsAll, Given, edited_given, first_given}
+use Rattle.rw_top.specs.Sections.{AppendsOne, CountsAll, GivenInputs, edited_given, first_given}
 use Rattle.rw_top.specs.declared.extras.Extras.{Extras}
 use Rattle.rw_top.proofs.RulesText.{TextsOfRuns, section_by}
 use Rattle.rw_top.proofs.SectionLemmas.{goes_on, last_section}
@@ -33,11 +33,11 @@ later_told true reran is = absurd cc
 pub later_number : (number : ℕ) → (number + 1 == 0) ≡ false
 later_number number = grind (arith, nat_tests)
 
-length_numbers : (steps : List StepNo) → length steps ≡ length (numbers_of steps)
+length_numbers : (steps : List StepNo) → length steps ≡ length (numbers_of_steps steps)
 length_numbers steps = sym (length-map steps (λ (step : StepNo). step.0))
 
 -- the inputs after a batch
-pub values_from : (basin : Draft) (code : Accepted) (given : Given) (batch : Batch) (old new : Session) → given.inputs ≡ old.inputs
+pub values_from : (basin : Draft) (code : Accepted) (given : GivenInputs) (batch : Batch) (old new : Session) → given.inputs ≡ old.inputs
     → Applies basin code batch old new → value_at new.inputs ≡ after_batch batch (value_at given.inputs)
 values_from basin code given batch old new same applies = subst (λ i. value_at new.inputs ≡ after_batch batch (value_at i)) (sym same) applies.values
 
@@ -49,11 +49,11 @@ module _ (basin : Draft) (policy : Rules) (code : Accepted) (means : IsCodeOf ba
     log = started.is.log;
     run = means.runs inputs started.is.log (subst (λ i. IsRun basin (policy_in basin code) (givens basin i) started.is.log) started.inputs_are started.is.whole);
     rerun = refl;
-    count = (numbers_of session.reran, started.opened_steps, length_numbers session.reran);
+    count = (numbers_of_steps session.reran, started.opened_steps, length_numbers session.reran);
   }
 
   -- and one to which a batch was applied
-  pub later_next : (number : ℕ) (given : Given) (batch : Batch) (old new : Session) → (number == 0) ≡ false → given.inputs ≡ old.inputs
+  pub later_next : (number : ℕ) (given : GivenInputs) (batch : Batch) (old new : Session) → (number == 0) ≡ false → given.inputs ≡ old.inputs
       → IsSessionOf basin code old → Applies basin code batch old new → IsNextSection basin policy number (edited_given given new.inputs) new
   later_next number given batch old new later same was applies =
       let before : IsRun basin (policy_in_run basin policy) (givens basin given.inputs) was.log =
@@ -65,11 +65,12 @@ module _ (basin : Draft) (policy : Rules) (code : Accepted) (means : IsCodeOf ba
         run = means.runs new.inputs applies.is.log applies.is.whole;
         rerun = subst (IsRerun basin (policy_in_run basin policy) true (edited_given given new.inputs) applies.is.log)
             (sym (later_told (number == 0) new.reran later)) (was.log, before, rerun);
-        count = (was.log, numbers_of new.reran, before, rerun, length_numbers new.reran);
+        count = (was.log, numbers_of_steps new.reran, before, rerun, length_numbers new.reran);
       }
 
   -- the section of its run
-  pub next_section : TextsOfRuns → (extras : Extras) (number : ℕ) (given : Given) (session : Session) (run : Run) (reran : Option (List StepNo)) (text : List ℕ)
+  pub next_section : TextsOfRuns → (extras : Extras) (number : ℕ) (given : GivenInputs) (session : Session) (run : Run)
+      (reran : Option (List StepNo)) (text : List ℕ)
       → extras.reuse ≡ true → ComesTo basin (policy_in basin code) session.inputs run → IsSome run.trace → IsNextSection basin policy number given session
       → reran ≡ told_of number session.reran → text ≡ whole_of basin number (outcome_of run) reran extras.flags extras.trace
       → IsRulesText basin policy extras number given run.end text
@@ -85,7 +86,7 @@ module _ (basin : Draft) (policy : Rules) (code : Accepted) (means : IsCodeOf ba
 
 -- ---- the sections from one on
 
-module _ (basin : Draft) (policy : Rules) (extras : Extras) (number : ℕ) (given : Given) (session : Session)
+module _ (basin : Draft) (policy : Rules) (extras : Extras) (number : ℕ) (given : GivenInputs) (session : Session)
     (next : IsNextSection basin policy number given session) where
   counts : CountsRun basin (policy_in_run basin policy) given (length session.reran)
   counts = (next.log, next.run, next.count)

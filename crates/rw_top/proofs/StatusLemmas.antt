@@ -1,5 +1,5 @@
 -- What each status says of a call that keeps its promise.
-use Rattle.rw_top.proofs.Common.{AskFor, AskNothing, Asks, BadEdits, BadInputs, BadModel, BadPolicy, AreRead, Call, Command, FailsToRead, Fault, File, Files, FindsTooLong, GrowsBy, Holds, InputRefusal, IsRunText, IsSomeAnd, IsTextOf, Job, None, Option, ReadsInputs, ReadsPolicy, SaysAt, Some, List, LongFile, ModelRefusal, Promise, Reason, Refusal, RefusedCommand, RefusesInputs, RefusesModel, RefusesPolicy, Rose, RunEnd, Settled, WasFound, WasRefused, WritesFront, WroteCheck, WroteCode, WroteRun, [], ap, arith, inl, inr, reads_code, refl, status_by, status_of, status_of_end, takes_code, true, ℕ, ◌∙◌, ◌∷◌, ◌≡◌, ◌≢◌, ◌≤◌, ◌⊎◌}
+use Rattle.rw_top.proofs.Common.{AskOne, AskNothing, AskForCommand, BadEdits, BadInputs, BadModel, BadPolicy, AreRead, Call, Command, FailsToRead, Fault, File, FilesRead, FindsTooLong, GrowsBy, Holds, InputRefusal, IsRunText, IsSomeAnd, IsTextOf, Job, None, Option, ReadsInputs, ReadsPolicy, SaysAt, Some, List, LongFile, ModelRefusal, Promise, Reason, Refusal, RefusedCommand, RefusesInputs, RefusesModel, RefusesPolicy, Rose, RunEnd, Settled, WasFound, WasRefused, WritesFront, WroteCheck, WroteCode, WroteRun, [], ap, arith, inl, inr, reads_code, refl, status_by, status_of, status_of_end, takes_code, true, ℕ, ◌∙◌, ◌∷◌, ◌≡◌, ◌≢◌, ◌≤◌, ◌⊎◌}
 use Rattle.rw_run.specs.Next.{no_rules}
 use Rattle.rw_run.specs.declared.fault.RunFault.{RunFault}
 use Rattle.rw_base.specs.declared.number.Cell.{Cell}
@@ -9,14 +9,14 @@ use Rattle.rw_top.specs.Reading.{LacksCell, RefusesEdits}
 use Rattle.rpl_compile.specs.Translate.{translate}
 use Rattle.rw_top.specs.RunText.{IsRulesText, IsSampleText, IsWhyOfRules}
 use Rattle.rw_top.proofs.SampleText.{inputs_of_sample, model_of_sample, ruleset_of_sample}
-use Rattle.rw_top.specs.Sections.{AreSections, joined}
+use Rattle.rw_top.specs.Sections.{AreSections, joined_sections}
 use Rattle.rw_top.specs.Written.{WritesSections, batches_in}
 use Rattle.rw_top.proofs.SectionLemmas.{one_grown}
 use Rattle.rw_base.proofs.Common.{sym, ◌&&◌}
 use Rattle.rw_inputs.specs.Inputs.{Inputs as Given}
 use Rattle.rpl_code.specs.Spelling.{spelt}
 use Rattle.rw_top.specs.Budgets.{check_text}
-use Rattle.rw_top.specs.Policy.{BadCode, RulesRefusal, BadRules, BadBlocks, Policy as Rules, Ruleset, Code, code_of, is_code}
+use Rattle.rw_top.specs.Policy.{BadCode, RulesRefusal, BadRules, BadBlocks, PolicyFile as Rules, Ruleset, Code, code_in_file, is_code}
 use Rattle.rw_words.specs.declared.job.Job.TheVariants.{Simulate, Check, Compile, Run, Why, Sample}
 use Rattle.rw_top.specs.declared.refusal.File.TheVariants.{Policy as PolicyFile, Inputs as InputsFile}
 use Rattle.rw_top.specs.declared.refusal.Refusal.TheVariants.{Words, CannotRead, CannotWrite, NoMemory, Inputs, Edits, NoCell}
@@ -34,9 +34,9 @@ faults : (P : RunEnd → Type 0) (end : RunEnd) → 1 ≡ status_of_end end → 
 faults P Settled is wrote = absurd (omega (arith, is))
 faults P (Fault why) is wrote = (why, wrote)
 
-module _ (call : Call) (command : Command) (asked : Asks call.words command) (files : Files)
+module _ (call : Call) (command : Command) (asked : AskForCommand call.words command) (files : FilesRead)
     (read : AreRead command call.shelf.before.holds files) (texts : List (List ℕ))
-    (grew : GrowsBy call.out.before.contents call.out.after.contents (joined texts)) where
+    (grew : GrowsBy call.out.before.contents call.out.after.contents (joined_sections texts)) where
   abbrev holds : Holds
   holds = call.shelf.before.holds
 
@@ -102,7 +102,7 @@ module _ (call : Call) (command : Command) (asked : Asks call.words command) (fi
 
   -- what is compiled is a ruleset
   wrote_code : command.job ≡ Compile → (policy : Option Rules) → SaysAt command PolicyFile policy (ReadsPolicy command holds files.basin)
-      → IsSomeAnd policy (λ rules. texts ≡ spelt (code_of rules) ∷ []) → WroteCode call
+      → IsSomeAnd policy (λ rules. texts ≡ spelt (code_in_file rules) ∷ []) → WroteCode call
   wrote_code job None says is = absurd is
   wrote_code job (Some (Ruleset rules)) says is =
       record { command = command; asked = asked; basin = files.basin; rules = rules; read = says; grew = one (spelt (translate rules)) is }
@@ -187,18 +187,18 @@ module _ (call : Call) where
   by_command why words memory was = was
 
   by_read : (why : Refusal) → 3 ≡ status_of why → RefusedCommand call why
-      → AskFor call.words (λ command. (file : File) × FailsToRead command call.shelf file)
+      → AskOne call.words (λ command. (file : File) × FailsToRead command call.shelf file)
   by_read (CannotRead file) is was = (was.command, was.asked, (file, was.cause.0))
   by_read why is was = absurd (omega (arith, is))
 
   by_write : (why : Refusal) → 4 ≡ status_of why → RefusedCommand call why
-      → AskFor call.words (λ command. WritesFront command call.shelf.before.holds call.out) × Rose call.out.before.faults call.out.after.faults
+      → AskOne call.words (λ command. WritesFront command call.shelf.before.holds call.out) × Rose call.out.before.faults call.out.after.faults
   by_write CannotWrite is was = ((was.command, was.asked, was.cause.0), was.cause.1)
   by_write why is was = absurd (omega (arith, is))
 
   -- from 6 on, that of a reason that was found, or of a cell that isn't there
   by_reason : (why : Refusal) → 6 ≤ status_of why → why ≢ NoCell → RefusedCommand call why
-      → AskFor call.words (λ command. (reason : Reason) × (status_of why ≡ status_by reason) × WasFound command call.shelf reason)
+      → AskOne call.words (λ command. (reason : Reason) × (status_of why ≡ status_by reason) × WasFound command call.shelf reason)
   by_reason Words high named was = absurd (omega (arith, high))
   by_reason (CannotRead file) high named was = absurd (omega (arith, high))
   by_reason CannotWrite high named was = absurd (omega (arith, high))
@@ -208,7 +208,7 @@ module _ (call : Call) where
       let told = was.cause.0 in (was.command, was.asked, (told.reason, told_status why told.reason told.tells, told.found))
 
   by_memory : (why : Refusal) → 5 ≡ status_of why → WasRefused call why
-      → (call.out.after.contents ≡ call.out.before.contents) ⊎ AskFor call.words (λ command. WritesSections command call.shelf.before.holds call.out)
+      → (call.out.after.contents ≡ call.out.before.contents) ⊎ AskOne call.words (λ command. WritesSections command call.shelf.before.holds call.out)
   by_memory NoMemory is (inl was) = inl was.still
   by_memory NoMemory is (inr was) = inr (was.command, was.asked, was.cause)
   by_memory why is was = absurd (omega (arith, is))
@@ -229,16 +229,16 @@ module _ (call : Call) where
   pub words : Promise call 2 → AskNothing call.words
   words promise = let refused = promise.refused (omega arith) in by_words refused.0 refused.1 refused.2
 
-  pub read_fault : Promise call 3 → AskFor call.words (λ command. (file : File) × FailsToRead command call.shelf file)
+  pub read_fault : Promise call 3 → AskOne call.words (λ command. (file : File) × FailsToRead command call.shelf file)
   read_fault promise = let refused = of_status 3 (omega arith) (omega arith) promise in by_read refused.0 refused.1 refused.2
 
   pub write : Promise call 4
-      → AskFor call.words (λ command. WritesFront command call.shelf.before.holds call.out) × Rose call.out.before.faults call.out.after.faults
+      → AskOne call.words (λ command. WritesFront command call.shelf.before.holds call.out) × Rose call.out.before.faults call.out.after.faults
   write promise = let refused = of_status 4 (omega arith) (omega arith) promise in by_write refused.0 refused.1 refused.2
 
   -- from 6 on, the reason that was found
   reason_of_status : (status : ℕ) → 6 ≤ status → status ≢ 8 → Promise call status
-      → AskFor call.words (λ command. (reason : Reason) × (status ≡ status_by reason) × WasFound command call.shelf reason)
+      → AskOne call.words (λ command. (reason : Reason) × (status ≡ status_by reason) × WasFound command call.shelf reason)
   reason_of_status status high other promise =
       let refused = of_status status (omega (arith, high)) (omega (arith, high)) promise in
       let there = by_reason refused.0 (omega (arith, high, refused.1)) (λ is. other (refused.1 ∙ ap status_of is)) refused.2 in
@@ -276,13 +276,13 @@ module _ (call : Call) where
   long_file command (BadPolicy (BadBlocks why)) is found = absurd (omega (arith, is))
   long_file command reason is found = absurd (omega (arith, is))
 
-  pub model : Promise call 6 → AskFor call.words (λ command. (why : ModelRefusal) × RefusesModel command call.shelf.before.holds why)
+  pub model : Promise call 6 → AskOne call.words (λ command. (why : ModelRefusal) × RefusesModel command call.shelf.before.holds why)
   model promise = let there = reason_of_status 6 (omega arith) (omega arith) promise in (there.0, there.1, bad_model there.0 there.2.0 there.2.1 there.2.2)
 
-  pub rules : Promise call 7 → AskFor call.words (λ command. (why : RulesRefusal) × RefusesPolicy command call.shelf.before.holds (BadRules why))
+  pub rules : Promise call 7 → AskOne call.words (λ command. (why : RulesRefusal) × RefusesPolicy command call.shelf.before.holds (BadRules why))
   rules promise = let there = reason_of_status 7 (omega arith) (omega arith) promise in (there.0, there.1, bad_rules there.0 there.2.0 there.2.1 there.2.2)
 
-  pub code : Promise call 9 → AskFor call.words (λ command. (why : BadCode) × RefusesPolicy command call.shelf.before.holds (BadBlocks why))
+  pub code : Promise call 9 → AskOne call.words (λ command. (why : BadCode) × RefusesPolicy command call.shelf.before.holds (BadBlocks why))
   code promise = let there = reason_of_status 9 (omega arith) (omega arith) promise in (there.0, there.1, bad_code there.0 there.2.0 there.2.1 there.2.2)
 
   -- 8 is that of a row, or of a cell that isn't there
@@ -290,25 +290,25 @@ module _ (call : Call) where
   RowOrCell command = ((why : InputRefusal) × (RefusesInputs command call.shelf.before.holds why ⊎ RefusesEdits command call.shelf.before.holds why))
       ⊎ LacksCell command call.shelf.before.holds
 
-  by_row : (why : Refusal) → 8 ≡ status_of why → why ≢ NoCell → RefusedCommand call why → AskFor call.words RowOrCell
+  by_row : (why : Refusal) → 8 ≡ status_of why → why ≢ NoCell → RefusedCommand call why → AskOne call.words RowOrCell
   by_row why is named was =
       let there = by_reason why (omega (arith, is)) named was in
       (there.0, there.1, inl (bad_inputs there.0 there.2.0 (is ∙ there.2.1) there.2.2))
 
-  row_or_cell : (why : Refusal) → 8 ≡ status_of why → RefusedCommand call why → AskFor call.words RowOrCell
+  row_or_cell : (why : Refusal) → 8 ≡ status_of why → RefusedCommand call why → AskOne call.words RowOrCell
   row_or_cell NoCell is was = (was.command, was.asked, inr was.cause.0)
   row_or_cell (Inputs kind row column) is was = by_row (Inputs kind row column) is (λ same. cc) was
   row_or_cell (Edits kind row column) is was = by_row (Edits kind row column) is (λ same. cc) was
   row_or_cell why is was = absurd (omega (arith, is))
 
-  pub inputs : Promise call 8 → AskFor call.words RowOrCell
+  pub inputs : Promise call 8 → AskOne call.words RowOrCell
   inputs promise = let refused = of_status 8 (omega arith) (omega arith) promise in row_or_cell refused.0 refused.1 refused.2
 
-  pub too_long : Promise call 10 → AskFor call.words (λ command. (file : File) × FindsTooLong command call.shelf file)
+  pub too_long : Promise call 10 → AskOne call.words (λ command. (file : File) × FindsTooLong command call.shelf file)
   too_long promise = let there = reason_of_status 10 (omega arith) (omega arith) promise in (there.0, there.1, long_file there.0 there.2.0 there.2.1 there.2.2)
 
   pub sections : Promise call 5 → (call.out.after.contents ≡ call.out.before.contents)
-      ⊎ AskFor call.words (λ command. WritesSections command call.shelf.before.holds call.out)
+      ⊎ AskOne call.words (λ command. WritesSections command call.shelf.before.holds call.out)
   sections promise = let refused = promise.refused (omega arith) in by_memory refused.0 refused.1 refused.2
 
   pub untouched : (status : ℕ) → Promise call status → 2 ≤ status → status ≢ 4 → status ≢ 5

@@ -1,14 +1,14 @@
 -- Parts of a line that are written one after another.
-use Rattle.rw_top.proofs.Common.{Bool, GrowsBy, GrowsBy-trans, List, MatchBool, PrefixGrew, PrefixGrew-left, PrefixGrew-right, Rose, SinkView, Tells, arith, change, false, inl, inr, length, subst, sym, take_all, true, ℕ, ◌++◌, ◌≤◌}
+use Rattle.rw_top.proofs.Common.{Bool, GrowsBy, GrowsBy-trans, List, MatchBool, PrefixGrew, PrefixGrew-left, PrefixGrew-right, Rose, SinkView, TellsLine, arith, change, false, inl, inr, length, subst, sym, take_all, true, ℕ, ◌++◌, ◌≤◌}
 
 -- the first part was cut off
 pub tells_cut : (a b : SinkView) (xs ys : List ℕ) → PrefixGrew a.contents b.contents xs → Rose a.faults b.faults
-    → Tells (change a b) (xs ++ ys)
+    → TellsLine (change a b) (xs ++ ys)
 tells_cut a b xs ys h rose = record { front = PrefixGrew-left a.contents b.contents xs ys h; whole = inl rose }
 
 -- the first part was taken, and the rest as told
 pub tells_on : (a b c : SinkView) (xs ys : List ℕ) → a.faults ≤ b.faults → GrowsBy a.contents b.contents xs
-    → Tells (change b c) ys → Tells (change a c) (xs ++ ys)
+    → TellsLine (change b c) ys → TellsLine (change a c) (xs ++ ys)
 tells_on a b c xs ys le h told = record {
   front = PrefixGrew-right a.contents b.contents c.contents xs ys h told.front;
   whole = elim told.whole [ inl rose ↦ inl (omega (arith, le, rose)) | inr grown ↦ inr (GrowsBy-trans a.contents b.contents c.contents xs ys h grown) ];
@@ -17,7 +17,7 @@ tells_on a b c xs ys le h told = record {
 -- the last part
 pub tells_last : (a b : SinkView) (xs : List ℕ) (all : Bool)
     → MatchBool all (GrowsBy a.contents b.contents xs) (PrefixGrew a.contents b.contents xs × Rose a.faults b.faults)
-    → Tells (change a b) xs
+    → TellsLine (change a b) xs
 tells_last a b xs true h =
     let P : List ℕ → Type 0 = λ t. GrowsBy a.contents b.contents t in
     record { front = (length xs, subst P (sym (take_all (length xs) xs (omega arith))) h); whole = inr h }

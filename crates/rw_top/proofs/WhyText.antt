@@ -1,5 +1,5 @@
 -- How a cell came to what it holds in a run by a policy.
-use Rattle.rw_top.proofs.Common.{Files, IsSomeAnd, List, RunEnd, Some, refl, status_of_end, subst, sym, [], ℕ, ◌∙◌, ◌∷◌, ◌≡◌}
+use Rattle.rw_top.proofs.Common.{FilesRead, IsSomeAnd, List, RunEnd, Some, refl, status_of_end, subst, sym, [], ℕ, ◌∙◌, ◌∷◌, ◌≡◌}
 use Rattle.rw_base.proofs.Common.{Bool, IsSome}
 use Rattle.rw_base.specs.declared.number.Cell.{Cell}
 use Rattle.rw_inputs.specs.Inputs.{Inputs}
@@ -9,7 +9,7 @@ use Rattle.rw_report.specs.Why.{why_of}
 use Rattle.rw_run.proofs.Common.{Log}
 use Rattle.rw_run.specs.RunOf.{IsRunOf}
 use Rattle.rw_run.specs.declared.run.Run.{Run}
-use Rattle.rw_top.specs.Policy.{Policy as Rules}
+use Rattle.rw_top.specs.Policy.{PolicyFile as Rules}
 use Rattle.rw_top.specs.RunText.{ComesBy, IsWhyOfRules}
 use Rattle.rw_top.specs.Written.{IsOne, OfThree}
 use Rattle.rw_words.specs.declared.job.Job.TheVariants.{Why}
@@ -31,14 +31,14 @@ why_by texts basin policy inputs cell run text comes kept is = record {
 }
 
 -- of the files of a command
-of_three : (files : Files) (policy : Rules) (inputs : Inputs) (cell : Cell) → files.policy ≡ Some policy → files.inputs ≡ Some inputs
+of_three : (files : FilesRead) (policy : Rules) (inputs : Inputs) (cell : Cell) → files.policy ≡ Some policy → files.inputs ≡ Some inputs
     → files.cell ≡ Some cell → (P : Rules → Inputs → Cell → Type 0) → P policy inputs cell → OfThree files P
 of_three files policy inputs cell has_policy has_inputs has_cell P is =
     subst (λ o. IsSomeAnd o (λ p. IsSomeAnd files.inputs (λ i. IsSomeAnd files.cell (P p i)))) (sym has_policy)
     (subst (λ o. IsSomeAnd o (λ i. IsSomeAnd files.cell (P policy i))) (sym has_inputs)
     (subst (λ o. IsSomeAnd o (P policy inputs)) (sym has_cell) is))
 
-pub one_why : (extras : Extras) (files : Files) (policy : Rules) (inputs : Inputs) (cell : Cell) → files.policy ≡ Some policy
+pub one_why : (extras : Extras) (files : FilesRead) (policy : Rules) (inputs : Inputs) (cell : Cell) → files.policy ≡ Some policy
     → files.inputs ≡ Some inputs → files.cell ≡ Some cell → (end : RunEnd) (status : ℕ) (text : List ℕ) → status ≡ status_of_end end
     → IsWhyOfRules files.basin policy inputs cell end text → IsOne Why extras files status text
 one_why extras files policy inputs cell has_policy has_inputs has_cell end status text same is = (

@@ -36,10 +36,10 @@ abbrev pub cell_by : Draft → CellWords → Option Cell
 cell_by basin words = cell_named basin words.slot words.step
 
 -- the cell that it asks for, where it asks for one that is there
-abbrev pub cell_of : Command → Draft → Option Cell
-cell_of command basin = if seeks_cell command.job then option_and_then (cell_by basin) command.cell else None
+abbrev pub cell_asked : Command → Draft → Option Cell
+cell_asked command basin = if seeks_cell command.job then option_and_then (cell_by basin) command.cell else None
 
 -- the cell was found, where one is sought
 pub record FindsCell (command : Command) (basin : Draft) (found : Option Cell) : Type 0 where
-  pub is : found ≡ cell_of command basin
+  pub is : found ≡ cell_asked command basin
   pub some : IsTrue (seeks_cell command.job) → IsSome found

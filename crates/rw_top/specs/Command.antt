@@ -2,7 +2,7 @@
 use Rattle.std.specs.Prelude.{◌≡◌, ℕ, suc, ◌==◌, List, [], ◌∷◌, slice_index_or, Option, Some, None, option_and_then, option_map, IsSome, Bool, true, false, if◌then◌else◌}
 use Rattle.rw_words.specs.declared.job.Job.{Job}
 use Rattle.rw_words.specs.declared.job.Job.TheVariants.{Simulate, Check, Compile, Run, Why, Sample}
-use Rattle.rw_words.specs.Command.{Command, command_of as asked_by, seen}
+use Rattle.rw_words.specs.Command.{Command, asked_command as asked_by, command_seen}
 use Rattle.rw_words.specs.Plain.{plain}
 use Rattle.rw_top.specs.declared.refusal.File.{File}
 use Rattle.rw_top.specs.declared.refusal.File.TheVariants.{Model, Policy, Inputs, Edits}
@@ -13,7 +13,7 @@ use Rattle.rw_sample.specs.Texts.{sample_inputs, sample_model, sample_rules}
 
 -- what its text tells besides the table, and how it is come to
 abbrev pub extras_of : Command → Extras
-extras_of command = record { flags = command.flags; trace = command.trace; reuse = command.reuse; order = command.order }
+extras_of command = record { flags = command.flags; trace = command.trace; reuse = command.reuse; reading_order = command.order }
 
 -- ---- jobs
 
@@ -43,16 +43,16 @@ seeks_cell job = false
 -- ---- files
 
 -- files are read in this order
-abbrev pub order : File → ℕ
-order Model = 0
-order Policy = 1
-order Inputs = 2
-order Edits = 3
+abbrev pub reading_order : File → ℕ
+reading_order Model = 0
+reading_order Policy = 1
+reading_order Inputs = 2
+reading_order Edits = 3
 
 -- where a file stands among others, from 0 on
-abbrev pub place_in : List File → File → Option ℕ
-place_in [] file = None
-place_in (first ∷ rest) file = if order first == order file then Some 0 else option_map suc (place_in rest file)
+abbrev pub place_among : List File → File → Option ℕ
+place_among [] file = None
+place_among (first ∷ rest) file = if reading_order first == reading_order file then Some 0 else option_map suc (place_among rest file)
 
 -- ---- where their texts come from
 
@@ -91,7 +91,7 @@ source_at Why paths place = AtPath (slice_index_or paths place [])
 
 -- where that of a file comes from that its job reads
 abbrev pub named_source : Command → File → Option Source
-named_source command file = option_map (λ place. source_at command.job command.paths place) (place_in (files_of command.job) file)
+named_source command file = option_map (λ place. source_at command.job command.paths place) (place_among (files_of command.job) file)
 
 -- where that of a file comes from, where the command reads it
 abbrev pub source_of : Command → File → Option Source
@@ -99,29 +99,29 @@ source_of command Edits = option_map (λ path. AtPath path) command.edits
 source_of command file = named_source command file
 
 -- the command reads the file
-abbrev pub Names : Command → File → Type 0
-Names command file = IsSome (source_of command file)
+abbrev pub ReadsFile : Command → File → Type 0
+ReadsFile command file = IsSome (source_of command file)
 
 -- the path of a file, where the command reads it from one
 abbrev pub path_of : Command → File → Option (List ℕ)
 path_of command file = option_and_then path_in (source_of command file)
 
 -- the words ask for the command
-abbrev pub Asks : List (List ℕ) → Command → Type 0
-Asks words command = asked_by words ≡ Some command
+abbrev pub AskForCommand : List (List ℕ) → Command → Type 0
+AskForCommand words command = asked_by words ≡ Some command
 
 -- they ask for none
 abbrev pub AskNothing : List (List ℕ) → Type 0
 AskNothing words = asked_by words ≡ None
 
 -- they ask for a command of which this holds
-abbrev pub AskFor : List (List ℕ) → (Command → Type 0) → Type 0
-AskFor words P = (command : Command) × Asks words command × P command
+abbrev pub AskOne : List (List ℕ) → (Command → Type 0) → Type 0
+AskOne words P = (command : Command) × AskForCommand words command × P command
 
 -- the run of a model from inputs
-abbrev pub simulates : List ℕ → List ℕ → Command
-simulates model inputs = plain Simulate (model ∷ inputs ∷ [])
+abbrev pub simulation_of : List ℕ → List ℕ → Command
+simulation_of model inputs = plain Simulate (model ∷ inputs ∷ [])
 
 -- the command that was read, in these terms
-abbrev pub command_of : Named → Command
-command_of named = seen named.words
+abbrev pub command_said : Named → Command
+command_said named = command_seen named.words

@@ -167,19 +167,19 @@ abbrev pub told_path : Command → File → List ℕ
 told_path command file = unwrap_or (path_of command file) []
 
 -- the line that says why a command isn't done
-abbrev pub line_of : Command → Refusal → List ℕ
-line_of command Words = words_line
-line_of command (CannotRead file) =
+abbrev pub refusal_line : Command → Refusal → List ℕ
+refusal_line command Words = words_line
+refusal_line command (CannotRead file) =
     (codes "basin: cannot read " ++ told_path command file) ++ codes "\n"
-line_of command CannotWrite = codes "basin: cannot write\n"
-line_of command NoMemory = memory_line
-line_of command (Model fault) = model_line fault
-line_of command (Grammar fault) = grammar_line fault
-line_of command (Types kind declaration node) = types_line kind declaration node
-line_of command (Code fault) = code_line fault
-line_of command (Block kind block place) = block_line kind block place
-line_of command (Inputs kind row column) = inputs_line kind row column
-line_of command (Edits kind row column) = edits_line kind row column
-line_of command NoCell = codes "basin: why: no such cell\n"
-line_of command (TooLong file) =
+refusal_line command CannotWrite = codes "basin: cannot write\n"
+refusal_line command NoMemory = memory_line
+refusal_line command (Model fault) = model_line fault
+refusal_line command (Grammar fault) = grammar_line fault
+refusal_line command (Types kind declaration node) = types_line kind declaration node
+refusal_line command (Code fault) = code_line fault
+refusal_line command (Block kind block place) = block_line kind block place
+refusal_line command (Inputs kind row column) = inputs_line kind row column
+refusal_line command (Edits kind row column) = edits_line kind row column
+refusal_line command NoCell = codes "basin: why: no such cell\n"
+refusal_line command (TooLong file) =
     (codes "basin: too long " ++ told_path command file) ++ codes "\n"

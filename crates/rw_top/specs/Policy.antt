@@ -66,18 +66,18 @@ RefusesCode basin text (Misfit why) = RefusesBlock basin text why
 -- ---- policies
 
 -- a ruleset, or blocks of code with the budget of each
-pub data Policy : Type 0 where
-  Ruleset : List Declared → Policy
-  Code : List Block → List Budget → Policy
+pub data PolicyFile : Type 0 where
+  Ruleset : List Declared → PolicyFile
+  Code : List Block → List Budget → PolicyFile
 
 pub data PolicyRefusal : Type 0 where
   BadRules : RulesRefusal → PolicyRefusal
   BadBlocks : BadCode → PolicyRefusal
 
 -- the text, which is read as code or as a ruleset, is that of this policy, which is accepted
-abbrev pub IsPolicyOf : Bool → Draft → List ℕ → Policy → Type 0
-IsPolicyOf as_code basin text (Ruleset rules) = (as_code ≡ false) × IsRulesetOf basin text rules
-IsPolicyOf as_code basin text (Code blocks budgets) = (as_code ≡ true) × IsCodeOf basin text blocks budgets
+abbrev pub IsPolicyFileOf : Bool → Draft → List ℕ → PolicyFile → Type 0
+IsPolicyFileOf as_code basin text (Ruleset rules) = (as_code ≡ false) × IsRulesetOf basin text rules
+IsPolicyFileOf as_code basin text (Code blocks budgets) = (as_code ≡ true) × IsCodeOf basin text blocks budgets
 
 -- the text, which is read so, is refused for this
 abbrev pub RefusesText : Bool → Draft → List ℕ → PolicyRefusal → Type 0
@@ -85,6 +85,6 @@ RefusesText as_code basin text (BadRules why) = (as_code ≡ false) × RefusesRu
 RefusesText as_code basin text (BadBlocks why) = (as_code ≡ true) × RefusesCode basin text why
 
 -- its code: that of the ruleset, or the code itself
-abbrev pub code_of : Policy → List Block
-code_of (Ruleset rules) = translate rules
-code_of (Code blocks budgets) = blocks
+abbrev pub code_in_file : PolicyFile → List Block
+code_in_file (Ruleset rules) = translate rules
+code_in_file (Code blocks budgets) = blocks

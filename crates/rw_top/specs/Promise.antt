@@ -11,19 +11,19 @@ use Rattle.rpl_tree.specs.Tree.{Declared}
 use Rattle.rpl_code.specs.Spelling.{spelt}
 use Rattle.rpl_compile.specs.Translate.{translate}
 use Rattle.rw_top.specs.Budgets.{check_text}
-use Rattle.rw_top.specs.Cell.{cell_of}
+use Rattle.rw_top.specs.Cell.{cell_asked}
 use Rattle.rw_top.specs.Call.{Call}
-use Rattle.rw_top.specs.Command.{AskNothing, Asks, extras_of}
+use Rattle.rw_top.specs.Command.{AskNothing, AskForCommand, extras_of}
 use Rattle.rw_words.specs.Command.{Command}
 use Rattle.rw_words.specs.declared.job.Job.TheVariants.{Sample}
-use Rattle.rw_top.specs.Policy.{Policy as Rules, Ruleset}
-use Rattle.rw_top.specs.Reason.{Reason, IsFound, IsHonestFor, status_by}
-use Rattle.rw_top.specs.Lines.{line_of, memory_line, words_line}
+use Rattle.rw_top.specs.Policy.{PolicyFile as Rules, Ruleset}
+use Rattle.rw_top.specs.Reason.{Reason, IsFoundReason, IsHonestFor, status_by}
+use Rattle.rw_top.specs.Lines.{refusal_line, memory_line, words_line}
 use Rattle.rw_top.specs.Reading.{AcceptsAll, IsHonestOfAll, LacksCell, ReadsEdits, ReadsInputs, ReadsPolicy, SaysAt}
 use Rattle.rw_top.specs.Refusal.{Cause, EndsWith, status_of}
 use Rattle.rw_top.specs.RunText.{IsRulesText, IsSampleOf, IsSimulated, IsWhyOfRules}
-use Rattle.rw_top.specs.Sections.{AreSections, first_given, joined}
-use Rattle.rw_top.specs.Written.{CountsReused, Tells, WritesAll}
+use Rattle.rw_top.specs.Sections.{AreSections, first_given, joined_sections}
+use Rattle.rw_top.specs.Written.{CountsReused, TellsLine, WritesAll}
 use Rattle.rw_top.specs.declared.refusal.File.TheVariants.{Edits}
 use Rattle.rw_top.specs.declared.refusal.Refusal.{Refusal}
 use Rattle.rw_top.specs.declared.refusal.Refusal.TheVariants.{Words, NoMemory}
@@ -31,7 +31,7 @@ use Rattle.rw_top.specs.declared.refusal.Refusal.TheVariants.{Words, NoMemory}
 -- exactly the text of the command was written, with this status, and nothing on the error stream
 pub record Wrote (call : Call) (status : ℕ) : Type 0 where
   pub command : Command
-  pub asked : Asks call.words command
+  pub asked : AskForCommand call.words command
   pub text : WritesAll command call.shelf.before.holds call.out status
   pub silent : call.err.after ≡ call.err.before
 
@@ -39,19 +39,19 @@ pub record Wrote (call : Call) (status : ℕ) : Type 0 where
 pub record RefusedWords (call : Call) : Type 0 where
   pub nothing : AskNothing call.words
   pub still : call.out.after.contents ≡ call.out.before.contents
-  pub told : Tells call.err words_line
+  pub told : TellsLine call.err words_line
 
 -- memory was wanting before the words were read, and the line that says so is all that was written
 pub record UnreadWords (call : Call) : Type 0 where
   pub still : call.out.after.contents ≡ call.out.before.contents
-  pub told : Tells call.err memory_line
+  pub told : TellsLine call.err memory_line
 
 -- the command that the words ask for is refused for this, which has its cause, and was told in its line
 pub record RefusedCommand (call : Call) (why : Refusal) : Type 0 where
   pub command : Command
-  pub asked : Asks call.words command
+  pub asked : AskForCommand call.words command
   pub cause : Cause command call.shelf call.out why
-  pub told : Tells call.err (line_of command why)
+  pub told : TellsLine call.err (refusal_line command why)
 
 -- the call is refused for this
 abbrev pub WasRefused : Call → Refusal → Type 0
@@ -73,18 +73,18 @@ pub record Promise (call : Call) (status : ℕ) : Type 0 where
   -- words that ask for nothing are refused, unless memory is wanting
   pub words : AskNothing call.words → EndsWith 2 status
   -- what has to be refused of a command is, of an honest shelf, unless memory is wanting
-  pub due : (command : Command) → Asks call.words command
-      → (reason : Reason) → IsFound command call.shelf.before.holds reason
+  pub due : (command : Command) → AskForCommand call.words command
+      → (reason : Reason) → IsFoundReason command call.shelf.before.holds reason
       → IsHonestFor command call.shelf reason → EndsWith (status_by reason) status
   -- and so is a cell that isn't there
-  pub cell : (command : Command) → Asks call.words command → LacksCell command call.shelf.before.holds
+  pub cell : (command : Command) → AskForCommand call.words command → LacksCell command call.shelf.before.holds
       → IsHonestOfAll command call.shelf → EndsWith 8 status
   -- where every file is accepted, the cell is there and nothing fails, only memory can be wanting
-  pub complete : (command : Command) → Asks call.words command
+  pub complete : (command : Command) → AskForCommand call.words command
       → AcceptsAll command call.shelf.before.holds → ¬ LacksCell command call.shelf.before.holds → IsCalm command call
       → (status ≤ 1) ⊎ (status ≡ 5)
   -- a run that reuses timesteps counts those that it runs
-  pub counted : status ≤ 1 → (command : Command) → Asks call.words command → CountsReused command call.shelf.before.holds call.steps
+  pub counted : status ≤ 1 → (command : Command) → AskForCommand call.words command → CountsReused command call.shelf.before.holds call.steps
   -- no file is changed
   pub held : (path : List ℕ) → call.shelf.after.holds path ≡ call.shelf.before.holds path
 
@@ -93,7 +93,7 @@ pub record Promise (call : Call) (status : ℕ) : Type 0 where
 -- a run without rules, in the order that is asked for, that ends so, and its text
 pub record WroteRun (call : Call) (end : RunEnd) : Type 0 where
   pub command : Command
-  pub asked : Asks call.words command
+  pub asked : AskForCommand call.words command
   pub basin : Draft
   pub inputs : Rows
   pub read : ReadsInputs command call.shelf.before.holds basin inputs
@@ -104,7 +104,7 @@ pub record WroteRun (call : Call) (end : RunEnd) : Type 0 where
 -- the sections of runs by a policy that is accepted, after each batch of edits, of which the last one ends so
 pub record WroteRules (call : Call) (end : RunEnd) : Type 0 where
   pub command : Command
-  pub asked : Asks call.words command
+  pub asked : AskForCommand call.words command
   pub basin : Draft
   pub policy : Rules
   pub rules : ReadsPolicy command call.shelf.before.holds basin policy
@@ -114,19 +114,19 @@ pub record WroteRules (call : Call) (end : RunEnd) : Type 0 where
   pub edited : SaysAt command Edits edits (ReadsEdits command call.shelf.before.holds basin)
   pub texts : List (List ℕ)
   pub are : AreSections (IsRulesText basin policy (extras_of command)) 0 (first_given inputs) (unwrap_or edits []) end texts
-  pub grew : GrowsBy call.out.before.contents call.out.after.contents (joined texts)
+  pub grew : GrowsBy call.out.before.contents call.out.after.contents (joined_sections texts)
 
 -- how a cell came to what it holds in the run by a policy that is accepted, which ends so
 pub record WroteWhy (call : Call) (end : RunEnd) : Type 0 where
   pub command : Command
-  pub asked : Asks call.words command
+  pub asked : AskForCommand call.words command
   pub basin : Draft
   pub policy : Rules
   pub rules : ReadsPolicy command call.shelf.before.holds basin policy
   pub inputs : Rows
   pub read : ReadsInputs command call.shelf.before.holds basin inputs
   pub cell : Cell
-  pub named : cell_of command basin ≡ Some cell
+  pub named : cell_asked command basin ≡ Some cell
   pub text : List ℕ
   pub is : IsWhyOfRules basin policy inputs cell end text
   pub grew : GrowsBy call.out.before.contents call.out.after.contents text
@@ -134,7 +134,7 @@ pub record WroteWhy (call : Call) (end : RunEnd) : Type 0 where
 -- the budgets of a policy that is accepted
 pub record WroteCheck (call : Call) : Type 0 where
   pub command : Command
-  pub asked : Asks call.words command
+  pub asked : AskForCommand call.words command
   pub basin : Draft
   pub policy : Rules
   pub read : ReadsPolicy command call.shelf.before.holds basin policy
@@ -143,7 +143,7 @@ pub record WroteCheck (call : Call) : Type 0 where
 -- the code of a ruleset that is accepted
 pub record WroteCode (call : Call) : Type 0 where
   pub command : Command
-  pub asked : Asks call.words command
+  pub asked : AskForCommand call.words command
   pub basin : Draft
   pub rules : List Declared
   pub read : ReadsPolicy command call.shelf.before.holds basin (Ruleset rules)
@@ -152,7 +152,7 @@ pub record WroteCode (call : Call) : Type 0 where
 -- the line of the sample of a seed
 pub record WroteSample (call : Call) : Type 0 where
   pub command : Command
-  pub asked : Asks call.words command
+  pub asked : AskForCommand call.words command
   pub seed : ℕ
   pub job : command.job ≡ Sample seed
   pub text : List ℕ

@@ -13,12 +13,12 @@ use Rattle.rw_inputs.specs.Inputs.{Inputs as Given}
 use Rattle.rw_inputs.specs.Reading.{Reads, Refuses}
 use Rattle.rw_io.specs.Outside.{Change, Holds, ShelfView}
 use Rattle.rw_model.specs.Draft.{IsSlot}
-use Rattle.rw_top.specs.Cell.{FindsCell, cell_of}
-use Rattle.rw_top.specs.Command.{Names, Source, AtPath, OfSample, order, path_of, sample_text, seeks_cell, source_of, takes_code}
+use Rattle.rw_top.specs.Cell.{FindsCell, cell_asked}
+use Rattle.rw_top.specs.Command.{ReadsFile, Source, AtPath, OfSample, reading_order, path_of, sample_text, seeks_cell, source_of, takes_code}
 use Rattle.rw_top.specs.declared.refusal.Refusal.{Refusal}
 use Rattle.rw_top.specs.declared.refusal.Refusal.TheVariants.{NoCell}
 use Rattle.rw_words.specs.Command.{Command}
-use Rattle.rw_top.specs.Policy.{is_code, IsPolicyOf, Policy as Rules, PolicyRefusal, RefusesText}
+use Rattle.rw_top.specs.Policy.{is_code, IsPolicyFileOf, PolicyFile as Rules, PolicyRefusal, RefusesText}
 use Rattle.rw_top.specs.declared.refusal.File.{File}
 use Rattle.rw_top.specs.declared.refusal.File.TheVariants.{Model, Policy, Inputs, Edits}
 
@@ -55,7 +55,7 @@ pub record ReadsPolicy (command : Command) (holds : Holds) (basin : Draft) (poli
   pub model : ReadsModel command holds basin
   pub text : List ℕ
   pub read : WasRead command holds Policy text
-  pub is : IsPolicyOf (reads_code command text) basin text policy
+  pub is : IsPolicyFileOf (reads_code command text) basin text policy
 
 -- the command names a model of this basin, and these inputs for it
 pub record ReadsInputs (command : Command) (holds : Holds) (basin : Draft) (inputs : Given) : Type 0 where
@@ -74,7 +74,7 @@ pub record ReadsEdits (command : Command) (holds : Holds) (basin : Draft) (batch
 -- ---- all files of a command
 
 -- what they say: the basin of its model, and the policy, the inputs, the edits and the cell, where it names them
-pub record Files : Type 0 where
+pub record FilesRead : Type 0 where
   pub basin : Draft
   pub policy : Option Rules
   pub inputs : Option Given
@@ -86,7 +86,7 @@ abbrev pub SaysAt : {A : Type 0} → Command → File → Option A → (A → Ty
 SaysAt command file found IsIt = MatchOption found (source_of command file ≡ None) IsIt
 
 -- the command's files are read, and this is what they say
-pub record AreRead (command : Command) (holds : Holds) (files : Files) : Type 0 where
+pub record AreRead (command : Command) (holds : Holds) (files : FilesRead) : Type 0 where
   pub model : ReadsModel command holds files.basin
   pub policy : SaysAt command Policy files.policy (ReadsPolicy command holds files.basin)
   pub inputs : SaysAt command Inputs files.inputs (ReadsInputs command holds files.basin)
@@ -105,12 +105,12 @@ Accepts command holds Edits =
 
 -- every file that the command reads is
 abbrev pub AcceptsAll : Command → Holds → Type 0
-AcceptsAll command holds = (file : File) → Names command file → Accepts command holds file
+AcceptsAll command holds = (file : File) → ReadsFile command file → Accepts command holds file
 
 -- each file that is read before this one is accepted
 abbrev pub Reaches : Command → Holds → File → Type 0
 Reaches command holds file =
-    (earlier : File) → Names command earlier → order earlier < order file → Accepts command holds earlier
+    (earlier : File) → ReadsFile command earlier → reading_order earlier < reading_order file → Accepts command holds earlier
 
 -- ---- what is refused
 
@@ -152,12 +152,12 @@ pub record LacksCell (command : Command) (holds : Holds) : Type 0 where
   pub model : ReadsModel command holds basin
   pub accepted : AcceptsAll command holds
   pub seeks : IsTrue (seeks_cell command.job)
-  pub none : cell_of command basin ≡ None
+  pub none : cell_asked command basin ≡ None
 
 -- the cell of a command, where it asks for one, or that the basin doesn't have it
 abbrev pub IsCellRead : Command → Draft → Result (Option Cell) Refusal → Type 0
 IsCellRead command basin (Ok found) = FindsCell command basin found × IfSome found (λ cell. IsSlot basin.objects cell.slot.0)
-IsCellRead command basin (Err why) = (why ≡ NoCell) × IsTrue (seeks_cell command.job) × (cell_of command basin ≡ None)
+IsCellRead command basin (Err why) = (why ≡ NoCell) × IsTrue (seeks_cell command.job) × (cell_asked command basin ≡ None)
 
 -- the file is reached, and holds more than a file may, where that is told
 pub record HoldsTooLong (command : Command) (holds : Holds) (file : File) : Type 0 where
@@ -172,7 +172,7 @@ pub record IsHonest (shelf : Change ShelfView) (path : List ℕ) : Type 0 where
 -- it is honest of that file, and of each that is read before it
 abbrev pub IsHonestUpTo : Command → Change ShelfView → File → Type 0
 IsHonestUpTo command shelf file =
-    (it : File) → order it ≤ order file → IfSome (path_of command it) (IsHonest shelf)
+    (it : File) → reading_order it ≤ reading_order file → IfSome (path_of command it) (IsHonest shelf)
 
 -- it is honest of every file
 abbrev pub IsHonestOfAll : Command → Change ShelfView → Type 0

@@ -14,9 +14,9 @@ use Rattle.rw_top.specs.declared.files.Files.{Files}
 use Rattle.rw_top.specs.declared.policy.Policy.{Policy as Held}
 use Rattle.rw_top.specs.declared.refusal.File.TheVariants.{Policy, Inputs, Edits}
 use Rattle.rw_io.specs.Outside.{Holds}
-use Rattle.rw_top.specs.Command.{files_of, place_in, seeks_cell}
+use Rattle.rw_top.specs.Command.{files_of, place_among, seeks_cell}
 use Rattle.rw_words.specs.Command.{Command}
-use Rattle.rw_top.specs.Policy.{IsPolicyOf}
+use Rattle.rw_top.specs.Policy.{IsPolicyFileOf}
 use Rattle.rw_top.specs.Reading.{ReadsEdits, ReadsInputs, ReadsPolicy, SaysAt}
 use Rattle.rw_top.specs.Seen.{policy_of}
 
@@ -27,7 +27,7 @@ IsFit basin (Held.Code code) = verified basin code.blocks ≡ Ok code
 
 -- the policy that was made of a text, which is read as code or as a ruleset, is the one that it spells, and is accepted
 pub record IsMadeOf (as_code : Bool) (basin : Draft) (text : List ℕ) (policy : Held) : Type 0 where
-  pub is : IsPolicyOf as_code basin text (policy_of policy)
+  pub is : IsPolicyFileOf as_code basin text (policy_of policy)
   pub fits : IsFit basin policy
 
 -- the policy that was read is the one that the command names, and is accepted
@@ -60,7 +60,7 @@ pub record AreBehind (command : Command) (holds : Holds) (basin : Draft) (behind
 
 -- the files that the job reads are there, the policy is accepted for the basin, and the inputs and the edits are made for it
 pub record AreReady (job : Job) (files : Files) : Type 0 where
-  pub policy : IsSome (place_in (files_of job) Policy) → IsSomeAnd files.policy (IsFit files.basin)
-  pub inputs : IsSome (place_in (files_of job) Inputs) → IsSomeAnd files.inputs (IsInputsOf files.basin)
+  pub policy : IsSome (place_among (files_of job) Policy) → IsSomeAnd files.policy (IsFit files.basin)
+  pub inputs : IsSome (place_among (files_of job) Inputs) → IsSomeAnd files.inputs (IsInputsOf files.basin)
   pub edits : IfSome files.edits (λ batches. AreEdits files.basin batches.items)
   pub cell : IsTrue (seeks_cell job) → IsSomeAnd files.cell (λ cell. IsSlot files.basin.objects cell.slot.0)

@@ -39,12 +39,12 @@ file_of (BadEdits why) = Edits
 file_of (LongFile file) = file
 
 -- it is found, of a command and what the shelf holds
-abbrev pub IsFound : Command → Holds → Reason → Type 0
-IsFound command holds (BadModel why) = RefusesModel command holds why
-IsFound command holds (BadPolicy why) = RefusesPolicy command holds why
-IsFound command holds (BadInputs why) = RefusesInputs command holds why
-IsFound command holds (BadEdits why) = RefusesEdits command holds why
-IsFound command holds (LongFile file) = HoldsTooLong command holds file
+abbrev pub IsFoundReason : Command → Holds → Reason → Type 0
+IsFoundReason command holds (BadModel why) = RefusesModel command holds why
+IsFoundReason command holds (BadPolicy why) = RefusesPolicy command holds why
+IsFoundReason command holds (BadInputs why) = RefusesInputs command holds why
+IsFoundReason command holds (BadEdits why) = RefusesEdits command holds why
+IsFoundReason command holds (LongFile file) = HoldsTooLong command holds file
 
 -- the shelf is honest of each file that is read up to there
 abbrev pub IsHonestFor : Command → Change ShelfView → Reason → Type 0

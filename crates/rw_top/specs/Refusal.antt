@@ -19,7 +19,7 @@ use Rattle.rpl_verify.specs.Fits.{refusal as block_refusal}
 use Rattle.rw_top.specs.Command.{path_of}
 use Rattle.rw_words.specs.Command.{Command}
 use Rattle.rw_top.specs.Policy.{Unread, Misfit, PolicyRefusal, BadRules, BadBlocks, RefusesText, BadGrammar, BadNode}
-use Rattle.rw_top.specs.Reason.{Reason, BadModel, BadPolicy, BadInputs, BadEdits, LongFile, IsFound}
+use Rattle.rw_top.specs.Reason.{Reason, BadModel, BadPolicy, BadInputs, BadEdits, LongFile, IsFoundReason}
 use Rattle.rw_top.specs.Reading.{HoldsTooLong, LacksCell, Reaches}
 use Rattle.rw_top.specs.Written.{WritesFront, WritesSections}
 use Rattle.rw_top.specs.declared.refusal.File.{File}
@@ -77,7 +77,7 @@ pub record FindsTooLong (command : Command) (shelf : Change ShelfView) (file : F
 -- the reason was found in the call
 abbrev pub WasFound : Command → Change ShelfView → Reason → Type 0
 WasFound command shelf (LongFile file) = FindsTooLong command shelf file
-WasFound command shelf reason = IsFound command shelf.before.holds reason
+WasFound command shelf reason = IsFoundReason command shelf.before.holds reason
 
 -- the refusal tells a reason that was found
 pub record TellsReason (command : Command) (shelf : Change ShelfView) (why : Refusal) : Type 0 where

@@ -9,9 +9,9 @@ use Rattle.rw_run.specs.Log.{Log}
 use Rattle.rw_run.specs.Runs.{IsRun}
 use Rattle.rw_run.specs.declared.run.RunEnd.{RunEnd}
 use Rattle.rw_rerun.specs.Session.{Session}
-use Rattle.rw_top.specs.Policy.{Policy as Rules}
+use Rattle.rw_top.specs.Policy.{PolicyFile as Rules}
 use Rattle.rw_top.specs.RunText.{CountsOf, CountsRun, IsRerun, IsRulesText, policy_in_run}
-use Rattle.rw_top.specs.Sections.{AppendsAll, CountsAll, Given, StopsAmong}
+use Rattle.rw_top.specs.Sections.{AppendsAll, CountsAll, GivenInputs, StopsAmong}
 use Rattle.rw_top.specs.declared.extras.Extras.{Extras}
 use Rattle.rw_top.specs.declared.refusal.Refusal.{Refusal}
 
@@ -20,7 +20,7 @@ abbrev pub told_of : ℕ → List StepNo → Option (List StepNo)
 told_of number reran = if number == 0 then None else Some reran
 
 -- the section of this number is next, and those timesteps that its run wants were run
-pub record IsNextSection (basin : Draft) (policy : Rules) (number : ℕ) (given : Given) (session : Session) : Type 0 where
+pub record IsNextSection (basin : Draft) (policy : Rules) (number : ℕ) (given : GivenInputs) (session : Session) : Type 0 where
   pub inputs_are : given.inputs ≡ session.inputs
   pub log : Log
   pub run : IsRun basin (policy_in_run basin policy) (givens basin given.inputs) log
@@ -28,7 +28,7 @@ pub record IsNextSection (basin : Draft) (policy : Rules) (number : ℕ) (given 
   pub count : CountsOf basin (policy_in_run basin policy) given.before log (length session.reran)
 
 -- the sections from this one on were written, and the timesteps were counted that were run for those behind it
-pub record WritesFrom (basin : Draft) (policy : Rules) (extras : Extras) (number : ℕ) (given : Given) (batches : List Batch) (first : ℕ)
+pub record WritesFrom (basin : Draft) (policy : Rules) (extras : Extras) (number : ℕ) (given : GivenInputs) (batches : List Batch) (first : ℕ)
     (out : Change SinkView) (steps : Change ℕ) (result : Result RunEnd Refusal) : Type 0 where
   pub text : MatchResult result (AppendsAll (IsRulesText basin policy extras) number given batches out)
       (StopsAmong (IsRulesText basin policy extras) number given batches out)

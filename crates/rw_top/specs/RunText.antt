@@ -2,13 +2,13 @@
 use Rattle.std.specs.Prelude.{◌≡◌, ◌+◌, ℕ, Bool, true, false, List, length, IsSomeAnd, Option, Some, None, Ok}
 use Rattle.rw_base.specs.declared.number.StepNo.{StepNo}
 use Rattle.rw_run.specs.Reuse.{AreOpened, AreRerun}
-use Rattle.rw_rerun.specs.Session.{numbers_of}
+use Rattle.rw_rerun.specs.Session.{numbers_of_steps}
 use Rattle.rw_rules.specs.Rules.{policy_in}
 use Rattle.rw_engine.specs.Passing.{ComesTo}
 use Rattle.rw_inputs.specs.Edits.{Batch}
 use Rattle.rw_io.specs.Outside.{Change}
 use Rattle.rpl_verify.specs.Verified.{Accepted}
-use Rattle.rw_top.specs.Sections.{CountsAll, Given, first_given}
+use Rattle.rw_top.specs.Sections.{CountsAll, GivenInputs, first_given}
 use Rattle.rw_top.specs.declared.extras.Extras.{Extras}
 use Rattle.rw_words.specs.declared.order.Order.{Order}
 use Rattle.rw_words.specs.declared.order.Order.TheVariants.{Oldest, Newest}
@@ -35,7 +35,7 @@ use Rattle.rw_inputs.specs.Reading.{Reads}
 use Rattle.rpl_tree.specs.Tree.{Declared}
 use Rattle.rw_sample.specs.Line.{sample_line}
 use Rattle.rw_sample.specs.Texts.{sample_inputs, sample_model, sample_rules}
-use Rattle.rw_top.specs.Policy.{IsRulesetOf, Policy as Rules, Ruleset, Code, code_of}
+use Rattle.rw_top.specs.Policy.{IsRulesetOf, PolicyFile as Rules, Ruleset, Code, code_in_file}
 
 -- nothing but the table
 abbrev pub no_extras : Extras
@@ -43,29 +43,29 @@ no_extras = record { flags = false; trace = false; reuse = false; order = Oldest
 
 -- the section of a log, with this number and the timesteps that were run again, where they are told, and with flags and trace where they
 -- are asked for
-abbrev pub text_of : Draft → Extras → ℕ → Option (List StepNo) → Log → List ℕ
-text_of basin extras number reran log = whole_of basin number (outcome_by basin log) reran extras.flags extras.trace
+abbrev pub section_text : Draft → Extras → ℕ → Option (List StepNo) → Log → List ℕ
+section_text basin extras number reran log = whole_of basin number (outcome_by basin log) reran extras.flags extras.trace
 
 -- the section of this number, of the run of a basin by a policy from inputs, and how the run ends
 pub record IsRunText (basin : Draft) (policy : Policy) (extras : Extras) (reran : Option (List StepNo)) (number : ℕ) (inputs : Inputs) (end : RunEnd) (text : List ℕ) : Type 0 where
   pub log : Log
   pub run : IsRun basin policy (givens basin inputs) log
   pub end_is : end ≡ end_of log
-  pub text_is : text ≡ text_of basin extras number reran log
+  pub text_is : text ≡ section_text basin extras number reran log
 
 -- the section of the run without rules in which the object is dispatched that has waited shortest
 pub record IsNewestText (basin : Draft) (extras : Extras) (number : ℕ) (inputs : Inputs) (end : RunEnd) (text : List ℕ) : Type 0 where
   pub log : Log
   pub run : IsPickedRun basin no_rules newest (givens basin inputs) log
   pub end_is : end ≡ end_of log
-  pub text_is : text ≡ text_of basin extras number None log
+  pub text_is : text ≡ section_text basin extras number None log
 
 -- the section of the run without rules, in this order of dispatches
 abbrev pub IsSimulated : Order → Draft → Extras → ℕ → Inputs → RunEnd → List ℕ → Type 0
 IsSimulated Oldest basin extras number inputs end text = IsRunText basin no_rules extras None number inputs end text
 IsSimulated Newest basin extras number inputs end text = IsNewestText basin extras number inputs end text
 
-abbrev pub IsPlainText : Draft → Extras → ℕ → Given → RunEnd → List ℕ → Type 0
+abbrev pub IsPlainText : Draft → Extras → ℕ → GivenInputs → RunEnd → List ℕ → Type 0
 IsPlainText basin extras number given end text = IsSimulated extras.order basin extras number given.inputs end text
 
 -- how a cell came to what it holds in that run, and how the run ends
@@ -85,8 +85,8 @@ policy_in_run basin (Code blocks budgets) = policy_of_code basin blocks
 -- its code is accepted, and each firing in the log is the machine's on that code, never stuck and within its budget
 pub record IsVerifiedRun (basin : Draft) (policy : Rules) (log : Log) : Type 0 where
   pub budgets : List Budget
-  pub accepted : AreAccepted basin (code_of policy) budgets
-  pub firings : AreVerified basin (code_of policy) budgets log
+  pub accepted : AreAccepted basin (code_in_file policy) budgets
+  pub firings : AreVerified basin (code_in_file policy) budgets log
 
 -- the run comes to what the run by it does, in which each firing is verified
 pub record ComesBy (basin : Draft) (policy : Rules) (inputs : Inputs) (run : Run) : Type 0 where
@@ -102,14 +102,14 @@ pub record IsCodeOf (basin : Draft) (policy : Rules) (code : Accepted) : Type 0 
       → IsRun basin (policy_in_run basin policy) (givens basin inputs) log
 
 -- the timesteps that are told of a run: none, or, where timesteps are to be reused and there was a run before it, those that aren't
-abbrev pub IsRerun : Draft → Policy → (reuse : Bool) → Given → Log → Option (List StepNo) → Type 0
+abbrev pub IsRerun : Draft → Policy → (reuse : Bool) → GivenInputs → Log → Option (List StepNo) → Type 0
 IsRerun basin policy false given log reran = reran ≡ None
 IsRerun basin policy true given log None = given.before ≡ None
 IsRerun basin policy true given log (Some steps) =
-    IsSomeAnd given.before (λ before. (earlier : Log) × IsRun basin policy (givens basin before) earlier × AreRerun basin earlier log (numbers_of steps))
+    IsSomeAnd given.before (λ before. (earlier : Log) × IsRun basin policy (givens basin before) earlier × AreRerun basin earlier log (numbers_of_steps steps))
 
 -- the section of the run by it, in which each firing is verified
-pub record IsRulesText (basin : Draft) (policy : Rules) (extras : Extras) (number : ℕ) (given : Given) (end : RunEnd) (text : List ℕ) : Type 0 where
+pub record IsRulesText (basin : Draft) (policy : Rules) (extras : Extras) (number : ℕ) (given : GivenInputs) (end : RunEnd) (text : List ℕ) : Type 0 where
   pub reran : Option (List StepNo)
   pub run_text : IsRunText basin (policy_in_run basin policy) extras reran number given.inputs end text
   pub verified : IsVerifiedRun basin policy run_text.log
@@ -121,7 +121,7 @@ CountsOf basin policy None log count = (steps : List ℕ) × AreOpened log steps
 CountsOf basin policy (Some before) log count =
     (earlier : Log) × (steps : List ℕ) × IsRun basin policy (givens basin before) earlier × AreRerun basin earlier log steps × (count ≡ length steps)
 
-abbrev pub CountsRun : Draft → Policy → Given → ℕ → Type 0
+abbrev pub CountsRun : Draft → Policy → GivenInputs → ℕ → Type 0
 CountsRun basin policy given count = (log : Log) × IsRun basin policy (givens basin given.inputs) log × CountsOf basin policy given.before log count
 
 -- and so many were counted for all sections

@@ -10,41 +10,41 @@ use Rattle.rw_top.specs.declared.refusal.Refusal.{Refusal}
 use Rattle.rw_top.specs.declared.refusal.Refusal.TheVariants.{CannotWrite, NoMemory}
 
 -- the text of sections, one behind another
-abbrev pub joined : List (List ℕ) → List ℕ
-joined [] = []
-joined (text ∷ texts) = text ++ joined texts
+abbrev pub joined_sections : List (List ℕ) → List ℕ
+joined_sections [] = []
+joined_sections (text ∷ texts) = text ++ joined_sections texts
 
 -- the inputs of a run, and those before the last batch of edits, if there was one
-pub record Given : Type 0 where
+pub record GivenInputs : Type 0 where
   pub before : Option Inputs
   pub inputs : Inputs
 
-abbrev pub first_given : Inputs → Given
+abbrev pub first_given : Inputs → GivenInputs
 first_given inputs = record { before = None; inputs = inputs }
 
-abbrev pub edited_given : Given → Inputs → Given
+abbrev pub edited_given : GivenInputs → Inputs → GivenInputs
 edited_given given edited = record { before = Some given.inputs; inputs = edited }
 
 -- of what is given after a batch of edits this holds
-abbrev pub AfterBatch : Batch → Given → (Given → Type 0) → Type 0
+abbrev pub AfterBatch : Batch → GivenInputs → (GivenInputs → Type 0) → Type 0
 AfterBatch batch given P =
     (edited : Inputs) × (value_at edited ≡ after_batch batch (value_at given.inputs)) × P (edited_given given edited)
 
 -- so many timesteps were run for all sections
-abbrev pub CountsAll : (Given → ℕ → Type 0) → Given → List Batch → ℕ → Type 0
+abbrev pub CountsAll : (GivenInputs → ℕ → Type 0) → GivenInputs → List Batch → ℕ → Type 0
 CountsAll Counts given [] count = Counts given count
 CountsAll Counts given (batch ∷ batches) count =
     (first : ℕ) × (rest : ℕ) × (count ≡ first + rest) × Counts given first × AfterBatch batch given (λ edited. CountsAll Counts edited batches rest)
 
 -- each section is one by its number and inputs, and the run of the last one ends so
-abbrev pub AreSections : (ℕ → Given → RunEnd → List ℕ → Type 0) → ℕ → Given → List Batch → RunEnd → List (List ℕ) → Type 0
+abbrev pub AreSections : (ℕ → GivenInputs → RunEnd → List ℕ → Type 0) → ℕ → GivenInputs → List Batch → RunEnd → List (List ℕ) → Type 0
 AreSections IsSection number given [] end texts = (text : List ℕ) × (texts ≡ text ∷ []) × IsSection number given end text
 AreSections IsSection number given (batch ∷ batches) end texts =
     (first : RunEnd) × (text : List ℕ) × (rest : List (List ℕ)) × (texts ≡ text ∷ rest) × IsSection number given first text
     × AfterBatch batch given (λ edited. AreSections IsSection (number + 1) edited batches end rest)
 
 -- they are the first sections, however many there are
-abbrev pub AreFirstSections : (ℕ → Given → RunEnd → List ℕ → Type 0) → ℕ → Given → List Batch → List (List ℕ) → Type 0
+abbrev pub AreFirstSections : (ℕ → GivenInputs → RunEnd → List ℕ → Type 0) → ℕ → GivenInputs → List Batch → List (List ℕ) → Type 0
 AreFirstSections IsSection number given batches [] = ⊤
 AreFirstSections IsSection number given batches (text ∷ []) = (end : RunEnd) × IsSection number given end text
 AreFirstSections IsSection number given [] (text ∷ next ∷ texts) = ⊥
@@ -55,41 +55,41 @@ AreFirstSections IsSection number given (batch ∷ batches) (text ∷ next ∷ t
 -- ---- what is appended of them
 
 -- all of them, and the run of the last one ends so
-pub record AppendsAll (IsSection : ℕ → Given → RunEnd → List ℕ → Type 0) (number : ℕ) (given : Given) (batches : List Batch) (out : Change SinkView) (end : RunEnd) : Type 0 where
+pub record AppendsAll (IsSection : ℕ → GivenInputs → RunEnd → List ℕ → Type 0) (number : ℕ) (given : GivenInputs) (batches : List Batch) (out : Change SinkView) (end : RunEnd) : Type 0 where
   pub texts : List (List ℕ)
   pub are : AreSections IsSection number given batches end texts
-  pub grew : GrowsBy out.before.contents out.after.contents (joined texts)
+  pub grew : GrowsBy out.before.contents out.after.contents (joined_sections texts)
 
 -- the first ones, each whole, and not all of them
-pub record AppendsFirst (IsSection : ℕ → Given → RunEnd → List ℕ → Type 0) (number : ℕ) (given : Given) (batches : List Batch) (out : Change SinkView) : Type 0 where
+pub record AppendsFirst (IsSection : ℕ → GivenInputs → RunEnd → List ℕ → Type 0) (number : ℕ) (given : GivenInputs) (batches : List Batch) (out : Change SinkView) : Type 0 where
   pub texts : List (List ℕ)
   pub are : AreFirstSections IsSection number given batches texts
   pub fewer : length texts ≤ length batches
-  pub grew : GrowsBy out.before.contents out.after.contents (joined texts)
+  pub grew : GrowsBy out.before.contents out.after.contents (joined_sections texts)
 
 -- the first ones, and of the last of these a front
-pub record AppendsPart (IsSection : ℕ → Given → RunEnd → List ℕ → Type 0) (number : ℕ) (given : Given) (batches : List Batch) (out : Change SinkView) : Type 0 where
+pub record AppendsPart (IsSection : ℕ → GivenInputs → RunEnd → List ℕ → Type 0) (number : ℕ) (given : GivenInputs) (batches : List Batch) (out : Change SinkView) : Type 0 where
   pub done : List (List ℕ)
   pub text : List ℕ
   pub are : AreFirstSections IsSection number given batches (done ++ text ∷ [])
-  pub grew : PrefixGrew out.before.contents out.after.contents (joined done ++ text)
+  pub grew : PrefixGrew out.before.contents out.after.contents (joined_sections done ++ text)
   pub rose : Rose out.before.faults out.after.faults
 
 -- why not all are
-abbrev pub StopsAmong : (ℕ → Given → RunEnd → List ℕ → Type 0) → ℕ → Given → List Batch → Change SinkView → Refusal → Type 0
+abbrev pub StopsAmong : (ℕ → GivenInputs → RunEnd → List ℕ → Type 0) → ℕ → GivenInputs → List Batch → Change SinkView → Refusal → Type 0
 StopsAmong IsSection number given batches out NoMemory = AppendsFirst IsSection number given batches out
 StopsAmong IsSection number given batches out CannotWrite = AppendsPart IsSection number given batches out
 StopsAmong IsSection number given batches out why = ⊥
 
 -- ---- and of one of them
 
-pub record AppendsOne (IsSection : ℕ → Given → RunEnd → List ℕ → Type 0) (number : ℕ) (given : Given) (out : Change SinkView) (end : RunEnd) : Type 0 where
+pub record AppendsOne (IsSection : ℕ → GivenInputs → RunEnd → List ℕ → Type 0) (number : ℕ) (given : GivenInputs) (out : Change SinkView) (end : RunEnd) : Type 0 where
   pub text : List ℕ
   pub is : IsSection number given end text
   pub grew : GrowsBy out.before.contents out.after.contents text
   pub later : out.before.faults ≤ out.after.faults
 
-abbrev pub StopsAtOne : (ℕ → Given → RunEnd → List ℕ → Type 0) → ℕ → Given → Change SinkView → Refusal → Type 0
+abbrev pub StopsAtOne : (ℕ → GivenInputs → RunEnd → List ℕ → Type 0) → ℕ → GivenInputs → Change SinkView → Refusal → Type 0
 StopsAtOne IsSection number given out NoMemory = out.after.contents ≡ out.before.contents
 StopsAtOne IsSection number given out CannotWrite =
     (end : RunEnd) × (text : List ℕ) × IsSection number given end text

@@ -3,12 +3,12 @@ use Rattle.std.specs.Prelude.{option_map}
 use Rattle.rpl_tree.specs.Seen.{rules_of}
 use Rattle.rw_top.specs.declared.policy.Policy.{Policy as Held}
 use Rattle.rw_top.specs.declared.files.Files.{Files as Read}
-use Rattle.rw_top.specs.Policy.{Policy, Ruleset, Code}
-use Rattle.rw_top.specs.Reading.{Files}
+use Rattle.rw_top.specs.Policy.{PolicyFile, Ruleset, Code}
+use Rattle.rw_top.specs.Reading.{FilesRead}
 
-abbrev pub policy_of : Held → Policy
+abbrev pub policy_of : Held → PolicyFile
 policy_of (Held.Ruleset typed) = Ruleset (rules_of typed.rules)
 policy_of (Held.Code code) = Code code.blocks code.budgets
 
-abbrev pub files_seen : Read → Files
+abbrev pub files_seen : Read → FilesRead
 files_seen read = record { basin = read.basin; policy = option_map policy_of read.policy; inputs = read.inputs; edits = option_map (λ batches. batches.items) read.edits; cell = read.cell }

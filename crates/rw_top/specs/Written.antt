@@ -11,11 +11,11 @@ use Rattle.rw_run.specs.declared.run.RunEnd.TheVariants.{Settled, Fault}
 use Rattle.rpl_code.specs.Spelling.{spelt}
 use Rattle.rw_top.specs.Budgets.{check_text}
 use Rattle.rw_words.specs.Command.{Command}
-use Rattle.rw_top.specs.Policy.{Policy as Rules, code_of}
-use Rattle.rw_top.specs.Reading.{AreRead, Files}
+use Rattle.rw_top.specs.Policy.{PolicyFile as Rules, code_in_file}
+use Rattle.rw_top.specs.Reading.{AreRead, FilesRead}
 use Rattle.rw_top.specs.RunText.{CountsSections, IsPlainText, IsRulesText, IsSampleText, IsWhyOfRules}
 use Rattle.rw_top.specs.Command.{extras_of}
-use Rattle.rw_top.specs.Sections.{AreFirstSections, AreSections, first_given, joined}
+use Rattle.rw_top.specs.Sections.{AreFirstSections, AreSections, first_given, joined_sections}
 use Rattle.rw_top.specs.declared.extras.Extras.{Extras}
 use Rattle.rw_top.specs.declared.refusal.Refusal.{Refusal}
 use Rattle.rw_top.specs.declared.refusal.Refusal.TheVariants.{CannotWrite, NoMemory}
@@ -28,28 +28,28 @@ status_of_end Settled = 0
 status_of_end (Fault why) = 1
 
 -- the batches of edits that the files give
-abbrev pub batches_in : Files → List Batch
+abbrev pub batches_in : FilesRead → List Batch
 batches_in files = unwrap_or files.edits []
 
 -- of the policy and the inputs this holds
-abbrev pub OfBoth : Files → (Rules → Inputs → Type 0) → Type 0
+abbrev pub OfBoth : FilesRead → (Rules → Inputs → Type 0) → Type 0
 OfBoth files P = IsSomeAnd files.policy (λ policy. IsSomeAnd files.inputs (P policy))
 
 -- of the policy, the inputs and the cell this holds
-abbrev pub OfThree : Files → (Rules → Inputs → Cell → Type 0) → Type 0
+abbrev pub OfThree : FilesRead → (Rules → Inputs → Cell → Type 0) → Type 0
 OfThree files P = IsSomeAnd files.policy (λ policy. IsSomeAnd files.inputs (λ inputs. IsSomeAnd files.cell (P policy inputs)))
 
 -- the timesteps were counted that are run for the sections of the files, where timesteps are reused
-abbrev pub CountsOfFiles : Files → Change ℕ → Type 0
+abbrev pub CountsOfFiles : FilesRead → Change ℕ → Type 0
 CountsOfFiles files steps = OfBoth files (λ policy inputs. CountsSections files.basin policy inputs (batches_in files) steps)
 
 -- the sections of a job's text by what its files say, and the status with which it is written. A text that isn't of runs is one section
-abbrev pub IsTextOf : Job → Extras → Files → ℕ → List (List ℕ) → Type 0
+abbrev pub IsTextOf : Job → Extras → FilesRead → ℕ → List (List ℕ) → Type 0
 IsTextOf Simulate extras files status texts =
     (end : RunEnd) × (status ≡ status_of_end end)
     × IsSomeAnd files.inputs (λ inputs. AreSections (IsPlainText files.basin extras) 0 (first_given inputs) [] end texts)
 IsTextOf Check extras files status texts = (status ≡ 0) × IsSomeAnd files.policy (λ policy. texts ≡ check_text policy ∷ [])
-IsTextOf Compile extras files status texts = (status ≡ 0) × IsSomeAnd files.policy (λ policy. texts ≡ spelt (code_of policy) ∷ [])
+IsTextOf Compile extras files status texts = (status ≡ 0) × IsSomeAnd files.policy (λ policy. texts ≡ spelt (code_in_file policy) ∷ [])
 IsTextOf Run extras files status texts =
     (end : RunEnd) × (status ≡ status_of_end end) × IsSomeAnd files.policy (λ policy.
     IsSomeAnd files.inputs (λ inputs. AreSections (IsRulesText files.basin policy extras) 0 (first_given inputs) (batches_in files) end texts))
@@ -61,11 +61,11 @@ IsTextOf (Sample seed) extras files status texts =
     (text : List ℕ) × (texts ≡ text ∷ []) × IsSampleText files.basin policy inputs seed text)
 
 -- the first sections of it
-abbrev pub IsFrontOf : Job → Extras → Files → List (List ℕ) → Type 0
+abbrev pub IsFrontOf : Job → Extras → FilesRead → List (List ℕ) → Type 0
 IsFrontOf Simulate extras files texts =
     IsSomeAnd files.inputs (λ inputs. AreFirstSections (IsPlainText files.basin extras) 0 (first_given inputs) [] texts)
 IsFrontOf Check extras files texts = IsSomeAnd files.policy (λ policy. texts ≡ check_text policy ∷ [])
-IsFrontOf Compile extras files texts = IsSomeAnd files.policy (λ policy. texts ≡ spelt (code_of policy) ∷ [])
+IsFrontOf Compile extras files texts = IsSomeAnd files.policy (λ policy. texts ≡ spelt (code_in_file policy) ∷ [])
 IsFrontOf Run extras files texts =
     IsSomeAnd files.policy (λ policy.
     IsSomeAnd files.inputs (λ inputs. AreFirstSections (IsRulesText files.basin policy extras) 0 (first_given inputs) (batches_in files) texts))
@@ -79,41 +79,41 @@ IsFrontOf (Sample seed) extras files texts =
 -- ---- what a job appends
 
 -- all sections
-pub record Appends (job : Job) (extras : Extras) (files : Files) (out : Change SinkView) (status : ℕ) : Type 0 where
+pub record Appends (job : Job) (extras : Extras) (files : FilesRead) (out : Change SinkView) (status : ℕ) : Type 0 where
   pub texts : List (List ℕ)
   pub is : IsTextOf job extras files status texts
-  pub grew : GrowsBy out.before.contents out.after.contents (joined texts)
+  pub grew : GrowsBy out.before.contents out.after.contents (joined_sections texts)
 
 -- some whole sections, and a front of the next one
-pub record AppendsFront (job : Job) (extras : Extras) (files : Files) (out : Change SinkView) : Type 0 where
+pub record AppendsFront (job : Job) (extras : Extras) (files : FilesRead) (out : Change SinkView) : Type 0 where
   pub done : List (List ℕ)
   pub text : List ℕ
   pub is : IsFrontOf job extras files (done ++ text ∷ [])
-  pub grew : PrefixGrew out.before.contents out.after.contents (joined done ++ text)
+  pub grew : PrefixGrew out.before.contents out.after.contents (joined_sections done ++ text)
 
 -- the first sections of a run, each whole, and fewer than all: there is one more than there are batches
-pub record AppendsSections (job : Job) (extras : Extras) (files : Files) (out : Change SinkView) : Type 0 where
+pub record AppendsSections (job : Job) (extras : Extras) (files : FilesRead) (out : Change SinkView) : Type 0 where
   pub runs : job ≡ Run
   pub texts : List (List ℕ)
   pub are : IsFrontOf job extras files texts
   pub fewer : length texts ≤ length (batches_in files)
-  pub grew : GrowsBy out.before.contents out.after.contents (joined texts)
+  pub grew : GrowsBy out.before.contents out.after.contents (joined_sections texts)
 
 -- why not all are
-abbrev pub Stops : Job → Extras → Files → Change SinkView → Refusal → Type 0
+abbrev pub Stops : Job → Extras → FilesRead → Change SinkView → Refusal → Type 0
 Stops job extras files out CannotWrite = AppendsFront job extras files out × Rose out.before.faults out.after.faults
 Stops job extras files out NoMemory = (out.after.contents ≡ out.before.contents) ⊎ AppendsSections job extras files out
 Stops job extras files out why = ⊥
 
 -- a text is the one section of the job's
-abbrev pub IsOne : Job → Extras → Files → ℕ → List ℕ → Type 0
+abbrev pub IsOne : Job → Extras → FilesRead → ℕ → List ℕ → Type 0
 IsOne job extras files status text = IsTextOf job extras files status (text ∷ []) × IsFrontOf job extras files (text ∷ [])
 
 -- ---- what a command appends
 
 -- the files of the command are read, and of what they say this holds
-abbrev pub OfFiles : Command → Holds → (Files → Type 0) → Type 0
-OfFiles command holds P = (files : Files) × AreRead command holds files × P files
+abbrev pub OfFiles : Command → Holds → (FilesRead → Type 0) → Type 0
+OfFiles command holds P = (files : FilesRead) × AreRead command holds files × P files
 
 -- the whole text of the command was appended
 abbrev pub WritesAll : Command → Holds → Change SinkView → ℕ → Type 0
@@ -134,7 +134,7 @@ WritesSections command holds out =
     (out.after.contents ≡ out.before.contents) ⊎ OfFiles command holds (λ files. AppendsSections command.job (extras_of command) files out)
 
 -- a front of the line was appended, and all of it unless the sink's count rose
-pub record Tells (err : Change SinkView) (line : List ℕ) : Type 0 where
+pub record TellsLine (err : Change SinkView) (line : List ℕ) : Type 0 where
   pub front : PrefixGrew err.before.contents err.after.contents line
   pub whole : Rose err.before.faults err.after.faults
       ⊎ GrowsBy err.before.contents err.after.contents line

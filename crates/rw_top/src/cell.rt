@@ -7,8 +7,8 @@ ghost use Rattle.rw_inputs.specs.Number.{is_digit, is_number, number_after, posi
 ghost use Rattle.rw_inputs.specs.Row.{slot_of_names, slot_of_text};
 ghost use Rattle.rw_model.specs.Draft.{Draft, IsSlot};
 ghost use Rattle.rw_words.specs.Command.{cell_seen};
-ghost use Rattle.rw_top.specs.Cell.{FindsCell, cell_by, cell_named, cell_of, step_of_text};
-ghost use Rattle.rw_top.specs.Command.{command_of};
+ghost use Rattle.rw_top.specs.Cell.{FindsCell, cell_by, cell_named, cell_asked, step_of_text};
+ghost use Rattle.rw_top.specs.Command.{command_said};
 ghost use Rattle.rw_top.specs.Reading.{IsCellRead};
 
 use crate::Refusal;
@@ -145,7 +145,7 @@ fn cell_by(basin: &Basin, words: Option<CellWords<'_>>) -> Option<Cell>
 
 // The cell that the command asks for, where it asks for one that is there.
 fn cell_of(command: &Command<'_>, basin: &Basin) -> Option<Cell>
-    ensures cell { result ≡ cell_of (command_of command.now) basin.now }
+    ensures cell { result ≡ cell_asked (command_said command.now) basin.now }
     ensures known { ForSome result (λ cell. IsSlot basin.now.objects cell.slot.0) }
 {
     if command.seeks_cell() {
@@ -157,7 +157,7 @@ fn cell_of(command: &Command<'_>, basin: &Basin) -> Option<Cell>
 
 /// Finds the cell, where the command asks for one. It has to be there.
 pub(crate) fn find_cell(command: &Command<'_>, basin: &Basin) -> Result<Option<Cell>, Refusal>
-    ensures { IsCellRead (command_of command.now) basin.now result }
+    ensures { IsCellRead (command_said command.now) basin.now result }
 {
     let cell = cell_of(command, basin);
     if command.seeks_cell() && cell.is_none() {

@@ -1,6 +1,6 @@
 // The files of a command: which it reads, and where the text of each comes from.
 ghost use Rattle.std.specs.Prelude.{◌≡◌, map, option_map, slice_index_or, [], Some};
-ghost use Rattle.rw_top.specs.Command.{command_of, extras_of, files_of, named_source, path_in, path_of, place_in, seeks_cell, source_at, source_of, source_seen, takes_code};
+ghost use Rattle.rw_top.specs.Command.{command_said, extras_of, files_of, named_source, path_in, path_of, place_among, seeks_cell, source_at, source_of, source_seen, takes_code};
 ghost use Rattle.rw_top.specs.declared.refusal.File.TheVariants as F;
 
 use crate::File;
@@ -9,7 +9,7 @@ use rw_words::{Command as Words, Job};
 
 // In which place a file stands among those of a job, from 0 on, where the job reads it.
 fn place(job: Job, file: File) -> Option<usize>
-    ensures { result ≡ place_in (files_of job) file }
+    ensures { result ≡ place_among (files_of job) file }
 {
     match (job, file) {
         (_, File::Model) => Some(0),
@@ -72,7 +72,7 @@ pub(crate) struct Command<'w> {
 impl<'w> Command<'w> {
     /// What its text tells besides the table, and how it is come to.
     pub(crate) fn extras(&self) -> Extras
-        ensures { result ≡ extras_of (command_of self.now) }
+        ensures { result ≡ extras_of (command_said self.now) }
     {
         Extras {
             flags: self.words.flags,
@@ -104,14 +104,14 @@ impl<'w> Command<'w> {
 
     /// Where the text of the model comes from.
     pub(crate) fn model(&self) -> Source<'w>
-        ensures { Some (source_seen result) ≡ source_of (command_of self.now) F.Model }
+        ensures { Some (source_seen result) ≡ source_of (command_said self.now) F.Model }
     {
         source_at(self.words.job, &self.words.paths, 0)
     }
 
     // Where that of a file comes from that its job reads.
     fn named(&self, file: File) -> Option<Source<'w>>
-        ensures { option_map source_seen result ≡ named_source (command_of self.now) file }
+        ensures { option_map source_seen result ≡ named_source (command_said self.now) file }
     {
         match place(self.words.job, file) {
             Some(place) => Some(source_at(self.words.job, &self.words.paths, place)),
@@ -120,7 +120,7 @@ impl<'w> Command<'w> {
     }
 
     fn edits(&self) -> Option<Source<'w>>
-        ensures { option_map source_seen result ≡ source_of (command_of self.now) F.Edits }
+        ensures { option_map source_seen result ≡ source_of (command_said self.now) F.Edits }
     {
         match self.words.edits {
             Some(path) => Some(Source::Path(path)),
@@ -130,7 +130,7 @@ impl<'w> Command<'w> {
 
     /// Where that of a file comes from, where the command reads it.
     pub(crate) fn source(&self, file: File) -> Option<Source<'w>>
-        ensures { option_map source_seen result ≡ source_of (command_of self.now) file }
+        ensures { option_map source_seen result ≡ source_of (command_said self.now) file }
     {
         match file {
             File::Model => self.named(File::Model),
@@ -142,7 +142,7 @@ impl<'w> Command<'w> {
 
     /// The path of a file, where the command reads it from one.
     pub(crate) fn path(&self, file: File) -> Option<&'w str>
-        ensures { option_map (λ path. path.now) result ≡ path_of (command_of self.now) file }
+        ensures { option_map (λ path. path.now) result ≡ path_of (command_said self.now) file }
     {
         match self.source(file) {
             Some(source) => source.path(),

@@ -3,7 +3,7 @@ ghost use Rattle.rpl_code.specs.Spelling.{spelt};
 ghost use Rattle.rpl_compile.specs.Translate.{translate};
 ghost use Rattle.rpl_tree.specs.Seen.{rules_of};
 ghost use Rattle.rpl_types.specs.Judged.{judged};
-ghost use Rattle.rw_top.specs.Policy.{code_of};
+ghost use Rattle.rw_top.specs.Policy.{code_in_file};
 ghost use Rattle.rw_top.specs.Ready.{IsFit};
 ghost use Rattle.rw_top.specs.Seen.{policy_of};
 
@@ -27,7 +27,7 @@ fn ruleset_text(alloc: Global, typed: &Typed, basin: &Basin) -> Result<Vec<u8>, 
 /// The text of the code of a policy that is accepted for the basin.
 pub(crate) fn code_text(alloc: Global, policy: &Policy, basin: &Basin) -> Result<Vec<u8>, NoMemory>
     requires { IsFit basin.now policy.now }
-    ensures { IfOk result (λ text. text.items ≡ spelt (code_of (policy_of policy.now))) }
+    ensures { IfOk result (λ text. text.items ≡ spelt (code_in_file (policy_of policy.now))) }
 {
     match policy {
         Policy::Ruleset(typed) => ruleset_text(alloc, typed, basin),

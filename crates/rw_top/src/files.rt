@@ -3,7 +3,7 @@ ghost use Rattle.std.specs.Prelude.{◌≡◌, ℕ, ◌≤◌, List, MatchResult
 ghost use Rattle.rw_model.specs.Draft.{IsSlot};
 ghost use Rattle.rw_io.specs.Causes.{NoneFell};
 ghost use Rattle.rw_io.specs.Outside.{Change, ShelfView, change};
-ghost use Rattle.rw_top.specs.Command.{AtPath, OfSample, command_of, seeks_cell, source_of, source_seen};
+ghost use Rattle.rw_top.specs.Command.{AtPath, OfSample, command_said, seeks_cell, source_of, source_seen};
 ghost use Rattle.rw_top.specs.Reading.{AreRead, Reaches, ReadsInputs, ReadsModel, SaysAt, WasRead, reads_code};
 ghost use Rattle.rw_top.specs.Refusal.{FileCause, IsPolicyRefusal};
 ghost use Rattle.rw_top.specs.Ready.{AreBehind, AreEdits, AreReadAs, IsFit, IsMadeOf, IsReadAs};
@@ -40,11 +40,11 @@ fn read_file<S: Shelf>(
     path: &str,
     shelf: &mut S,
 ) -> Result<Vec<u8>, Refusal>
-    requires named { source_of (command_of command.now) file ≡ Some (AtPath path.now) }
-    requires reached { Reaches (command_of command.now) (S.seen shelf.old).holds file }
+    requires named { source_of (command_said command.now) file ≡ Some (AtPath path.now) }
+    requires reached { Reaches (command_said command.now) (S.seen shelf.old).holds file }
     ensures read { MatchResult result
-        (λ text. WasRead (command_of command.now) (S.seen shelf.old).holds file text.items)
-        (FileCause (command_of command.now) (change (S.seen shelf.old) (S.seen shelf.new))) }
+        (λ text. WasRead (command_said command.now) (S.seen shelf.old).holds file text.items)
+        (FileCause (command_said command.now) (change (S.seen shelf.old) (S.seen shelf.new))) }
     ensures held { (p : List ℕ) → (S.seen shelf.new).holds p ≡ (S.seen shelf.old).holds p }
     ensures later { NoneFell (S.seen shelf.old).faults (S.seen shelf.new).faults }
 {
@@ -61,10 +61,10 @@ fn make_text(
     file: File,
     seed: u64,
 ) -> Result<Vec<u8>, Refusal>
-    requires named { source_of (command_of command.now) file ≡ Some (OfSample seed) }
+    requires named { source_of (command_said command.now) file ≡ Some (OfSample seed) }
     ensures { (shelf : Change ShelfView) → MatchResult result
-        (λ text. WasRead (command_of command.now) shelf.before.holds file text.items)
-        (FileCause (command_of command.now) shelf) }
+        (λ text. WasRead (command_said command.now) shelf.before.holds file text.items)
+        (FileCause (command_said command.now) shelf) }
 {
     match sample_text(alloc, seed, file) {
         Ok(text) => Ok(text),
@@ -80,11 +80,11 @@ fn read_text<S: Shelf>(
     source: Source<'_>,
     shelf: &mut S,
 ) -> Result<Vec<u8>, Refusal>
-    requires named { source_of (command_of command.now) file ≡ Some (source_seen source) }
-    requires reached { Reaches (command_of command.now) (S.seen shelf.old).holds file }
+    requires named { source_of (command_said command.now) file ≡ Some (source_seen source) }
+    requires reached { Reaches (command_said command.now) (S.seen shelf.old).holds file }
     ensures read { MatchResult result
-        (λ text. WasRead (command_of command.now) (S.seen shelf.old).holds file text.items)
-        (FileCause (command_of command.now) (change (S.seen shelf.old) (S.seen shelf.new))) }
+        (λ text. WasRead (command_said command.now) (S.seen shelf.old).holds file text.items)
+        (FileCause (command_said command.now) (change (S.seen shelf.old) (S.seen shelf.new))) }
     ensures held { (p : List ℕ) → (S.seen shelf.new).holds p ≡ (S.seen shelf.old).holds p }
     ensures later { NoneFell (S.seen shelf.old).faults (S.seen shelf.new).faults }
 {
@@ -101,8 +101,8 @@ fn read_basin<S: Shelf>(
     shelf: &mut S,
 ) -> Result<Basin, Refusal>
     ensures read { MatchResult result
-        (ReadsModel (command_of command.now) (S.seen shelf.old).holds)
-        (FileCause (command_of command.now) (change (S.seen shelf.old) (S.seen shelf.new))) }
+        (ReadsModel (command_said command.now) (S.seen shelf.old).holds)
+        (FileCause (command_said command.now) (change (S.seen shelf.old) (S.seen shelf.new))) }
     ensures held { (p : List ℕ) → (S.seen shelf.new).holds p ≡ (S.seen shelf.old).holds p }
     ensures later { NoneFell (S.seen shelf.old).faults (S.seen shelf.new).faults }
 {
@@ -121,8 +121,8 @@ fn judge_for(
 ) -> Result<Policy, Refusal>
     requires { length text.now ≤ 16_777_216 }
     ensures { MatchResult result
-        (IsMadeOf (reads_code (command_of command.now) text.now) basin.now text.now)
-        (IsPolicyRefusal (reads_code (command_of command.now) text.now) basin.now text.now) }
+        (IsMadeOf (reads_code (command_said command.now) text.now) basin.now text.now)
+        (IsPolicyRefusal (reads_code (command_said command.now) text.now) basin.now text.now) }
 {
     judge_policy(alloc, basin, text, command.takes_code() && is_code(text))
 }
@@ -134,10 +134,10 @@ fn read_policy<S: Shelf>(
     basin: &Basin,
     shelf: &mut S,
 ) -> Result<Option<Policy>, Refusal>
-    requires model { ReadsModel (command_of command.now) (S.seen shelf.old).holds basin.now }
-    ensures read { MatchResult result (λ found. SaysAt (command_of command.now) F.Policy found
-        (IsReadAs (command_of command.now) (S.seen shelf.old).holds basin.now))
-        (FileCause (command_of command.now) (change (S.seen shelf.old) (S.seen shelf.new))) }
+    requires model { ReadsModel (command_said command.now) (S.seen shelf.old).holds basin.now }
+    ensures read { MatchResult result (λ found. SaysAt (command_said command.now) F.Policy found
+        (IsReadAs (command_said command.now) (S.seen shelf.old).holds basin.now))
+        (FileCause (command_said command.now) (change (S.seen shelf.old) (S.seen shelf.new))) }
     ensures held { (p : List ℕ) → (S.seen shelf.new).holds p ≡ (S.seen shelf.old).holds p }
     ensures later { NoneFell (S.seen shelf.old).faults (S.seen shelf.new).faults }
 {
@@ -160,11 +160,11 @@ fn read_given<S: Shelf>(
     basin: &Basin,
     shelf: &mut S,
 ) -> Result<Option<Inputs>, Refusal>
-    requires model { ReadsModel (command_of command.now) (S.seen shelf.old).holds basin.now }
-    requires reached { Reaches (command_of command.now) (S.seen shelf.old).holds F.Inputs }
-    ensures read { MatchResult result (λ found. SaysAt (command_of command.now) F.Inputs found
-        (ReadsInputs (command_of command.now) (S.seen shelf.old).holds basin.now))
-        (FileCause (command_of command.now) (change (S.seen shelf.old) (S.seen shelf.new))) }
+    requires model { ReadsModel (command_said command.now) (S.seen shelf.old).holds basin.now }
+    requires reached { Reaches (command_said command.now) (S.seen shelf.old).holds F.Inputs }
+    ensures read { MatchResult result (λ found. SaysAt (command_said command.now) F.Inputs found
+        (ReadsInputs (command_said command.now) (S.seen shelf.old).holds basin.now))
+        (FileCause (command_said command.now) (change (S.seen shelf.old) (S.seen shelf.new))) }
     ensures held { (p : List ℕ) → (S.seen shelf.new).holds p ≡ (S.seen shelf.old).holds p }
     ensures later { NoneFell (S.seen shelf.old).faults (S.seen shelf.new).faults }
 {
@@ -187,12 +187,12 @@ fn read_changes<S: Shelf>(
     basin: &Basin,
     shelf: &mut S,
 ) -> Result<Option<Vec<Batch>>, Refusal>
-    requires model { ReadsModel (command_of command.now) (S.seen shelf.old).holds basin.now }
-    requires reached { Reaches (command_of command.now) (S.seen shelf.old).holds F.Edits }
-    ensures read { MatchResult result (λ found. SaysAt (command_of command.now) F.Edits found
-        (λ batches. AreReadAs (command_of command.now)
+    requires model { ReadsModel (command_said command.now) (S.seen shelf.old).holds basin.now }
+    requires reached { Reaches (command_said command.now) (S.seen shelf.old).holds F.Edits }
+    ensures read { MatchResult result (λ found. SaysAt (command_said command.now) F.Edits found
+        (λ batches. AreReadAs (command_said command.now)
         (S.seen shelf.old).holds basin.now batches.items))
-        (FileCause (command_of command.now) (change (S.seen shelf.old) (S.seen shelf.new))) }
+        (FileCause (command_said command.now) (change (S.seen shelf.old) (S.seen shelf.new))) }
     ensures held { (p : List ℕ) → (S.seen shelf.new).holds p ≡ (S.seen shelf.old).holds p }
 {
     let Some(source) = command.source(File::Edits) else {
@@ -214,12 +214,12 @@ fn read_behind<S: Shelf>(
     basin: &Basin,
     shelf: &mut S,
 ) -> Result<(Option<Policy>, Option<Inputs>), Refusal>
-    requires model { ReadsModel (command_of command.now) (S.seen shelf.old).holds basin.now }
-    ensures read { MatchResult result (λ found. SaysAt (command_of command.now) F.Policy found.0
-        (IsReadAs (command_of command.now) (S.seen shelf.old).holds basin.now)
-        × SaysAt (command_of command.now) F.Inputs found.1
-        (ReadsInputs (command_of command.now) (S.seen shelf.old).holds basin.now))
-        (FileCause (command_of command.now) (change (S.seen shelf.old) (S.seen shelf.new))) }
+    requires model { ReadsModel (command_said command.now) (S.seen shelf.old).holds basin.now }
+    ensures read { MatchResult result (λ found. SaysAt (command_said command.now) F.Policy found.0
+        (IsReadAs (command_said command.now) (S.seen shelf.old).holds basin.now)
+        × SaysAt (command_said command.now) F.Inputs found.1
+        (ReadsInputs (command_said command.now) (S.seen shelf.old).holds basin.now))
+        (FileCause (command_said command.now) (change (S.seen shelf.old) (S.seen shelf.new))) }
     ensures held { (p : List ℕ) → (S.seen shelf.new).holds p ≡ (S.seen shelf.old).holds p }
     ensures later { NoneFell (S.seen shelf.old).faults (S.seen shelf.new).faults }
 {
@@ -248,10 +248,10 @@ fn read_others<S: Shelf>(
     basin: &Basin,
     shelf: &mut S,
 ) -> Result<Behind, Refusal>
-    requires model { ReadsModel (command_of command.now) (S.seen shelf.old).holds basin.now }
+    requires model { ReadsModel (command_said command.now) (S.seen shelf.old).holds basin.now }
     ensures read { MatchResult result
-        (AreBehind (command_of command.now) (S.seen shelf.old).holds basin.now)
-        (FileCause (command_of command.now) (change (S.seen shelf.old) (S.seen shelf.new))) }
+        (AreBehind (command_said command.now) (S.seen shelf.old).holds basin.now)
+        (FileCause (command_said command.now) (change (S.seen shelf.old) (S.seen shelf.new))) }
     ensures held { (p : List ℕ) → (S.seen shelf.new).holds p ≡ (S.seen shelf.old).holds p }
 {
     let (policy, inputs) = match read_behind(alloc, command, basin, shelf) {
@@ -276,12 +276,12 @@ pub(crate) fn read_files<S: Shelf>(
     shelf: &mut S,
 ) -> Result<Files, Refusal>
     ensures read { MatchResult result
-        (λ files. AreRead (command_of command.now) (S.seen shelf.old).holds (files_seen files))
-        (FileCause (command_of command.now) (change (S.seen shelf.old) (S.seen shelf.new))) }
+        (λ files. AreRead (command_said command.now) (S.seen shelf.old).holds (files_seen files))
+        (FileCause (command_said command.now) (change (S.seen shelf.old) (S.seen shelf.new))) }
     ensures fits { IfOk result (λ files. IfSome files.policy (IsFit files.basin)) }
     ensures edits { IfOk result (λ files. IfSome files.edits
         (λ batches. AreEdits files.basin batches.items)) }
-    ensures cell { IfOk result (λ files. IsTrue (seeks_cell (command_of command.now).job)
+    ensures cell { IfOk result (λ files. IsTrue (seeks_cell (command_said command.now).job)
         → IsSomeAnd files.cell (λ cell. IsSlot files.basin.objects cell.slot.0)) }
     ensures held { (p : List ℕ) → (S.seen shelf.new).holds p ≡ (S.seen shelf.old).holds p }
 {

@@ -22,11 +22,11 @@ ghost use Rattle.rpl_compile.specs.Budgets.{budgets_of};
 ghost use Rattle.rpl_compile.specs.Translate.{translate};
 ghost use Rattle.rw_top.specs.Budgets.{budget_in, check_text, rules_in};
 ghost use Rattle.rw_top.specs.Call.{Call};
-ghost use Rattle.rw_top.specs.Command.{AskFor, AskNothing, Asks, order, simulates};
+ghost use Rattle.rw_top.specs.Command.{AskOne, AskNothing, AskForCommand, reading_order, simulation_of};
 ghost use Rattle.rw_words.specs.Command.{Command};
 ghost use Rattle.rw_words.specs.declared.order.Order.{Order};
 ghost use Rattle.rw_top.specs.FirstCall.{IsFirstCall};
-ghost use Rattle.rw_top.specs.Policy.{BadCode, RulesRefusal, BadRules, BadBlocks, Policy, Ruleset, Code, IsPolicyOf};
+ghost use Rattle.rw_top.specs.Policy.{BadCode, RulesRefusal, BadRules, BadBlocks, PolicyFile, Ruleset, Code, IsPolicyFileOf};
 ghost use Rattle.rw_top.specs.Promise.{Promise, WroteCheck, WroteCode, WroteRules, WroteRun, WroteSample, WroteWhy};
 ghost use Rattle.rw_top.specs.Reading.{AcceptsAll, HoldsTooLong, LacksCell, ReadsInputs, RefusesEdits, RefusesInputs, RefusesModel, RefusesPolicy};
 ghost use Rattle.rw_top.specs.Refusal.{FailsToRead, FindsTooLong};
@@ -68,12 +68,12 @@ pub fn one_text()
 
 /// Without rules there is one end and one text in each order of dispatches.
 pub fn one_order()
-    ensures { (order : Order) (basin : Draft) (extras : Extras) (number : ℕ)
+    ensures { (reading_order : Order) (basin : Draft) (extras : Extras) (number : ℕ)
         (inputs others : Inputs)
         (end other : RunEnd) (text more : List ℕ)
         → ((slot step : ℕ) → value_at inputs slot step ≡ value_at others slot step)
-        → IsSimulated order basin extras number inputs end text
-        → IsSimulated order basin extras number others other more
+        → IsSimulated reading_order basin extras number inputs end text
+        → IsSimulated reading_order basin extras number others other more
         → (end ≡ other) × (text ≡ more) }
 {
     one_run();
@@ -106,9 +106,9 @@ pub fn first_form()
 pub fn first_call()
     ensures is { (call : Call) (model : FirstModel) (inflows outflows : List ℤ)
         (m i : List ℕ) (basin : Draft) (inputs : Inputs)
-        → Asks call.words (simulates m i)
+        → AskForCommand call.words (simulation_of m i)
         → IsSome (call.shelf.before.holds m) → IsSome (call.shelf.before.holds i)
-        → ReadsInputs (simulates m i) call.shelf.before.holds basin inputs
+        → ReadsInputs (simulation_of m i) call.shelf.before.holds basin inputs
         → IsFirstForm basin model → IsFirstFlows inputs model.run.count inflows outflows
         → IsFirstCall call model inflows outflows }
     ensures table { (call : Call) (status : ℕ) (model : FirstModel) (inflows outflows : List ℤ)
@@ -132,27 +132,27 @@ pub fn statuses()
         ⊎ WroteWhy call (Fault why)) }
     ensures words { (call : Call) → Promise call 2 → AskNothing call.words }
     ensures read_fault { (call : Call) → Promise call 3
-        → AskFor call.words (λ command. (file : File) × FailsToRead command call.shelf file) }
+        → AskOne call.words (λ command. (file : File) × FailsToRead command call.shelf file) }
     ensures write_fault { (call : Call) → Promise call 4
         → Rose call.out.before.faults call.out.after.faults }
     ensures write_front { (call : Call) → Promise call 4
-        → AskFor call.words (λ command. WritesFront command call.shelf.before.holds call.out) }
-    ensures model { (call : Call) → Promise call 6 → AskFor call.words
+        → AskOne call.words (λ command. WritesFront command call.shelf.before.holds call.out) }
+    ensures model { (call : Call) → Promise call 6 → AskOne call.words
         (λ command. (why : ModelRefusal) × RefusesModel command call.shelf.before.holds why) }
-    ensures rules { (call : Call) → Promise call 7 → AskFor call.words
+    ensures rules { (call : Call) → Promise call 7 → AskOne call.words
         (λ command. (why : RulesRefusal)
         × RefusesPolicy command call.shelf.before.holds (BadRules why)) }
-    ensures code { (call : Call) → Promise call 9 → AskFor call.words (λ command. (why : BadCode)
+    ensures code { (call : Call) → Promise call 9 → AskOne call.words (λ command. (why : BadCode)
         × RefusesPolicy command call.shelf.before.holds (BadBlocks why)) }
-    ensures inputs { (call : Call) → Promise call 8 → AskFor call.words
+    ensures inputs { (call : Call) → Promise call 8 → AskOne call.words
         (λ command. ((why : InputRefusal) × (RefusesInputs command call.shelf.before.holds why
         ⊎ RefusesEdits command call.shelf.before.holds why))
         ⊎ LacksCell command call.shelf.before.holds) }
     ensures too_long { (call : Call) → Promise call 10
-        → AskFor call.words (λ command. (file : File) × FindsTooLong command call.shelf file) }
+        → AskOne call.words (λ command. (file : File) × FindsTooLong command call.shelf file) }
     ensures sections { (call : Call) → Promise call 5
         → (call.out.after.contents ≡ call.out.before.contents)
-        ⊎ AskFor call.words (λ command. WritesSections command call.shelf.before.holds call.out) }
+        ⊎ AskOne call.words (λ command. WritesSections command call.shelf.before.holds call.out) }
     ensures untouched { (call : Call) (status : ℕ) → Promise call status → 2 ≤ status
         → status ≢ 4 → status ≢ 5 → call.out.after.contents ≡ call.out.before.contents }
 {}
@@ -162,42 +162,42 @@ pub fn statuses()
 /// wanting.
 pub fn dues()
     ensures model { (call : Call) (status : ℕ) (command : Command) (why : ModelRefusal)
-        → Promise call status → Asks call.words command
+        → Promise call status → AskForCommand call.words command
         → RefusesModel command call.shelf.before.holds why
         → AreTold command call.shelf 0
         → (status ≡ 6) ⊎ (status ≡ 5) }
     ensures rules { (call : Call) (status : ℕ) (command : Command) (why : RulesRefusal)
-        → Promise call status → Asks call.words command
+        → Promise call status → AskForCommand call.words command
         → RefusesPolicy command call.shelf.before.holds (BadRules why)
         → AreTold command call.shelf 1
         → (status ≡ 7) ⊎ (status ≡ 5) }
     ensures code { (call : Call) (status : ℕ) (command : Command) (why : BadCode)
-        → Promise call status → Asks call.words command
+        → Promise call status → AskForCommand call.words command
         → RefusesPolicy command call.shelf.before.holds (BadBlocks why)
         → AreTold command call.shelf 1
         → (status ≡ 9) ⊎ (status ≡ 5) }
     ensures inputs { (call : Call) (status : ℕ) (command : Command) (why : InputRefusal)
-        → Promise call status → Asks call.words command
+        → Promise call status → AskForCommand call.words command
         → RefusesInputs command call.shelf.before.holds why
         → AreTold command call.shelf 2
         → (status ≡ 8) ⊎ (status ≡ 5) }
     ensures edits { (call : Call) (status : ℕ) (command : Command) (why : InputRefusal)
-        → Promise call status → Asks call.words command
+        → Promise call status → AskForCommand call.words command
         → RefusesEdits command call.shelf.before.holds why
         → AreTold command call.shelf 3
         → (status ≡ 8) ⊎ (status ≡ 5) }
     ensures long { (call : Call) (status : ℕ) (command : Command) (file : File)
-        → Promise call status → Asks call.words command
+        → Promise call status → AskForCommand call.words command
         → HoldsTooLong command call.shelf.before.holds file
-        → AreTold command call.shelf (order file)
+        → AreTold command call.shelf (reading_order file)
         → (status ≡ 10) ⊎ (status ≡ 5) }
     ensures cell { (call : Call) (status : ℕ) (command : Command)
-        → Promise call status → Asks call.words command
+        → Promise call status → AskForCommand call.words command
         → LacksCell command call.shelf.before.holds
         → AreTold command call.shelf 3
         → (status ≡ 8) ⊎ (status ≡ 5) }
     ensures none { (call : Call) (status : ℕ) (command : Command)
-        → Promise call status → Asks call.words command
+        → Promise call status → AskForCommand call.words command
         → AcceptsAll command call.shelf.before.holds
         → ¬ LacksCell command call.shelf.before.holds
         → AreTold command call.shelf 3 → ¬ Rose call.out.before.faults call.out.after.faults
@@ -207,8 +207,8 @@ pub fn dues()
 /// Each rule of a policy that is accepted has its budgets, so that `check` writes a line for each. What it writes of a ruleset
 /// is what it writes of the ruleset's code, which is accepted with these budgets.
 pub fn checked_policies()
-    ensures each { (as_code : Bool) (basin : Draft) (text : List ℕ) (policy : Policy) (rule : ℕ)
-        → IsPolicyOf as_code basin text policy → 1 ≤ rule → rule ≤ rules_in policy
+    ensures each { (as_code : Bool) (basin : Draft) (text : List ℕ) (policy : PolicyFile) (rule : ℕ)
+        → IsPolicyFileOf as_code basin text policy → 1 ≤ rule → rule ≤ rules_in policy
         → IsSome (budget_in policy rule) }
     ensures code { (basin : Draft) (rules : List Declared) → IsTyped basin rules
         → rule_count rules ≤ 200 → function_count rules ≤ 200

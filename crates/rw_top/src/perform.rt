@@ -4,7 +4,7 @@ ghost use Rattle.rw_inputs.specs.Edits.{IsBatch};
 ghost use Rattle.rw_inputs.specs.Inputs.{IsInputsOf};
 ghost use Rattle.rw_io.specs.Outside.{change};
 ghost use Rattle.rw_method.specs.Catalogue.{AreInOrder};
-ghost use Rattle.rw_top.specs.Command.{command_of};
+ghost use Rattle.rw_top.specs.Command.{command_said};
 ghost use Rattle.rw_top.specs.Ready.{AreReady, IsFit};
 ghost use Rattle.rw_top.specs.Refusal.{Cause};
 ghost use Rattle.rw_top.specs.RunText.{CountsSections, IsRulesText};
@@ -314,11 +314,11 @@ pub(crate) fn perform<S: Shelf, K: Sink, L: Ledger>(
     steps: &mut Steps<L>,
 ) -> Result<u8, Refusal>
     requires order { AreInOrder (map (λ b. code (b.vtable, b.value)) methods.now.methods.items) }
-    ensures wrote { IfOk result (WritesAll (command_of command.now) (S.seen shelf.old).holds
+    ensures wrote { IfOk result (WritesAll (command_said command.now) (S.seen shelf.old).holds
         (change (K.seen out.old) (K.seen out.new))) }
-    ensures cause { IfErr result (Cause (command_of command.now)
+    ensures cause { IfErr result (Cause (command_said command.now)
         (change (S.seen shelf.old) (S.seen shelf.new)) (change (K.seen out.old) (K.seen out.new))) }
-    ensures counted { IfOk result (λ status. CountsReused (command_of command.now)
+    ensures counted { IfOk result (λ status. CountsReused (command_said command.now)
         (S.seen shelf.old).holds (change steps.old steps.new)) }
     ensures held { (p : List ℕ) → (S.seen shelf.new).holds p ≡ (S.seen shelf.old).holds p }
 {

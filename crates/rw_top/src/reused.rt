@@ -7,11 +7,11 @@ ghost use Rattle.rw_inputs.specs.Inputs.{IsInputsOf};
 ghost use Rattle.rw_io.specs.Outside.{change};
 ghost use Rattle.rw_method.specs.Catalogue.{AreInOrder};
 ghost use Rattle.rw_rerun.specs.Session.{IsSessionOf};
-ghost use Rattle.rw_top.specs.Policy.{Policy as Rules};
+ghost use Rattle.rw_top.specs.Policy.{PolicyFile as Rules};
 ghost use Rattle.rw_top.specs.Ready.{IsFit};
 ghost use Rattle.rw_top.specs.Reused.{IsNextSection, WritesFrom, told_of};
 ghost use Rattle.rw_top.specs.RunText.{CountsSections, IsCodeOf, IsRulesText};
-ghost use Rattle.rw_top.specs.Sections.{AppendsAll, AppendsOne, Given, StopsAmong, StopsAtOne, first_given};
+ghost use Rattle.rw_top.specs.Sections.{AppendsAll, AppendsOne, GivenInputs, StopsAmong, StopsAtOne, first_given};
 ghost use Rattle.rw_top.specs.Seen.{policy_of};
 
 use crate::Refusal;
@@ -53,7 +53,7 @@ fn tell_run(
         session.now.setup.policy.now session.now.state }
     requires reuse { extras.reuse ≡ true }
     requires sheet { sheet.old.basin ≡ session.now.setup.basin.now }
-    ensures text { (policy : Rules) (given : Given)
+    ensures text { (policy : Rules) (given : GivenInputs)
         → IsCodeOf session.now.setup.basin.now policy session.now.setup.policy.now
         → IsNextSection session.now.setup.basin.now policy number given session.now.state
         → IfOk result (λ end. IsRulesText session.now.setup.basin.now policy extras
@@ -79,7 +79,7 @@ fn write_run<K: Sink>(
         session.now.setup.policy.now session.now.state }
     requires reuse { extras.reuse ≡ true }
     requires sheet { sheet.old.basin ≡ session.now.setup.basin.now }
-    ensures out { (policy : Rules) (given : Given)
+    ensures out { (policy : Rules) (given : GivenInputs)
         → IsCodeOf session.now.setup.basin.now policy session.now.setup.policy.now
         → IsNextSection session.now.setup.basin.now policy number given session.now.state
         → MatchResult result
@@ -117,7 +117,7 @@ fn write_from<K: Sink, L: Ledger>(
     requires few { number + length batches.now ≤ 64 }
     requires reuse { extras.reuse ≡ true }
     requires sheet { sheet.old.basin ≡ session.old.setup.basin.now }
-    ensures { (policy : Rules) (given : Given)
+    ensures { (policy : Rules) (given : GivenInputs)
         → IsCodeOf session.old.setup.basin.now policy session.old.setup.policy.now
         → IsNextSection session.old.setup.basin.now policy number given session.old.state
         → WritesFrom session.old.setup.basin.now policy extras number given batches.now

@@ -2,10 +2,10 @@ ghost use Rattle.std.specs.Prelude.{◌≡◌, ◌≤◌, ◌++◌, codes, Match
 ghost use Rattle.std.specs.Fmt.{decimal};
 ghost use Rattle.rw_io.specs.Causes.{Rose};
 ghost use Rattle.rw_io.specs.Known.{GrowsBy, PrefixGrew};
-ghost use Rattle.rw_top.specs.Command.{command_of};
+ghost use Rattle.rw_top.specs.Command.{command_said};
 ghost use Rattle.rw_io.specs.Outside.{change};
-ghost use Rattle.rw_top.specs.Written.{Tells};
-ghost use Rattle.rw_top.specs.Lines.{block_line, code_line, edits_line, grammar_line, inputs_line, line_of, model_line, told_path, types_line, memory_line, words_line};
+ghost use Rattle.rw_top.specs.Written.{TellsLine};
+ghost use Rattle.rw_top.specs.Lines.{block_line, code_line, edits_line, grammar_line, inputs_line, refusal_line, model_line, told_path, types_line, memory_line, words_line};
 
 use crate::command::Command;
 use crate::fault_words::{
@@ -49,7 +49,7 @@ fn tell_two<E: Sink>(err: &mut E, first: &str, second: &str) -> bool
 
 // Writes a line of two parts, as far as the sink takes it.
 fn tell_line<E: Sink>(err: &mut E, first: &str, second: &str)
-    ensures { Tells (change (E.seen err.old) (E.seen err.new))
+    ensures { TellsLine (change (E.seen err.old) (E.seen err.new))
         ((first.now ++ second.now) ++ codes "\n") }
 {
     if !tell_two(err, first, second) {
@@ -60,7 +60,7 @@ fn tell_line<E: Sink>(err: &mut E, first: &str, second: &str)
 
 // Writes a line of a path and what is wrong there.
 fn tell_wrong<E: Sink>(err: &mut E, first: &str, path: &str, wrong: &str)
-    ensures { Tells (change (E.seen err.old) (E.seen err.new))
+    ensures { TellsLine (change (E.seen err.old) (E.seen err.new))
         ((first.now ++ path.now) ++ ((codes ": " ++ wrong.now) ++ codes "\n")) }
 {
     if tell_two(err, first, path) {
@@ -69,7 +69,7 @@ fn tell_wrong<E: Sink>(err: &mut E, first: &str, path: &str, wrong: &str)
 }
 
 fn tell_model<E: Sink>(err: &mut E, fault: &ModelFault)
-    ensures { Tells (change (E.seen err.old) (E.seen err.new)) (model_line fault.now) }
+    ensures { TellsLine (change (E.seen err.old) (E.seen err.new)) (model_line fault.now) }
 {
     match fault {
         ModelFault::NotToml => tell_line(err, "basin: model: not TOML", ""),
@@ -104,7 +104,7 @@ fn tell_model<E: Sink>(err: &mut E, fault: &ModelFault)
 
 // Writes a line of a number and what is wrong there.
 fn tell_number<E: Sink>(err: &mut E, first: &str, n: u32, wrong: &str)
-    ensures { Tells (change (E.seen err.old) (E.seen err.new))
+    ensures { TellsLine (change (E.seen err.old) (E.seen err.new))
         ((first.now ++ decimal n) ++ ((codes ": " ++ wrong.now) ++ codes "\n")) }
 {
     let mut buffer = Buffer::new();
@@ -113,7 +113,7 @@ fn tell_number<E: Sink>(err: &mut E, first: &str, n: u32, wrong: &str)
 
 // Writes a line of two numbers and what is wrong there.
 fn tell_place<E: Sink>(err: &mut E, first: &str, n: u32, second: &str, m: u32, wrong: &str)
-    ensures { Tells (change (E.seen err.old) (E.seen err.new))
+    ensures { TellsLine (change (E.seen err.old) (E.seen err.new))
         ((first.now ++ decimal n)
         ++ ((second.now ++ decimal m) ++ ((codes ": " ++ wrong.now) ++ codes "\n"))) }
 {
@@ -124,7 +124,7 @@ fn tell_place<E: Sink>(err: &mut E, first: &str, n: u32, second: &str, m: u32, w
 }
 
 fn tell_grammar<E: Sink>(err: &mut E, fault: &ParseFault)
-    ensures { Tells (change (E.seen err.old) (E.seen err.new)) (grammar_line fault.now) }
+    ensures { TellsLine (change (E.seen err.old) (E.seen err.new)) (grammar_line fault.now) }
 {
     match fault {
         ParseFault::BadToken(line) => {
@@ -148,7 +148,8 @@ fn tell_grammar<E: Sink>(err: &mut E, fault: &ParseFault)
 }
 
 fn tell_types<E: Sink>(err: &mut E, kind: TypeKind, declaration: u32, node: u32)
-    ensures { Tells (change (E.seen err.old) (E.seen err.new)) (types_line kind declaration node) }
+    ensures { TellsLine (change (E.seen err.old) (E.seen err.new))
+        (types_line kind declaration node) }
 {
     tell_place(
         err,
@@ -161,7 +162,7 @@ fn tell_types<E: Sink>(err: &mut E, kind: TypeKind, declaration: u32, node: u32)
 }
 
 fn tell_code<E: Sink>(err: &mut E, fault: &CodeFault)
-    ensures { Tells (change (E.seen err.old) (E.seen err.new)) (code_line fault.now) }
+    ensures { TellsLine (change (E.seen err.old) (E.seen err.new)) (code_line fault.now) }
 {
     match fault {
         CodeFault::BadLine(line) => tell_number(err, "basin: code: line ", *line, "bad line"),
@@ -171,7 +172,7 @@ fn tell_code<E: Sink>(err: &mut E, fault: &CodeFault)
 }
 
 fn tell_block<E: Sink>(err: &mut E, kind: VerifyKind, block: u32, place: u32)
-    ensures { Tells (change (E.seen err.old) (E.seen err.new)) (block_line kind block place) }
+    ensures { TellsLine (change (E.seen err.old) (E.seen err.new)) (block_line kind block place) }
 {
     tell_place(
         err,
@@ -184,7 +185,7 @@ fn tell_block<E: Sink>(err: &mut E, kind: VerifyKind, block: u32, place: u32)
 }
 
 fn tell_inputs<E: Sink>(err: &mut E, kind: InputKind, row: u32, column: u8)
-    ensures { Tells (change (E.seen err.old) (E.seen err.new)) (inputs_line kind row column) }
+    ensures { TellsLine (change (E.seen err.old) (E.seen err.new)) (inputs_line kind row column) }
 {
     tell_place(
         err,
@@ -197,7 +198,7 @@ fn tell_inputs<E: Sink>(err: &mut E, kind: InputKind, row: u32, column: u8)
 }
 
 fn tell_edits<E: Sink>(err: &mut E, kind: InputKind, row: u32, column: u8)
-    ensures { Tells (change (E.seen err.old) (E.seen err.new)) (edits_line kind row column) }
+    ensures { TellsLine (change (E.seen err.old) (E.seen err.new)) (edits_line kind row column) }
 {
     tell_place(
         err,
@@ -211,7 +212,7 @@ fn tell_edits<E: Sink>(err: &mut E, kind: InputKind, row: u32, column: u8)
 
 // The path of a file as a line has it.
 fn told_path<'w>(command: &Command<'w>, file: File) -> &'w str
-    ensures { result.now ≡ told_path (command_of command.now) file }
+    ensures { result.now ≡ told_path (command_said command.now) file }
 {
     match command.path(file) {
         Some(path) => path,
@@ -221,22 +222,22 @@ fn told_path<'w>(command: &Command<'w>, file: File) -> &'w str
 
 /// Writes the line on words that ask for nothing, as far as the sink takes it. It takes no memory.
 pub(crate) fn tell_words<E: Sink>(err: &mut E)
-    ensures { Tells (change (E.seen err.old) (E.seen err.new)) words_line }
+    ensures { TellsLine (change (E.seen err.old) (E.seen err.new)) words_line }
 {
     tell_line(err, "basin: words refused", "");
 }
 
 /// Writes the line on want of memory, as far as the sink takes it. It takes no memory.
 pub(crate) fn tell_memory<E: Sink>(err: &mut E)
-    ensures { Tells (change (E.seen err.old) (E.seen err.new)) memory_line }
+    ensures { TellsLine (change (E.seen err.old) (E.seen err.new)) memory_line }
 {
     tell_line(err, "basin: want of memory", "");
 }
 
 /// Writes the line on a refusal of the command, as far as the sink takes it. It takes no memory.
 pub(crate) fn tell<E: Sink>(err: &mut E, command: &Command<'_>, refusal: &Refusal)
-    ensures { Tells (change (E.seen err.old) (E.seen err.new))
-        (line_of (command_of command.now) refusal.now) }
+    ensures { TellsLine (change (E.seen err.old) (E.seen err.new))
+        (refusal_line (command_said command.now) refusal.now) }
 {
     match refusal {
         Refusal::Words => tell_words(err),

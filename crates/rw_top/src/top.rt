@@ -4,7 +4,7 @@ ghost use Rattle.rw_words.specs.Command.{texts_of};
 ghost use Rattle.rw_io.specs.Outside.{change};
 ghost use Rattle.rw_top.specs.Promise.{Promise};
 ghost use Rattle.rw_top.specs.Lines.{memory_line};
-ghost use Rattle.rw_top.specs.Written.{Tells};
+ghost use Rattle.rw_top.specs.Written.{TellsLine};
 
 use crate::Refusal;
 use crate::command::Command;
@@ -82,7 +82,7 @@ pub fn basin_main<S: Shelf, K: Sink, E: Sink, L: Ledger>(
 /// the status with which it ends. It takes no memory itself.
 pub fn end_without_memory<E: Sink>(err: &mut E) -> u8
     ensures status { result ≡ 5 }
-    ensures told { Tells (change (E.seen err.old) (E.seen err.new)) memory_line }
+    ensures told { TellsLine (change (E.seen err.old) (E.seen err.new)) memory_line }
 {
     tell_memory(err);
     Refusal::NoMemory.status()

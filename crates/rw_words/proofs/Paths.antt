@@ -2,7 +2,7 @@
 use Rattle.rw_base.proofs.Common.{Bool, List, None, Option, Some, [], ap, append_assoc, codes, false, if◌then◌else◌, length, option_and_then, option_map, list_any, refl, same_Some, subst, suc, sym, true, ◌++◌, ◌∙◌, ◌∷◌, ◌≡◌}
 use Rattle.std.specs.Option.{option_map_or}
 use Rattle.clap.specs.Words.{Row, first_of}
-use Rattle.rw_words.specs.Command.{Command, command_in, command_named, command_of, command_with, is_empty, paths_in, seed_in, taken}
+use Rattle.rw_words.specs.Command.{Command, command_in, command_named, asked_command, command_with, is_empty, paths_in, seed_in, taken_words}
 use Rattle.rw_words.specs.Job.{Text, job_named, paths_of}
 use Rattle.rw_words.specs.Order.{order_or_oldest}
 use Rattle.rw_words.specs.declared.job.Job.{Job}
@@ -47,9 +47,9 @@ job_paths rows job command some =
         subst (λ (c : Command). length c.paths ≡ length (paths_of c.job)) same (each found refl)
 
 -- and so has what all words ask for
-pub words_paths : (words : List Text) (command : Command) → command_of words ≡ Some command
+pub words_paths : (words : List Text) (command : Command) → asked_command words ≡ Some command
     → length command.paths ≡ length (paths_of command.job)
-words_paths words command some = go (list_any is_empty words) (taken words) some
+words_paths words command some = go (list_any is_empty words) (taken_words words) some
   where
     named : (rows : List Row) (job : Option Job) → option_and_then (command_in rows) job ≡ Some command
         → length command.paths ≡ length (paths_of command.job)

@@ -5,8 +5,8 @@ use Rattle.clap.specs.Faults.{check_fault, defaults_fault, entered_fault, fault_
 use Rattle.clap.specs.Kinds.{Kinds, or_else}
 use Rattle.clap.specs.Simple.{Shape, built, entered, label_of, names_of, new_shape, subcommand_of}
 use Rattle.clap.specs.Walk.{Held, Names, Row, Rule, Walk, answers_to, arg_by_index, finished, idle, nothing_held, settled, to_positional, value, walk, walk_from, walked}
-use Rattle.rw_words.specs.Command.{Command, command_in, command_named, command_of, is_empty, taken}
-use Rattle.rw_words.specs.Job.{Text, name_of}
+use Rattle.rw_words.specs.Command.{Command, command_in, command_named, asked_command, is_empty, taken_words}
+use Rattle.rw_words.specs.Job.{Text, job_name}
 use Rattle.rw_words.specs.Plain.{IsPath, PlainWords, of_cell, plain}
 use Rattle.rw_words.specs.Program.{program}
 use Rattle.rw_words.specs.Seed.{seed_of_text}
@@ -103,7 +103,7 @@ abbrev names : Names
 names = names_of (built program)
 
 abbrev shape_of_job : Job → Shape
-shape_of_job job = unwrap_or (find (λ s. answers_to (name_of job) (label_of s)) (built program).subs) (new_shape [])
+shape_of_job job = unwrap_or (find (λ s. answers_to (job_name job) (label_of s)) (built program).subs) (new_shape [])
 
 -- the walk stopped at the name of a command, with these words behind it
 abbrev inside : Text → List Text → Walk
@@ -127,7 +127,7 @@ none_inside s name before [] = refl
 none_inside s name before (word ∷ more) =
     ap (λ (w : Walk). walk_fault s names w more) (word_inside s.rules name before word) ∙ none_inside s name (before ++ word ∷ []) more
 
-name_walked : (job : Job) → walked top.rules names (walk_from nothing_held) (name_of job) ≡ inside (name_of job) []
+name_walked : (job : Job) → walked top.rules names (walk_from nothing_held) (job_name job) ≡ inside (job_name job) []
 unfolding walked
 name_walked Run = refl
 name_walked Simulate = refl
@@ -137,7 +137,7 @@ name_walked Why = refl
 name_walked (Sample seed) = refl
 
 name_fault : (job : Job) (words : List Text)
-    → walk_fault top names (walk_from nothing_held) (name_of job ∷ words) ≡ walk_fault top names (inside (name_of job) []) words
+    → walk_fault top names (walk_from nothing_held) (job_name job ∷ words) ≡ walk_fault top names (inside (job_name job) []) words
 unfolding walk_fault walked
 name_fault Run words = refl
 name_fault Simulate words = refl
@@ -155,22 +155,22 @@ top_last : (name : Text) (words : List Text) → last_fault top true (inside nam
 unfolding defaults_fault
 top_last name words = refl
 
-top_walk : (job : Job) (words : List Text) → walk top.rules names nothing_held (name_of job ∷ words) ≡ inside (name_of job) words
+top_walk : (job : Job) (words : List Text) → walk top.rules names nothing_held (job_name job ∷ words) ≡ inside (job_name job) words
 top_walk job words =
-    ap (λ (w : Walk). fold (walked top.rules names) w words) (name_walked job) ∙ words_inside top.rules (name_of job) [] words
+    ap (λ (w : Walk). fold (walked top.rules names) w words) (name_walked job) ∙ words_inside top.rules (job_name job) [] words
 
 top_fault : (job : Job) (words : List Text) (below : Kinds)
-    → level_fault top names nothing_held (name_of job ∷ words) true below ≡ or_else below []
+    → level_fault top names nothing_held (job_name job ∷ words) true below ≡ or_else below []
 top_fault job words below =
-    ap (λ (kinds : Kinds). or_else kinds (or_else below (last_fault top true (walk top.rules names nothing_held (name_of job ∷ words)))))
-    (name_fault job words ∙ none_inside top (name_of job) [] words)
-    ∙ ap (λ (w : Walk). or_else below (last_fault top true w)) (top_walk job words) ∙ ap (or_else below) (top_last (name_of job) words)
+    ap (λ (kinds : Kinds). or_else kinds (or_else below (last_fault top true (walk top.rules names nothing_held (job_name job ∷ words)))))
+    (name_fault job words ∙ none_inside top (job_name job) [] words)
+    ∙ ap (λ (w : Walk). or_else below (last_fault top true w)) (top_walk job words) ∙ ap (or_else below) (top_last (job_name job) words)
 
 abbrev own_fault : Job → List Text → Kinds
 own_fault job words = level_fault (shape_of_job job) [] nothing_held words false []
 
-own : (job : Job) (words : List Text) → level_fault top names nothing_held (name_of job ∷ words)
-    (is_some (entered (built program) (Some (name_of job, words)))) (entered_fault (built program) (Some (name_of job, words)))
+own : (job : Job) (words : List Text) → level_fault top names nothing_held (job_name job ∷ words)
+    (is_some (entered (built program) (Some (job_name job, words)))) (entered_fault (built program) (Some (job_name job, words)))
     ≡ or_else (own_fault job words) []
 own Run words = top_fault Run words (own_fault Run words)
 own Simulate words = top_fault Simulate words (own_fault Simulate words)
@@ -186,7 +186,7 @@ Found = Option (Text × List Row)
 abbrev found_by : Job → Walk → Found
 found_by job w = Some ((shape_of_job job).name, finished (shape_of_job job).rules w.held)
 
-entered_is : (job : Job) (words : List Text) → entered (built program) (Some (name_of job, words))
+entered_is : (job : Job) (words : List Text) → entered (built program) (Some (job_name job, words))
     ≡ found_by job (walk (shape_of_job job).rules [] nothing_held words)
 entered_is Run words = refl
 entered_is Simulate words = refl
@@ -197,14 +197,14 @@ entered_is (Sample seed) words = refl
 
 -- ---- the words of each
 
-asks : (job : Job) (paths : List Text) (command : Command) → list_any is_empty (name_of job ∷ paths) ≡ list_any is_empty paths → AreNoOptions paths
+asks : (job : Job) (paths : List Text) (command : Command) → list_any is_empty (job_name job ∷ paths) ≡ list_any is_empty paths → AreNoOptions paths
     → Fit (shape_of_job job) nothing_held 1 paths
     → last_fault (shape_of_job job) false (end (shape_of_job job) nothing_held 1 paths) ≡ []
     → option_and_then command_named (found_by job (end (shape_of_job job) nothing_held 1 paths)) ≡ Some command
-    → command_of (name_of job ∷ paths) ≡ Some command
+    → asked_command (job_name job ∷ paths) ≡ Some command
 asks job paths command same are fit last named =
     let s = shape_of_job job in
-    let words = name_of job ∷ paths in
+    let words = job_name job ∷ paths in
     let ends = all_walked s nothing_held 1 paths are fit in
     let below : own_fault job paths ≡ [] =
     ap (λ (kinds : Kinds). or_else kinds (last_fault s false (walk s.rules [] nothing_held paths))) (none_wrong s nothing_held 1 paths are fit)
@@ -215,7 +215,7 @@ asks job paths command same are fit last named =
     let found : subcommand_of program words ≡ found_by job (end s nothing_held 1 paths) =
     ap (λ (w : Walk). entered (built program) w.stopped) (top_walk job paths) ∙ entered_is job paths ∙ ap (found_by job) ends in
     let takes = ap (λ (kinds : Kinds). if length kinds == 0 then subcommand_of program words else None) fault ∙ found in
-    ap (λ (empty : Bool). if empty then None else option_and_then command_named (taken words)) (same ∙ filled paths are)
+    ap (λ (empty : Bool). if empty then None else option_and_then command_named (taken_words words)) (same ∙ filled paths are)
     ∙ ap (option_and_then command_named) takes ∙ named
 
 run_last : (p q r : Text) → last_fault (shape_of_job Run) false (end (shape_of_job Run) nothing_held 1 (p ∷ q ∷ r ∷ [])) ≡ []

@@ -53,8 +53,8 @@ abbrev pub is_given : List Row → Text → Bool
 is_given rows name = option_map_or (λ text. bytes_eq text (codes "true")) (first_of name rows) false
 
 -- the words of a cell, where both were found
-abbrev pub cell_in : List Row → Option CellWords
-cell_in rows =
+abbrev pub cell_words_in : List Row → Option CellWords
+cell_words_in rows =
     option_and_then (λ slot. option_map (λ step. cell_words slot step) (first_of (codes "STEP") rows)) (first_of (codes "SLOT") rows)
 
 -- the command with this order and these paths
@@ -62,7 +62,7 @@ abbrev pub command_with : List Row → Job → Order → List Text → Command
 command_with rows job order paths = record {
   job = job;
   paths = paths;
-  cell = cell_in rows;
+  cell = cell_words_in rows;
   edits = first_of (codes "edits") rows;
   order = order;
   flags = is_given rows (codes "flags");
@@ -87,12 +87,12 @@ command_named found = option_and_then (command_in found.1) (job_named found.0 (s
 -- ---- all words
 
 -- what `clap` finds, where it takes the words
-abbrev pub taken : List Text → Option (Text × List Row)
-taken words = if length (fault_of program words) == 0 then subcommand_of program words else None
+abbrev pub taken_words : List Text → Option (Text × List Row)
+taken_words words = if length (fault_of program words) == 0 then subcommand_of program words else None
 
 -- what the words ask for, or that they ask for nothing. An empty word is refused wherever it stands
-abbrev pub command_of : List Text → Option Command
-command_of words = if list_any is_empty words then None else option_and_then command_named (taken words)
+abbrev pub asked_command : List Text → Option Command
+asked_command words = if list_any is_empty words then None else option_and_then command_named (taken_words words)
 
 -- ---- what was read
 
@@ -100,8 +100,8 @@ command_of words = if list_any is_empty words then None else option_and_then com
 abbrev pub cell_seen : NamedCell → CellWords
 cell_seen named = cell_words named.slot.now named.step.now
 
-abbrev pub seen : Named → Command
-seen named = record {
+abbrev pub command_seen : Named → Command
+command_seen named = record {
   job = named.job;
   paths = map (λ path. path.now) named.paths.items;
   cell = option_map cell_seen named.cell;

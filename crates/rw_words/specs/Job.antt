@@ -9,13 +9,13 @@ abbrev pub Text : Type 0
 Text = List ℕ
 
 -- the word that names a job
-abbrev pub name_of : Job → Text
-name_of Run = codes "run"
-name_of Simulate = codes "simulate"
-name_of Check = codes "check"
-name_of Compile = codes "compile"
-name_of Why = codes "why"
-name_of (Sample seed) = codes "sample"
+abbrev pub job_name : Job → Text
+job_name Run = codes "run"
+job_name Simulate = codes "simulate"
+job_name Check = codes "check"
+job_name Compile = codes "compile"
+job_name Why = codes "why"
+job_name (Sample seed) = codes "sample"
 
 -- the paths that it wants, in order
 abbrev pub paths_of : Job → List Text
@@ -36,13 +36,13 @@ others_of Why = codes "SLOT" ∷ codes "STEP" ∷ []
 others_of (Sample seed) = codes "SEED" ∷ []
 
 -- its options with a value
-abbrev pub options_of : Job → List Text
-options_of Run = codes "edits" ∷ []
-options_of Simulate = codes "order" ∷ []
-options_of Check = []
-options_of Compile = []
-options_of Why = []
-options_of (Sample seed) = []
+abbrev pub job_options : Job → List Text
+job_options Run = codes "edits" ∷ []
+job_options Simulate = codes "order" ∷ []
+job_options Check = []
+job_options Compile = []
+job_options Why = []
+job_options (Sample seed) = []
 
 -- its options without one
 abbrev pub flags_of : Job → List Text

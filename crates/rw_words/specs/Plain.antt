@@ -1,7 +1,7 @@
 -- Words that ask for a command with no option.
 use Rattle.std.specs.Prelude.{ℕ, ◌≡◌, ◌≢◌, ◌≤◌, ◌∷◌, [], List, length, slice_index, None, Some, false}
-use Rattle.rw_words.specs.Command.{Command, cell_words, command_of}
-use Rattle.rw_words.specs.Job.{Text, name_of}
+use Rattle.rw_words.specs.Command.{Command, cell_words, asked_command}
+use Rattle.rw_words.specs.Job.{Text, job_name}
 use Rattle.rw_words.specs.Seed.{seed_of_text}
 use Rattle.rw_words.specs.declared.job.Job.{Job}
 use Rattle.rw_words.specs.declared.order.Order.TheVariants.{Oldest}
@@ -31,15 +31,15 @@ of_cell slot step command = record command { cell = Some (cell_words slot step) 
 -- the name of a job and its paths, and the words behind them, ask for it
 pub record PlainWords : Type 0 where
   pub run : (model policy inputs : Text) → IsPath model → IsPath policy → IsPath inputs
-      → command_of (name_of Run ∷ model ∷ policy ∷ inputs ∷ []) ≡ Some (plain Run (model ∷ policy ∷ inputs ∷ []))
+      → asked_command (job_name Run ∷ model ∷ policy ∷ inputs ∷ []) ≡ Some (plain Run (model ∷ policy ∷ inputs ∷ []))
   pub simulate : (model inputs : Text) → IsPath model → IsPath inputs
-      → command_of (name_of Simulate ∷ model ∷ inputs ∷ []) ≡ Some (plain Simulate (model ∷ inputs ∷ []))
+      → asked_command (job_name Simulate ∷ model ∷ inputs ∷ []) ≡ Some (plain Simulate (model ∷ inputs ∷ []))
   pub check : (model policy : Text) → IsPath model → IsPath policy
-      → command_of (name_of Check ∷ model ∷ policy ∷ []) ≡ Some (plain Check (model ∷ policy ∷ []))
+      → asked_command (job_name Check ∷ model ∷ policy ∷ []) ≡ Some (plain Check (model ∷ policy ∷ []))
   pub compile : (model rules : Text) → IsPath model → IsPath rules
-      → command_of (name_of Compile ∷ model ∷ rules ∷ []) ≡ Some (plain Compile (model ∷ rules ∷ []))
+      → asked_command (job_name Compile ∷ model ∷ rules ∷ []) ≡ Some (plain Compile (model ∷ rules ∷ []))
   pub why : (model policy inputs slot step : Text) → IsPath model → IsPath policy → IsPath inputs → IsPath slot → IsPath step
-      → command_of (name_of Why ∷ model ∷ policy ∷ inputs ∷ slot ∷ step ∷ [])
+      → asked_command (job_name Why ∷ model ∷ policy ∷ inputs ∷ slot ∷ step ∷ [])
       ≡ Some (of_cell slot step (plain Why (model ∷ policy ∷ inputs ∷ [])))
   pub sample : (text : Text) (seed : ℕ) → IsPath text → seed_of_text text ≡ Some seed
-      → command_of (name_of (Sample seed) ∷ text ∷ []) ≡ Some (plain (Sample seed) [])
+      → asked_command (job_name (Sample seed) ∷ text ∷ []) ≡ Some (plain (Sample seed) [])

@@ -3,7 +3,7 @@ use Rattle.std.specs.Prelude.{List, [], ◌∷◌, codes, map, true, Some}
 use Rattle.clap.specs.Words.{App, Rule, new_app, new_rule, with_rule, with_subcommand}
 use Rattle.clap.specs.declared.builder.ArgAction.{ArgAction}
 use Rattle.clap.specs.declared.builder.ArgAction.TheVariants.{Set, SetTrue}
-use Rattle.rw_words.specs.Job.{Text, flags_of, name_of, options_of, others_of, paths_of}
+use Rattle.rw_words.specs.Job.{Text, flags_of, job_name, job_options, others_of, paths_of}
 use Rattle.rw_words.specs.declared.job.Job.{Job}
 use Rattle.rw_words.specs.declared.job.Job.TheVariants.{Run, Simulate, Check, Compile, Why, Sample}
 
@@ -22,9 +22,9 @@ with_rules app (rule ∷ rest) = with_rules (with_rule app rule) rest
 -- what is told of a command
 abbrev pub usage_of : Job → App
 usage_of job =
-    let paths = with_rules (new_app (name_of job)) (map required (paths_of job)) in
+    let paths = with_rules (new_app (job_name job)) (map required (paths_of job)) in
     let words = with_rules paths (map required (others_of job)) in
-    let options = with_rules words (map (option Set) (options_of job)) in
+    let options = with_rules words (map (option Set) (job_options job)) in
     with_rules options (map (option SetTrue) (flags_of job))
 
 -- the program without its commands

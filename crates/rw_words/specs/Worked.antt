@@ -1,6 +1,6 @@
 -- What some words ask for, worked out by hand from the sentences of docs/FORMATS.md. A row is a line of words.
 use Rattle.std.specs.Prelude.{◌≡◌, ◌==◌, List, ℕ, [], ◌∷◌, codes, true, None, Some, if◌then◌else◌}
-use Rattle.rw_words.specs.Command.{Command, command_of}
+use Rattle.rw_words.specs.Command.{Command, asked_command}
 use Rattle.rw_words.specs.Job.{Text}
 use Rattle.rw_words.specs.Plain.{of_cell, plain}
 use Rattle.rw_words.specs.declared.job.Job.TheVariants.{Run, Simulate, Check, Compile, Why, Sample}
@@ -13,9 +13,9 @@ before_words c [] = (c ∷ []) ∷ []
 before_words c (word ∷ rest) = (c ∷ word) ∷ rest
 
 -- the words of a line, with a space between them
-abbrev pub words_of : Text → List Text
-words_of [] = [] ∷ []
-words_of (c ∷ rest) = if c == 32 then [] ∷ words_of rest else before_words c (words_of rest)
+abbrev pub words_in_line : Text → List Text
+words_in_line [] = [] ∷ []
+words_in_line (c ∷ rest) = if c == 32 then [] ∷ words_in_line rest else before_words c (words_in_line rest)
 
 -- ---- commands
 
@@ -24,8 +24,8 @@ abbrev pub runs : Command
 runs = plain Run (codes "m" ∷ codes "p" ∷ codes "i" ∷ [])
 
 -- `simulate m i`
-abbrev pub simulates : Command
-simulates = plain Simulate (codes "m" ∷ codes "i" ∷ [])
+abbrev pub simulate_line : Command
+simulate_line = plain Simulate (codes "m" ∷ codes "i" ∷ [])
 
 -- `why m p i s` of a timestep
 abbrev pub whys : Text → Command
@@ -42,8 +42,8 @@ edited path command = record command { edits = Some path }
 abbrev pub flagged : Command → Command
 flagged command = record command { flags = true }
 
-abbrev pub traced : Command → Command
-traced command = record command { trace = true }
+abbrev pub with_trace : Command → Command
+with_trace command = record command { trace = true }
 
 abbrev pub reusing : Command → Command
 reusing command = record command { reuse = true }
@@ -52,55 +52,55 @@ reusing command = record command { reuse = true }
 abbrev pub by_newest : Command → Command
 by_newest command = record command { order = Newest }
 
-abbrev pub AskFor : Text → Command → Type 0
-AskFor line command = command_of (words_of line) ≡ Some command
+abbrev pub LineAsksFor : Text → Command → Type 0
+LineAsksFor line command = asked_command (words_in_line line) ≡ Some command
 
 abbrev pub Nothing : Text → Type 0
-Nothing line = command_of (words_of line) ≡ None
+Nothing line = asked_command (words_in_line line) ≡ None
 
 -- ---- rows
 
 pub record AskWithOptions : Type 0 where
-  pub run : AskFor (codes "run m p i") runs
-  pub simulate : AskFor (codes "simulate m i") simulates
-  pub check : AskFor (codes "check m p") (plain Check (codes "m" ∷ codes "p" ∷ []))
-  pub compile : AskFor (codes "compile m r") (plain Compile (codes "m" ∷ codes "r" ∷ []))
-  pub why : AskFor (codes "why m p i s 1") (whys (codes "1"))
-  pub why_ended : AskFor (codes "why -- m p i s -1") (whys (codes "-1"))
-  pub sample : AskFor (codes "sample 0") (samples 0)
-  pub sample_zeros : AskFor (codes "sample 00000000000000000007") (samples 7)
-  pub sample_greatest : AskFor (codes "sample 18446744073709551615") (samples 18446744073709551615)
-  pub sample_ended : AskFor (codes "sample -- 12") (samples 12)
+  pub run : LineAsksFor (codes "run m p i") runs
+  pub simulate : LineAsksFor (codes "simulate m i") simulate_line
+  pub check : LineAsksFor (codes "check m p") (plain Check (codes "m" ∷ codes "p" ∷ []))
+  pub compile : LineAsksFor (codes "compile m r") (plain Compile (codes "m" ∷ codes "r" ∷ []))
+  pub why : LineAsksFor (codes "why m p i s 1") (whys (codes "1"))
+  pub why_ended : LineAsksFor (codes "why -- m p i s -1") (whys (codes "-1"))
+  pub sample : LineAsksFor (codes "sample 0") (samples 0)
+  pub sample_zeros : LineAsksFor (codes "sample 00000000000000000007") (samples 7)
+  pub sample_greatest : LineAsksFor (codes "sample 18446744073709551615") (samples 18446744073709551615)
+  pub sample_ended : LineAsksFor (codes "sample -- 12") (samples 12)
   -- options stand anywhere behind the command's name
-  pub behind : AskFor (codes "run m p i --edits e --flags --trace") (traced (flagged (edited (codes "e") runs)))
-  pub before : AskFor (codes "run --trace --edits e m p i") (traced (edited (codes "e") runs))
-  pub between : AskFor (codes "run m --flags p --edits e i") (flagged (edited (codes "e") runs))
-  pub reuse : AskFor (codes "run m p i --reuse") (reusing runs)
-  pub reuse_before : AskFor (codes "run --reuse m p i --edits e --flags") (reusing (flagged (edited (codes "e") runs)))
-  pub in_simulate : AskFor (codes "simulate --flags m --trace i") (traced (flagged simulates))
-  pub newest : AskFor (codes "simulate m i --order newest") (by_newest simulates)
-  pub newest_before : AskFor (codes "simulate --order=newest m --trace i") (traced (by_newest simulates))
-  pub oldest : AskFor (codes "simulate m --order oldest i") simulates
+  pub behind : LineAsksFor (codes "run m p i --edits e --flags --trace") (with_trace (flagged (edited (codes "e") runs)))
+  pub before : LineAsksFor (codes "run --trace --edits e m p i") (with_trace (edited (codes "e") runs))
+  pub between : LineAsksFor (codes "run m --flags p --edits e i") (flagged (edited (codes "e") runs))
+  pub reuse : LineAsksFor (codes "run m p i --reuse") (reusing runs)
+  pub reuse_before : LineAsksFor (codes "run --reuse m p i --edits e --flags") (reusing (flagged (edited (codes "e") runs)))
+  pub in_simulate : LineAsksFor (codes "simulate --flags m --trace i") (with_trace (flagged simulate_line))
+  pub newest : LineAsksFor (codes "simulate m i --order newest") (by_newest simulate_line)
+  pub newest_before : LineAsksFor (codes "simulate --order=newest m --trace i") (with_trace (by_newest simulate_line))
+  pub oldest : LineAsksFor (codes "simulate m --order oldest i") simulate_line
   -- the value of an option stands behind it or behind `=`
-  pub attached : AskFor (codes "run m p i --edits=e") (edited (codes "e") runs)
-  pub attached_option : AskFor (codes "run m p i --edits=--x") (edited (codes "--x") runs)
-  pub attached_equals : AskFor (codes "run m p i --edits==") (edited (codes "=") runs)
-  pub hyphen_of_edits : AskFor (codes "run m p i --edits -") (edited (codes "-") runs)
+  pub attached : LineAsksFor (codes "run m p i --edits=e") (edited (codes "e") runs)
+  pub attached_option : LineAsksFor (codes "run m p i --edits=--x") (edited (codes "--x") runs)
+  pub attached_equals : LineAsksFor (codes "run m p i --edits==") (edited (codes "=") runs)
+  pub hyphen_of_edits : LineAsksFor (codes "run m p i --edits -") (edited (codes "-") runs)
   -- `-` alone is a path
-  pub hyphen : AskFor (codes "simulate - i") (plain Simulate (codes "-" ∷ codes "i" ∷ []))
+  pub hyphen : LineAsksFor (codes "simulate - i") (plain Simulate (codes "-" ∷ codes "i" ∷ []))
   -- behind `--` no word is an option
-  pub ended : AskFor (codes "simulate -- --flags -x") (plain Simulate (codes "--flags" ∷ codes "-x" ∷ []))
-  pub ended_between : AskFor (codes "simulate --flags m -- --trace")
+  pub ended : LineAsksFor (codes "simulate -- --flags -x") (plain Simulate (codes "--flags" ∷ codes "-x" ∷ []))
+  pub ended_between : LineAsksFor (codes "simulate --flags m -- --trace")
       (flagged (plain Simulate (codes "m" ∷ codes "--trace" ∷ [])))
-  pub ended_last : AskFor (codes "simulate m i --") simulates
-  pub ended_twice : AskFor (codes "simulate -- -- i") (plain Simulate (codes "--" ∷ codes "i" ∷ []))
+  pub ended_last : LineAsksFor (codes "simulate m i --") simulate_line
+  pub ended_twice : LineAsksFor (codes "simulate -- -- i") (plain Simulate (codes "--" ∷ codes "i" ∷ []))
   -- the name of a command is a path behind another
-  pub command_again : AskFor (codes "simulate run check") (plain Simulate (codes "run" ∷ codes "check" ∷ []))
+  pub command_again : LineAsksFor (codes "simulate run check") (plain Simulate (codes "run" ∷ codes "check" ∷ []))
   -- a path holds what it holds
-  pub equals : AskFor (codes "simulate a=b i") (plain Simulate (codes "a=b" ∷ codes "i" ∷ []))
+  pub equals : LineAsksFor (codes "simulate a=b i") (plain Simulate (codes "a=b" ∷ codes "i" ∷ []))
 
 pub record AskForNothing : Type 0 where
-  pub none : command_of [] ≡ None
+  pub none : asked_command [] ≡ None
   pub lone : Nothing (codes "run")
   pub too_few : Nothing (codes "run m p")
   pub too_many : Nothing (codes "run m p i e")

@@ -3,7 +3,7 @@ ghost use Rattle.std.specs.List.{list_any};
 ghost use Rattle.std.specs.Option.{option_map_or};
 ghost use Rattle.clap.specs.Words.{FailsBy, fault_of, first_of, found_of, rows_of, subcommand_of, subcommand_rows_of};
 ghost use Rattle.rw_words.specs.Program.{program};
-ghost use Rattle.rw_words.specs.Command.{cell_in, cell_seen, command_in, command_named, command_of, is_empty, is_given, paths_in, seed_in, seen, taken, texts_of};
+ghost use Rattle.rw_words.specs.Command.{cell_words_in, cell_seen, command_in, command_named, asked_command, is_empty, is_given, paths_in, seed_in, command_seen, taken_words, texts_of};
 
 use crate::program::program;
 use crate::seed::seed_of_text;
@@ -95,7 +95,7 @@ fn paths_in<'w>(
 
 // The words of a cell, where both were found.
 fn cell_in<'w>(found: &ArgMatches<'w>) -> Option<CellWords<'w>>
-    ensures { option_map cell_seen result ≡ cell_in (rows_of (found_of found.now)) }
+    ensures { option_map cell_seen result ≡ cell_words_in (rows_of (found_of found.now)) }
 {
     let Some(slot) = value(found, "SLOT") else {
         return None;
@@ -122,7 +122,7 @@ fn command_in<'w>(
     found: &ArgMatches<'w>,
     job: Job,
 ) -> Result<Option<Command<'w>>, NoMemory>
-    ensures { IfOk result (λ command. option_map seen command
+    ensures { IfOk result (λ command. option_map command_seen command
         ≡ command_in (rows_of (found_of found.now)) job) }
 {
     let edits = value(found, "edits");
@@ -159,7 +159,7 @@ fn parse<'w>(alloc: Global, words: &'w [String]) -> Result<ArgMatches<'w>, Error
 // What `clap` finds, where it takes the words.
 fn take<'w>(alloc: Global, words: &'w [String]) -> Result<Option<ArgMatches<'w>>, NoMemory>
     ensures { IfOk result (λ found. option_and_then subcommand_rows_of found
-        ≡ taken (texts_of words.entry.now)) }
+        ≡ taken_words (texts_of words.entry.now)) }
 {
     match parse(alloc, words) {
         Ok(found) => Ok(Some(found)),
@@ -175,7 +175,7 @@ fn command_named<'w>(
     alloc: Global,
     matches: &ArgMatches<'w>,
 ) -> Result<Option<Command<'w>>, NoMemory>
-    ensures { IfOk result (λ command. option_map seen command
+    ensures { IfOk result (λ command. option_map command_seen command
         ≡ option_and_then command_named (subcommand_rows_of matches.now)) }
 {
     let Some((name, found)) = matches.subcommand() else {
@@ -189,8 +189,8 @@ fn command_named<'w>(
 
 /// The command that the words ask for, if they ask for one.
 pub fn read_words<'w>(alloc: Global, words: &'w [String]) -> Result<Option<Command<'w>>, NoMemory>
-    ensures command { IfOk result (λ command. option_map seen command
-        ≡ command_of (texts_of words.entry.now)) }
+    ensures command { IfOk result (λ command. option_map command_seen command
+        ≡ asked_command (texts_of words.entry.now)) }
 {
     if has_empty(words) {
         return Ok(None);

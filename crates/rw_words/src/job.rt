@@ -1,5 +1,5 @@
 ghost use Rattle.std.specs.Prelude.{◌≡◌, map, option_map};
-ghost use Rattle.rw_words.specs.Job.{flags_of, job_named, name_of, options_of, others_of, paths_of};
+ghost use Rattle.rw_words.specs.Job.{flags_of, job_named, job_name, job_options, others_of, paths_of};
 ghost use Rattle.rw_words.specs.declared.job.Job.TheVariants as J;
 
 /// What is done: with the files that the words name, or with the sample of a seed.
@@ -68,7 +68,7 @@ impl Job {
 
     // The word that names it.
     pub(crate) fn name<'a>(self) -> &'a str
-        ensures { result.now ≡ name_of self }
+        ensures { result.now ≡ job_name self }
     {
         match self {
             Job::Run => "run",
@@ -106,7 +106,7 @@ impl Job {
 
     // Its options with a value.
     pub(crate) fn options<'a>(self) -> &'a [&'a str]
-        ensures { map (λ name. name.now) result.now ≡ options_of self }
+        ensures { map (λ name. name.now) result.now ≡ job_options self }
     {
         match self {
             Job::Run => EDITS.as_slice(),

@@ -1,7 +1,7 @@
 //! What the definitions come to in plain words. Each law is the `ensures` of a function that does nothing.
 ghost use Rattle.std.specs.Prelude.{◌≡◌, IsTrue, List, None, Some, length};
 ghost use Rattle.std.specs.List.{list_any};
-ghost use Rattle.rw_words.specs.Command.{Command, command_of, is_empty};
+ghost use Rattle.rw_words.specs.Command.{Command, asked_command, is_empty};
 ghost use Rattle.rw_words.specs.Job.{Text, paths_of};
 ghost use Rattle.rw_words.specs.Plain.{PlainWords};
 ghost use Rattle.rw_words.specs.Worked.{AskWithOptions, AskForNothing};
@@ -14,13 +14,13 @@ pub fn plain_words()
 /// What is asked for has a path for each that its job wants.
 #[tactic(auto, using(crate::proofs::Paths::words_paths))]
 pub fn one_path_each()
-    ensures { (words : List Text) (command : Command) → command_of words ≡ Some command
+    ensures { (words : List Text) (command : Command) → asked_command words ≡ Some command
         → length command.paths ≡ length (paths_of command.job) }
 {}
 
 /// Where a word is empty, nothing is asked for.
 pub fn empty_words()
-    ensures { (words : List Text) → IsTrue (list_any is_empty words) → command_of words ≡ None }
+    ensures { (words : List Text) → IsTrue (list_any is_empty words) → asked_command words ≡ None }
 {}
 
 /// What some words ask for.

@@ -1,5 +1,5 @@
 use Rattle.rw_top.proofs.CauseLemmas.{policy_cause}
-use Rattle.rw_top.proofs.Common.{command_of}
+use Rattle.rw_top.proofs.Common.{command_said}
 use Rattle.rw_top.proofs.SampleText.{short_policy}
 use Rattle.rw_top.proofs.Findings.{reaches_policy}
 use Rattle.rw_top.proofs.files.read_policy.Goals as goal
@@ -14,4 +14,4 @@ returns-in-Ok-clause-read g c =
 
 pub judge_for-requires : goal.judge_for-requires
 judge_for-requires g c =
-    rw c.deref.ensures.value (short_policy (command_of c.args.command.now) (g.S.Shelf.seen c.args.shelf.now).holds c.in-Ok.text.items c.in-Ok.ensures.read)
+    rw c.deref.ensures.value (short_policy (command_said c.args.command.now) (g.S.Shelf.seen c.args.shelf.now).holds c.in-Ok.text.items c.in-Ok.ensures.read)

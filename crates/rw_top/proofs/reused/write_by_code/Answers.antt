@@ -1,5 +1,5 @@
 use Rattle.rw_top.proofs.Common.{change, length, refl}
-use Rattle.rw_top.specs.Policy.{Policy as Rules}
+use Rattle.rw_top.specs.Policy.{PolicyFile as Rules}
 use Rattle.rw_top.specs.Reused.{WritesFrom}
 use Rattle.rw_top.specs.RunText.{IsCodeOf, IsRulesText}
 use Rattle.rw_top.specs.Sections.{first_given}
