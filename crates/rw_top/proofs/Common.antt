@@ -19,7 +19,7 @@ pub use Rattle.rw_run.specs.declared.run.RunEnd.{RunEnd}
 pub use Rattle.rw_series.specs.Series.{Series, held}
 pub use Rattle.rw_top.specs.Budgets.{counts_line, functions_in, line_if, rule_line, rules_in}
 pub use Rattle.rw_top.specs.Call.{Call}
-pub use Rattle.rw_top.specs.Command.{AskForCommand, AskNothing, AskOne, ReadsFile, command_said, files_of, reading_order, path_of, place_among, simulation_of, takes_code}
+pub use Rattle.rw_top.specs.Command.{AskForCommand, AskNothing, AskOne, ReadsFile, command_said, files_of, order, path_of, place_among, simulation_of, takes_code}
 pub use Rattle.rw_words.specs.Command.{Command}
 pub use Rattle.rw_top.specs.Promise.{Promise, RefusedCommand, RefusedWords, WasRefused, Wrote, WroteCheck, WroteCode, WroteRun}
 pub use Rattle.rw_top.specs.Reading.{Accepts, AcceptsAll, AreRead, FilesRead, HoldsTooLong, IsHonest, IsHonestOfAll, IsHonestUpTo, IsTextAt, IsTooLong, Reaches, ReadsInputs, ReadsModel, ReadsPolicy, RefusesInputs, RefusesModel, RefusesPolicy, SaysAt, WasRead, reads_code}

@@ -1,5 +1,5 @@
 -- A refusal that is due is given, and none is given that isn't.
-use Rattle.rw_top.proofs.Common.{AcceptsAll, AreRead, Cause, Change, Command, EndsWith, FailsToRead, File, FilesRead, IfSome, IsFoundReason, IsHonest, IsHonestFor, IsHonestOfAll, IsHonestUpTo, IsSome, IsSomeAnd, List, LongFile, None, Option, Reason, Refusal, Rose, ShelfView, SinkView, Some, WasFound, cases_lt, file_of, inl, inr, reading_order, path_of, refl, status_by, status_of, ℕ, ◌∙◌, ◌≡◌}
+use Rattle.rw_top.proofs.Common.{AcceptsAll, AreRead, Cause, Change, Command, EndsWith, FailsToRead, File, FilesRead, IfSome, IsFoundReason, IsHonest, IsHonestFor, IsHonestOfAll, IsHonestUpTo, IsSome, IsSomeAnd, List, LongFile, None, Option, Reason, Refusal, Rose, ShelfView, SinkView, Some, WasFound, cases_lt, file_of, inl, inr, order, path_of, refl, status_by, status_of, ℕ, ◌∙◌, ◌≡◌}
 use Rattle.rw_top.specs.Reading.{LacksCell}
 use Rattle.rw_top.specs.declared.refusal.File.TheVariants.{Model}
 use Rattle.rw_top.specs.declared.refusal.Refusal.TheVariants.{CannotRead, CannotWrite, NoMemory, NoCell}
@@ -28,7 +28,7 @@ module _ (command : Command) (shelf : Change ShelfView) where
   no_fault : (file : File) → FailsToRead command shelf file → (reason : Reason)
       → IsFoundReason command shelf.before.holds reason → IsHonestFor command shelf reason → ⊥
   no_fault file fails reason found honest =
-      elim (cases_lt (reading_order (file_of reason)) (reading_order file)) [
+      elim (cases_lt (order (file_of reason)) (order file)) [
         | inl before ↦ not_found command shelf.before.holds reason (told_by (file_of reason) honest) (fails.reached (file_of reason) (names command shelf.before.holds reason found) before) found
         | inr least ↦ stands_at shelf (path_of command file) (honest file least) fails.rose
       ]

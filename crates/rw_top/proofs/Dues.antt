@@ -1,5 +1,5 @@
 -- What has to be refused of a call that keeps its promise, in terms of what its shelf tells.
-use Rattle.rw_top.proofs.Common.{AcceptsAll, AskForCommand, BadEdits, BadInputs, BadModel, BadPolicy, Call, Change, Command, File, HoldsTooLong, IfSome, InputRefusal, IsHonest, IsSome, List, LongFile, ModelRefusal, None, Option, Promise, RefusesInputs, RefusesModel, RefusesPolicy, Rose, ShelfView, Some, arith, reading_order, path_of, ℕ, ◌≡◌, ◌≤◌, ◌⊎◌}
+use Rattle.rw_top.proofs.Common.{AcceptsAll, AskForCommand, BadEdits, BadInputs, BadModel, BadPolicy, Call, Change, Command, File, HoldsTooLong, IfSome, InputRefusal, IsHonest, IsSome, List, LongFile, ModelRefusal, None, Option, Promise, RefusesInputs, RefusesModel, RefusesPolicy, Rose, ShelfView, Some, arith, order, path_of, ℕ, ◌≡◌, ◌≤◌, ◌⊎◌}
 use Rattle.rw_top.specs.Reading.{LacksCell, RefusesEdits}
 use Rattle.rw_top.specs.Told.{AreTold}
 use Rattle.rw_top.specs.declared.refusal.File.TheVariants.{Model}
@@ -14,12 +14,12 @@ honest_at shelf None good = tt
 honest_at shelf (Some path) good = record { told = good.0; stands = good.1 }
 
 -- the last file is the fourth
-at_most_3 : (file : File) → reading_order file ≤ 3
+at_most_3 : (file : File) → order file ≤ 3
 at_most_3 Model = omega arith
 at_most_3 file = omega arith
 
 module _ (call : Call) (status : ℕ) (command : Command) where
-  honest : (upto : ℕ) → AreTold command call.shelf upto → (file : File) → reading_order file ≤ upto → IfSome (path_of command file) (IsHonest call.shelf)
+  honest : (upto : ℕ) → AreTold command call.shelf upto → (file : File) → order file ≤ upto → IfSome (path_of command file) (IsHonest call.shelf)
   honest upto told file least = honest_at call.shelf (path_of command file) (told file least)
 
   pub of_model : (why : ModelRefusal) → Promise call status → AskForCommand call.words command
@@ -43,8 +43,8 @@ module _ (call : Call) (status : ℕ) (command : Command) where
   of_edits why promise asks found good = promise.due command asks (BadEdits why) found (honest 3 good)
 
   pub of_long : (file : File) → Promise call status → AskForCommand call.words command
-      → HoldsTooLong command call.shelf.before.holds file → AreTold command call.shelf (reading_order file) → (status ≡ 10) ⊎ (status ≡ 5)
-  of_long file promise asks found good = promise.due command asks (LongFile file) found (honest (reading_order file) good)
+      → HoldsTooLong command call.shelf.before.holds file → AreTold command call.shelf (order file) → (status ≡ 10) ⊎ (status ≡ 5)
+  of_long file promise asks found good = promise.due command asks (LongFile file) found (honest (order file) good)
 
   pub of_cell : Promise call status → AskForCommand call.words command → LacksCell command call.shelf.before.holds
       → AreTold command call.shelf 3 → (status ≡ 8) ⊎ (status ≡ 5)

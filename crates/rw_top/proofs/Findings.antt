@@ -1,6 +1,6 @@
 -- What is found of a file is one thing, where the shelf tells what its path holds: the file is accepted, or refused with
 -- one status, or too long.
-use Rattle.rw_top.proofs.Common.{Accepts, AcceptsAll, AreRead, BadEdits, BadInputs, BadModel, BadPolicy, Command, Err, FILE_MAX, File, FilesRead, Holds, HoldsTooLong, IfSome, InputRefusal, IsFoundReason, IsSome, IsSomeAnd, IsTooLong, List, LongFile, ModelRefusal, ReadsFile, None, Ok, Option, Reaches, ReadsInputs, ReadsModel, ReadsPolicy, Reason, Refuses, RefusesInputs, RefusesModel, RefusesPolicy, SaysAt, Some, WasRead, ap, ap₂, arith, cases_lt, file_of, inl, inr, length, model_of, reading_order, path_of, policy_status, reads_code, refl, status_by, subst, sym, ℕ, ◌<◌, ◌∙◌, ◌≡◌, ◌≤◌, ◌⊎◌}
+use Rattle.rw_top.proofs.Common.{Accepts, AcceptsAll, AreRead, BadEdits, BadInputs, BadModel, BadPolicy, Command, Err, FILE_MAX, File, FilesRead, Holds, HoldsTooLong, IfSome, InputRefusal, IsFoundReason, IsSome, IsSomeAnd, IsTooLong, List, LongFile, ModelRefusal, ReadsFile, None, Ok, Option, Reaches, ReadsInputs, ReadsModel, ReadsPolicy, Reason, Refuses, RefusesInputs, RefusesModel, RefusesPolicy, SaysAt, Some, WasRead, ap, ap₂, arith, cases_lt, file_of, inl, inr, length, model_of, order, path_of, policy_status, reads_code, refl, status_by, subst, sym, ℕ, ◌<◌, ◌∙◌, ◌≡◌, ◌≤◌, ◌⊎◌}
 use Rattle.rw_model.specs.Draft.{Draft}
 use Rattle.rw_inputs.specs.EditRows.{edits_of}
 use Rattle.rw_inputs.specs.Edits.{Batch}
@@ -56,7 +56,7 @@ not_named None none some = absurd cc
 not_named (Some path) none some = absurd cc
 
 -- files of one place are one
-one_file : (a b : File) → reading_order a ≡ reading_order b → a ≡ b
+one_file : (a b : File) → order a ≡ order b → a ≡ b
 one_file Model Model same = refl
 one_file Policy Policy same = refl
 one_file Inputs Inputs same = refl
@@ -65,7 +65,7 @@ one_file a b same = absurd (omega (arith, same))
 
 -- the shelf tells of that file, and of each that is read before it
 abbrev pub IsToldUpTo : Command → Holds → File → Type 0
-IsToldUpTo command holds file = (it : File) → reading_order it ≤ reading_order file → IsTold command holds it
+IsToldUpTo command holds file = (it : File) → order it ≤ order file → IsTold command holds it
 
 module _ (command : Command) (holds : Holds) where
   -- a model is read as one basin, and isn't refused where it is read
@@ -273,10 +273,10 @@ module _ (command : Command) (holds : Holds) where
   pub one_reason : (a b : Reason) → IsToldUpTo command holds (file_of a)
       → IsFoundReason command holds a → IsFoundReason command holds b → status_by b ≡ status_by a
   one_reason a b told found other =
-      elim (cases_lt (reading_order (file_of b)) (reading_order (file_of a))) [
+      elim (cases_lt (order (file_of b)) (order (file_of a))) [
         | inl before ↦
             absurd (not_found b (λ it least. told it (omega (arith, least, before))) (reached a found (file_of b) (names b other) before) other)
-        | inr least ↦ elim (cases_lt (reading_order (file_of a)) (reading_order (file_of b))) [
+        | inr least ↦ elim (cases_lt (order (file_of a)) (order (file_of b))) [
           | inl before ↦ absurd (not_found a told (reached b other (file_of a) (names a found) before) found)
           | inr most ↦
               let same : file_of b ≡ file_of a = one_file (file_of b) (file_of a) (omega (arith, least, most)) in

@@ -13,7 +13,7 @@ use Rattle.rw_sample.specs.Texts.{sample_inputs, sample_model, sample_rules}
 
 -- what its text tells besides the table, and how it is come to
 abbrev pub extras_of : Command → Extras
-extras_of command = record { flags = command.flags; trace = command.trace; reuse = command.reuse; reading_order = command.order }
+extras_of command = record { flags = command.flags; trace = command.trace; reuse = command.reuse; order = command.order }
 
 -- ---- jobs
 
@@ -43,16 +43,16 @@ seeks_cell job = false
 -- ---- files
 
 -- files are read in this order
-abbrev pub reading_order : File → ℕ
-reading_order Model = 0
-reading_order Policy = 1
-reading_order Inputs = 2
-reading_order Edits = 3
+abbrev pub order : File → ℕ
+order Model = 0
+order Policy = 1
+order Inputs = 2
+order Edits = 3
 
 -- where a file stands among others, from 0 on
 abbrev pub place_among : List File → File → Option ℕ
 place_among [] file = None
-place_among (first ∷ rest) file = if reading_order first == reading_order file then Some 0 else option_map suc (place_among rest file)
+place_among (first ∷ rest) file = if order first == order file then Some 0 else option_map suc (place_among rest file)
 
 -- ---- where their texts come from
 

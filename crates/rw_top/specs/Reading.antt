@@ -14,7 +14,7 @@ use Rattle.rw_inputs.specs.Reading.{Reads, Refuses}
 use Rattle.rw_io.specs.Outside.{Change, Holds, ShelfView}
 use Rattle.rw_model.specs.Draft.{IsSlot}
 use Rattle.rw_top.specs.Cell.{FindsCell, cell_asked}
-use Rattle.rw_top.specs.Command.{ReadsFile, Source, AtPath, OfSample, reading_order, path_of, sample_text, seeks_cell, source_of, takes_code}
+use Rattle.rw_top.specs.Command.{ReadsFile, Source, AtPath, OfSample, order, path_of, sample_text, seeks_cell, source_of, takes_code}
 use Rattle.rw_top.specs.declared.refusal.Refusal.{Refusal}
 use Rattle.rw_top.specs.declared.refusal.Refusal.TheVariants.{NoCell}
 use Rattle.rw_words.specs.Command.{Command}
@@ -110,7 +110,7 @@ AcceptsAll command holds = (file : File) → ReadsFile command file → Accepts 
 -- each file that is read before this one is accepted
 abbrev pub Reaches : Command → Holds → File → Type 0
 Reaches command holds file =
-    (earlier : File) → ReadsFile command earlier → reading_order earlier < reading_order file → Accepts command holds earlier
+    (earlier : File) → ReadsFile command earlier → order earlier < order file → Accepts command holds earlier
 
 -- ---- what is refused
 
@@ -172,7 +172,7 @@ pub record IsHonest (shelf : Change ShelfView) (path : List ℕ) : Type 0 where
 -- it is honest of that file, and of each that is read before it
 abbrev pub IsHonestUpTo : Command → Change ShelfView → File → Type 0
 IsHonestUpTo command shelf file =
-    (it : File) → reading_order it ≤ reading_order file → IfSome (path_of command it) (IsHonest shelf)
+    (it : File) → order it ≤ order file → IfSome (path_of command it) (IsHonest shelf)
 
 -- it is honest of every file
 abbrev pub IsHonestOfAll : Command → Change ShelfView → Type 0

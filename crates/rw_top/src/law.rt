@@ -22,7 +22,7 @@ ghost use Rattle.rpl_compile.specs.Budgets.{budgets_of};
 ghost use Rattle.rpl_compile.specs.Translate.{translate};
 ghost use Rattle.rw_top.specs.Budgets.{budget_in, check_text, rules_in};
 ghost use Rattle.rw_top.specs.Call.{Call};
-ghost use Rattle.rw_top.specs.Command.{AskOne, AskNothing, AskForCommand, reading_order, simulation_of};
+ghost use Rattle.rw_top.specs.Command.{AskOne, AskNothing, AskForCommand, order, simulation_of};
 ghost use Rattle.rw_words.specs.Command.{Command};
 ghost use Rattle.rw_words.specs.declared.order.Order.{Order};
 ghost use Rattle.rw_top.specs.FirstCall.{IsFirstCall};
@@ -68,12 +68,12 @@ pub fn one_text()
 
 /// Without rules there is one end and one text in each order of dispatches.
 pub fn one_order()
-    ensures { (reading_order : Order) (basin : Draft) (extras : Extras) (number : ℕ)
+    ensures { (order : Order) (basin : Draft) (extras : Extras) (number : ℕ)
         (inputs others : Inputs)
         (end other : RunEnd) (text more : List ℕ)
         → ((slot step : ℕ) → value_at inputs slot step ≡ value_at others slot step)
-        → IsSimulated reading_order basin extras number inputs end text
-        → IsSimulated reading_order basin extras number others other more
+        → IsSimulated order basin extras number inputs end text
+        → IsSimulated order basin extras number others other more
         → (end ≡ other) × (text ≡ more) }
 {
     one_run();
@@ -189,7 +189,7 @@ pub fn dues()
     ensures long { (call : Call) (status : ℕ) (command : Command) (file : File)
         → Promise call status → AskForCommand call.words command
         → HoldsTooLong command call.shelf.before.holds file
-        → AreTold command call.shelf (reading_order file)
+        → AreTold command call.shelf (order file)
         → (status ≡ 10) ⊎ (status ≡ 5) }
     ensures cell { (call : Call) (status : ℕ) (command : Command)
         → Promise call status → AskForCommand call.words command

@@ -12,19 +12,23 @@ pub returns-in-Err-clause-text : goal.returns-in-Err-clause-text
 returns-in-Err-clause-text g c = λ policy means.
     stops_here (IsRulesText c.args.setup.now.basin.now policy c.args.extras) 0 (first_given c.args.inputs) c.args.batches.now _ NoMemory refl
 
-module _ (g : _) (c : goal.After-drop-session-27 g) where
-  writes : (policy : Rules) → IsCodeOf c.args.setup.now.basin.now policy c.args.by.now → WritesFrom c.args.setup.now.basin.now policy c.args.extras 0
-      (first_given c.args.inputs) c.args.batches.now (length c.in-Ok.session.state.reran) (change (g.K.Sink.seen c.args.out.now) (g.K.Sink.seen c.write_from.new.out))
-      (change c.start.new.steps c.write_from.new.steps) c.write_from.result
-  writes policy means =
-      let setup = c.in-Ok.ensures.setup in
-      let next = first_next c.args.setup.now.basin.now policy c.args.by.now means c.args.inputs c.in-Ok.session.state c.in-Ok.ensures.started in
-      rw setup at (c.write_from.ensures policy (first_given c.args.inputs) (rw setup means) (rw setup next))
-
 pub returns-clause-text : goal.returns-clause-text
-returns-clause-text g c = λ policy means. (writes g c policy means).text
+returns-clause-text g c = λ policy means.
+    let setup = c.in-Ok.ensures.setup in
+    let next = first_next c.args.setup.now.basin.now policy c.args.by.now means c.args.inputs c.in-Ok.session.state c.in-Ok.ensures.started in
+    let writes : WritesFrom c.args.setup.now.basin.now policy c.args.extras 0 (first_given c.args.inputs) c.args.batches.now
+    (length c.in-Ok.session.state.reran) (change (g.K.Sink.seen c.args.out.now) (g.K.Sink.seen c.write_from.new.out))
+    (change c.start.new.steps c.write_from.new.steps) c.write_from.result =
+    rw setup at (c.write_from.ensures policy (first_given c.args.inputs) (rw setup means) (rw setup next)) in
+    writes.text
 
 pub returns-clause-counted : goal.returns-clause-counted
 returns-clause-counted g c = λ policy means.
+    let setup = c.in-Ok.ensures.setup in
+    let next = first_next c.args.setup.now.basin.now policy c.args.by.now means c.args.inputs c.in-Ok.session.state c.in-Ok.ensures.started in
+    let writes : WritesFrom c.args.setup.now.basin.now policy c.args.extras 0 (first_given c.args.inputs) c.args.batches.now
+    (length c.in-Ok.session.state.reran) (change (g.K.Sink.seen c.args.out.now) (g.K.Sink.seen c.write_from.new.out))
+    (change c.start.new.steps c.write_from.new.steps) c.write_from.result =
+    rw setup at (c.write_from.ensures policy (first_given c.args.inputs) (rw setup means) (rw setup next)) in
     all_counted c.args.setup.now.basin.now policy c.args.inputs c.args.batches.now (length c.in-Ok.session.state.reran) c.args.steps.now c.start.new.steps
-    c.write_from.new.steps c.write_from.result c.in-Ok.ensures.counted.each (writes g c policy means).counted
+    c.write_from.new.steps c.write_from.result c.in-Ok.ensures.counted.each writes.counted
