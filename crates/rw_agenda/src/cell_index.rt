@@ -151,6 +151,7 @@ impl CellIndex {
     }
 
     /// Marks each rule that watches a cell of one of these slots at the timestep, and no other.
+    #[inline(always)]
     pub(crate) fn mark(&self, marks: &mut Marks, group: &[SlotNo], step: StepNo)
         ensures { MarksMore (λ rule. list_any (λ slot. is_watching self.now (cell_at slot step.0) rule)
             (numbers_of group.now)) marks.old marks.new }

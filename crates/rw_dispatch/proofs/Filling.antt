@@ -1,7 +1,10 @@
 -- A list that is filled place by place.
-use Rattle.rw_base.proofs.Common.{◌≡◌, ◌<◌, ◌+◌, ℕ, List, [], ◌∷◌, ◌++◌, drop, drop_more, map, set, length, sym, ap, ap₂, ◌∙◌, arith, append_assoc, get_or-map-range_with_len, range_with_len, set-append_seam, slice_index_or, map-range_with_len_more, length-map-range_with_len, IfSome, None, Option, Some}
+use Rattle.rw_base.proofs.Common.{◌≡◌, ◌<◌, ◌+◌, ℕ, List, [], ◌∷◌, ◌++◌, drop, drop_more, map, set, length, sym, ap, ap₂, ◌∙◌, arith, append_assoc, get_or-map-range_with_len, range_with_len, set-append_seam, slice_index_or, map-range_with_len_more, length-map-range_with_len, IfSome, None, Option, Some, refl}
+use Rattle.rw_base.specs.declared.number.SlotNo.{SlotNo}
 use Rattle.rw_model.specs.Draft.{IsSlot}
 use Rattle.rw_model.proofs.Common.{Object, known_in_place, slot_in_place}
+use Rattle.rw_run.specs.Log.{Cells}
+use Rattle.rw_dispatch.specs.Seeing.{content_of}
 
 -- the first places are filled, the others are as before
 abbrev pub filled : {X : Type 0} → (ℕ → X) → List X → ℕ → List X
@@ -31,3 +34,10 @@ number_there objects object place numbers are near =
 pub number_known : (objects : List Object) (object place : ℕ) (number : Option ℕ) → number ≡ slot_in_place objects object place → IfSome number (IsSlot objects)
 number_known objects object place None is = tt
 number_known objects object place (Some number) is = known_in_place objects object place number (sym is)
+
+-- what slots hold at a timestep of one series and at one of another, where that is the same
+pub content_there : (one other : Cells) (at there : ℕ) (number : Option ℕ)
+    → ((slot : SlotNo) → one (record { slot = slot; step = record { 0 = at } }) ≡ other (record { slot = slot; step = record { 0 = there } }))
+    → content_of one at number ≡ content_of other there number
+content_there one other at there None same = refl
+content_there one other at there (Some number) same = same (record { 0 = number })

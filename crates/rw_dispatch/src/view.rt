@@ -5,10 +5,10 @@ ghost use Rattle.rw_run.specs.Dispatch.{slot_or_none, content_in, bounds_in_plac
 ghost use Rattle.rw_model.specs.Turn.{IsTurn};
 ghost use Rattle.rw_dispatch.specs.Seeing.{content_of, bounds_of_slot};
 
-use rw_base::{Cell, ObjectNo, SlotNo, StepNo};
+use rw_base::{ObjectNo, SlotNo, StepNo};
 use rw_method::View;
 use rw_model::{Basin, Content};
-use rw_series::Series;
+use rw_series::{Series, StepCells};
 
 /// The slot that an object has in a place, and number 0 where it has none there.
 pub fn slot_or_none(basin: &Basin, object: ObjectNo, place: u8) -> SlotNo
@@ -36,20 +36,19 @@ fn see_slot(
     now: &mut [Option<Content>; 12],
     bounds: &mut [(i64, i64); 12],
     basin: &Basin,
-    series: &Series,
-    step: StepNo,
+    cells: &StepCells,
     place: usize,
     number: Option<u16>,
 )
     requires place { place < 12 }
     requires known { IfSome number (IsSlot basin.now.objects) }
-    ensures content { now.new ≡ set now.old place (content_of (held series.now) step.0 number) }
+    ensures content { now.new ≡ set now.old place (content_of (held cells.now) 1 number) }
     ensures bounds { bounds.new ≡ set bounds.old place (bounds_of_slot basin.now number) }
 {
     match number {
         Some(number) => {
             let slot = SlotNo(number);
-            now[place] = series.get(Cell { slot, step });
+            now[place] = cells.get(slot);
             bounds[place] = basin.bounds(slot);
         }
         None => {
@@ -74,7 +73,9 @@ pub(crate) fn see_slots(
     ensures bounds { bounds.new ≡ map (bounds_in_place basin.now object.0) places }
 {
     let numbers = basin.row(object);
+    // Where they lie is found once.
+    let cells = series.at_step(step);
     for place in 0..12 {
-        see_slot(now, bounds, basin, series, step, place, numbers[place]);
+        see_slot(now, bounds, basin, &cells, place, numbers[place]);
     }
 }

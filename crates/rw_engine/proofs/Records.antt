@@ -1,6 +1,6 @@
 -- The lines of a timestep, what they say to be written, and its record.
 use Rattle.rw_engine.proofs.Common.{All, Asked, Cell, Cells, Draft, Engine, Event, List, Log, None, Option, Some, [], ap, append-nil, arith, cells_of, closed, fault, given, last_put, length, line_of, lines, map, opened, option_or, refl, subst, suc, sym, take, written_by, zero, ℕ, ◌++◌, ◌+◌, ◌∙◌, ◌∷◌, ◌≡◌}
-use Rattle.std.specs.Prelude.{Err, IfOk, IfSome, MatchOption, Ok, Result, drop, slice_get, ◌⊎◌, ◌<◌}
+use Rattle.std.specs.Prelude.{Err, IfOk, IfSome, MatchOption, Ok, Result, drop, option_and_then, slice_get, ◌⊎◌, ◌<◌}
 use Rattle.std.specs.List.{cons_option, flat_map}
 use Rattle.std.proofs.lemmas.Grind.{flat_map-append}
 use Rattle.rw_base.proofs.Common.{All-append, All-cons, All-head, All-nil, All-tail, inl, inr}
@@ -10,9 +10,9 @@ use Rattle.rw_run.specs.Log.{fired, idle, solved}
 use Rattle.rw_run.specs.Reuse.{most_kept}
 use Rattle.rw_run.specs.Runs.{inside, standing}
 use Rattle.rw_run.specs.Step.{cell_count, reached_by}
-use Rattle.rw_run.specs.Trace.{lines_in}
+use Rattle.rw_run.specs.Trace.{lines_in, write_of}
 use Rattle.rw_run.specs.declared.trace.TraceEvent.{TraceEvent}
-use Rattle.rw_run.specs.declared.trace.TraceEvent.TheVariants.{Opened, Idle, Solve, Fire, Closed, Fault}
+use Rattle.rw_run.specs.declared.trace.TraceEvent.TheVariants.{Opened, Idle, Solve, Fire, Written, Closed, Fault}
 use Rattle.rw_record.specs.Noted.{noted_in}
 use Rattle.rw_record.specs.Record.{IsLarge, IsRecordOf, StepRecord}
 use Rattle.rw_record.proofs.Counting.{looked, recorded}
@@ -52,6 +52,12 @@ pub puts_on : (basin : Draft) (puts more : List Asked) (cell : Cell) (before : C
     → option_or (last_put basin more cell) (option_or (last_put basin puts cell) (before cell)) ≡ option_or (last_put basin (puts ++ more) cell) (before cell)
 puts_on basin puts more cell before =
     sym (both (last_put basin more cell) (last_put basin puts cell) (before cell)) ∙ ap (λ z. option_or z (before cell)) (sym (put_after basin puts more cell))
+
+-- what a line says to be written, if there is one that does
+pub puts_of_write : (line : Option TraceEvent) → cons_option (option_and_then write_of line) [] ≡ puts_in (cons_option line [])
+puts_of_write None = refl
+puts_of_write (Some (Written slot step content)) = refl
+puts_of_write (Some line) = refl
 
 puts_of_lines : (puts : List Asked) → puts_in (map line_of puts) ≡ puts
 puts_of_lines [] = refl

@@ -1,6 +1,6 @@
 -- Traces that are kept or aren't, and the lines that are told to them.
 use Rattle.rw_engine.proofs.Common.{TraceGrows, List, None, Option, Some, [], ap, append-nil, append_assoc, length, refl, subst, sym, take, ◌++◌, ◌∙◌, ◌≡◌}
-use Rattle.std.specs.Prelude.{IfSome, IsSome, is_some, option_map}
+use Rattle.std.specs.Prelude.{Err, IfErr, IfOk, IfSome, IsSome, Ok, Result, is_some, option_map}
 use Rattle.std.proofs.Math.Seq.{take-append_seam}
 use Rattle.rw_run.specs.declared.trace.TraceEvent.{TraceEvent}
 use Rattle.rw_run.specs.Trace.{lines_in, told}
@@ -58,3 +58,9 @@ told_on first old new one more all is was same = is ∙ ap (λ t. told t more) w
 
 pub grows_on : (first old new : Option (List TraceEvent)) (more : List TraceEvent) → new ≡ told old more → TraceGrows first old → TraceGrows first new
 grows_on first old new more is grows = (grows.0 ++ more, is ∙ ap (λ t. told t more) grows.1 ∙ told_more first grows.0 more)
+
+-- with all of these lines, or as it was after want of memory
+pub grown : {A E : Type 0} (result : Result A E) (old new : Option (List TraceEvent)) (more : List TraceEvent) → IfOk result (λ done. new ≡ told old more)
+    → IfErr result (λ want. new ≡ old) → TraceGrows old new
+grown (Ok done) old new more is same = (more, is)
+grown (Err want) old new more is same = ([], same ∙ sym (told_none old))

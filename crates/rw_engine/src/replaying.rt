@@ -1,5 +1,5 @@
 //! Passing a timestep again, by its record.
-ghost use Rattle.std.specs.Prelude.{◌≡◌, [], IfErr, IfOk, is_some};
+ghost use Rattle.std.specs.Prelude.{◌≡◌, [], IfOk, is_some};
 ghost use Rattle.std.specs.List.{cons_option};
 ghost use Rattle.std.specs.Option.{option_or};
 ghost use Rattle.rw_base.specs.declared.number.Cell.{Cell as Place};
@@ -13,11 +13,11 @@ ghost use Rattle.rw_engine.specs.Lines.{TraceGrows};
 ghost use Rattle.rw_engine.specs.Noting.{NotesAll};
 ghost use Rattle.rw_engine.specs.Records.{CanWriteLines, puts_in};
 
-use rw_base::{Cell, NoMemory};
+use rw_base::NoMemory;
 use rw_dispatch::make;
 use rw_model::Basin;
 use rw_record::{Held, Noted, StepRecord};
-use rw_run::{Trace, TraceEvent, Write};
+use rw_run::{Trace, Write};
 use rw_series::Series;
 
 // Notes these cells, with what they hold now.
@@ -26,28 +26,6 @@ fn note_again(noted: &mut Noted, series: &Series, looked: &[Held]) -> Result<(),
 {
     for one in looked {
         noted.note(series, one.cell)?;
-    }
-    Ok(())
-}
-
-// Tells a line, if there is one.
-fn tell_line(trace: &mut Trace, line: Option<TraceEvent>) -> Result<(), NoMemory>
-    ensures told { IfOk result (λ _. trace.new ≡ told trace.old (cons_option line [])) }
-    ensures unchanged { IfErr result (λ _. trace.new ≡ trace.old) }
-{
-    match line {
-        Some(line) => trace.push(line),
-        None => Ok(()),
-    }
-}
-
-// Tells these lines.
-fn tell_again(trace: &mut Trace, lines: &Trace) -> Result<(), NoMemory>
-    ensures told { IfOk result (λ _. trace.new ≡ told trace.old (lines_in lines.now)) }
-    ensures grows { TraceGrows trace.old trace.new }
-{
-    for place in 0..lines.len() {
-        tell_line(trace, lines.line(place))?;
     }
     Ok(())
 }
@@ -66,26 +44,7 @@ pub(crate) fn retell(
     ensures grows { TraceGrows trace.old trace.new }
 {
     note_again(noted, series, kept.looked())?;
-    tell_again(trace, kept.lines())
-}
-
-// What a line says to be written, if there is one that does.
-fn put_of(line: Option<TraceEvent>) -> Option<Write>
-    ensures { cons_option result [] ≡ puts_in (cons_option line []) }
-{
-    match line {
-        Some(
-            TraceEvent::Written {
-                slot,
-                step,
-                content,
-            },
-        ) => {
-            let cell = Cell { slot, step };
-            Some(Write { cell, content })
-        }
-        _ => None,
-    }
+    trace.append(kept.lines(), 0)
 }
 
 // Writes it.
@@ -112,6 +71,6 @@ pub(crate) fn write_again(basin: &Basin, series: &mut Series, lines: &Trace)
         (held series.old cell) }
 {
     for place in 0..lines.len() {
-        write_put(basin, series, put_of(lines.line(place)));
+        write_put(basin, series, lines.written(place));
     }
 }

@@ -1,5 +1,5 @@
-ghost use Rattle.std.specs.Prelude.{◌≡◌, ◌↔◌, ◌||◌, nat_lt, IfOk, MatchOption, Contains, Some, drop, length, take};
-ghost use Rattle.rw_run.specs.Trace.{lines_in, told};
+ghost use Rattle.std.specs.Prelude.{◌≡◌, ◌↔◌, ◌||◌, nat_lt, IfOk, MatchOption, Contains, Some, drop, length};
+ghost use Rattle.rw_run.specs.Trace.{lines_in};
 ghost use Rattle.rw_run.specs.declared.held.Held.{Held as WasHeld};
 ghost use Rattle.rw_record.specs.Noted.{AreOnce, noted_in};
 ghost use Rattle.rw_record.specs.Record.{AreRisingCells, IsLarge, IsRecordOf};
@@ -106,19 +106,6 @@ fn lines_from(alloc: Global, trace: &Trace, from: usize) -> Result<Trace, NoMemo
     ensures { IfOk result (λ lines. lines ≡ Some (drop from (lines_in trace.now))) }
 {
     let mut lines = Trace::new(alloc);
-    for place in from..trace.len() {
-        push_line(&mut lines, trace, place)?;
-    }
+    lines.append(trace, from)?;
     Ok(lines)
-}
-
-// Adds the line of a trace in a place, if there is one.
-fn push_line(lines: &mut Trace, trace: &Trace, place: usize) -> Result<(), NoMemory>
-    ensures { IfOk result (λ _. lines.new
-        ≡ told lines.old (take 1 (drop place (lines_in trace.now)))) }
-{
-    match trace.line(place) {
-        Some(line) => lines.push(line),
-        None => Ok(()),
-    }
 }

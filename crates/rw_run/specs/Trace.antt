@@ -1,6 +1,8 @@
 -- The lines of a trace, none where it isn't kept.
-use Rattle.std.specs.Prelude.{ℕ, List, [], ◌++◌, Option, Some, None, option_map}
+use Rattle.std.specs.Prelude.{List, [], ◌++◌, Option, Some, None, option_map}
 use Rattle.rw_run.specs.declared.trace.TraceEvent.{TraceEvent}
+use Rattle.rw_run.specs.declared.trace.TraceEvent.TheVariants.{Written}
+use Rattle.rw_run.specs.declared.write.Write.{Write}
 
 -- with more lines, where it is kept
 abbrev pub told : Option (List TraceEvent) → List TraceEvent → Option (List TraceEvent)
@@ -9,3 +11,8 @@ told trace more = option_map (λ lines. lines ++ more) trace
 abbrev pub lines_in : Option (List TraceEvent) → List TraceEvent
 lines_in None = []
 lines_in (Some lines) = lines
+
+-- what a line says to be written, if it says that
+abbrev pub write_of : TraceEvent → Option Write
+write_of (Written slot step content) = Some (record { cell = record { slot = slot; step = step }; content = content })
+write_of line = None

@@ -1,8 +1,9 @@
 ghost use Rattle.std.specs.Prelude.{◌≡◌, IfOk};
 ghost use Rattle.rw_run.specs.Line.{event_of};
+ghost use Rattle.rw_run.specs.Trace.{write_of};
 
-use crate::{RunFault, TraceEvent};
-use rw_base::{NoMemory, ObjectNo, Qty, RuleNo, SlotNo, StepNo};
+use crate::{RunFault, TraceEvent, Write};
+use rw_base::{Cell, NoMemory, ObjectNo, Qty, RuleNo, SlotNo, StepNo};
 use rw_model::{Content, Writer};
 use std::alloc::Global;
 
@@ -53,6 +54,37 @@ pub fn line_of(alloc: Global, event: TraceEvent) -> Result<Line, NoMemory>
     })
 }
 
+/// A copy of a line, with a box of its own where it has one.
+pub fn copy_of(alloc: Global, line: &Line) -> Result<Line, NoMemory>
+    ensures { IfOk result (λ copy. event_of copy ≡ event_of line.now) }
+{
+    Ok(match line {
+        Line::Opened(step) => Line::Opened(*step),
+        Line::Idle(object) => Line::Idle(*object),
+        Line::Solve(object) => Line::Solve(*object),
+        Line::Fire { done, rule, count } => Line::Fire {
+            done: *done,
+            rule: *rule,
+            count: *count,
+        },
+        Line::Written {
+            slot,
+            step,
+            number,
+            writer,
+            value,
+        } => Line::Written {
+            slot: *slot,
+            step: *step,
+            number: *number,
+            writer: *writer,
+            value: *value,
+        },
+        Line::Closed(step) => Line::Closed(*step),
+        Line::Fault(fault) => Line::Fault(Box::new(alloc, **fault)?),
+    })
+}
+
 /// The event that a line tells.
 pub fn event_of(line: &Line) -> TraceEvent
     ensures { result ≡ event_of line.now }
@@ -83,5 +115,32 @@ pub fn event_of(line: &Line) -> TraceEvent
         },
         Line::Closed(step) => TraceEvent::Closed(*step),
         Line::Fault(fault) => TraceEvent::Fault(**fault),
+    }
+}
+
+/// What a line says to be written, if it says that.
+#[inline(always)]
+pub fn write_of(line: &Line) -> Option<Write>
+    ensures { result ≡ write_of (event_of line.now) }
+{
+    match line {
+        Line::Written {
+            slot,
+            step,
+            number,
+            writer,
+            value,
+        } => Some(Write {
+            cell: Cell {
+                slot: *slot,
+                step: *step,
+            },
+            content: Content {
+                value: *value,
+                number: *number,
+                writer: *writer,
+            },
+        }),
+        _ => None,
     }
 }

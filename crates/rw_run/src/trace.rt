@@ -1,9 +1,9 @@
-ghost use Rattle.std.specs.Prelude.{◌≡◌, [], ◌∷◌, ◌++◌, length, map, take, slice_get, option_map, is_some, Some, None, IsSome, IfOk, IfErr};
+ghost use Rattle.std.specs.Prelude.{◌≡◌, [], ◌∷◌, ◌++◌, length, map, take, drop, slice_get, option_and_then, option_map, is_some, Some, None, IsSome, IfOk, IfErr};
 ghost use Rattle.rw_run.specs.Line.{event_of};
-ghost use Rattle.rw_run.specs.Trace.{lines_in, told};
+ghost use Rattle.rw_run.specs.Trace.{lines_in, told, write_of};
 
-use crate::RunFault;
-use crate::line::{Line, event_of, line_of};
+use crate::line::{Line, copy_of, event_of, line_of, write_of};
+use crate::{RunFault, Write};
 use rw_base::{NoMemory, ObjectNo, RuleNo, SlotNo, StepNo};
 use rw_model::Content;
 use std::alloc::Global;
@@ -98,6 +98,32 @@ impl Trace {
         }
     }
 
+    /// Adds the lines of another trace from a place on, as they are kept there, if lines are kept; if not, it takes no memory.
+    /// After want of memory the trace is as it was.
+    pub fn append(&mut self, other: &Trace, from: usize) -> Result<(), NoMemory>
+        ensures appended { IfOk result
+            (λ _. self.new ≡ told self.old (drop from (lines_in other.now))) }
+        ensures unchanged { IfErr result (λ _. self.new ≡ self.old) }
+        ensures wants { IfErr result (λ _. IsSome self.old) }
+    {
+        if self.kept {
+            append(self.alloc, &mut self.lines, other.kept_from(from))
+        } else {
+            Ok(())
+        }
+    }
+
+    // The lines from a place on, as they are kept.
+    fn kept_from(&self, place: usize) -> &[Line]
+        ensures { map event_of result.now ≡ drop place (lines_in self.now) }
+    {
+        if self.kept {
+            from_place(&self.lines, place)
+        } else {
+            &[]
+        }
+    }
+
     /// Whether lines are kept.
     pub fn is_kept(&self) -> bool
         ensures { result ≡ is_some self.now }
@@ -111,6 +137,17 @@ impl Trace {
     {
         if self.kept {
             line_at(&self.lines, place)
+        } else {
+            None
+        }
+    }
+
+    /// What the line in a place says to be written. `None` where there is no such line, and where it says something else.
+    pub fn written(&self, place: usize) -> Option<Write>
+        ensures { result ≡ option_and_then write_of (slice_get (lines_in self.now) place) }
+    {
+        if self.kept {
+            write_at(&self.lines, place)
         } else {
             None
         }
@@ -142,12 +179,62 @@ fn push(alloc: Global, lines: &mut Vec<Line>, event: TraceEvent) -> Result<(), N
     Ok(())
 }
 
+// Adds copies of these lines. After want of memory some of them may have been added.
+fn push_copies(alloc: Global, lines: &mut Vec<Line>, more: &[Line]) -> Result<(), NoMemory>
+    ensures pushed { IfOk result (λ _. map event_of lines.new.items
+        ≡ map event_of lines.old.items ++ map event_of more.now) }
+    ensures before { take (length lines.old.items) lines.new.items ≡ lines.old.items }
+{
+    lines.reserve(more.len())?;
+    for line in more {
+        lines.push(copy_of(alloc, line)?)?;
+    }
+    Ok(())
+}
+
+// Adds copies of these lines. After want of memory the lines are as they were.
+fn append(alloc: Global, lines: &mut Vec<Line>, more: &[Line]) -> Result<(), NoMemory>
+    ensures appended { IfOk result (λ _. map event_of lines.new.items
+        ≡ map event_of lines.old.items ++ map event_of more.now) }
+    ensures unchanged { IfErr result (λ _. lines.new.items ≡ lines.old.items) }
+{
+    let before = lines.len();
+    match push_copies(alloc, lines, more) {
+        Ok(()) => Ok(()),
+        Err(NoMemory) => {
+            lines.truncate(before);
+            Err(NoMemory)
+        }
+    }
+}
+
+// The lines from a place on.
+fn from_place(lines: &[Line], place: usize) -> &[Line]
+    ensures { result.now ≡ drop place lines.entry.now }
+{
+    if place < lines.len() {
+        &lines[place..]
+    } else {
+        &[]
+    }
+}
+
 // What the line in a place tells.
 fn line_at(lines: &[Line], place: usize) -> Option<TraceEvent>
     ensures { result ≡ slice_get (map event_of lines.now) place }
 {
     match lines.get(place) {
         Some(line) => Some(event_of(line)),
+        None => None,
+    }
+}
+
+// What the line in a place says to be written.
+fn write_at(lines: &[Line], place: usize) -> Option<Write>
+    ensures { result ≡ option_and_then write_of (slice_get (map event_of lines.now) place) }
+{
+    match lines.get(place) {
+        Some(line) => write_of(line),
         None => None,
     }
 }

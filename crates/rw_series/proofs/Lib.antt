@@ -4,3 +4,4 @@ pub mod SlotColumns
 pub mod Setting
 pub mod Sharing
 pub mod Bounds
+mod Rows

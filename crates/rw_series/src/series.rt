@@ -1,5 +1,6 @@
 ghost use Rattle.std.specs.Prelude.{◌≡◌, ◌≢◌, ◌↔◌, IfOk, true};
 ghost use Rattle.rw_base.specs.declared.number.Cell.{Cell};
+ghost use Rattle.rw_base.specs.declared.number.SlotNo.{SlotNo as Slot};
 ghost use Rattle.rw_model.specs.declared.put.PutEnd.TheVariants as PutEnd;
 ghost use Rattle.std.specs.Prelude.{None, Some};
 ghost use Rattle.rw_model.specs.Put.{end_of_put};
@@ -8,7 +9,8 @@ ghost use Rattle.rw_series.specs.Series.{held, IsCell, IsSeriesOf, Sets};
 use crate::cells::{keep_at, kept_at};
 use crate::columns::{column_of, columns_of};
 use crate::kept::{Kept, unknown};
-use rw_base::{Cell, NoMemory};
+use crate::step_cells::{StepCells, cells_at_step};
+use rw_base::{Cell, NoMemory, StepNo};
 use rw_model::{Basin, Content, PutEnd, put_end};
 use std::alloc::Global;
 use std::marker::Model;
@@ -85,6 +87,20 @@ impl Series {
             self.steps,
             column_of(self.columns.as_slice(), c.slot.0),
             c.step.0,
+        )
+    }
+
+    /// Its cells at one timestep. There are none where it has no such timestep.
+    pub fn at_step(&self, step: StepNo) -> StepCells<'_>
+        ensures { (slot : Slot) → held result (record { slot = slot; step = record { 0 = 1 } })
+            ≡ held self.now (record { slot = slot; step = step }) }
+    {
+        cells_at_step(
+            self.columns.as_slice(),
+            self.width,
+            self.steps,
+            self.cells.as_slice(),
+            step.0,
         )
     }
 

@@ -2,7 +2,7 @@ use Rattle.rw_dispatch.proofs.Common.{None, ap, held, length, rules, slice_index
 use Rattle.std.proofs.Math.ListN.{length-set}
 use Rattle.rw_run.specs.Dispatch.{bounds_in_place, content_in}
 use Rattle.rw_dispatch.specs.Seeing.{bounds_of_slot, content_of}
-use Rattle.rw_dispatch.proofs.Filling.{filled-more, number_known, number_there}
+use Rattle.rw_dispatch.proofs.Filling.{content_there, filled-more, number_known, number_there}
 use Rattle.rw_dispatch.proofs.view.see_slots.Goals as goal
 
 pub see_slot-requires-clause-known : goal.see_slot-requires-clause-known
@@ -18,9 +18,13 @@ loop-place-preserved c =
     let was = c.loop-place.invariant in
     let seen = c.see_slot.ensures in
     let number = number_there basin.objects c.args.object.0 place c.row-numbers.result.now c.row-numbers.ensures c.loop-place-test.true in
+    let same =
+    content_there (held c.at_step-cells.result) (held c.args.series.now) 1 c.args.step.0 (slice_index_or c.row-numbers.result.now place None)
+    c.at_step-cells.ensures in
     record {
       contents = seen.content ∙ filled-more (content_in basin (held c.args.series.now) c.args.object.0 c.args.step.0) c.args.now.now place c.loop-place.now _
-          (search rules) was.contents (ap (content_of (held c.args.series.now) c.args.step.0) number);
+          (search rules) was.contents
+          (same ∙ ap (content_of (held c.args.series.now) c.args.step.0) number);
       bounds = seen.bounds ∙ filled-more (bounds_in_place basin c.args.object.0) c.args.bounds.now place c.loop-place.bounds _
           (search rules) was.bounds (ap (bounds_of_slot basin) number);
       contents_all = ap length seen.content ∙ length-set c.loop-place.now place _ ∙ was.contents_all;

@@ -5,7 +5,7 @@ use Rattle.rw_dispatch.proofs.view.see_slots.Given as goal
 
 abbrev pub invariant-loop-place : goal.invariant-loop-place
 invariant-loop-place l = record {
-  contents : l.now ≡ filled (content_in l.basin (held l.series) l.fn.object.0 l.step.0) l.fn.now l.place;
+  contents : l.now ≡ filled (content_in l.basin (held l.series) l.fn.object.0 l.fn.step.0) l.fn.now l.place;
   bounds : l.bounds ≡ filled (bounds_in_place l.basin l.fn.object.0) l.fn.bounds l.place;
   contents_all : length l.now ≡ 12;
   bounds_all : length l.bounds ≡ 12;

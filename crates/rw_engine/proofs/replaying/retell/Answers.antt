@@ -5,7 +5,7 @@ use Rattle.rw_engine.proofs.Common.{held, subst, ◌≡◌}
 use Rattle.rw_engine.proofs.Notings.{some_noted}
 use Rattle.rw_record.specs.Noted.{cells_noted, with_noted}
 use Rattle.rw_engine.proofs.Records.{any_ok}
-use Rattle.rw_engine.proofs.Traces.{told_none}
+use Rattle.rw_engine.proofs.Traces.{grown, told_none}
 use Rattle.rw_engine.proofs.replaying.retell.Goals as goal
 
 pub returns-in_err-note_again-clause-kept : goal.returns-in_err-note_again-clause-kept
@@ -19,8 +19,13 @@ returns-clause-kept c = some_noted (held c.args.series.now) c.args.noted.now c.n
 
 pub returns-clause-noted : goal.returns-clause-noted
 returns-clause-noted c =
-    any_ok c.tell_again.result (subst (λ looked. c.note_again.new.noted ≡ with_noted (held c.args.series.now) (cells_noted looked) c.args.noted.now) c.looked.ensures c.in_ok-note_again.ensures)
+    any_ok c.append.result (subst (λ looked. c.note_again.new.noted ≡ with_noted (held c.args.series.now) (cells_noted looked) c.args.noted.now) c.looked.ensures c.in_ok-note_again.ensures)
 
 pub returns-clause-told : goal.returns-clause-told
 returns-clause-told c =
-    subst (λ more. IfOk c.tell_again.result (λ done. c.tell_again.new.trace ≡ told c.args.trace.now more)) (ap lines_in c.lines.ensures) c.tell_again.ensures.told
+    subst (λ more. IfOk c.append.result (λ done. c.append.new.self ≡ told c.args.trace.now more)) (ap lines_in c.lines.ensures)
+    c.append.ensures.appended
+
+pub returns-clause-grows : goal.returns-clause-grows
+returns-clause-grows c =
+    grown c.append.result c.args.trace.now c.append.new.self (lines_in c.lines.result.now) c.append.ensures.appended c.append.ensures.unchanged

@@ -6,14 +6,16 @@ use Rattle.rw_base.proofs.Common.{take_all}
 use Rattle.rw_dispatch.specs.Writes.{AreWrites}
 use Rattle.rw_run.specs.Trace.{lines_in}
 use Rattle.rw_engine.specs.Records.{CanWriteLine, puts_in, puts_of_line}
-use Rattle.rw_engine.proofs.Records.{all_get, can_line, puts_on, take_one}
+use Rattle.rw_engine.proofs.Records.{all_get, can_line, puts_of_write, puts_on, take_one}
 use Rattle.rw_engine.proofs.replaying.write_again.Goals as goal
 
 pub write_put-requires-clause-can : goal.write_put-requires-clause-can
 write_put-requires-clause-can c =
-    subst (AreWrites c.args.basin.now) (sym (c.put_of.ensures ∙ ap (λ line. puts_in (cons_option line [])) c.line.ensures))
-    (can_line c.args.basin.now (slice_get (lines_in c.args.lines.now) c.loop-place.place)
-    (all_get (CanWriteLine c.args.basin.now) (lines_in c.args.lines.now) c.loop-place.place c.requires.can))
+    let told_lines = lines_in c.args.lines.now in
+    let put = ap (λ put. cons_option put []) c.written.ensures ∙ puts_of_write (slice_get told_lines c.loop-place.place) in
+    subst (AreWrites c.args.basin.now) (sym put)
+    (can_line c.args.basin.now (slice_get told_lines c.loop-place.place)
+    (all_get (CanWriteLine c.args.basin.now) told_lines c.loop-place.place c.requires.can))
 
 pub loop-place-preserved : goal.loop-place-preserved
 loop-place-preserved c =
@@ -21,7 +23,7 @@ loop-place-preserved c =
     let told_lines = lines_in c.args.lines.now in
     let place = c.loop-place.place in
     let one = cons_option (slice_get told_lines place) [] in
-    let put = c.put_of.ensures ∙ ap (λ line. puts_in (cons_option line [])) c.line.ensures in record {
+    let put = ap (λ put. cons_option put []) c.written.ensures ∙ puts_of_write (slice_get told_lines place) in record {
       made = c.write_put.ensures.made;
       cells = λ cell. c.write_put.ensures.cells cell
           ∙ ap (λ puts. option_or (last_put basin puts cell) (held c.loop-place.series cell)) put
