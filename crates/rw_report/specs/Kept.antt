@@ -1,9 +1,24 @@
 -- Lines of a table that are kept beside the values from which they were told.
-use Rattle.std.specs.Prelude.{◌≡◌, ◌≢◌, string_bytes}
+use Rattle.std.specs.Prelude.{◌≡◌, ◌≢◌, ◌<◌, ◌+◌, ℕ, List, Some, slice_get, string_bytes}
 use Rattle.rw_model.specs.Draft.{Draft}
+use Rattle.rw_run.specs.Log.{Cells}
 use Rattle.rw_report.specs.declared.kept.KeptLine.{KeptLine}
-use Rattle.rw_report.specs.Sheet.{line_of}
+use Rattle.rw_report.specs.Sheet.{line_of, values_of}
 
 -- where a line tells of a timestep, its text is that of its values at it
 abbrev pub IsTold : Draft → KeptLine → Type 0
 IsTold basin line = line.step ≢ 0 → string_bytes line.text ≡ line_of basin line.step line.values.items
+
+-- it tells of this timestep, and its values are those of these cells
+pub record Tells (basin : Draft) (cells : Cells) (step : ℕ) (line : KeptLine) : Type 0 where
+  pub step_is : line.step ≡ step
+  pub values_are : line.values.items ≡ values_of basin cells step
+
+-- so do the first lines, so many of them, of the first timesteps
+abbrev pub TellFirst : Draft → Cells → ℕ → List KeptLine → Type 0
+TellFirst basin cells count lines =
+    (place : ℕ) (line : KeptLine) → place < count → slice_get lines place ≡ Some line → Tells basin cells (place + 1) line
+
+-- the first lines, so many of them, tell of the first timesteps
+abbrev pub AreInPlace : ℕ → List KeptLine → Type 0
+AreInPlace count lines = (place : ℕ) (line : KeptLine) → place < count → slice_get lines place ≡ Some line → line.step ≡ place + 1

@@ -1,10 +1,12 @@
 // The lines of a table, each kept beside the values from which it was told.
-ghost use Rattle.std.specs.Prelude.{◌≡◌, ◌≤◌, ◌<◌, ◌+◌, ◌++◌, OnOk, option_map, string_bytes, length, true, vec_len};
+ghost use Rattle.std.specs.Prelude.{◌≡◌, ◌≤◌, ◌<◌, ◌+◌, ◌-◌, ◌++◌, OnOk, option_map, string_bytes, length, true, vec_len};
 ghost use Rattle.std.specs.List.{All};
+ghost use Rattle.rw_model.specs.Draft.{Draft};
 ghost use Rattle.rw_model.specs.Objects.{all_slots};
 ghost use Rattle.rw_model.specs.declared.content.Content.{Content};
+ghost use Rattle.rw_run.specs.Log.{Cells};
 ghost use Rattle.rw_series.specs.Series.{held};
-ghost use Rattle.rw_report.specs.Kept.{IsTold};
+ghost use Rattle.rw_report.specs.Kept.{IsTold, TellFirst, Tells};
 ghost use Rattle.rw_report.specs.Section.{row, rows, values_in};
 ghost use Rattle.rw_report.specs.Sheet.{listed};
 
@@ -96,8 +98,9 @@ fn list(
 fn is_current(line: &KeptLine, basin: &Basin, series: &Series, step: u16) -> bool
     requires told { IsTold basin.now line.now }
     requires first { 1 ≤ step }
-    ensures { result ≡ true → string_bytes line.now.text
+    ensures row { result ≡ true → string_bytes line.now.text
         ≡ row basin.now (values_in (held series.now)) step }
+    ensures tells { result ≡ true → Tells basin.now (held series.now) step line.now }
 {
     if line.step != step || line.values.len() != usize::from(basin.slot_count()) {
         return false;
@@ -118,6 +121,7 @@ fn tell_anew(
     ensures told { IsTold basin.now line.new }
     ensures row { OnOk result (string_bytes line.new.text
         ≡ row basin.now (values_in (held series.now)) step) }
+    ensures tells { OnOk result (Tells basin.now (held series.now) step line.new) }
 {
     line.step = 0;
     line.text.clear();
@@ -141,6 +145,7 @@ fn tell_line(
     ensures told { IsTold basin.now line.new }
     ensures row { OnOk result (string_bytes line.new.text
         ≡ row basin.now (values_in (held series.now)) step) }
+    ensures tells { OnOk result (Tells basin.now (held series.now) step line.new) }
 {
     if is_current(line, basin, series, step) {
         Ok(())
@@ -160,6 +165,8 @@ fn make_room(
     requires next { before ≤ vec_len lines.old }
     ensures told { All (IsTold basin.now) lines.new.items }
     ensures room { OnOk result (before < vec_len lines.new) }
+    ensures tells { (cells : Cells) → OnOk result (TellFirst basin.now cells before lines.old.items
+        → TellFirst basin.now cells before lines.new.items) }
 {
     if usize::from(before) < lines.len() {
         return Ok(());
@@ -185,6 +192,8 @@ fn push_line(
     ensures room { vec_len lines.new ≡ vec_len lines.old }
     ensures row { OnOk result (string_bytes text.new
         ≡ string_bytes text.old ++ row basin.now (values_in (held series.now)) step) }
+    ensures tells { OnOk result (TellFirst basin.now (held series.now) (step - 1) lines.old.items
+        → TellFirst basin.now (held series.now) step lines.new.items) }
 {
     let place = usize::from(step - 1);
     tell_line(alloc, &mut lines[place], basin, series, step)?;
@@ -192,22 +201,53 @@ fn push_line(
     Ok(())
 }
 
-/// Appends the lines of the first timesteps, so many of them. Those alone are told anew of which a value isn't as it was.
+// Appends a line as it is.
+fn push_text(text: &mut String, line: &KeptLine) -> Result<(), NoMemory>
+    ensures { OnOk result
+        (string_bytes text.new ≡ string_bytes text.old ++ string_bytes line.now.text) }
+{
+    text.push_str(line.text.as_str())?;
+    Ok(())
+}
+
+// Appends the first lines, so many of them, as they are.
+fn push_first(text: &mut String, lines: &[KeptLine], first: u16) -> Result<(), NoMemory>
+    requires { first ≤ length lines.now }
+    ensures { (basin : Draft) (cells : Cells) → All (IsTold basin) lines.now
+        → TellFirst basin cells first lines.now → OnOk result (string_bytes text.new
+        ≡ string_bytes text.old ++ rows basin (values_in cells) first) }
+{
+    for before in 0..first {
+        push_text(text, &lines[usize::from(before)])?;
+    }
+    Ok(())
+}
+
+/// Appends the lines of the first timesteps, so many of them. Those alone are told anew of which a value isn't as it was, and the
+/// first ones that tell what they told are not looked at.
 pub(crate) fn push_kept(
     alloc: Global,
     text: &mut String,
     lines: &mut Vec<KeptLine>,
     basin: &Basin,
     series: &Series,
+    first: u16,
     closed: u16,
 ) -> Result<(), NoMemory>
     requires closed { closed ≤ basin.now.control.stamps.count }
     requires lines { All (IsTold basin.now) lines.old.items }
+    requires first { first ≤ closed }
+    requires there { first ≤ vec_len lines.old }
+    requires same { TellFirst basin.now (held series.now) first lines.old.items }
     ensures told { All (IsTold basin.now) lines.new.items }
+    ensures room { OnOk result (closed ≤ vec_len lines.new) }
+    ensures tells { OnOk result
+        (TellFirst basin.now (held series.now) closed lines.new.items) }
     ensures rows { OnOk result (string_bytes text.new
         ≡ string_bytes text.old ++ rows basin.now (values_in (held series.now)) closed) }
 {
-    for before in 0..closed {
+    push_first(text, lines.as_slice(), first)?;
+    for before in first..closed {
         make_room(alloc, basin, lines, before)?;
         push_line(alloc, text, lines, basin, series, before + 1)?;
     }

@@ -1,7 +1,9 @@
-ghost use Rattle.std.specs.Prelude.{◌≡◌, ◌≤◌, ◌++◌, IfErr, IfOk, OnOk, option_map, string_bytes, []};
+ghost use Rattle.std.specs.Prelude.{◌≡◌, ◌≤◌, ◌<◌, ◌+◌, ◌++◌, ℕ, IfErr, IfOk, OnOk, option_map, string_bytes, vec_len, []};
 ghost use Rattle.std.specs.List.{All};
-ghost use Rattle.rw_report.specs.Kept.{IsTold};
+ghost use Rattle.rw_series.specs.Series.{held};
+ghost use Rattle.rw_report.specs.Kept.{IsTold, TellFirst};
 ghost use Rattle.rw_report.specs.Outcome.{outcome_of};
+ghost use Rattle.rw_report.specs.Sheet.{AreToldBefore, AreToldOf};
 ghost use Rattle.rw_report.specs.Whole.{table_of, whole_of};
 
 use crate::kept::{KeptLine, push_kept};
@@ -13,27 +15,34 @@ use rw_run::Run;
 use std::alloc::Global;
 use std::marker::Model;
 
-/// What was told last of a basin's runs, seen as the basin and the text. It keeps the lines of its table, and tells anew those
-/// alone of which a value isn't as it was.
+/// What was told last of a basin's runs, seen as the basin, the text and the values of its table. It keeps the lines of the table,
+/// and tells anew those alone of which a value isn't as it was.
 #[derive(Drop)]
 pub struct Sheet<'a> {
     alloc: Global,
     basin: &'a Basin,
     lines: Vec<KeptLine>,
+    told: u16,
     text: String,
 }
 
 impl<'a> Model for Sheet<'a> {
-    ghost use Rattle.std.specs.Prelude.{string_bytes};
+    ghost use Rattle.std.specs.Prelude.{◌≤◌, map, string_bytes, take, vec_len};
     ghost use Rattle.std.specs.List.{All};
-    ghost use Rattle.rw_report.specs.Kept.{IsTold};
+    ghost use Rattle.rw_report.specs.Kept.{AreInPlace, IsTold};
     ghost use Rattle.rw_report.specs.Sheet as specs;
+    ghost use Rattle.rw_report.specs.declared.kept.KeptLine.{KeptLine};
 
     ghost Value = { specs.Sheet };
 
-    ghost view = { λ s. record { basin = s.basin.now; text = string_bytes s.text } };
+    ghost view = { λ s. record {
+      basin = s.basin.now;
+      text = string_bytes s.text;
+      values = map (λ (line : KeptLine). line.values.items) (take s.told s.lines.items);
+    } };
 
-    ghost invariant = { λ s. All (IsTold s.basin.now) s.lines.items };
+    ghost invariant = { λ s. All (IsTold s.basin.now) s.lines.items
+        × (s.told ≤ vec_len s.lines × AreInPlace s.told s.lines.items) };
 }
 
 // Appends the table of a run.
@@ -43,15 +52,22 @@ fn push_table(
     lines: &mut Vec<KeptLine>,
     basin: &Basin,
     run: &Run,
+    first: u16,
 ) -> Result<(), NoMemory>
     requires closed { run.now.closed ≤ basin.now.control.stamps.count }
     requires lines { All (IsTold basin.now) lines.old.items }
+    requires first { first ≤ run.now.closed }
+    requires there { first ≤ vec_len lines.old }
+    requires same { TellFirst basin.now (held run.now.series) first lines.old.items }
     ensures told { All (IsTold basin.now) lines.new.items }
+    ensures room { OnOk result (run.now.closed ≤ vec_len lines.new) }
+    ensures tells { OnOk result
+        (TellFirst basin.now (held run.now.series) run.now.closed lines.new.items) }
     ensures table { OnOk result (string_bytes text.new
         ≡ string_bytes text.old ++ table_of basin.now (outcome_of run.now)) }
 {
     push_columns(text, basin)?;
-    push_kept(alloc, text, lines, basin, &run.series, run.closed)
+    push_kept(alloc, text, lines, basin, &run.series, first, run.closed)
 }
 
 // Appends the text of a section.
@@ -65,35 +81,61 @@ fn push_section(
     reran: Option<&[StepNo]>,
     flags: bool,
     trace: bool,
+    first: u16,
 ) -> Result<(), NoMemory>
     requires closed { run.now.closed ≤ basin.now.control.stamps.count }
     requires lines { All (IsTold basin.now) lines.old.items }
+    requires first { first ≤ run.now.closed }
+    requires there { first ≤ vec_len lines.old }
+    requires same { TellFirst basin.now (held run.now.series) first lines.old.items }
     ensures told { All (IsTold basin.now) lines.new.items }
+    ensures room { OnOk result (run.now.closed ≤ vec_len lines.new) }
+    ensures tells { OnOk result
+        (TellFirst basin.now (held run.now.series) run.now.closed lines.new.items) }
     ensures section { OnOk result (string_bytes text.new
         ≡ string_bytes text.old ++ whole_of basin.now batch (outcome_of run.now)
         (option_map (λ steps. steps.now) reran.entry) flags trace) }
 {
     push_top(text, basin, batch, &run.end, reran)?;
-    push_table(alloc, text, lines, basin, run)?;
+    push_table(alloc, text, lines, basin, run, first)?;
     push_flags_if(text, basin, run, flags)?;
     push_trace_if(text, basin, run, trace)
+}
+
+// The lesser of two numbers.
+fn lesser(one: u16, other: u16) -> u16
+    ensures { (result ≤ one) × (result ≤ other) }
+{
+    if one < other { one } else { other }
+}
+
+// How many of the first lines, of so many that are told, tell of timesteps before one.
+fn count_before(same: u16, told: u16) -> u16
+    ensures told { result ≤ told }
+    ensures same { (place : ℕ) → place < result → place + 1 < same }
+{
+    if same == 0 {
+        return 0;
+    }
+    lesser(same - 1, told)
 }
 
 impl<'a> Sheet<'a> {
     /// A sheet on which nothing is told of the basin's runs. It takes no memory.
     pub fn new(alloc: Global, basin: &'a Basin) -> Sheet<'a>
-        ensures { result ≡ record { basin = basin.now; text = [] } }
+        ensures { result ≡ record { basin = basin.now; text = []; values = [] } }
     {
         Sheet {
             alloc,
             basin,
             lines: Vec::new(alloc),
+            told: 0,
             text: String::new(alloc),
         }
     }
 
-    /// Tells the section of the batch of this number, as `section` does, in the place of what was told. After want of memory
-    /// nothing is told.
+    /// Tells the section of the batch of this number, as `section` does, in the place of what was told: of timesteps before `same`
+    /// the values are those that it told last. After want of memory nothing is told.
     pub fn tell(
         &mut self,
         batch: u32,
@@ -101,14 +143,20 @@ impl<'a> Sheet<'a> {
         reran: Option<&[StepNo]>,
         flags: bool,
         trace: bool,
+        same: u16,
     ) -> Result<(), NoMemory>
         requires closed { run.now.closed ≤ self.old.basin.control.stamps.count }
+        requires same { AreToldBefore self.old.basin (held run.now.series) same self.old.values }
         ensures text { IfOk result (λ done. self.new.text
             ≡ whole_of self.old.basin batch (outcome_of run.now)
             (option_map (λ steps. steps.now) reran.entry) flags trace) }
+        ensures values { IfOk result (λ done. AreToldOf self.old.basin (held run.now.series)
+            self.new.values) }
         ensures untold { IfErr result (λ fault. self.new.text ≡ []) }
         ensures basin { self.new.basin ≡ self.old.basin }
     {
+        let first = lesser(count_before(same, self.told), run.closed);
+        self.told = 0;
         self.text.clear();
         match push_section(
             self.alloc,
@@ -120,8 +168,12 @@ impl<'a> Sheet<'a> {
             reran,
             flags,
             trace,
+            first,
         ) {
-            Ok(()) => Ok(()),
+            Ok(()) => {
+                self.told = run.closed;
+                Ok(())
+            }
             Err(NoMemory) => {
                 self.text.clear();
                 Err(NoMemory)

@@ -22,13 +22,9 @@ use Rattle.rw_record.proofs.Cells.{first_of, same_cell}
 use Rattle.rw_record.proofs.Noting.{noted_of}
 use Rattle.rw_engine.proofs.Places.{placed-append}
 use Rattle.rw_rerun.specs.Begun.{AreAlikeIn, AreWithout}
-use Rattle.rw_rerun.specs.Edited.{AreEdited}
+use Rattle.rw_rerun.specs.Edited.{AreEdited, is_edited}
 use Rattle.rw_rerun.specs.Spare.{given_all}
 use Rattle.rw_rerun.specs.Touched.{CountsUntouched, is_reached, is_untouched}
-
--- the cell shares its value with one of these
-abbrev pub is_edited : Draft → List Cell → Cell → Bool
-is_edited basin cells cell = list_any (λ edited. is_shared basin edited cell) cells
 
 any_of : {A : Type 0} (p : A → Bool) (xs : List A) (x : A) → Contains xs x → p x ≡ true → list_any p xs ≡ true
 any_of p xs x has passes = list_any_at p xs has.0 x has.1 (ap p has.2 ∙ passes)

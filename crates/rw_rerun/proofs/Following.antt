@@ -18,7 +18,7 @@ use Rattle.rw_rules.specs.Rules.{policy_in}
 use Rattle.rw_rerun.specs.Edited.{AreEdited, BecomesSpare, LeavesFirst}
 use Rattle.rw_rerun.specs.Kept.{AreStepLinks, changed}
 use Rattle.rw_rerun.specs.Next.{IsNext, IsReady, PassesBehind, PassesFrom, PassesNext, StayFirst}
-use Rattle.rw_rerun.specs.Session.{Applies, IsSessionOf, Session}
+use Rattle.rw_rerun.specs.Session.{Applies, HoldAsBefore, IsSessionOf, Session}
 use Rattle.rw_rerun.specs.Spare.{BeginsBy, IsSpare, IsSpareIn, MayBeSpare, StandsIn}
 use Rattle.rw_rerun.specs.Touched.{CountsUntouched}
 use Rattle.rw_rerun.specs.UnderWay.{PassesRest}
@@ -136,17 +136,19 @@ leaves_first basin policy session batch inputs given cells behind was is values 
 pub applies_next : (basin : Draft) (policy : Accepted) (session old new : Session) (batch : Batch) (inputs : Inputs) (cells : List Cell) (behind : ℕ) (pass : Pass)
     (before after : ℕ) → PassesNext basin policy session inputs cells behind before after (Ok pass)
     → LeavesFirst basin batch cells session.inputs inputs session.kept behind → old ≡ session
-    → new ≡ session_behind old.basin old.policy inputs old.kept pass → Applies basin policy batch session new
-applies_next basin policy session old new batch inputs cells behind pass before after passes leaves same is =
+    → new ≡ session_behind old.basin old.policy inputs old.kept pass new.same → HoldAsBefore old new → Applies basin policy batch session new
+applies_next basin policy session old new batch inputs cells behind pass before after passes leaves same is held_before =
     let next = passes.next batch leaves in
-    subst (Applies basin policy batch session)
-    (sym (is ∙ ap (λ (one : Session). session_behind one.basin one.policy inputs one.kept pass) same))
-    (applies basin policy batch inputs session pass next.is leaves.values leaves.new_made next.made next.way)
+    let whole : new ≡ session_behind session.basin session.policy inputs session.kept pass new.same =
+    is ∙ ap (λ (one : Session). session_behind one.basin one.policy inputs one.kept pass new.same) same in
+    subst (Applies basin policy batch session) (sym whole)
+    (applies basin policy batch inputs session pass next.is leaves.values leaves.new_made next.made next.way new.same
+    (subst (HoldAsBefore session) whole (subst (λ (one : Session). HoldAsBefore one new) same held_before)))
 
 -- ---- the spare engine behind it
 
 module _ (basin : Draft) (policy : Accepted) (session : Session) (inputs : Inputs) (cells : List Cell) (behind : ℕ) (pass : Pass)
-    (next : IsNext basin policy session inputs cells behind pass) where
+    (next : IsNext basin policy session inputs cells behind pass) (same : ℕ) where
   abbrev in_run : Policy
   in_run = policy_in basin policy
 
@@ -154,8 +156,8 @@ module _ (basin : Draft) (policy : Accepted) (session : Session) (inputs : Input
   now_kept = changed session.kept pass.changes.items
 
   is_spare : (spare : Spare) → BecomesSpare basin inputs cells session.kept behind session.engine spare
-      → (is : IsSessionOf basin policy (session_behind basin policy inputs session.kept pass))
-      → IsSpareIn basin policy (session_behind basin policy inputs session.kept pass) is.log spare
+      → (is : IsSessionOf basin policy (session_behind basin policy inputs session.kept pass same))
+      → IsSpareIn basin policy (session_behind basin policy inputs session.kept pass same) is.log spare
   is_spare spare becomes is =
       let at : spare.behind ≡ behind = becomes.behind_is in
       let start : Log = placed [] (givens basin inputs) in
@@ -167,7 +169,7 @@ module _ (basin : Draft) (policy : Accepted) (session : Session) (inputs : Input
       subst (λ n. take n now_kept ≡ take n session.kept) (sym at) next.stay in
       let few : spare.behind ≤ length now_kept =
       let all = is.many in let many = next.leaves.many in omega (arith, at, all, many, some) in
-      let same : next.way.log ≡ is.log =
+      let met_end : next.way.log ≡ is.log =
       one_run basin in_run (givens basin inputs) next.way.log is.log (whole_way basin in_run inputs next.is.log session.kept pass next.way) is.whole in
       let split = split_at basin in_run 1 start next.way.log now_kept spare.behind (spare.behind + 1) (omega arith) few next.way.linked in
       let met : split.0 ≡ comes.log =
@@ -181,26 +183,26 @@ module _ (basin : Draft) (policy : Accepted) (session : Session) (inputs : Input
           log = comes.log;
           shows = comes.shows;
           before = subst (λ kept. AreStepLinks basin in_run 1 start kept comes.log) (sym stay) comes.taken.linked;
-          rest = subst (λ end. AreStepLinks basin in_run (spare.behind + 1) comes.log (drop spare.behind now_kept) end) same
+          rest = subst (λ end. AreStepLinks basin in_run (spare.behind + 1) comes.log (drop spare.behind now_kept) end) met_end
               (subst (λ log. AreStepLinks basin in_run (spare.behind + 1) log (drop spare.behind now_kept) next.way.log) met split.2);
         };
         known = λ place entry first_one last there. all_known now_kept left.0 spare.behind (stay ∙ first) place entry last there;
       }
 
   may_be : (spare : Option Spare) → IfSome spare (BecomesSpare basin inputs cells session.kept behind session.engine)
-      → MayBeSpare (session_behind basin policy inputs session.kept pass) spare
+      → MayBeSpare (session_behind basin policy inputs session.kept pass same) spare
   may_be None becomes = λ is. tt
   may_be (Some spare) becomes = is_spare spare becomes
 
   pub next_spare : (spare : Option Spare) → IfSome spare (BecomesSpare basin inputs cells session.kept behind session.engine)
-      → MayBeSpare (session_behind session.basin session.policy inputs session.kept pass) spare
+      → MayBeSpare (session_behind session.basin session.policy inputs session.kept pass same) spare
   next_spare spare becomes =
-      subst (λ of_basin. MayBeSpare (session_behind of_basin session.policy inputs session.kept pass) spare) (sym next.is.of_basin)
-      (subst (λ by_policy. MayBeSpare (session_behind basin by_policy inputs session.kept pass) spare) (sym next.is.by_policy) (may_be spare becomes))
+      subst (λ of_basin. MayBeSpare (session_behind of_basin session.policy inputs session.kept pass same) spare) (sym next.is.of_basin)
+      (subst (λ by_policy. MayBeSpare (session_behind basin by_policy inputs session.kept pass same) spare) (sym next.is.by_policy) (may_be spare becomes))
 
   -- ---- at its place
 
-  module _ (was : List (Option StepRecord)) (engine : Engine) (lent : session.kept ≡ was) (same : session.engine ≡ engine) where
+  module _ (was : List (Option StepRecord)) (engine : Engine) (lent : session.kept ≡ was) (engine_is : session.engine ≡ engine) where
     pub stands_there : IsSpare basin was (record { engine = engine; behind = basin.control.stamps.count })
     stands_there = record {
       policy = policy;
@@ -209,13 +211,13 @@ module _ (basin : Draft) (policy : Accepted) (session : Session) (inputs : Input
       stands = subst (λ kept. StandsIn basin policy (placed [] (givens basin session.inputs)) next.is.log kept
           (record { engine = engine; behind = basin.control.stamps.count })) lent
           (subst (λ (one : Engine). StandsIn basin policy (placed [] (givens basin session.inputs)) next.is.log session.kept
-          (record { engine = one; behind = basin.control.stamps.count })) same (stands_behind_all basin policy session next.is));
+          (record { engine = one; behind = basin.control.stamps.count })) engine_is (stands_behind_all basin policy session next.is));
     }
 
     pub spare_there : (spare : Option Spare) (now : Session) → IfSome spare (BecomesSpare basin inputs cells was behind engine)
-        → session_behind session.basin session.policy inputs session.kept pass ≡ now → MayBeSpare now spare
+        → session_behind session.basin session.policy inputs session.kept pass same ≡ now → MayBeSpare now spare
     spare_there spare now becomes is =
         subst (λ (one : Session). MayBeSpare one spare) is
         (next_spare spare
         (subst (λ kept. IfSome spare (BecomesSpare basin inputs cells kept behind session.engine)) (sym lent)
-        (subst (λ one. IfSome spare (BecomesSpare basin inputs cells was behind one)) (sym same) becomes)))
+        (subst (λ one. IfSome spare (BecomesSpare basin inputs cells was behind one)) (sym engine_is) becomes)))

@@ -16,3 +16,5 @@ pub mod Edited
 mod Named
 pub mod Taken
 pub mod Following
+pub mod Reaching
+pub mod Same

@@ -14,7 +14,7 @@ use Rattle.rw_record.specs.Record.{AreRisingCells, StepRecord}
 use Rattle.rpl_verify.specs.Verified.{Accepted}
 use Rattle.rw_rules.specs.Rules.{policy_in}
 use Rattle.rw_rerun.specs.Kept.{AreKept, IsKeptOrNot, IsKeepable, changed}
-use Rattle.rw_rerun.specs.Session.{Applies, IsSessionOf, IsStarted, Session, numbers_of_steps}
+use Rattle.rw_rerun.specs.Session.{Applies, HoldAsBefore, IsSessionOf, IsStarted, Session, numbers_of_steps}
 use Rattle.rw_rerun.specs.Touched.{AreRisingIn}
 use Rattle.rw_rerun.specs.UnderWay.{AreReplayable, GoesOn, IsEntry, IsReplayable, IsPassOf, IsUnderWay}
 use Rattle.rw_rerun.specs.declared.pass.Pass.{Pass}
@@ -22,21 +22,22 @@ use Rattle.rw_rerun.proofs.Keeping.{kept_there, length_changed}
 use Rattle.rw_rerun.proofs.Ways.{whole_way}
 
 -- the session once its run has passed all timesteps
-abbrev pub session_behind : Draft → Accepted → Inputs → List (Option StepRecord) → Pass → Session
-session_behind of_basin by_policy inputs was pass = record {
+abbrev pub session_behind : Draft → Accepted → Inputs → List (Option StepRecord) → Pass → ℕ → Session
+session_behind of_basin by_policy inputs was pass same = record {
   basin = of_basin;
   policy = by_policy;
   inputs = inputs;
   engine = pass.engine;
   kept = changed was pass.changes.items;
   reran = pass.reran.items;
+  same = same;
 }
 
 module _ (basin : Draft) (policy : Accepted) (inputs : Inputs) (earlier : Log) (was : List (Option StepRecord)) (pass : Pass) (given : IsInputsOf basin inputs)
     (made : IsPassOf basin policy pass) (many : length was ≡ basin.control.stamps.count)
     (way : IsUnderWay basin (policy_in basin policy) inputs earlier was pass basin.control.stamps.count) (of_basin : Draft) (by_policy : Accepted)
-    (basin_is : of_basin ≡ basin) (policy_is : by_policy ≡ policy) where
-  abbrev pub is_session : IsSessionOf basin policy (session_behind of_basin by_policy inputs was pass)
+    (basin_is : of_basin ≡ basin) (policy_is : by_policy ≡ policy) (same : ℕ) where
+  abbrev pub is_session : IsSessionOf basin policy (session_behind of_basin by_policy inputs was pass same)
   is_session = record {
     of_basin = basin_is;
     by_policy = policy_is;
@@ -70,9 +71,9 @@ none_replayed basin count = λ place kept there. absurd (none_there count place 
 
 pub starts : (basin : Draft) (policy : Accepted) (inputs : Inputs) (was : List (Option StepRecord)) (pass : Pass) → IsInputsOf basin inputs
     → IsPassOf basin policy pass → length was ≡ basin.control.stamps.count
-    → IsUnderWay basin (policy_in basin policy) inputs [] was pass basin.control.stamps.count → IsStarted basin policy inputs (session_behind basin policy inputs was pass)
+    → IsUnderWay basin (policy_in basin policy) inputs [] was pass basin.control.stamps.count → IsStarted basin policy inputs (session_behind basin policy inputs was pass 0)
 starts basin policy inputs was pass given made many way = record {
-  is = is_session basin policy inputs [] was pass given made many way basin policy refl refl;
+  is = is_session basin policy inputs [] was pass given made many way basin policy refl refl 0;
   inputs_are = refl;
   opened_steps = record {
     rising = way.rerun.rising;
@@ -81,6 +82,7 @@ starts basin policy inputs was pass given made many way = record {
       λ some. (way.rerun.those step).1 (some, λ reused. absurd (false≢true reused.closed)),
     );
   };
+  none_same = refl;
 }
 
 -- ---- and a later one
@@ -103,13 +105,15 @@ all_replayed basin policy log was are = λ place kept there.
 pub applies : (basin : Draft) (policy : Accepted) (batch : Batch) (inputs : Inputs) (old : Session) (pass : Pass) (session : IsSessionOf basin policy old)
     → value_at inputs ≡ after_batch batch (value_at old.inputs) → IsInputsOf basin inputs → IsPassOf basin policy pass
     → IsUnderWay basin (policy_in basin policy) inputs session.log old.kept pass basin.control.stamps.count
-    → Applies basin policy batch old (session_behind old.basin old.policy inputs old.kept pass)
-applies basin policy batch inputs old pass session values given made way = record {
-  is = is_session basin policy inputs session.log old.kept pass given made session.many way old.basin old.policy session.of_basin session.by_policy;
+    → (same : ℕ) → HoldAsBefore old (session_behind old.basin old.policy inputs old.kept pass same)
+    → Applies basin policy batch old (session_behind old.basin old.policy inputs old.kept pass same)
+applies basin policy batch inputs old pass session values given made way same before = record {
+  is = is_session basin policy inputs session.log old.kept pass given made session.many way old.basin old.policy session.of_basin session.by_policy same;
   values = values;
   rerun = λ earlier run'.
       subst (λ log. AreRerun basin log way.log (numbers_of_steps pass.reran.items))
       (one_run basin (policy_in basin policy) (givens basin old.inputs) session.log earlier session.whole run') way.rerun;
+  before_same = before;
 }
 
 -- the cells of each record rise

@@ -21,14 +21,14 @@ use Rattle.rw_engine.specs.Shows.{CanReplay, Shows}
 use Rattle.rpl_verify.specs.Verified.{Accepted, verified}
 use Rattle.rw_rules.specs.Rules.{policy_in}
 use Rattle.rw_rerun.specs.Begun.{AreAlikeIn, HasTakenOver, TakesOver}
-use Rattle.rw_rerun.specs.Edited.{AreEdited, BecomesSpare, HasComeBehind, LeavesFirst, TakesFirst}
+use Rattle.rw_rerun.specs.Edited.{AreEdited, BecomesSpare, HasComeBehind, LeavesFirst, TakesFirst, is_edited}
 use Rattle.rw_rerun.specs.Kept.{AreKept, AreStepLinks, IsLinkOf}
 use Rattle.rw_rerun.specs.Session.{IsSessionOf, Session}
 use Rattle.rw_rerun.specs.Spare.{AreKeptFrom, BringsTo, GivesAll, IsSpare, StandsIn}
 use Rattle.rw_rerun.specs.Touched.{CountsUntouched, is_untouched}
 use Rattle.rw_rerun.specs.declared.spare.Spare.{Spare}
 use Rattle.rw_rerun.proofs.Beginning.{takes_over}
-use Rattle.rw_rerun.proofs.Edited.{AreUntouched, given_alike, given_anew, is_edited, not_given, untouched_first}
+use Rattle.rw_rerun.proofs.Edited.{AreUntouched, given_alike, given_anew, not_given, untouched_first}
 use Rattle.rw_rerun.proofs.Showing.{placed_shown}
 use Rattle.rw_rerun.proofs.Standing.{told_by, unmoved_in}
 
@@ -178,6 +178,7 @@ module _ (basin : Draft) (policy : Policy) (old new : Inputs) (batch : Batch) (c
       log = over.log;
       taken = subst (λ ks. HasTakenOver basin policy new earlier ks over.log behind) (sym are.are)
           (subst (HasTakenOver basin policy new earlier those over.log) are.many over.taken);
+      alike = λ cell apart. over.alike cell (given_alike basin batch old new cells old_made values edited cell apart);
       shows = λ before after showed gives. shown_given before after showed gives;
     }
 

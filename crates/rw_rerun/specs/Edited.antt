@@ -1,5 +1,5 @@
 -- The cells of a batch, and the timesteps that it doesn't touch.
-use Rattle.std.specs.Prelude.{◌≡◌, IsFalse, List, [], Contains, Option, IsSome, ℕ, ◌+◌, ◌-◌, length, map, take}
+use Rattle.std.specs.Prelude.{◌≡◌, Bool, IsFalse, List, [], Contains, Option, IsSome, ℕ, ◌+◌, ◌-◌, length, map, take}
 use Rattle.std.specs.List.{All, list_any, range_with_len}
 use Rattle.rw_base.specs.declared.number.Cell.{Cell}
 use Rattle.rw_model.specs.Draft.{Draft}
@@ -7,9 +7,9 @@ use Rattle.rw_inputs.specs.Edits.{Batch, after_batch}
 use Rattle.rw_inputs.specs.Givens.{givens}
 use Rattle.rw_inputs.specs.Inputs.{Inputs, IsInputsOf, kept_slot, value_at}
 use Rattle.rw_inputs.specs.declared.edit.Edit.{Edit}
-use Rattle.rw_series.specs.Series.{IsCell}
+use Rattle.rw_series.specs.Series.{IsCell, is_shared}
 use Rattle.rw_run.specs.Dispatch.{cell_at}
-use Rattle.rw_run.specs.Log.{Log}
+use Rattle.rw_run.specs.Log.{Log, cells_of}
 use Rattle.rw_run.specs.Next.{Policy}
 use Rattle.rw_run.specs.Runs.{placed}
 use Rattle.rw_run.specs.Step.{is_same_cell}
@@ -28,6 +28,10 @@ use Rattle.rw_rerun.specs.declared.spare.Spare.{Spare}
 abbrev pub cells_named : Draft → Edit → List Cell
 cells_named basin edit = map (cell_at (kept_slot basin edit.slot)) (range_with_len edit.first (edit.last - edit.first + 1))
 
+-- the cell shares its value with one of these
+abbrev pub is_edited : Draft → List Cell → Cell → Bool
+is_edited basin cells cell = list_any (λ edited. is_shared basin edited cell) cells
+
 -- these are cells at which inputs are kept, and no input changes elsewhere
 pub record AreEdited (basin : Draft) (batch : Batch) (cells : List Cell) : Type 0 where
   pub known : All (IsCell basin) cells
@@ -35,11 +39,12 @@ pub record AreEdited (basin : Draft) (batch : Batch) (cells : List Cell) : Type 
   pub same : (inputs : Inputs) (cell : Cell) → IsInputsOf basin inputs → IsFalse (list_any (is_same_cell cell) cells)
       → after_batch batch (value_at inputs) cell.slot.0 cell.step.0 ≡ value_at inputs cell.slot.0 cell.step.0
 
--- the run of these inputs takes so many first timesteps over, and an engine that shows how they ended in the earlier run shows how
--- they end in this one, once the cells are given
+-- the run of these inputs takes so many first timesteps over: cells that aren't given anew hold there what they held in the earlier
+-- run, and an engine that shows how they ended in that one shows how they end in this one, once the cells are given
 pub record TakesFirst (basin : Draft) (policy : Policy) (inputs : Inputs) (cells : List Cell) (earlier end : Log) (was : List (Option StepRecord)) (behind : ℕ) : Type 0 where
   pub log : Log
   pub taken : HasTakenOver basin policy inputs earlier (take behind was) log behind
+  pub alike : (cell : Cell) → IsFalse (is_edited basin cells cell) → cells_of basin end cell ≡ cells_of basin log cell
   pub shows : (old new : Engine) → Shows basin old end → GivesAll basin inputs cells old new → Shows basin new log
 
 -- ---- a spare engine behind a batch

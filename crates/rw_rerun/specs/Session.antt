@@ -1,11 +1,13 @@
 -- A session: the run of some inputs, and its timesteps as they are kept.
-use Rattle.std.specs.Prelude.{◌≡◌, ◌≤◌, ◌+◌, ℕ, List, [], map, length, IfOk, IsSome, Option, Result}
+use Rattle.std.specs.Prelude.{◌≡◌, ◌≤◌, ◌<◌, ◌+◌, ℕ, List, [], map, length, IfOk, IsSome, Option, Result}
 use Rattle.rw_base.specs.declared.memory.NoMemory.{NoMemory}
+use Rattle.rw_base.specs.declared.number.Cell.{Cell}
 use Rattle.rw_base.specs.declared.number.StepNo.{StepNo}
 use Rattle.rw_model.specs.Draft.{Draft}
 use Rattle.rw_inputs.specs.Edits.{Batch, after_batch}
 use Rattle.rw_inputs.specs.Givens.{givens}
 use Rattle.rw_inputs.specs.Inputs.{Inputs, IsInputsOf, value_at}
+use Rattle.rw_series.specs.Series.{held}
 use Rattle.rw_run.specs.Log.{Log}
 use Rattle.rw_run.specs.Reuse.{AreOpened, AreRerun}
 use Rattle.rw_run.specs.Runs.{IsRun, placed}
@@ -16,7 +18,8 @@ use Rattle.rpl_verify.specs.Verified.{Accepted}
 use Rattle.rw_rules.specs.Rules.{policy_in}
 use Rattle.rw_rerun.specs.Kept.{AreKept, AreStepLinks}
 
--- what it is a session of, its inputs, the engine of their run, what is kept of each timestep, and the timesteps that its last run ran
+-- what it is a session of, its inputs, the engine of their run, what is kept of each timestep, the timesteps that its last run ran, and
+-- the timestep before which all cells hold what they held in the run before
 pub record Session : Type 0 where
   pub basin : Draft
   pub policy : Accepted
@@ -24,6 +27,7 @@ pub record Session : Type 0 where
   pub engine : Engine
   pub kept : List (Option StepRecord)
   pub reran : List StepNo
+  pub same : ℕ
 
 abbrev pub numbers_of_steps : List StepNo → List ℕ
 numbers_of_steps steps = map (λ (step : StepNo). step.0) steps
@@ -47,6 +51,11 @@ pub record IsStarted (basin : Draft) (policy : Accepted) (inputs : Inputs) (sess
   pub is : IsSessionOf basin policy session
   pub inputs_are : session.inputs ≡ inputs
   pub opened_steps : AreOpened is.log (numbers_of_steps session.reran)
+  pub none_same : session.same ≡ 0
+
+-- all cells at timesteps before this one hold what they held in the run before
+abbrev pub HoldAsBefore : Session → Session → Type 0
+HoldAsBefore old new = (cell : Cell) → cell.step.0 < new.same → held new.engine.series cell ≡ held old.engine.series cell
 
 -- a batch of edits was applied: the timesteps were run that aren't as they were in the run before
 pub record Applies (basin : Draft) (policy : Accepted) (batch : Batch) (old new : Session) : Type 0 where
@@ -54,6 +63,7 @@ pub record Applies (basin : Draft) (policy : Accepted) (batch : Batch) (old new 
   pub values : value_at new.inputs ≡ after_batch batch (value_at old.inputs)
   pub rerun : (earlier : Log) → IsRun basin (policy_in basin policy) (givens basin old.inputs) earlier
       → AreRerun basin earlier is.log (numbers_of_steps new.reran)
+  pub before_same : HoldAsBefore old new
 
 -- a call counts the timesteps that it runs, and at most all where memory wants
 pub record CountsRuns {A : Type 0} (basin : Draft) (before after : ℕ) (result : Result A NoMemory) (reran : A → List StepNo) : Type 0 where

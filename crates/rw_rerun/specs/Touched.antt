@@ -42,3 +42,27 @@ AreRisingIn was = (place : ℕ) (entry : Option StepRecord) → slice_get was pl
 pub record CountsUntouched (basin : Draft) (cells : List Cell) (was : List (Option StepRecord)) (count : ℕ) : Type 0 where
   pub few : count ≤ length was
   pub each : (place : ℕ) (entry : Option StepRecord) → place < count → slice_get was place ≡ Some entry → is_untouched basin cells entry ≡ true
+
+-- ---- timesteps from which on cells change
+
+-- none of these cells is at a timestep before this one
+abbrev pub AreFrom : ℕ → List Cell → Type 0
+AreFrom step cells = (place : ℕ) (cell : Cell) → slice_get cells place ≡ Some cell → step ≤ cell.step.0
+
+-- a record holds no cell at a timestep before this one
+abbrev pub HoldFrom : ℕ → List Held → Type 0
+HoldFrom step looked = (place : ℕ) (one : Held) → slice_get looked place ≡ Some one → step ≤ one.cell.step.0
+
+-- so it is where a timestep is kept, and where it isn't there is none before
+abbrev pub IsFrom : ℕ → Option StepRecord → Type 0
+IsFrom step None = step ≡ 0
+IsFrom step (Some kept) = HoldFrom step kept.looked
+
+-- so from this place on
+abbrev pub AreKeptOf : ℕ → ℕ → List (Option StepRecord) → Type 0
+AreKeptOf step behind was = (place : ℕ) (entry : Option StepRecord) → behind ≤ place → slice_get was place ≡ Some entry → IsFrom step entry
+
+-- cells and what is kept from a place on reach no cell at a timestep before this one
+pub record ReachFrom (cells : List Cell) (was : List (Option StepRecord)) (behind step : ℕ) : Type 0 where
+  pub named : AreFrom step cells
+  pub kept : AreKeptOf step behind was

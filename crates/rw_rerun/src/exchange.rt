@@ -1,8 +1,10 @@
 // What is kept of timesteps, before a run and after it.
 ghost use Rattle.std.specs.Prelude.{◌≡◌, ℕ, IfOk, None, length, replicate};
 ghost use Rattle.rw_rerun.specs.Kept.{changed};
+ghost use Rattle.rw_rerun.specs.Touched.{ReachFrom};
 
-use rw_base::NoMemory;
+use crate::reach::{least_reached, lesser};
+use rw_base::{Cell, NoMemory};
 use rw_engine::StepRecord;
 use std::alloc::Global;
 
@@ -31,4 +33,22 @@ pub(crate) fn exchange(
             kept[place] = record;
         }
     }
+}
+
+/// Each change takes its place, and the answer is a timestep before which none of these cells is, nor one that is held by what is
+/// kept from this place on, before the changes or after them.
+pub(crate) fn exchange_for(
+    kept: &mut Vec<Option<StepRecord>>,
+    changes: Vec<Option<Option<StepRecord>>>,
+    cells: &[Cell],
+    behind: u16,
+) -> u16
+    requires { length changes.items ≡ length kept.old.items }
+    ensures kept { kept.new.items ≡ changed kept.old.items changes.items }
+    ensures before { ReachFrom cells.now kept.old.items behind result }
+    ensures after { ReachFrom cells.now kept.new.items behind result }
+{
+    let before = least_reached(cells, kept.as_slice(), behind);
+    exchange(kept, changes);
+    lesser(before, least_reached(cells, kept.as_slice(), behind))
 }

@@ -8,6 +8,7 @@ pub mod law;
 mod next;
 mod pass;
 mod passing;
+mod reach;
 mod session;
 mod setup;
 mod spare;

@@ -102,4 +102,11 @@ impl<'a> Session<'a> {
     {
         self.state.reran()
     }
+
+    /// The timestep before which all cells hold what they held in the run before, which is 0 where there was none.
+    pub fn same(&self) -> u16
+        ensures { result ≡ self.now.state.same }
+    {
+        self.state.same()
+    }
 }

@@ -10,16 +10,18 @@ ghost use Rattle.rw_series.specs.Series.{IsCell};
 ghost use Rattle.rw_rerun.specs.Kept.{changed};
 ghost use Rattle.rw_rerun.specs.Next.{IsNext, PassesNext};
 ghost use Rattle.rw_rerun.specs.Spare.{AreKeptFrom};
-ghost use Rattle.rw_rerun.specs.Session.{Applies, CountsRuns, IsSessionOf, IsStarted};
+ghost use Rattle.rw_rerun.specs.Session.{Applies, CountsRuns, HoldAsBefore, IsSessionOf, IsStarted};
 
-use crate::exchange::{exchange, nothing_kept};
+use crate::exchange::{exchange, exchange_for, nothing_kept};
 use crate::next::pass_behind;
 use crate::pass::Pass;
 use crate::passing::pass_all;
 use crate::setup::Setup;
 use crate::spare::{Spare, found_or_fresh, spare_of};
 use crate::touched::{edited, left};
+use rpl_policy::law::code_keeps_promises;
 use rpl_verify::Verified;
+use rpl_verify::law::answered_code_is_safe;
 use rw_base::{Cell, Ledger, NoMemory, StepNo, Steps};
 use rw_engine::{Engine, Run, StepRecord};
 use rw_inputs::{Batch, Inputs, apply};
@@ -28,8 +30,9 @@ use std::alloc::Global;
 use std::marker::Model;
 use std::mem::replace;
 
-/// How far a session has come: its inputs, the engine of their run, what is kept of each timestep, and which timesteps were run
-/// last. Beside that it has an engine from which its next run begins, unless none is made yet.
+/// How far a session has come: its inputs, the engine of their run, what is kept of each timestep, which timesteps were run last, and
+/// before which one all cells hold what they held in the run before. Beside that it has an engine from which its next run begins,
+/// unless none is made yet.
 #[derive(Drop)]
 pub struct State<'a> {
     pub(crate) basin: &'a Basin,
@@ -38,6 +41,7 @@ pub struct State<'a> {
     pub(crate) engine: Engine,
     pub(crate) kept: Vec<Option<StepRecord>>,
     pub(crate) reran: Vec<StepNo>,
+    pub(crate) same: u16,
     pub(crate) spare: Option<Spare>,
 }
 
@@ -55,6 +59,7 @@ impl<'a> Model for State<'a> {
       engine = s.engine;
       kept = s.kept.items;
       reran = s.reran.items;
+      same = s.same;
     } };
 
     ghost invariant = { λ s. MayBeSpare (record {
@@ -64,6 +69,7 @@ impl<'a> Model for State<'a> {
       engine = s.engine;
       kept = s.kept.items;
       reran = s.reran.items;
+      same = s.same;
     }) s.spare };
 }
 
@@ -100,6 +106,7 @@ impl<'a> State<'a> {
             engine,
             kept,
             reran,
+            same: 0,
             spare: None,
         })
     }
@@ -143,15 +150,19 @@ impl<'a> State<'a> {
     )
         requires { IsNext setup.now.basin.now setup.now.policy.now self.old inputs cells.now behind
             pass }
-        ensures { self.new ≡ record {
+        ensures is { self.new ≡ record {
           basin = self.old.basin;
           policy = self.old.policy;
           inputs = inputs;
           engine = pass.engine;
           kept = changed self.old.kept pass.changes.items;
           reran = pass.reran.items;
+          same = self.new.same;
         } }
+        ensures same { HoldAsBefore self.old self.new }
     {
+        answered_code_is_safe();
+        code_keeps_promises();
         let Pass {
             engine,
             reran,
@@ -160,7 +171,7 @@ impl<'a> State<'a> {
         } = pass;
         let was = replace(&mut self.engine, engine);
         self.spare = spare_of(was, setup.basin, &self.kept, &inputs, cells, behind);
-        exchange(&mut self.kept, changes);
+        self.same = exchange_for(&mut self.kept, changes, cells, behind);
         self.inputs = inputs;
         self.reran = reran;
     }
@@ -206,5 +217,12 @@ impl<'a> State<'a> {
         ensures { result.now ≡ self.now.reran }
     {
         self.reran.as_slice()
+    }
+
+    // The timestep before which all cells hold what they held in the run before.
+    pub(crate) fn same(&self) -> u16
+        ensures { result ≡ self.now.same }
+    {
+        self.same
     }
 }

@@ -16,6 +16,7 @@ pub mod FilesRead
 pub mod RulesText
 pub mod SectionLemmas
 pub mod SessionSections
+pub mod SameValues
 pub mod FewBatches
 pub mod WhyText
 pub mod SampleText

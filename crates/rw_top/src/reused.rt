@@ -6,7 +6,9 @@ ghost use Rattle.rw_inputs.specs.Edits.{IsBatch};
 ghost use Rattle.rw_inputs.specs.Inputs.{IsInputsOf};
 ghost use Rattle.rw_io.specs.Outside.{change};
 ghost use Rattle.rw_method.specs.Catalogue.{AreInOrder};
+ghost use Rattle.rw_report.specs.Sheet.{AreToldBefore, AreToldOf};
 ghost use Rattle.rw_rerun.specs.Session.{IsSessionOf};
+ghost use Rattle.rw_series.specs.Series.{held};
 ghost use Rattle.rw_top.specs.Policy.{PolicyFile as Rules};
 ghost use Rattle.rw_top.specs.Ready.{IsFit};
 ghost use Rattle.rw_top.specs.Reused.{IsNextSection, WritesFrom, told_of};
@@ -53,17 +55,22 @@ fn tell_run(
         session.now.setup.policy.now session.now.state }
     requires reuse { extras.reuse ≡ true }
     requires sheet { sheet.old.basin ≡ session.now.setup.basin.now }
+    requires same { AreToldBefore session.now.setup.basin.now
+        (held session.now.state.engine.series) session.now.state.same sheet.old.values }
     ensures text { (policy : Rules) (given : GivenInputs)
         → IsCodeOf session.now.setup.basin.now policy session.now.setup.policy.now
         → IsNextSection session.now.setup.basin.now policy number given session.now.state
         → IfOk result (λ end. IsRulesText session.now.setup.basin.now policy extras
         number given end sheet.new.text) }
     ensures sheet { sheet.new.basin ≡ sheet.old.basin }
+    ensures values { IfOk result (λ end. AreToldOf session.now.setup.basin.now
+        (held session.now.state.engine.series) sheet.new.values) }
 {
     texts_of_runs();
     let run = session.run();
     let reran = told(session, number);
-    sheet.tell(number, run, reran, extras.flags, extras.trace)?;
+    let same = session.same();
+    sheet.tell(number, run, reran, extras.flags, extras.trace, same)?;
     Ok(run.end)
 }
 
@@ -79,6 +86,8 @@ fn write_run<K: Sink>(
         session.now.setup.policy.now session.now.state }
     requires reuse { extras.reuse ≡ true }
     requires sheet { sheet.old.basin ≡ session.now.setup.basin.now }
+    requires same { AreToldBefore session.now.setup.basin.now
+        (held session.now.state.engine.series) session.now.state.same sheet.old.values }
     ensures out { (policy : Rules) (given : GivenInputs)
         → IsCodeOf session.now.setup.basin.now policy session.now.setup.policy.now
         → IsNextSection session.now.setup.basin.now policy number given session.now.state
@@ -88,6 +97,8 @@ fn write_run<K: Sink>(
         (StopsAtOne (IsRulesText session.now.setup.basin.now policy extras)
         number given (change (K.seen out.old) (K.seen out.new))) }
     ensures sheet { sheet.new.basin ≡ sheet.old.basin }
+    ensures values { IfOk result (λ end. AreToldOf session.now.setup.basin.now
+        (held session.now.state.engine.series) sheet.new.values) }
 {
     let end = match tell_run(session, extras, number, sheet) {
         Ok(end) => end,
@@ -117,6 +128,8 @@ fn write_from<K: Sink, L: Ledger>(
     requires few { number + length batches.now ≤ 64 }
     requires reuse { extras.reuse ≡ true }
     requires sheet { sheet.old.basin ≡ session.old.setup.basin.now }
+    requires same { AreToldBefore session.old.setup.basin.now
+        (held session.old.state.engine.series) session.old.state.same sheet.old.values }
     ensures { (policy : Rules) (given : GivenInputs)
         → IsCodeOf session.old.setup.basin.now policy session.old.setup.policy.now
         → IsNextSection session.old.setup.basin.now policy number given session.old.state

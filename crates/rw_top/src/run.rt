@@ -159,6 +159,6 @@ pub(crate) fn tell_by_policy<L: Ledger>(
 {
     texts_of_runs();
     let run = run_by_policy(alloc, setup, policy, extras.trace, inputs, steps)?;
-    sheet.tell(number, &run, None, extras.flags, extras.trace)?;
+    sheet.tell(number, &run, None, extras.flags, extras.trace, 0)?;
     Ok(run.end)
 }

@@ -5,11 +5,14 @@ use Rattle.rw_report.specs.Sheet.{line_of}
 use Rattle.rw_report.proofs.Telling.{row_told}
 use Rattle.rw_report.proofs.kept.is_current.Goals as goal
 
-pub returns : goal.returns
-returns c = λ alike.
+pub returns-clause-row : goal.returns-clause-row
+returns-clause-row c = λ alike.
     let basin = c.args.basin.now in
     let same = c.if-line-step.false in
     let first = c.requires.first in
     c.requires.told (omega (arith, same, first))
     ∙ ap₂ (λ step values. line_of basin step values) same (sym c.as_slice.ensures.value ∙ c.are_alike.ensures alike)
     ∙ row_told basin (values_in (held c.args.series.now)) c.args.step
+
+pub returns-clause-tells : goal.returns-clause-tells
+returns-clause-tells c = λ alike. record { step_is = c.if-line-step.false; values_are = sym c.as_slice.ensures.value ∙ c.are_alike.ensures alike }

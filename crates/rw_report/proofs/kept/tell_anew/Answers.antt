@@ -1,4 +1,4 @@
-use Rattle.std.proofs.Common.{ap, sym, ◌++◌, ◌∙◌}
+use Rattle.std.proofs.Common.{ap, refl, sym, ◌++◌, ◌∙◌}
 use Rattle.rw_series.specs.Series.{held}
 use Rattle.rw_report.specs.Section.{row, values_in}
 use Rattle.rw_report.specs.Sheet.{line_of}
@@ -14,3 +14,6 @@ returns-clause-told c = λ tells.
     ∙ ap (λ t. t ++ row basin values step) c.clear.ensures.bytes
     ∙ sym (row_told basin values step)
     ∙ ap (λ all. line_of basin step all) (sym c.in_ok-list.ensures)
+
+pub returns-clause-tells : goal.returns-clause-tells
+returns-clause-tells c = record { step_is = refl; values_are = c.in_ok-list.ensures }

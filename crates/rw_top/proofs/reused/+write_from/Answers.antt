@@ -3,6 +3,7 @@ use Rattle.rw_inputs.specs.Edits.{IsBatch}
 use Rattle.rw_top.specs.Reused.{WritesFrom}
 use Rattle.rw_top.specs.RunText.{IsRulesText}
 use Rattle.rw_top.specs.Sections.{edited_given}
+use Rattle.rw_top.proofs.SameValues.{next_told}
 use Rattle.rw_top.proofs.SectionLemmas.{first_of_all, rest_of, stops_behind, stops_here}
 use Rattle.rw_top.proofs.SessionSections.{later_next, later_number, values_from, writes_last, writes_more}
 use Rattle.rw_top.proofs.reused.+write_from.Goals as goal
@@ -38,9 +39,29 @@ write_from-requires g t c κs within =
     let shorter = ap length c.in-Some.ensures in
     let few = c.requires.few in
     let batches = rest_of (IsBatch c.args.session.now.setup.basin.now) c.args.batches.now c.in-Some.batch.now c.in-Some.rest.now c.in-Some.ensures c.requires.batches in
-    let kept = c.in-Ok-apply.ensures.kept.0 in (
+    let kept = c.in-Ok-apply.ensures.kept.0 in
+    let same = next_told c.args.session.now.setup.basin.now c.args.session.now.state c.apply.new.self.state c.write_run.new.sheet.values
+    c.in-Ok-apply.ensures.applied.before_same c.in-Ok.ensures.values in (
       omega (arith, c.decreases, shorter),
-      (within.0, (within.1, (rw kept c.in-Ok-apply.ensures.applied.is, (rw kept c.requires.order, (rw kept batches, (omega (arith, few, shorter), (c.requires.reuse, rw kept (c.in-Ok.ensures.sheet ∙ c.requires.sheet)))))))),
+      (
+        within.0,
+        (
+          within.1,
+          (
+            rw kept c.in-Ok-apply.ensures.applied.is,
+            (
+              rw kept c.requires.order,
+              (
+                rw kept batches,
+                (
+                  omega (arith, few, shorter),
+                  (c.requires.reuse, (rw kept (c.in-Ok.ensures.sheet ∙ c.requires.sheet), rw kept same)),
+                ),
+              ),
+            ),
+          ),
+        ),
+      ),
     )
 
 pub returns-in-Ok-apply : goal.returns-in-Ok-apply

@@ -1,10 +1,37 @@
+use Rattle.rw_top.proofs.Common.{subst, sym}
+use Rattle.rw_report.specs.Sheet.{AreToldBefore, AreToldOf}
+use Rattle.rw_series.specs.Series.{held}
 use Rattle.rw_top.proofs.RulesText.{of_basin}
+use Rattle.rw_top.proofs.SameValues.{run_cells, told_alike, told_before_alike}
 use Rattle.rw_top.proofs.SessionSections.{next_section}
 use Rattle.rw_top.proofs.reused.tell_run.Goals as goal
 
-pub tell-requires : goal.tell-requires
-tell-requires g c =
-    record { closed = rw c.requires.sheet (c.run-run.ensures.told c.args.session.now.setup.basin.now c.args.session.now.setup.policy.now c.requires.made).0 }
+pub tell-requires-clause-closed : goal.tell-requires-clause-closed
+tell-requires-clause-closed g c =
+    rw c.requires.sheet (c.run-run.ensures.told c.args.session.now.setup.basin.now c.args.session.now.setup.policy.now c.requires.made).0
+
+pub tell-requires-clause-same : goal.tell-requires-clause-same
+tell-requires-clause-same g c =
+    let basin = c.args.session.now.setup.basin.now in
+    let code = c.args.session.now.setup.policy.now in
+    let state = c.args.session.now.state in
+    let run = c.run-run.result.now in
+    let values = c.args.sheet.now.values in
+    let cells = run_cells basin code state run c.requires.made (c.run-run.ensures.run basin code c.requires.made) in
+    subst (λ same. AreToldBefore c.args.sheet.now.basin (held run.series) same values) (sym c.same-same.ensures)
+    (subst (λ own. AreToldBefore own (held run.series) state.same values) (sym c.requires.sheet)
+    (told_before_alike basin (held state.engine.series) (held run.series) state.same values (λ cell. sym (cells cell)) c.requires.same))
+
+pub returns-clause-values : goal.returns-clause-values
+returns-clause-values g c =
+    let basin = c.args.session.now.setup.basin.now in
+    let code = c.args.session.now.setup.policy.now in
+    let state = c.args.session.now.state in
+    let run = c.run-run.result.now in
+    let values = c.tell.new.self.values in
+    let cells = run_cells basin code state run c.requires.made (c.run-run.ensures.run basin code c.requires.made) in
+    told_alike basin (held run.series) (held state.engine.series) values cells
+    (subst (λ own. AreToldOf own (held run.series) values) c.requires.sheet c.in_ok-tell.ensures.values)
 
 pub returns-clause-text : goal.returns-clause-text
 returns-clause-text g c = λ policy given means next.

@@ -1,9 +1,12 @@
-use Rattle.rw_top.proofs.Common.{change, length, refl}
+use Rattle.rw_top.proofs.Common.{change, length, refl, subst, sym}
+use Rattle.rw_report.specs.Sheet.{AreToldBefore, Sheet}
+use Rattle.rw_series.specs.Series.{held}
 use Rattle.rw_top.specs.Policy.{PolicyFile as Rules}
 use Rattle.rw_top.specs.Reused.{WritesFrom}
 use Rattle.rw_top.specs.RunText.{IsCodeOf, IsRulesText}
 use Rattle.rw_top.specs.Sections.{first_given}
 use Rattle.rw_top.specs.declared.refusal.Refusal.TheVariants.{NoMemory}
+use Rattle.rw_top.proofs.SameValues.{none_told}
 use Rattle.rw_top.proofs.SectionLemmas.{stops_here}
 use Rattle.rw_top.proofs.SessionSections.{all_counted, first_next}
 use Rattle.rw_top.proofs.reused.write_by_code.Goals as goal
@@ -32,3 +35,10 @@ returns-clause-counted g c = λ policy means.
     rw setup at (c.write_from.ensures policy (first_given c.args.inputs) (rw setup means) (rw setup next)) in
     all_counted c.args.setup.now.basin.now policy c.args.inputs c.args.batches.now (length c.in-Ok.session.state.reran) c.args.steps.now c.start.new.steps
     c.write_from.new.steps c.write_from.result c.in-Ok.ensures.counted.each writes.counted
+
+pub write_from-requires-clause-same : goal.write_from-requires-clause-same
+write_from-requires-clause-same g c =
+    let basin = c.in-Ok.session.setup.basin.now in
+    let cells = held c.in-Ok.session.state.engine.series in
+    let same = c.in-Ok.session.state.same in
+    subst (λ (sheet : Sheet). AreToldBefore basin cells same sheet.values) (sym c.new-sheet.ensures) (none_told basin cells same)

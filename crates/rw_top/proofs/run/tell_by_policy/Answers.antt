@@ -1,11 +1,14 @@
 use Rattle.rw_top.proofs.RulesText.{of_basin, section_by, untold}
 use Rattle.rw_top.specs.RunText.{policy_in_run}
 use Rattle.rw_top.specs.Seen.{policy_of}
-use Rattle.rw_base.proofs.Common.{None}
+use Rattle.rw_base.proofs.Common.{None, arith}
 use Rattle.rw_top.proofs.run.tell_by_policy.Goals as goal
 
-pub tell-requires : goal.tell-requires
-tell-requires g c = record { closed = rw c.requires.sheet c.in_ok-run.ensures.closed }
+pub tell-requires-clause-closed : goal.tell-requires-clause-closed
+tell-requires-clause-closed g c = rw c.requires.sheet c.in_ok-run.ensures.closed
+
+pub tell-requires-clause-same : goal.tell-requires-clause-same
+tell-requires-clause-same g c = λ before values near there. absurd (omega (arith, near))
 
 pub returns-clause-text : goal.returns-clause-text
 returns-clause-text g c = λ before.

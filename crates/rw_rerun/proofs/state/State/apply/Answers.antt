@@ -57,4 +57,4 @@ returns-clause-applied g c =
     c.in_ok-inputs.ensures.made c.in_ok-cells.ensures (sym c.deref-3.ensures.value) lent
     (subst (λ (cells : List Cell). CountsUntouched basin cells c.deref.result.now behind) (c.deref-2.ensures.value ∙ sym c.deref-3.ensures.value) c.left-behind.ensures) in
     applies_next basin policy c.args.self.now c.pass_next.new.self _ c.args.batch.now inputs c.deref-3.result.now behind c.in_ok-pass.pass _ _
-    c.in_ok-pass.ensures.passes leaves c.in_ok-pass.ensures.same c.give_way.ensures
+    c.in_ok-pass.ensures.passes leaves c.in_ok-pass.ensures.same c.give_way.ensures.is c.give_way.ensures.same

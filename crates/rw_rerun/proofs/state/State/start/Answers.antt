@@ -39,6 +39,6 @@ returns-clause-started g c =
     subst (λ (ks : List (Option StepRecord)). IsUnderWay basin policy c.args.inputs [] ks pass basin.control.stamps.count) c.deref.ensures.value
     (c.in_ok-pass.ensures.goes [] none) in
     subst (λ (ks : List (Option StepRecord)). IsStarted basin c.args.setup.now.policy.now c.args.inputs
-    (record { basin = basin; policy = c.args.setup.now.policy.now; inputs = c.args.inputs; engine = pass.engine; kept = ks; reran = pass.reran.items }))
+    (record { basin = basin; policy = c.args.setup.now.policy.now; inputs = c.args.inputs; engine = pass.engine; kept = ks; reran = pass.reran.items; same = 0 }))
     (sym c.exchange.ensures)
     (starts basin c.args.setup.now.policy.now c.args.inputs c.in_ok-kept.kept.items pass c.requires.inputs c.in_ok-pass.ensures.made many way)

@@ -1,0 +1,64 @@
+// From which timestep on cells are reached.
+ghost use Rattle.std.specs.Prelude.{◌≤◌};
+ghost use Rattle.rw_rerun.specs.Touched.{AreFrom, AreKeptOf, HoldFrom, IsFrom, ReachFrom};
+
+use rw_base::Cell;
+use rw_engine::{Held, StepRecord};
+
+/// The lesser of two timesteps.
+#[inline(always)]
+pub(crate) fn lesser(one: u16, other: u16) -> u16
+    ensures { (result ≤ one) × (result ≤ other) }
+{
+    if one < other { one } else { other }
+}
+
+// The least timestep at which one of these cells is.
+fn least_named(cells: &[Cell]) -> u16
+    ensures { AreFrom result cells.now }
+{
+    let mut least = u16::MAX;
+    for cell in cells {
+        least = lesser(least, cell.step.0);
+    }
+    least
+}
+
+// The least timestep at which a record holds a cell.
+fn least_held(looked: &[Held]) -> u16
+    ensures { HoldFrom result looked.now }
+{
+    let mut least = u16::MAX;
+    for one in looked {
+        least = lesser(least, one.cell.step.0);
+    }
+    least
+}
+
+// So of a timestep as it is kept, which is 0 where it isn't.
+fn least_in(entry: &Option<StepRecord>) -> u16
+    ensures { IsFrom result entry.now }
+{
+    match entry {
+        None => 0,
+        Some(kept) => least_held(kept.looked()),
+    }
+}
+
+// So of all that is kept from this place on.
+fn least_kept(kept: &[Option<StepRecord>], behind: u16) -> u16
+    ensures { AreKeptOf result behind kept.now }
+{
+    let mut least = u16::MAX;
+    for place in usize::from(behind)..kept.len() {
+        least = lesser(least, least_in(&kept[place]));
+    }
+    least
+}
+
+/// A timestep before which none of these cells is, nor one that is held by what is kept from this place on.
+pub(crate) fn least_reached(cells: &[Cell], kept: &[Option<StepRecord>], behind: u16) -> u16
+    ensures { ReachFrom cells.now kept.now behind result }
+{
+    lesser(least_named(cells), least_kept(kept, behind))
+}
