@@ -60,7 +60,8 @@ fn push_slot(text: &mut String, object: &Name, slot: &Name) -> Result<(), NoMemo
 
 fn push_put(text: &mut String, object: &Name, slot: &Name, ahead: u8) -> Result<(), NoMemory>
     ensures { OnOk result (string_bytes text.new
-        ≡ string_bytes text.old ++ each_after 32 (slot_text object.now slot.now ∷ decimal ahead ∷ [])) }
+        ≡ string_bytes text.old
+        ++ each_after 32 (slot_text object.now slot.now ∷ decimal ahead ∷ [])) }
 {
     push_slot(text, object, slot)?;
     push_number(text, u32::from(ahead))

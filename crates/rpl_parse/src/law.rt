@@ -76,7 +76,8 @@ pub fn worked_rules()
 /// Declarations are cut behind the first word that ends one; what is left is one, too.
 #[tactic(auto, unfolding(crate::specs::Scan::scan))]
 pub fn worked_pieces()
-    ensures two { pieces (lined (mark Mark.EndRule) 1 ∷ lined (mark Mark.Rule) 2 ∷ lined (mark Mark.Is) 3 ∷ [])
+    ensures two { pieces
+        (lined (mark Mark.EndRule) 1 ∷ lined (mark Mark.Rule) 2 ∷ lined (mark Mark.Is) 3 ∷ [])
         ≡ piece (mark Mark.EndRule ∷ []) 1 ∷ piece (mark Mark.Rule ∷ mark Mark.Is ∷ []) 2 ∷ [] }
     ensures none { IsReading [] (Ok []) }
     ensures bad { IsReading (codes "RULE @ 0") (Err (bad_token 1)) }

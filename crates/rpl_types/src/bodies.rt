@@ -24,7 +24,8 @@ pub fn body_types<'a>(
     body: &'a Expr,
 ) -> Result<(RplType, Vec<Option<RplType>>), Stop>
     ensures { Answers Stop.NoMemory stop_refusal (λ pair. (pair.0, pair.1.items)) result
-        (own_and_nodes (types_of known.now.basin.now (callable_in known.now) scope.entry 1 (tree_of body.now))) }
+        (own_and_nodes
+        (types_of known.now.basin.now (callable_in known.now) scope.entry 1 (tree_of body.now))) }
 {
     let types = Vec::new(known.alloc);
     let mut progress = Progress { scope, types };

@@ -195,7 +195,8 @@ fn is_later(later: &[Declaration], name: &[u8]) -> bool
 }
 
 fn is_called(declaration: &Declaration, name: &[u8]) -> bool
-    ensures { result ≡ list_any (bytes_eq name.now) (function_names (declared_of declaration.now ∷ [])) }
+    ensures { result
+        ≡ list_any (bytes_eq name.now) (function_names (declared_of declaration.now ∷ [])) }
 {
     match declaration {
         Declaration::Function { name: called, .. } => is_same_name(name, called),

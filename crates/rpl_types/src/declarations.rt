@@ -50,7 +50,8 @@ fn function_types(
 ) -> Result<NodeTypes, Stop>
     ensures { Answers Stop.NoMemory stop_refusal (λ types. types.items) result
         (declared_types known.now.basin.now (callable_in known.now)
-        (function name.now (map parameter_of params.now) (type_of answers.now) (tree_of body.now))) }
+        (function name.now (map parameter_of params.now) (type_of answers.now)
+        (tree_of body.now))) }
 {
     if let Some(kind) = head_refusal(known.alloc, known.earlier, name, params, answers)? {
         return Err(Stop::Refused { kind, node: 0 });

@@ -21,7 +21,8 @@ use std::alloc::Global;
 
 /// The room of a list, where there may be so much.
 fn room(m: i64) -> Option<u16>
-    ensures { result ≡ (if int_le (pos 1) m && int_le m (pos longest) then Some (unsigned_abs m) else None) }
+    ensures { result
+        ≡ (if int_le (pos 1) m && int_le m (pos longest) then Some (unsigned_abs m) else None) }
 {
     if 1 <= m && m <= 4096 {
         Some(m.unsigned_abs() as u16)

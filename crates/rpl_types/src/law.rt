@@ -30,13 +30,16 @@ pub fn accepted()
 pub fn storage_and_inflow()
     ensures flow { added_to_storage inflow_now ≡ refused WrongUnit 1 2 }
     ensures volume { added_to_storage (two Times inflow_now (of_unit (pos 1) (codes "step")))
-        ≡ accepted (None ∷ a_volume ∷ look_types volume ++ (a_volume ∷ look_types flow_unit) ++ a_step ∷ []) }
+        ≡ accepted
+        (None ∷ a_volume ∷ look_types volume ++ (a_volume ∷ look_types flow_unit) ++ a_step ∷ []) }
 {}
 
 /// A release of 1 without a unit is none, a level is no slot of a dam, and nothing is called Twice.
 pub fn first_mistakes()
-    ensures unit { judged_put (codes "Dam") (codes "Outflow") (whole (pos 1)) ≡ refused WrongUnit 1 1 }
-    ensures slot { judged_put (codes "Dam") (codes "Level") (whole (pos 1)) ≡ refused UnknownSlot 1 1 }
+    ensures unit { judged_put (codes "Dam") (codes "Outflow") (whole (pos 1))
+        ≡ refused WrongUnit 1 1 }
+    ensures slot { judged_put (codes "Dam") (codes "Level") (whole (pos 1))
+        ≡ refused UnknownSlot 1 1 }
     ensures name { judged_put (codes "Dam") (codes "Outflow") twice_call ≡ refused UnknownName 1 2 }
     ensures none { judged worked_basin [] ≡ Ok [] }
 {}
@@ -47,7 +50,8 @@ pub fn accepted_rules()
     ensures cap_and_base { judged worked_basin cap_and_base
         ≡ Ok ((None ∷ a_volume ∷ look_types volume ++ a_volume ∷ []) ∷ (None ∷ a_flow ∷ []) ∷ []) }
     ensures ahead { type_at (judged_types dam_and_flow sum_ahead) 1 1 ≡ a_flow }
-    ensures pair { type_at (judged_types dam_and_flow sum_ahead) 2 3 ≡ Some (NumericList 2 timestep) }
+    ensures pair { type_at (judged_types dam_and_flow sum_ahead) 2 3
+        ≡ Some (NumericList 2 timestep) }
     ensures argument { type_at (judged_types dam_and_flow sum_ahead) 2 10 ≡ a_step }
     ensures statement { type_at (judged_types dam_and_flow sum_ahead) 2 1 ≡ None }
     ensures too_early { judged dam_and_flow sum_too_early ≡ refused NotEarlier 1 9 }
@@ -59,13 +63,16 @@ pub fn unknown_names()
     ensures function { judged_x twice_call ≡ refused UnknownName 1 2 }
     ensures object { judged_x (convert StorageToElevation (codes "Lake") pool_storage)
         ≡ refused UnknownName 1 2 }
-    ensures behind { judged_acts (with_name (codes "n") (whole (pos 1)) one_to_x ∷ x_put n_name ∷ [])
+    ensures behind { judged_acts
+        (with_name (codes "n") (whole (pos 1)) one_to_x ∷ x_put n_name ∷ [])
         ≡ refused UnknownName 1 6 }
     ensures own { judged_x (bind (codes "n") n_name (whole (pos 1))) ≡ refused UnknownName 1 3 }
     ensures slot { judged_x (at_now (codes "Dam") (codes "Level")) ≡ refused UnknownSlot 1 3 }
-    ensures no_object { judged_x (at_now (codes "Lake") (codes "Storage")) ≡ refused UnknownSlot 1 3 }
+    ensures no_object { judged_x (at_now (codes "Lake") (codes "Storage"))
+        ≡ refused UnknownSlot 1 3 }
     ensures unit { judged_x (of_unit (pos 1) (codes "m3/s")) ≡ refused UnknownUnit 1 2 }
-    ensures table { judged_x (convert ElevationToStorage (codes "Dam") (of_unit (pos 5) (codes "m")))
+    ensures table { judged_x
+        (convert ElevationToStorage (codes "Dam") (of_unit (pos 5) (codes "m")))
         ≡ refused NoTable 1 2 }
     ensures range { judged_x (of_unit (pos 200000000000) (codes "Mm3")) ≡ refused LiteralRange 1 2 }
 {}
@@ -73,13 +80,15 @@ pub fn unknown_names()
 /// Slots that can't be set, or not at another timestep. The value is judged first, and then the target: the slot, whether
 /// it can be set, the timestep, and at last the value's type.
 pub fn targets()
-    ensures derived { judged_put (codes "Canal") (codes "Seepage") (of_unit (pos 1) (codes "m3/step"))
+    ensures derived { judged_put (codes "Canal") (codes "Seepage")
+        (of_unit (pos 1) (codes "m3/step"))
         ≡ refused NotSettable 1 1 }
     ensures later { judged_acts (assign (codes "D") (codes "X") (pos 1) (whole (pos 1)) ∷ [])
         ≡ refused TargetStep 1 1 }
     ensures thirty { judged_ahead 30 (pos 30) ≡ accepted (None ∷ a_count ∷ []) }
     ensures too_far { judged_ahead 30 (pos 31) ≡ refused TargetStep 1 1 }
-    ensures value_first { judged_put (codes "Dam") (codes "Level") n_name ≡ refused UnknownName 1 2 }
+    ensures value_first { judged_put (codes "Dam") (codes "Level") n_name
+        ≡ refused UnknownName 1 2 }
     ensures slot_first { judged_acts (assign (codes "Dam") (codes "Level") (pos 1) now ∷ [])
         ≡ refused UnknownSlot 1 1 }
     ensures derived_first { judged_acts (assign (codes "Canal") (codes "Seepage") (pos 1) now ∷ [])
@@ -99,43 +108,62 @@ pub fn operators()
     ensures dates { judged_x (two Divide (two Less_by now now) (of_unit (pos 1) (codes "step")))
         ≡ accepted (None ∷ a_count ∷ a_step ∷ Some Datetime ∷ Some Datetime ∷ a_step ∷ []) }
     ensures exponent { judged_x (two Times (two Times cubed cubed) metre) ≡ refused WrongUnit 1 2 }
-    ensures known { judged_x (choice (one Known (at_now (codes "D") (codes "Y"))) (whole (pos 1)) (whole (pos 2)))
-        ≡ accepted (None ∷ a_count ∷ Some Boolean ∷ look_types plain_number ++ a_count ∷ a_count ∷ []) }
-    ensures bracketed { judged_x (one Known (brackets (at_now (codes "D") (codes "Y")))) ≡ refused WrongType 1 2 }
+    ensures known { judged_x
+        (choice (one Known (at_now (codes "D") (codes "Y"))) (whole (pos 1)) (whole (pos 2)))
+        ≡ accepted
+        (None ∷ a_count ∷ Some Boolean ∷ look_types plain_number ++ a_count ∷ a_count ∷ []) }
+    ensures bracketed { judged_x (one Known (brackets (at_now (codes "D") (codes "Y"))))
+        ≡ refused WrongType 1 2 }
     ensures month { judged_x (one Month (whole (pos 1))) ≡ refused WrongType 1 2 }
-    ensures converted { judged_x (two Divide (convert StorageToElevation (codes "Pool") pool_storage) metre)
+    ensures converted { judged_x
+        (two Divide (convert StorageToElevation (codes "Pool") pool_storage) metre)
         ≡ accepted (None ∷ a_count ∷ a_length ∷ look_types volume ++ a_length ∷ []) }
 {}
 
 /// Parts are judged before the whole, so a branch before the condition, and from left to right.
 pub fn parts_first()
-    ensures branch { judged_x (choice (whole (pos 1)) n_name (whole (pos 2))) ≡ refused UnknownName 1 4 }
-    ensures condition { judged_x (choice (whole (pos 1)) (whole (pos 1)) (of_unit (pos 2) (codes "m")))
+    ensures branch { judged_x (choice (whole (pos 1)) n_name (whole (pos 2)))
+        ≡ refused UnknownName 1 4 }
+    ensures condition { judged_x
+        (choice (whole (pos 1)) (whole (pos 1)) (of_unit (pos 2) (codes "m")))
         ≡ refused WrongType 1 2 }
     ensures branches { judged_x (choice (truth true) (whole (pos 1)) (of_unit (pos 2) (codes "m")))
         ≡ refused WrongUnit 1 2 }
-    ensures statement { judged_acts (branch (whole (pos 1)) n_to_x no_acts ∷ []) ≡ refused UnknownName 1 4 }
-    ensures test { judged_acts (branch (whole (pos 1)) one_to_x one_to_x ∷ []) ≡ refused WrongType 1 1 }
+    ensures statement { judged_acts (branch (whole (pos 1)) n_to_x no_acts ∷ [])
+        ≡ refused UnknownName 1 4 }
+    ensures test { judged_acts (branch (whole (pos 1)) one_to_x one_to_x ∷ [])
+        ≡ refused WrongType 1 1 }
     ensures body { judged_x (bind (codes "n") (whole (pos 1)) s_name) ≡ refused UnknownName 1 4 }
-    ensures left { judged_x (two Or n_name (of_unit (pos 1) (codes "ounce"))) ≡ refused UnknownName 1 3 }
+    ensures left { judged_x (two Or n_name (of_unit (pos 1) (codes "ounce")))
+        ≡ refused UnknownName 1 3 }
 {}
 
 /// Lists. Of several refusals at one node that which stands first is given, whichever part it comes from.
 pub fn lists()
-    ensures slots { judged_x (two Item (list (trees_of (slot (codes "D") (codes "X") ∷ whole (pos 1) ∷ []))) (whole (pos 1)))
+    ensures slots { judged_x
+        (two Item
+        (list (trees_of (slot (codes "D") (codes "X") ∷ whole (pos 1) ∷ []))) (whole (pos 1)))
         ≡ refused WrongType 1 3 }
-    ensures units { judged_x (one Length (list (trees_of (whole (pos 1) ∷ metre ∷ [])))) ≡ refused WrongUnit 1 3 }
+    ensures units { judged_x (one Length (list (trees_of (whole (pos 1) ∷ metre ∷ []))))
+        ≡ refused WrongUnit 1 3 }
     ensures kind_first { judged_x (one Length (list (trees_of (whole (pos 1) ∷ metre ∷ now ∷ []))))
         ≡ refused WrongType 1 3 }
-    ensures dates { judged_x (one Length (list (trees_of (now ∷ now ∷ [])))) ≡ refused WrongType 1 3 }
+    ensures dates { judged_x (one Length (list (trees_of (now ∷ now ∷ []))))
+        ≡ refused WrongType 1 3 }
     ensures append { judged_x (two Item three (whole (pos 3)))
-        ≡ accepted (None ∷ a_count ∷ numbers 3 ∷ numbers 2 ∷ a_count ∷ a_count ∷ a_count ∷ a_count ∷ []) }
-    ensures too_long { judged (worked_basin) (list_function (codes "F") (pos 4096) [] (one Length (two Append l_name (whole (pos 1)))) ∷ [])
+        ≡ accepted
+        (None ∷ a_count ∷ numbers 3 ∷ numbers 2 ∷ a_count ∷ a_count ∷ a_count ∷ a_count ∷ []) }
+    ensures too_long { judged (worked_basin)
+        (list_function (codes "F") (pos 4096) []
+        (one Length (two Append l_name (whole (pos 1)))) ∷ [])
         ≡ refused ListTooLong 1 2 }
     ensures no_loop { judged_x (over (whole (pos 1)) (name (codes "z"))) ≡ refused WrongType 1 2 }
-    ensures loop_first { judged_x (mapped (codes "n") (whole (pos 1)) (name (codes "z"))) ≡ refused WrongType 1 2 }
-    ensures turn { judged_x (over (pair (pos 1) (pos 2)) (two Equal n_name s_name)) ≡ refused WrongType 1 2 }
-    ensures accumulator { judged_x (each (codes "n") (pair (pos 1) (pos 2)) (codes "n") metre n_name)
+    ensures loop_first { judged_x (mapped (codes "n") (whole (pos 1)) (name (codes "z")))
+        ≡ refused WrongType 1 2 }
+    ensures turn { judged_x (over (pair (pos 1) (pos 2)) (two Equal n_name s_name))
+        ≡ refused WrongType 1 2 }
+    ensures accumulator { judged_x
+        (each (codes "n") (pair (pos 1) (pos 2)) (codes "n") metre n_name)
         ≡ refused WrongUnit 1 1 }
 {}
 
@@ -144,7 +172,8 @@ pub fn further_forms()
     ensures index { judged_x (two Item (pair (pos 1) (pos 2)) one_step) ≡ refused WrongUnit 1 2 }
     ensures other_unit { judged_x (one Length (two Append (pair (pos 1) (pos 2)) metre))
         ≡ refused WrongUnit 1 3 }
-    ensures table_unit { judged_x (two Divide (convert StorageToElevation (codes "Pool") metre) metre)
+    ensures table_unit { judged_x
+        (two Divide (convert StorageToElevation (codes "Pool") metre) metre)
         ≡ refused WrongUnit 1 3 }
     ensures slots { judged_x (one Length (list (trees_of (x_slot ∷ inflow_slot ∷ []))))
         ≡ refused WrongUnit 1 3 }
@@ -166,7 +195,8 @@ pub fn further_forms()
         ≡ refused WrongType 1 3 }
     ensures table_first { judged_x (convert ElevationToStorage (codes "Dam") now)
         ≡ refused NoTable 1 2 }
-    ensures arguments { judged_x (call (codes "Clamp") (trees_of (whole (pos 1) ∷ metre ∷ now ∷ [])))
+    ensures arguments { judged_x
+        (call (codes "Clamp") (trees_of (whole (pos 1) ∷ metre ∷ now ∷ [])))
         ≡ refused WrongType 1 2 }
     ensures none { judged worked_basin (function_of_list 0 ∷ []) ≡ refused ListTooLong 1 0 }
     ensures most { judged worked_basin (function_of_list 4096 ∷ []) ≡ accepted (a_count ∷ []) }
@@ -177,17 +207,23 @@ pub fn further_forms()
 pub fn functions()
     ensures call { judged_with (twice ∷ []) twice_call
         ≡ Ok ((a_count ∷ a_count ∷ a_count ∷ []) ∷ (None ∷ a_count ∷ a_count ∷ []) ∷ []) }
-    ensures itself { judged worked_basin (number_function (codes "F") (number_param (codes "n") ∷ []) (call_of (codes "F") (pos 1 ∷ [])) ∷ [])
+    ensures itself { judged worked_basin
+        (number_function (codes "F") (number_param (codes "n") ∷ [])
+        (call_of (codes "F") (pos 1 ∷ [])) ∷ [])
         ≡ refused NotEarlier 1 1 }
     ensures after { judged worked_basin (x_rule twice_call ++ twice ∷ []) ≡ refused NotEarlier 1 2 }
     ensures count { judged_with (twice ∷ []) (call_of (codes "Twice") []) ≡ refused WrongCount 2 2 }
-    ensures count_first { judged_x (call (codes "Max") (trees_of (now ∷ []))) ≡ refused WrongCount 1 2 }
-    ensures unit { judged_with (twice ∷ []) (call (codes "Twice") (trees_of (metre ∷ []))) ≡ refused WrongUnit 2 2 }
-    ensures long { judged_with (list_function (codes "F") (pos 1) [] (whole (pos 1)) ∷ []) (call (codes "F") (trees_of (pair (pos 1) (pos 2) ∷ [])))
+    ensures count_first { judged_x (call (codes "Max") (trees_of (now ∷ [])))
+        ≡ refused WrongCount 1 2 }
+    ensures unit { judged_with (twice ∷ []) (call (codes "Twice") (trees_of (metre ∷ [])))
+        ≡ refused WrongUnit 2 2 }
+    ensures long { judged_with (list_function (codes "F") (pos 1) [] (whole (pos 1)) ∷ [])
+        (call (codes "F") (trees_of (pair (pos 1) (pos 2) ∷ [])))
         ≡ refused ListTooLong 2 2 }
     ensures sign { judged_x (call (codes "Sign") (trees_of (metre ∷ [])))
         ≡ accepted (None ∷ a_count ∷ a_length ∷ []) }
-    ensures least { judged_x (call (codes "Min") (trees_of (metre ∷ whole (pos 1) ∷ []))) ≡ refused WrongUnit 1 2 }
+    ensures least { judged_x (call (codes "Min") (trees_of (metre ∷ whole (pos 1) ∷ [])))
+        ≡ refused WrongUnit 1 2 }
 {}
 
 /// Each of the four budgets may be at its limit, and none above it.
@@ -201,15 +237,25 @@ pub fn costs()
 
 /// What is wrong with a declaration as a whole: first its head, and after its nodes its result and its cost.
 pub fn wholes()
-    ensures predefined { judged worked_basin (number_function (codes "Min") [] n_name ∷ []) ≡ refused DuplicateName 1 0 }
-    ensures twice { judged_with (twice ∷ twice ∷ []) n_name ≡ refused DuplicateName 2 0 }
-    ensures parameters { judged worked_basin (number_function (codes "F") (number_param (codes "n") ∷ number_param (codes "n") ∷ []) n_name ∷ [])
+    ensures predefined { judged worked_basin (number_function (codes "Min") [] n_name ∷ [])
         ≡ refused DuplicateName 1 0 }
-    ensures unit { judged worked_basin (list_function (codes "F") (pos 0) (codes "ounce") n_name ∷ []) ≡ refused UnknownUnit 1 0 }
-    ensures room { judged worked_basin (list_function (codes "F") (pos 5000) [] n_name ∷ []) ≡ refused ListTooLong 1 0 }
-    ensures unit_first { judged worked_basin (function (codes "F") (record { name = codes "l"; of_type = numeric_list (pos 0) [] } ∷ []) (numeric (codes "ounce")) n_name ∷ [])
+    ensures twice { judged_with (twice ∷ twice ∷ []) n_name ≡ refused DuplicateName 2 0 }
+    ensures parameters { judged worked_basin
+        (number_function (codes "F")
+        (number_param (codes "n") ∷ number_param (codes "n") ∷ []) n_name ∷ [])
+        ≡ refused DuplicateName 1 0 }
+    ensures unit { judged worked_basin
+        (list_function (codes "F") (pos 0) (codes "ounce") n_name ∷ []) ≡ refused UnknownUnit 1 0 }
+    ensures room { judged worked_basin (list_function (codes "F") (pos 5000) [] n_name ∷ [])
+        ≡ refused ListTooLong 1 0 }
+    ensures unit_first { judged worked_basin
+        (function (codes "F") (record { name = codes "l"; of_type = numeric_list (pos 0) [] } ∷ [])
+        (numeric (codes "ounce")) n_name ∷ [])
         ≡ refused UnknownUnit 1 0 }
-    ensures result { judged worked_basin (number_function (codes "F") [] metre ∷ []) ≡ refused WrongUnit 1 0 }
-    ensures cost { judged worked_basin (list_function (codes "Big") (pos 1100) [] nested_loops ∷ []) ≡ refused TooCostly 1 0 }
-    ensures variable { judged_x (bind (codes "Min") (whole (pos 1)) (name (codes "Min"))) ≡ accepted (None ∷ a_count ∷ a_count ∷ a_count ∷ []) }
+    ensures result { judged worked_basin (number_function (codes "F") [] metre ∷ [])
+        ≡ refused WrongUnit 1 0 }
+    ensures cost { judged worked_basin (list_function (codes "Big") (pos 1100) [] nested_loops ∷ [])
+        ≡ refused TooCostly 1 0 }
+    ensures variable { judged_x (bind (codes "Min") (whole (pos 1)) (name (codes "Min")))
+        ≡ accepted (None ∷ a_count ∷ a_count ∷ a_count ∷ []) }
 {}

@@ -98,7 +98,8 @@ pub fn slot_type(basin: &Basin, object: &[u8], slot: &[u8]) -> Result<RplType, T
 /// The number of the object that is called so.
 #[tactic(auto, using(crate::proofs::Searching::found_here, crate::proofs::Searching::found_later, crate::proofs::Searching::found_nowhere))]
 fn object_named(basin: &Basin, name: &[u8]) -> Option<ObjectNo>
-    ensures number { option_map (λ found. found.0) result ≡ object_named basin.now.objects name.now }
+    ensures number { option_map (λ found. found.0) result
+        ≡ object_named basin.now.objects name.now }
     ensures known { ForSome result (λ found. IsObject basin.now.objects found.0) }
 {
     for before in 0..basin.object_count() {

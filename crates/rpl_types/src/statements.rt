@@ -36,7 +36,8 @@ fn can_put_ahead(basin: &Basin, ahead: i64) -> bool
 
 /// Why a value of the type can't be set there.
 fn target_misfit(basin: &Basin, target: &SlotText, ahead: i64, t: &RplType) -> Option<TypeKind>
-    ensures { result ≡ target_misfit basin.now target.now.object.items target.now.slot.items ahead t.now }
+    ensures { result
+        ≡ target_misfit basin.now target.now.object.items target.now.slot.items ahead t.now }
 {
     let Some(slot) = slot_named(basin, &target.object, &target.slot) else {
         return Some(TypeKind::UnknownSlot);

@@ -33,7 +33,8 @@ impl Model for Typed {
 
     ghost Value = { Known };
 
-    ghost view = { λ t. record { rules = t.rules; types = map (λ types. types.items) t.types.items } };
+    ghost view = { λ t.
+        record { rules = t.rules; types = map (λ types. types.items) t.types.items } };
 
     ghost invariant = { λ t. IsRuleset t.rules
         × (map budget_seen t.costs.items ≡ budgets_of (rules_of t.rules)) };

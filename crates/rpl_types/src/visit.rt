@@ -101,7 +101,8 @@ fn call<'a>(
     name: &'a [u8],
     args: &'a [Expr],
 ) -> Result<RplType, Stop>
-    ensures { Visits known.now progress.old progress.new result (call name.now (trees_in args.now)) }
+    ensures { Visits known.now progress.old progress.new result
+        (call name.now (trees_in args.now)) }
 {
     let node = reserve(progress)?;
     let types = row(known, progress, args)?;

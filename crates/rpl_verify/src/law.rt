@@ -280,7 +280,8 @@ pub fn resolved_codes()
         ∷ R.Foreach 0 2 12 ∷ R.Load 1 1 ∷ R.Load 0 1 ∷ R.Invoke 1 1 0 ∷ R.Sum ∷ R.Store 1 1 ∷ R.Next
         ∷ R.Load 1 1 ∷ R.Put 4 0 ∷ R.End ∷ []) ∷ [] }
     ensures doubled_items { resolved_code one_dam doubled_items
-        ≡ (R.Push (pos 4) ∷ R.Push (pos 5) ∷ R.List 2 ∷ R.Map 0 2 8 ∷ R.Load 0 1 ∷ R.Load 0 1 ∷ R.Sum
+        ≡ (R.Push (pos 4) ∷ R.Push (pos 5) ∷ R.List 2 ∷ R.Map 0 2 8 ∷ R.Load 0 1
+        ∷ R.Load 0 1 ∷ R.Sum
         ∷ R.Yield ∷ R.Widen 1 3 ∷ R.Push (pos 2) ∷ R.Item 3 ∷ R.Put 2 0 ∷ R.End ∷ []) ∷ [] }
     ensures sum_of_slots { resolved_code numbers_basin sum_of_slots
         ≡ (R.Push (pos 0) ∷ R.List 1 ∷ R.Push (pos 1) ∷ R.Append 1 ∷ R.Widen 3 5 ∷ R.Foreach 0 5 13

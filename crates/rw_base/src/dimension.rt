@@ -24,7 +24,8 @@ impl Model for Dim {
 
     ghost invariant = { λ d. IsDimension (dimension d.volume d.length d.step d.energy) };
 
-    ghost inverse = { λ d. record { volume = d.volume; length = d.length; step = d.step; energy = d.energy } };
+    ghost inverse = { λ d.
+        record { volume = d.volume; length = d.length; step = d.step; energy = d.energy } };
 }
 
 // Whether an exponent of a dimension may have the value.

@@ -41,7 +41,8 @@ pub fn predefined_answers()
 /// Each row of the table of units is found by its word, so no word stands there twice, and only words of the table
 /// are found.
 pub fn unit_table()
-    ensures found { map (λ row. unit_in units row.0) units ≡ map (λ row. Some (row.1, row.2)) units }
+    ensures found { map (λ row. unit_in units row.0) units
+        ≡ map (λ row. Some (row.1, row.2)) units }
     ensures none { (word : List ℕ) → unit_in units word ≡ None ↔ ¬ Contains (words_of units) word }
 {}
 
@@ -69,6 +70,7 @@ pub fn predefined_values()
     ensures none { predefined_of 7 (pos 5) (pos 5) (pos 0) ≡ pos 0 }
     ensures whole { predefined_of 7 quantity_max quantity_max quantity_max ≡ quantity_max }
     ensures most { predefined_of 7 quantity_max quantity_max (pos 1) ≡ quantity_max }
-    ensures fewest { predefined_of 7 quantity_max (neg_ℤ quantity_max) (pos 1) ≡ neg_ℤ quantity_max }
+    ensures fewest { predefined_of 7 quantity_max (neg_ℤ quantity_max) (pos 1)
+        ≡ neg_ℤ quantity_max }
     ensures no_function { predefined_of 0 (pos 7) (pos 7) (pos 7) ≡ pos 0 }
 {}

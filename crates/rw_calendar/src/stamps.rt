@@ -50,7 +50,8 @@ fn moments(
     requires begin { CanBegin length (moment_at start) }
     requires few { steps ≤ STEPS_MAX }
     requires within { (moment_after (moment_at start) length steps).year ≤ 9999 }
-    ensures { IfOk result (λ moments. HasMoments (moment_at start) length (steps + 1) moments.items) }
+    ensures { IfOk result
+        (λ moments. HasMoments (moment_at start) length (steps + 1) moments.items) }
 {
     let mut moments = Vec::new(alloc);
     for k in 0..=steps {

@@ -85,7 +85,8 @@ pub fn closed_timesteps_stay()
     ensures { (basin : Draft) (policy : Policy) (inputs : List (Cell × ℤ)) (log before : Log)
         (step : ℕ) → IsBasin basin → IsPolicyOf basin policy → IsRun basin policy inputs log
         → before_closing step log ≡ Some before
-        → (cell : Cell) → cell.step.0 ≤ step → cells_of basin log cell ≡ cells_of basin before cell }
+        → (cell : Cell) → cell.step.0 ≤ step
+        → cells_of basin log cell ≡ cells_of basin before cell }
 {}
 
 /// A dam on one day, into which 100 flow. It comes to hold 1020, of 1000 and 100 less 80; the 50 that rule 2 put gave way to what

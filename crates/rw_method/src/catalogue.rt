@@ -56,12 +56,15 @@ impl Catalogue {
     /// Their count is judged first. `WrongPlace` names the first method of another kind.
     pub fn of(methods: Vec<Box<dyn Method>>) -> Result<Catalogue, CatalogueFault>
         ensures methods { IfOk result (λ catalogue. catalogue.methods ≡ methods) }
-        ensures order { IfOk result (λ catalogue. AreInOrder (map (λ b. code b) catalogue.methods.items)) }
-        ensures accepted { IsOk result ↔ ((length methods.items ≡ 9) × AreInOrder (map (λ b. code b) methods.items)) }
+        ensures order { IfOk result
+            (λ catalogue. AreInOrder (map (λ b. code b) catalogue.methods.items)) }
+        ensures accepted { IsOk result
+            ↔ ((length methods.items ≡ 9) × AreInOrder (map (λ b. code b) methods.items)) }
         ensures count { (found : ℕ) → result ≡ Err (CatalogueFault.WrongCount found)
             → (found ≡ length methods.items) × (found ≢ 9) }
         ensures place { (place : ℕ) → result ≡ Err (CatalogueFault.WrongPlace place)
-            → (length methods.items ≡ 9) × (first_wrong 1 (map (λ b. code b) methods.items) ≡ Some place) }
+            → (length methods.items ≡ 9)
+            × (first_wrong 1 (map (λ b. code b) methods.items) ≡ Some place) }
     {
         if methods.len() != KINDS {
             return Err(CatalogueFault::WrongCount(methods.len()));

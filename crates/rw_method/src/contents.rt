@@ -75,7 +75,8 @@ pub(crate) fn can_hold(table: Option<&Rating>, storage: i64) -> bool
 // The contents by an elevation. They are 0 where the table doesn't have it: the answer is then that it is out of range.
 #[inline(always)]
 fn contents_at(table: Option<&Rating>, elevation: Given) -> Given
-    ensures { Some result ≡ contents_by (option_map (λ rating. rating.now) table.entry) (Basis.Elevation elevation) }
+    ensures { Some result
+        ≡ contents_by (option_map (λ rating. rating.now) table.entry) (Basis.Elevation elevation) }
 {
     Given {
         value: volume_of(table, elevation.value).unwrap_or(0),

@@ -10,7 +10,8 @@ use rw_table::Rating;
 
 /// Where evaporation is chosen, the storage before has to have an elevation.
 pub fn fault_of_past(evaporation: bool, table: Option<&Rating>, past: Option<Qty>) -> Option<Solved>
-    ensures { result ≡ fault_of_past evaporation (option_map (λ rating. rating.now) table.entry) past }
+    ensures { result
+        ≡ fault_of_past evaporation (option_map (λ rating. rating.now) table.entry) past }
 {
     match past {
         Some(storage) if evaporation && !can_hold(table, storage.get()) => {
@@ -68,7 +69,8 @@ fn disagreement(
     storage: Option<Given>,
     elevation: Option<Given>,
 ) -> Option<Solved>
-    ensures { result ≡ disagreement (option_map (λ rating. rating.now) table.entry) storage elevation }
+    ensures { result
+        ≡ disagreement (option_map (λ rating. rating.now) table.entry) storage elevation }
 {
     match (storage, elevation) {
         (Some(storage), Some(elevation))
@@ -88,7 +90,8 @@ fn disagreement(
 /// What is wrong with a storage and an elevation that are given: with the slot that gives the contents, or with both together.
 #[inline(always)]
 pub fn fault_of_level(view: &View, table: Option<&Rating>) -> Option<Solved>
-    ensures { result ≡ fault_of_level (option_map (λ rating. rating.now) table.entry) view.entry.now }
+    ensures { result
+        ≡ fault_of_level (option_map (λ rating. rating.now) table.entry) view.entry.now }
 {
     let (storage, elevation) = (view.given(STORAGE), view.given(POOL_ELEVATION));
     if let Some(fault) = fault_of_basis(table, basis_of(storage, elevation)) {

@@ -69,7 +69,8 @@ pub fn ask_level(
     balanced: Balanced,
 ) -> Result<(), Solved>
     requires room { length puts.old < 8 }
-    requires fits { AllFit (can_get (option_map (λ rating. rating.now) table) view.now) (solved_put balanced) }
+    requires fits { AllFit (can_get (option_map (λ rating. rating.now) table) view.now)
+        (solved_put balanced) }
     ensures asks { Asks (can_get (option_map (λ rating. rating.now) table.entry) view.entry.now)
         (level_puts (option_map (λ rating. rating.now) table.entry) storage elevation balanced)
         puts.old puts.new result }

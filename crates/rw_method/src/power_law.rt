@@ -19,14 +19,16 @@ ghost use Rattle.rw_method.specs.Worked.{input, by_rule, by_object, object, view
 #[tactic(auto, using(crate::proofs::LeastRelease::least_is))]
 pub fn least_release_is_the_least()
     ensures { (power : ℕ) (head max_release energy : ℤ) → pos 0 ≤ℤ max_release
-        → MatchOption (least_release power head max_release energy) (HasNoRelease power head max_release energy)
+        → MatchOption (least_release power head max_release energy)
+        (HasNoRelease power head max_release energy)
         (IsLeastRelease power head max_release energy) }
 {}
 
 /// The least release is a quotient.
 #[tactic(auto, using(crate::proofs::LeastRelease::quotient_is))]
 pub fn least_release_by_a_quotient()
-    ensures { (power : ℕ) (max_release head energy : ℤ) → 1 ≤ power → pos 0 ≤ℤ head → pos 0 ≤ℤ max_release
+    ensures { (power : ℕ) (max_release head energy : ℤ) → 1 ≤ power → pos 0 ≤ℤ head
+        → pos 0 ≤ℤ max_release
         → option_map pos (least_release power head max_release energy)
         ≡ quotient_release power head max_release energy }
 {}
@@ -38,8 +40,11 @@ pub fn energy_of_a_request()
         (view : View) (request : Content) (puts : List Put)
         → IsKind (Kind.PowerReservoir initial_storage table max_release tailwater power)
         → request_of view ≡ Some request
-        → is_put_by_request (balanced_of (Kind.PowerReservoir initial_storage table max_release tailwater power) view) ≡ true
-        → solve_of (Kind.PowerReservoir initial_storage table max_release tailwater power) view ≡ Solved.Puts puts
+        → is_put_by_request
+        (balanced_of
+        (Kind.PowerReservoir initial_storage table max_release tailwater power) view) ≡ true
+        → solve_of (Kind.PowerReservoir initial_storage table max_release tailwater power) view
+        ≡ Solved.Puts puts
         → GivesRequest (plant table max_release tailwater power) view request puts }
 {}
 
@@ -47,13 +52,15 @@ pub fn energy_of_a_request()
 /// requested; and 101 kWh, which no release gives.
 pub fn high_dam_values()
     ensures outflow { (own : ObjectNo)
-        → solve_of high_dam (view_with high_dam own (Some (pos 500000)) (input (pos 100) ∷ input (pos 1205) ∷ []))
+        → solve_of high_dam
+        (view_with high_dam own (Some (pos 500000)) (input (pos 100) ∷ input (pos 1205) ∷ []))
         ≡ Solved.Puts (put 2 (pos 498895) 0 ∷ put 3 (pos 49889) 0 ∷ put 5 (pos 100) 0
         ∷ put 6 (pos 1000) 0 ∷ put 7 (pos 205) 0 ∷ []) }
     ensures request { (own : ObjectNo)
         → solve_of high_dam (view_with high_dam own (Some (pos 500000))
         (input (pos 100) ∷ None ∷ None ∷ None ∷ input (pos 57) ∷ []))
-        ≡ Solved.Puts (put 1 (pos 570) 0 ∷ put 2 (pos 499530) 0 ∷ put 3 (pos 49953) 0 ∷ put 5 (pos 57) 0
+        ≡ Solved.Puts
+        (put 1 (pos 570) 0 ∷ put 2 (pos 499530) 0 ∷ put 3 (pos 49953) 0 ∷ put 5 (pos 57) 0
         ∷ put 6 (pos 570) 0 ∷ put 7 (pos 0) 0 ∷ []) }
     ensures too_much { (own : ObjectNo)
         → solve_of high_dam (view_with high_dam own (Some (pos 500000))
@@ -64,7 +71,8 @@ pub fn high_dam_values()
 /// A low one at 0.3 m, 0.2 m above its tailwater, where 500 m3 give 1 kWh.
 pub fn low_dam_values()
     ensures outflow { (own : ObjectNo)
-        → solve_of low_dam (view_with low_dam own (Some (pos 3000)) (input (pos 100) ∷ input (pos 1205) ∷ []))
+        → solve_of low_dam
+        (view_with low_dam own (Some (pos 3000)) (input (pos 100) ∷ input (pos 1205) ∷ []))
         ≡ Solved.Puts (put 2 (pos 1895) 0 ∷ put 3 (pos 189) 0 ∷ put 5 (pos 2) 0
         ∷ put 6 (pos 1000) 0 ∷ put 7 (pos 205) 0 ∷ []) }
     ensures request { (own : ObjectNo)
@@ -79,7 +87,8 @@ pub fn low_dam_values()
         ∷ put 6 (pos 500) 0 ∷ put 7 (pos 0) 0 ∷ []) }
     ensures no_number_rises { (five : RuleNo)
         → solve_of low_dam (view_with low_dam (object 1) (Some (pos 3000))
-        (by_object (object 2) (pos 600) 0 ∷ by_object (object 1) (pos 100) 0 ∷ input (pos 3100) ∷ None
+        (by_object (object 2) (pos 600) 0 ∷ by_object (object 1) (pos 100) 0
+        ∷ input (pos 3100) ∷ None
         ∷ by_rule five (pos 1) 5 ∷ []))
         ≡ Solved.Puts (put 1 (pos 500) 0 ∷ put 3 (pos 310) 0 ∷ put 5 (pos 1) 0
         ∷ put 6 (pos 500) 0 ∷ put 7 (pos 0) 0 ∷ []) }
@@ -98,11 +107,14 @@ pub fn low_dam_values()
 /// the table doesn't have. Where the storage before isn't known, nothing is put.
 pub fn low_dam_faults()
     ensures too_much { (own : ObjectNo)
-        → solve_of low_dam (view_with low_dam own (Some (pos 3000)) (None ∷ None ∷ None ∷ None ∷ input (pos 3) ∷ []))
+        → solve_of low_dam
+        (view_with low_dam own (Some (pos 3000)) (None ∷ None ∷ None ∷ None ∷ input (pos 3) ∷ []))
         ≡ Solved.OutOfRange 4 (pos 3) }
     ensures past_outside { (own : ObjectNo)
-        → solve_of low_dam (view_with low_dam own (Some (pos 9999)) []) ≡ Solved.OutOfRange 2 (pos 9999) }
+        → solve_of low_dam (view_with low_dam own (Some (pos 9999)) [])
+        ≡ Solved.OutOfRange 2 (pos 9999) }
     ensures no_past { (own : ObjectNo)
-        → solve_of low_dam (view_with low_dam own None (input (pos 100) ∷ None ∷ None ∷ None ∷ input (pos 1) ∷ []))
+        → solve_of low_dam
+        (view_with low_dam own None (input (pos 100) ∷ None ∷ None ∷ None ∷ input (pos 1) ∷ []))
         ≡ Solved.Idle }
 {}

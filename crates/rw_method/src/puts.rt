@@ -78,7 +78,8 @@ pub fn add_put(
 pub fn begin_puts(view: &View, balanced: Balanced) -> Result<PutList, Solved>
     ensures ok { IfOk result (λ puts. puts ≡ solved_put balanced) }
     ensures fits { IsOk result → AllFit (is_bounded view.entry.now) (solved_put balanced) }
-    ensures open { IsOk result → (fit : Put → Bool) (puts : List Put) → answer fit puts balanced None ≡ answer_of_puts fit puts }
+    ensures open { IsOk result → (fit : Put → Bool) (puts : List Put)
+        → answer fit puts balanced None ≡ answer_of_puts fit puts }
     ensures err { IfErr result (λ ended. (fit : Put → Bool) (more : List Put)
         → All (λ put. fit put ≡ is_bounded view.entry.now put) (solved_put balanced)
         → ended ≡ answer fit (solved_put balanced ++ more) balanced None) }
@@ -114,7 +115,8 @@ pub fn begin_puts(view: &View, balanced: Balanced) -> Result<PutList, Solved>
 /// What is answered before puts are judged: too little is known, something is wrong with what is held, or the terms conflict.
 pub fn ended(balanced: Balanced, fault: Option<Solved>) -> Option<Solved>
     ensures { MatchOption result
-        ((fit : Put → Bool) (puts : List Put) → answer fit puts balanced fault ≡ answer_of_puts fit puts)
+        ((fit : Put → Bool) (puts : List Put)
+        → answer fit puts balanced fault ≡ answer_of_puts fit puts)
         (λ ended. (fit : Put → Bool) (puts : List Put) → answer fit puts balanced fault ≡ ended) }
 {
     match (balanced, fault) {

@@ -37,10 +37,14 @@ impl Model for Basin {
 
     ghost Value = { Draft };
 
-    ghost view = { λ b. record { control = b.control; objects = b.objects; links = b.links; bounds = b.given } };
+    ghost view = { λ b.
+        record { control = b.control; objects = b.objects; links = b.links; bounds = b.given } };
 
-    ghost invariant = { λ b. KeepsBasin (record { control = b.control; objects = b.objects; links = b.links; bounds = b.given })
-        (numbers_of b.tables.slots.items) (links_of b.tables.groups.items) b.tables.bounds.items b.tables.numbers.items };
+    ghost invariant = { λ b.
+        KeepsBasin
+        (record { control = b.control; objects = b.objects; links = b.links; bounds = b.given })
+        (numbers_of b.tables.slots.items) (links_of b.tables.groups.items) b.tables.bounds.items
+        b.tables.numbers.items };
 }
 
 impl Basin {
@@ -70,7 +74,8 @@ impl Basin {
     /// What an object is called.
     pub fn object_name(&self, o: ObjectNo) -> &str
         requires { IsObject self.now.objects o.0 }
-        ensures { option_map (λ object. object.name) (object_at self.now.objects o.0) ≡ Some result.now }
+        ensures { option_map (λ object. object.name) (object_at self.now.objects o.0)
+            ≡ Some result.now }
     {
         self.objects.name(o.0)
     }
@@ -78,7 +83,8 @@ impl Basin {
     /// The kind of an object, with its parameters, which are in range.
     pub fn kind(&self, o: ObjectNo) -> &Kind
         requires { IsObject self.now.objects o.0 }
-        ensures kind { option_map (λ object. object.kind) (object_at self.now.objects o.0) ≡ Some result.now }
+        ensures kind { option_map (λ object. object.kind) (object_at self.now.objects o.0)
+            ≡ Some result.now }
         ensures sound { IsKind result.now }
     {
         self.objects.kind(o.0)
@@ -87,7 +93,8 @@ impl Basin {
     /// The number of an object's kind.
     pub fn kind_code(&self, o: ObjectNo) -> u8
         requires { IsObject self.now.objects o.0 }
-        ensures { option_map (λ object. code_of object.kind) (object_at self.now.objects o.0) ≡ Some result }
+        ensures { option_map (λ object. code_of object.kind)
+            (object_at self.now.objects o.0) ≡ Some result }
     {
         self.objects.kind(o.0).code()
     }
@@ -96,7 +103,8 @@ impl Basin {
     #[tactic(auto, using(crate::proofs::Bounding::known_in_place))]
     pub fn slot_at(&self, o: ObjectNo, place: u8) -> Option<SlotNo>
         requires { IsObject self.now.objects o.0 }
-        ensures number { option_map (λ slot. slot.0) result ≡ slot_in_place self.now.objects o.0 place }
+        ensures number { option_map (λ slot. slot.0) result
+            ≡ slot_in_place self.now.objects o.0 place }
         ensures known { ForSome result (λ slot. IsSlot self.now.objects slot.0) }
     {
         match self.number_at(o, place) {
@@ -129,7 +137,8 @@ impl Basin {
     /// The object that owns a slot.
     pub fn owner(&self, s: SlotNo) -> ObjectNo
         requires { IsSlot self.now.objects s.0 }
-        ensures owner { option_map (λ placed. placed.owner) (slot_at self.now.objects s.0) ≡ Some result.0 }
+        ensures owner { option_map (λ placed. placed.owner) (slot_at self.now.objects s.0)
+            ≡ Some result.0 }
         ensures known { IsObject self.now.objects result.0 }
     {
         ObjectNo(self.objects.place(s.0).owner)
@@ -138,7 +147,8 @@ impl Basin {
     /// What a slot is called.
     pub fn slot_name(&self, s: SlotNo) -> &str
         requires { IsSlot self.now.objects s.0 }
-        ensures { option_map (λ placed. placed.slot.name) (slot_at self.now.objects s.0) ≡ Some result.now }
+        ensures { option_map (λ placed. placed.slot.name) (slot_at self.now.objects s.0)
+            ≡ Some result.now }
     {
         self.objects.slot(s.0).name()
     }
@@ -146,7 +156,8 @@ impl Basin {
     /// What a slot measures.
     pub fn dim(&self, s: SlotNo) -> Dim
         requires { IsSlot self.now.objects s.0 }
-        ensures { option_map (λ placed. placed.slot.dim) (slot_at self.now.objects s.0) ≡ Some result }
+        ensures { option_map (λ placed. placed.slot.dim)
+            (slot_at self.now.objects s.0) ≡ Some result }
     {
         self.objects.slot(s.0).dim()
     }
@@ -154,7 +165,8 @@ impl Basin {
     /// Whether inputs and rules can set a slot: all but those that a method derives.
     pub fn settable(&self, s: SlotNo) -> bool
         requires { IsSlot self.now.objects s.0 }
-        ensures { option_map (λ placed. is_settable placed.slot.role) (slot_at self.now.objects s.0) ≡ Some result }
+        ensures { option_map (λ placed. is_settable placed.slot.role)
+            (slot_at self.now.objects s.0) ≡ Some result }
     {
         self.objects.slot(s.0).role() != Role::Derived
     }
@@ -186,7 +198,8 @@ impl Basin {
     /// has no such slot.
     #[tactic(auto, using(crate::proofs::Bounding::known_by_name))]
     pub fn find_slot(&self, object: &str, slot: &str) -> Option<SlotNo>
-        ensures number { option_map (λ number. number.0) result ≡ slot_named self.now.objects object.now slot.now }
+        ensures number { option_map (λ number. number.0) result
+            ≡ slot_named self.now.objects object.now slot.now }
         ensures known { ForSome result (λ number. IsSlot self.now.objects number.0) }
     {
         match self.objects.find_slot(object, slot) {

@@ -35,7 +35,8 @@ fn elevation_of(rating: &Rating, storage: i64) -> Option<i64>
 // The storage before the first timestep, or its elevation.
 fn past_storage(initial_storage: i64, table: Option<&Rating>, place: u8) -> Option<i64>
     requires { IsAmount initial_storage }
-    ensures value { result ≡ past_storage initial_storage (option_map (λ rating. rating.now) table.entry) place }
+    ensures value { result
+        ≡ past_storage initial_storage (option_map (λ rating. rating.now) table.entry) place }
     ensures quantity { ForSome result IsQuantity }
 {
     match (place, table) {

@@ -65,7 +65,9 @@ fn is_crossed(bounds: (i64, i64)) -> bool
 /// Whether there is a slot that can have no value.
 pub fn has_crossed_bounds(objects: &Objects, links: &Links, given: &OwnBounds) -> bool
     requires { All (IsLink objects.now) links.now }
-    ensures { result ≡ list_any (λ slot. is_crossed (bounds_in objects.now links.now given.now slot)) (slot_numbers objects.now) }
+    ensures { result
+        ≡ list_any (λ slot. is_crossed (bounds_in objects.now links.now given.now slot))
+        (slot_numbers objects.now) }
 {
     for before in 0..objects.slot_count() {
         let bounds = bounds_in(objects, links, given, before + 1);
@@ -84,7 +86,9 @@ pub fn all_bounds(
     given: &OwnBounds,
 ) -> Result<Vec<(i64, i64)>, NoMemory>
     requires { All (IsLink objects.now) links.now }
-    ensures { IfOk result (λ bounds. bounds.items ≡ map (bounds_in objects.now links.now given.now) (slot_numbers objects.now)) }
+    ensures { IfOk result
+        (λ bounds.
+        bounds.items ≡ map (bounds_in objects.now links.now given.now) (slot_numbers objects.now)) }
 {
     let mut all = Vec::new(alloc);
     for before in 0..objects.slot_count() {

@@ -36,17 +36,23 @@ impl Model for BasinBuilder {
 
     ghost Value = { Draft };
 
-    ghost view = { λ b. record { control = b.control; objects = b.objects; links = b.links; bounds = b.bounds } };
+    ghost view = { λ b.
+        record { control = b.control; objects = b.objects; links = b.links; bounds = b.bounds } };
 
-    ghost invariant = { λ b. IsDraft (record { control = b.control; objects = b.objects; links = b.links; bounds = b.bounds }) };
+    ghost invariant = { λ b.
+        IsDraft
+        (record { control = b.control; objects = b.objects; links = b.links; bounds = b.bounds }) };
 }
 
 impl BasinBuilder {
     /// A basin with no object yet. `BadParameter` exactly where a limit is out of range, or rules may put neither 0 nor 30 ahead.
     pub fn begin(alloc: Global, control: RunControl) -> Result<BasinBuilder, BuildFault>
-        ensures begun { IfOk result (λ builder. builder ≡ record { control = control; objects = []; links = []; bounds = [] }) }
+        ensures begun { IfOk result
+            (λ builder.
+            builder ≡ record { control = control; objects = []; links = []; bounds = [] }) }
         ensures in_range { OnOk result (IsControl control) }
-        ensures refused { IfErr result (λ fault. (fault ≡ BuildFault.BadParameter) × ¬ IsControl control) }
+        ensures refused { IfErr result
+            (λ fault. (fault ≡ BuildFault.BadParameter) × ¬ IsControl control) }
     {
         let _steps = control.stamps.count();
         let objects = 16..=100;
@@ -204,7 +210,8 @@ impl BasinBuilder {
     /// The slot with this name, of the object with that name. `None` exactly where there is no such object, or where it
     /// has no such slot.
     pub fn find_slot(&self, object: &str, slot: &str) -> Option<SlotNo>
-        ensures { option_map (λ number. number.0) result ≡ slot_named self.now.objects object.now slot.now }
+        ensures { option_map (λ number. number.0) result
+            ≡ slot_named self.now.objects object.now slot.now }
     {
         match self.objects.find_slot(object, slot) {
             Some(number) => Some(SlotNo(number)),

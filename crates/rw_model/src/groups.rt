@@ -32,7 +32,8 @@ fn empty_groups(alloc: Global, links: &Links) -> Result<Vec<Vec<SlotNo>>, NoMemo
 fn join(groups: &mut Vec<Vec<SlotNo>>, place: usize, slot: SlotNo) -> Result<(), NoMemory>
     requires { place < length (links_of groups.old.items) }
     ensures { OnOk result (links_of groups.new.items
-        ≡ slice_set (links_of groups.old.items) place (slice_index_or (links_of groups.old.items) place [] ++ slot.0 ∷ [])) }
+        ≡ slice_set (links_of groups.old.items) place
+        (slice_index_or (links_of groups.old.items) place [] ++ slot.0 ∷ [])) }
 {
     groups[place].push(slot)?;
     Ok(())

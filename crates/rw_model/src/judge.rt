@@ -178,7 +178,8 @@ pub fn judge_link(objects: &Objects, links: &Links, slots: &[SlotNo]) -> Option<
     ensures fault { Finds refusal_of result
         (link_refusal objects.now links.now (numbers_of slots.now)) }
     ensures known { result ≡ None → All (λ (slot : SlotNo). IsSlot objects.now slot.0) slots.now }
-    ensures free { result ≡ None → All (λ (slot : SlotNo). link_of links.now slot.0 ≡ None) slots.now }
+    ensures free { result ≡ None
+        → All (λ (slot : SlotNo). link_of links.now slot.0 ≡ None) slots.now }
 {
     if slots.len() < 2 || slots.len() > LINK_MAX {
         return Some(BuildFault::BadParameter);

@@ -21,17 +21,21 @@ ghost use Rattle.rw_model.specs.Put.{end_of_put, IsSameObject};
 pub fn put_rules()
     ensures unknown { (new : Content) → end_of_put None new ≡ PutEnd.Written }
     ensures kept { (held new : Content)
-        → held.value ≡ new.value → held.number ≤ new.number → end_of_put (Some held) new ≡ PutEnd.Kept }
+        → held.value ≡ new.value → held.number ≤ new.number
+        → end_of_put (Some held) new ≡ PutEnd.Kept }
 
     ensures own { (held new : Content) → (held.value ≡ new.value → new.number < held.number)
-        → held.number ≡ 0 → IsSameObject held.writer new.writer → end_of_put (Some held) new ≡ PutEnd.Written }
+        → held.number ≡ 0 → IsSameObject held.writer new.writer
+        → end_of_put (Some held) new ≡ PutEnd.Written }
     ensures given { (held new : Content) → (held.value ≡ new.value → new.number < held.number)
-        → held.number ≡ 0 → ¬ IsSameObject held.writer new.writer → end_of_put (Some held) new ≡ PutEnd.Denied held }
+        → held.number ≡ 0 → ¬ IsSameObject held.writer new.writer
+        → end_of_put (Some held) new ≡ PutEnd.Denied held }
 
     ensures stronger { (held new : Content) → (held.value ≡ new.value → new.number < held.number)
         → 0 < held.number → new.number ≤ held.number → end_of_put (Some held) new ≡ PutEnd.Written }
     ensures weaker { (held new : Content) → (held.value ≡ new.value → new.number < held.number)
-        → 0 < held.number → held.number < new.number → end_of_put (Some held) new ≡ PutEnd.Denied held }
+        → 0 < held.number → held.number < new.number
+        → end_of_put (Some held) new ≡ PutEnd.Denied held }
 {}
 
 /// The tests of names and objects pass exactly where their words hold, and that of bounds where a slot can have them.
@@ -71,7 +75,8 @@ pub fn linked_slots()
 /// link: it has its slots and no others.
 pub fn links_and_groups()
     ensures alone { (objects : List Object) (links : List (List ℕ)) (slot : ℕ)
-        → IsSlot objects slot → link_of links slot ≡ None → group_of objects links slot ≡ slot ∷ [] }
+        → IsSlot objects slot → link_of links slot ≡ None
+        → group_of objects links slot ≡ slot ∷ [] }
     ensures linked { (draft : Draft) (link : List ℕ) (slot other : ℕ)
         → IsDraft draft → Contains draft.links link → Contains link slot
         → Contains (group_of draft.objects draft.links slot) other ↔ Contains link other }
@@ -79,8 +84,10 @@ pub fn links_and_groups()
 
 /// A value is between the bounds of a slot exactly where it is between its own bounds and those of each slot of its link.
 pub fn bounds_of_a_group()
-    ensures { (objects : List Object) (links : List (List ℕ)) (given : List Bound) (slot : ℕ) (value : ℤ)
+    ensures { (objects : List Object) (links : List (List ℕ)) (given : List Bound)
+        (slot : ℕ) (value : ℤ)
         → IsBetween (bounds_in objects links given slot) value
         ↔ (IsBetween (own_bounds objects given slot) value
-        × All (λ other. IsBetween (own_bounds objects given other) value) (linked_with links slot)) }
+        × All (λ other. IsBetween (own_bounds objects given other) value)
+        (linked_with links slot)) }
 {}

@@ -28,7 +28,8 @@ impl Model for Links {
 
 // Makes room to say of so many slots which link has them.
 fn widen(places: &mut Vec<Option<usize>>, count: usize) -> Result<(), NoMemory>
-    ensures same { (k : ℕ) → slice_index_or places.new.items k None ≡ slice_index_or places.old.items k None }
+    ensures same { (k : ℕ)
+        → slice_index_or places.new.items k None ≡ slice_index_or places.old.items k None }
     ensures room { OnOk result (count ≤ vec_len places.new) }
 {
     if places.len() < count {
@@ -41,7 +42,8 @@ fn widen(places: &mut Vec<Option<usize>>, count: usize) -> Result<(), NoMemory>
 fn mark(places: &mut Vec<Option<usize>>, slots: &[SlotNo], link: usize)
     requires { All (λ (slot : SlotNo). (1 ≤ slot.0) × (slot.0 ≤ vec_len places.old)) slots.now }
     ensures marked { (k : ℕ) → slice_index_or places.new.items k None
-        ≡ (if is_among (k + 1) (numbers_of slots.now) then Some link else slice_index_or places.old.items k None) }
+        ≡ (if is_among (k + 1) (numbers_of slots.now) then Some link
+        else slice_index_or places.old.items k None) }
     ensures len { vec_len places.new ≡ vec_len places.old }
 {
     for slot in slots {

@@ -31,10 +31,17 @@ impl Tables {
         given: &OwnBounds,
     ) -> Result<Tables, NoMemory>
         requires { All (IsLink objects.now) links.now }
-        ensures slots { IfOk result (λ tables. numbers_of tables.slots.items ≡ slot_numbers objects.now) }
-        ensures groups { IfOk result (λ tables. KeepsGroups links.now (length (all_slots objects.now)) (links_of tables.groups.items)) }
-        ensures bounds { IfOk result (λ tables. tables.bounds.items ≡ map (bounds_in objects.now links.now given.now) (slot_numbers objects.now)) }
-        ensures numbers { IfOk result (λ tables. tables.numbers.items ≡ numbers_up_to objects.now (length objects.now * 12)) }
+        ensures slots { IfOk result
+            (λ tables. numbers_of tables.slots.items ≡ slot_numbers objects.now) }
+        ensures groups { IfOk result
+            (λ tables.
+            KeepsGroups links.now (length (all_slots objects.now)) (links_of tables.groups.items)) }
+        ensures bounds { IfOk result
+            (λ tables.
+            tables.bounds.items
+            ≡ map (bounds_in objects.now links.now given.now) (slot_numbers objects.now)) }
+        ensures numbers { IfOk result
+            (λ tables. tables.numbers.items ≡ numbers_up_to objects.now (length objects.now * 12)) }
     {
         let count = objects.slot_count();
         let slots = slots_up_to(alloc, count)?;

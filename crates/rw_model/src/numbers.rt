@@ -21,7 +21,8 @@ fn push_numbers(all: &mut Vec<Option<u16>>, objects: &Objects, before: u16) -> R
 
 /// The slots in the places of all objects, twelve places for each object.
 pub fn all_numbers(alloc: Global, objects: &Objects) -> Result<Vec<Option<u16>>, NoMemory>
-    ensures { IfOk result (λ numbers. numbers.items ≡ numbers_up_to objects.now (length objects.now * 12)) }
+    ensures { IfOk result
+        (λ numbers. numbers.items ≡ numbers_up_to objects.now (length objects.now * 12)) }
 {
     let mut all = Vec::new(alloc);
     for before in 0..objects.count() {

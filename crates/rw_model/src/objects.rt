@@ -34,7 +34,8 @@ impl Model for Objects {
 
     ghost view = { λ o. objects_of o.kinds.entries };
 
-    ghost invariant = { λ o. KeepsSlots (objects_of o.kinds.entries) o.places.items o.firsts.items };
+    ghost invariant = { λ o.
+        KeepsSlots (objects_of o.kinds.entries) o.places.items o.firsts.items };
 }
 
 impl Objects {
@@ -82,8 +83,10 @@ impl Objects {
         requires fresh { object_named self.old name.now ≡ None }
         requires few { length self.old < OBJECTS_MAX }
         requires places { length (slots_of kind) ≤ 11 }
-        requires few_slots { length (all_slots (self.old ++ record { name = name.now; kind = kind } ∷ [])) ≤ SLOTS_MAX }
-        ensures ok { OnOk result (self.new ≡ self.old ++ record { name = name.now; kind = kind } ∷ []) }
+        requires few_slots { length
+            (all_slots (self.old ++ record { name = name.now; kind = kind } ∷ [])) ≤ SLOTS_MAX }
+        ensures ok { OnOk result
+            (self.new ≡ self.old ++ record { name = name.now; kind = kind } ∷ []) }
         ensures err { OnErr result (self.new ≡ self.old) }
     {
         let owner = self.count() + 1;
@@ -132,7 +135,8 @@ impl Objects {
         ensures place { option_map place_of (slot_at self.now s) ≡ Some result }
         ensures first { 1 ≤ result.owner }
         ensures last { result.owner ≤ length self.now }
-        ensures slot { option_and_then (λ object. slot_in object.kind result.place) (object_at self.now result.owner)
+        ensures slot { option_and_then (λ object. slot_in object.kind result.place)
+            (object_at self.now result.owner)
             ≡ option_map (λ placed. placed.slot) (slot_at self.now s) }
     {
         self.places[usize::from(s) - 1]

@@ -42,7 +42,8 @@ impl OwnBounds {
     /// Gives a slot bounds.
     pub fn add(&mut self, slot: u16, bounds: (i64, i64)) -> Result<(), NoMemory>
         requires { bound_of self.old slot ≡ None }
-        ensures ok { OnOk result (self.new ≡ self.old ++ record { slot = slot; bounds = bounds } ∷ []) }
+        ensures ok { OnOk result
+            (self.new ≡ self.old ++ record { slot = slot; bounds = bounds } ∷ []) }
         ensures err { OnErr result (self.new ≡ self.old) }
     {
         self.bounds.insert(slot, bounds)?;

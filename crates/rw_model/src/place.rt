@@ -21,7 +21,8 @@ const PLACES_MAX: u8 = 11;
 pub fn push_places(places: &mut Vec<Place>, owner: u16, kind: &Kind)
     requires few { length (slots_of kind.now) ≤ 11 }
     requires room { vec_len places.old + 11 ≤ vec_capacity places.old }
-    ensures { places.new.items ≡ places.old.items ++ map place_of (placed_from owner 0 (slots_of kind.now)) }
+    ensures { places.new.items
+        ≡ places.old.items ++ map place_of (placed_from owner 0 (slots_of kind.now)) }
 {
     for place in 0..PLACES_MAX {
         if kind.slot(place).is_some() {
@@ -34,7 +35,8 @@ pub fn push_places(places: &mut Vec<Place>, owner: u16, kind: &Kind)
 pub fn number_in_place(kind: &Kind, owner: u16, first: u16, place: u8) -> Option<u16>
     requires few { length (slots_of kind.now) ≤ 11 }
     requires small { first ≤ 4001 }
-    ensures { result ≡ first_from first (is_in_place owner place) (placed_from owner 0 (slots_of kind.now)) }
+    ensures { result
+        ≡ first_from first (is_in_place owner place) (placed_from owner 0 (slots_of kind.now)) }
 {
     let mut number = first;
     for at in 0..PLACES_MAX {
@@ -52,7 +54,8 @@ pub fn number_in_place(kind: &Kind, owner: u16, first: u16, place: u8) -> Option
 pub fn number_of_name(kind: &Kind, owner: u16, first: u16, name: &str) -> Option<u16>
     requires few { length (slots_of kind.now) ≤ 11 }
     requires small { first ≤ 4001 }
-    ensures { result ≡ first_from first (is_named owner name.now) (placed_from owner 0 (slots_of kind.now)) }
+    ensures { result
+        ≡ first_from first (is_named owner name.now) (placed_from owner 0 (slots_of kind.now)) }
 {
     let mut number = first;
     for at in 0..PLACES_MAX {

@@ -25,7 +25,9 @@ impl<'a> Model for Slot<'a> {
 
     ghost Value = { specs.Slot };
 
-    ghost view = { λ s. record { name = s.name.now; dim = s.dim; role = s.role; widest = s.widest; usual = s.usual } };
+    ghost view = { λ s.
+        record
+        { name = s.name.now; dim = s.dim; role = s.role; widest = s.widest; usual = s.usual } };
 }
 
 // The dimension with these exponents.

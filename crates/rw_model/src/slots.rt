@@ -89,7 +89,9 @@ fn of_reservoir<'a>(
     place: u8,
 ) -> Option<Slot<'a>>
     ensures { result
-        ≡ slot_in (Kind.Reservoir (pos 0) table.now local_inflow diversion return_flow evaporation max_release) place }
+        ≡ slot_in
+        (Kind.Reservoir (pos 0) table.now local_inflow diversion return_flow evaporation
+        max_release) place }
 {
     let evaporates = evaporation && table.is_some();
     let spills = max_release.is_some();

@@ -53,7 +53,8 @@ fn read_bound(
 
 // Gives slots the bounds that the items say, one after another.
 fn add_bounds(alloc: Global, builder: &mut BasinBuilder, items: &[Value]) -> Result<(), ModelFault>
-    ensures { Gives (λ _. builder.new) result (in_turn bound_of (codes "bound") 1 (items_view items.now) builder.old) }
+    ensures { Gives (λ _. builder.new) result
+        (in_turn bound_of (codes "bound") 1 (items_view items.now) builder.old) }
 {
     for place in 0..items.len() {
         let at = element_path(alloc, "bound", place + 1)?;

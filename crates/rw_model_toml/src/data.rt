@@ -42,7 +42,8 @@ fn read_slot(alloc: Global, at: &str, value: &Value) -> Result<DataSlot, ModelFa
 }
 
 fn read_slots(alloc: Global, path: &str, items: &[Value]) -> Result<Vec<DataSlot>, ModelFault>
-    ensures { Gives (λ slots. slots.items) result (list_of slot_of path.now 1 (items_view items.now)) }
+    ensures { Gives (λ slots. slots.items) result
+        (list_of slot_of path.now 1 (items_view items.now)) }
 {
     let mut slots = Vec::new(alloc);
     for place in 0..items.len() {

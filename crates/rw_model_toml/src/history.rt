@@ -20,7 +20,8 @@ fn history_items<'a>(
     lag: u16,
     table: &'a Table,
 ) -> Result<&'a [Value], ModelFault>
-    ensures { Gives (λ items. items_view items.now) result (history_items_of at.now lag (table_view table.now)) }
+    ensures { Gives (λ items. items_view items.now) result
+        (history_items_of at.now lag (table_view table.now)) }
 {
     if lag == 0 {
         optional_items(alloc, at, "history", table)
@@ -30,7 +31,8 @@ fn history_items<'a>(
 }
 
 fn read_inflows(alloc: Global, path: &str, items: &[Value]) -> Result<Vec<i64>, ModelFault>
-    ensures { Gives (λ inflows. inflows.items) result (list_of inflow_of path.now 1 (items_view items.now)) }
+    ensures { Gives (λ inflows. inflows.items) result
+        (list_of inflow_of path.now 1 (items_view items.now)) }
 {
     let mut inflows = Vec::new(alloc);
     for place in 0..items.len() {
@@ -48,7 +50,8 @@ pub fn read_history(
     lag: u16,
     table: &Table,
 ) -> Result<Vec<i64>, ModelFault>
-    ensures { Gives (λ inflows. inflows.items) result (history_of at.now lag (table_view table.now)) }
+    ensures { Gives (λ inflows. inflows.items) result
+        (history_of at.now lag (table_view table.now)) }
 {
     let items = history_items(alloc, at, lag, table)?;
     let path = key_path(alloc, at, "history")?;

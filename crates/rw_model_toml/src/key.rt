@@ -13,7 +13,8 @@ use toml::{Table, Value};
 
 /// What stands at a key.
 pub fn member<'a>(members: &'a Table, key: &str) -> Option<&'a Value>
-    ensures { option_map (λ value. view value.now) result ≡ get_member key.now (table_view members.now) }
+    ensures { option_map (λ value. view value.now) result
+        ≡ get_member key.now (table_view members.now) }
 {
     members.get(key)
 }
@@ -25,7 +26,8 @@ pub fn required_text<'a>(
     key: &str,
     members: &'a Table,
 ) -> Result<&'a str, ModelFault>
-    ensures { Gives (λ text. text.now) result (required text_of at.now key.now (table_view members.now)) }
+    ensures { Gives (λ text. text.now) result
+        (required text_of at.now key.now (table_view members.now)) }
 {
     let path = key_path(alloc, at, key)?;
     match member(members, key) {
@@ -42,7 +44,8 @@ pub fn optional_text<'a>(
     members: &'a Table,
     default: &'a str,
 ) -> Result<&'a str, ModelFault>
-    ensures { Gives (λ text. text.now) result (optional default.now text_of at.now key.now (table_view members.now)) }
+    ensures { Gives (λ text. text.now) result
+        (optional default.now text_of at.now key.now (table_view members.now)) }
 {
     match member(members, key) {
         Some(value) => text(key_path(alloc, at, key)?, value),
@@ -52,7 +55,8 @@ pub fn optional_text<'a>(
 
 /// The truth value at a key, false where it isn't there.
 pub fn choice(alloc: Global, at: &str, key: &str, members: &Table) -> Result<bool, ModelFault>
-    ensures { Gives (λ b. b) result (optional false truth_of at.now key.now (table_view members.now)) }
+    ensures { Gives (λ b. b) result
+        (optional false truth_of at.now key.now (table_view members.now)) }
 {
     match member(members, key) {
         Some(value) => truth(key_path(alloc, at, key)?, value),
@@ -67,7 +71,8 @@ pub fn required_items<'a>(
     key: &str,
     members: &'a Table,
 ) -> Result<&'a [Value], ModelFault>
-    ensures { Gives (λ items. items_view items.now) result (required items_of at.now key.now (table_view members.now)) }
+    ensures { Gives (λ items. items_view items.now) result
+        (required items_of at.now key.now (table_view members.now)) }
 {
     let path = key_path(alloc, at, key)?;
     match member(members, key) {
@@ -99,7 +104,8 @@ pub fn required_table<'a>(
     key: &str,
     members: &'a Table,
 ) -> Result<&'a Table, ModelFault>
-    ensures { Gives (λ table. table_view table.now) result (required members_of at.now key.now (table_view members.now)) }
+    ensures { Gives (λ table. table_view table.now) result
+        (required members_of at.now key.now (table_view members.now)) }
 {
     let path = key_path(alloc, at, key)?;
     match member(members, key) {
@@ -133,7 +139,8 @@ pub fn required_number(
     low: i64,
     high: i64,
 ) -> Result<i64, ModelFault>
-    ensures read { Gives (λ z. z) result (required (number_of low high) at.now key.now (table_view members.now)) }
+    ensures read { Gives (λ z. z) result
+        (required (number_of low high) at.now key.now (table_view members.now)) }
     ensures least { IfOk result (λ z. low ≤ℤ z) }
     ensures most { IfOk result (λ z. z ≤ℤ high) }
 {
@@ -154,7 +161,8 @@ pub fn optional_number(
     low: i64,
     high: i64,
 ) -> Result<i64, ModelFault>
-    ensures { Gives (λ z. z) result (optional default (number_of low high) at.now key.now (table_view members.now)) }
+    ensures { Gives (λ z. z) result
+        (optional default (number_of low high) at.now key.now (table_view members.now)) }
 {
     match member(members, key) {
         Some(value) => number(key_path(alloc, at, key)?, value, low, high),
@@ -171,7 +179,8 @@ pub fn required_count(
     low: u16,
     high: u16,
 ) -> Result<u16, ModelFault>
-    ensures read { Gives (λ n. n) result (required (count_of low high) at.now key.now (table_view members.now)) }
+    ensures read { Gives (λ n. n) result
+        (required (count_of low high) at.now key.now (table_view members.now)) }
     ensures least { IfOk result (λ n. low ≤ n) }
     ensures most { IfOk result (λ n. n ≤ high) }
 {
@@ -194,7 +203,8 @@ pub fn optional_count(
 ) -> Result<u16, ModelFault>
     requires least { low ≤ default }
     requires most { default ≤ high }
-    ensures read { Gives (λ n. n) result (optional default (count_of low high) at.now key.now (table_view members.now)) }
+    ensures read { Gives (λ n. n) result
+        (optional default (count_of low high) at.now key.now (table_view members.now)) }
     ensures least { IfOk result (λ n. low ≤ n) }
     ensures most { IfOk result (λ n. n ≤ high) }
 {
@@ -213,7 +223,8 @@ pub fn number_if_given(
     low: i64,
     high: i64,
 ) -> Result<Option<i64>, ModelFault>
-    ensures { Gives (λ z. z) result (optional None (given_number low high) at.now key.now (table_view members.now)) }
+    ensures { Gives (λ z. z) result
+        (optional None (given_number low high) at.now key.now (table_view members.now)) }
 {
     match member(members, key) {
         Some(value) => {

@@ -23,7 +23,8 @@ const SLOTS_MAX: usize = 8;
 
 // The slot that the value at the path names.
 fn read_slot(path: String, builder: &BasinBuilder, value: &Value) -> Result<SlotNo, ModelFault>
-    ensures { Gives (λ slot. slot.0) result (slot_in builder.now.objects (string_bytes path) (view value.now)) }
+    ensures { Gives (λ slot. slot.0) result
+        (slot_in builder.now.objects (string_bytes path) (view value.now)) }
 {
     let text = text(path, value)?;
     Ok(slot_number(builder, text))
@@ -85,7 +86,8 @@ fn read_link(
 
 // Links the slots that the items say, one link after another.
 fn add_links(alloc: Global, builder: &mut BasinBuilder, items: &[Value]) -> Result<(), ModelFault>
-    ensures { Gives (λ _. builder.new) result (in_turn link_of (codes "link") 1 (items_view items.now) builder.old) }
+    ensures { Gives (λ _. builder.new) result
+        (in_turn link_of (codes "link") 1 (items_view items.now) builder.old) }
 {
     for place in 0..items.len() {
         let at = element_path(alloc, "link", place + 1)?;

@@ -50,7 +50,8 @@ fn read_object(
 
 // Adds the objects that the items say, one after another.
 fn add_objects(alloc: Global, builder: &mut BasinBuilder, items: &[Value]) -> Result<(), ModelFault>
-    ensures { Gives (λ _. builder.new) result (in_turn object_of (codes "object") 1 (items_view items.now) builder.old) }
+    ensures { Gives (λ _. builder.new) result
+        (in_turn object_of (codes "object") 1 (items_view items.now) builder.old) }
 {
     for place in 0..items.len() {
         let at = element_path(alloc, "object", place + 1)?;

@@ -75,7 +75,8 @@ fn rating(alloc: Global, path: String, value: &Value) -> Result<Rating, ModelFau
 
 /// The table of elevations and volumes, which has to be there.
 pub fn required_rating(alloc: Global, at: &str, table: &Table) -> Result<Rating, ModelFault>
-    ensures { Gives (λ rating. rating) result (required rating_of at.now (codes "table") (table_view table.now)) }
+    ensures { Gives (λ rating. rating) result
+        (required rating_of at.now (codes "table") (table_view table.now)) }
 {
     let path = key_path(alloc, at, "table")?;
     match member(table, "table") {

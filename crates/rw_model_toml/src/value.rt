@@ -40,7 +40,8 @@ pub fn truth(path: String, value: &Value) -> Result<bool, ModelFault>
 
 /// The items of the array that it is.
 pub fn items(path: String, value: &Value) -> Result<&[Value], ModelFault>
-    ensures { Gives (λ items. items_view items.now) result (items_of (string_bytes path) (view value.now)) }
+    ensures { Gives (λ items. items_view items.now) result
+        (items_of (string_bytes path) (view value.now)) }
 {
     match value {
         Value::Array(items) => Ok(items.as_slice()),

@@ -29,7 +29,8 @@ pub fn any_order()
         → IsBasin basin → order_free basin ≡ true → AreInside basin inputs
         → IsAnyRun basin inputs log → IsSettledLog log → IsAnyRun basin inputs other
         → IsSettledLog other × (last_closed other ≡ basin.control.stamps.count)
-        × ((cell : Cell) → value_in (cells_of basin log) cell ≡ value_in (cells_of basin other) cell) }
+        × ((cell : Cell)
+        → value_in (cells_of basin log) cell ≡ value_in (cells_of basin other) cell) }
 {}
 
 /// What is read as inputs is of values that their slots can have.
@@ -91,9 +92,11 @@ pub fn a_chain()
         (log_after chain_newest (placed [] chain_inputs)) }
     ensures turns { IsPickedRun chain no_rules newest_first chain_inputs
         (log_after chain_newest (placed [] chain_inputs)) }
-    ensures oldest_value { value_in (cells_of chain (log_after chain_oldest (placed [] chain_inputs))) (cell_at 5 1)
+    ensures oldest_value { value_in
+        (cells_of chain (log_after chain_oldest (placed [] chain_inputs))) (cell_at 5 1)
         ≡ Some (pos 7) }
-    ensures newest_value { value_in (cells_of chain (log_after chain_newest (placed [] chain_inputs))) (cell_at 5 1)
+    ensures newest_value { value_in
+        (cells_of chain (log_after chain_newest (placed [] chain_inputs))) (cell_at 5 1)
         ≡ Some (pos 7) }
 {}
 
@@ -104,7 +107,9 @@ pub fn free_basins()
     ensures gauged { order_free gauged ≡ true }
     ensures valley { order_free valley ≡ true }
     ensures canal { order_free (valley_with (Kind.Canal 100)) ≡ false }
-    ensures power { order_free (valley_with (Kind.PowerReservoir (pos 10) ((pos 0, pos 0) ∷ (pos 20, pos 20) ∷ []) (pos 5) (pos 0) 1))
+    ensures power { order_free
+        (valley_with
+        (Kind.PowerReservoir (pos 10) ((pos 0, pos 0) ∷ (pos 20, pos 20) ∷ []) (pos 5) (pos 0) 1))
         ≡ false }
     ensures routed { order_free (valley_with (Kind.RoutedReach (pos 1000) 250)) ≡ false }
 {}
@@ -118,7 +123,8 @@ pub fn losing_orders_differ()
     ensures newest { IsPickedRun losing no_rules newest losing_inputs
         (log_after losing_newest (placed [] losing_inputs)) }
     ensures settles { end_of (log_after losing_oldest (placed [] losing_inputs)) ≡ Settled }
-    ensures fails { end_of (log_after losing_newest (placed [] losing_inputs)) ≡ Fault losing_fault }
+    ensures fails { end_of (log_after losing_newest (placed [] losing_inputs))
+        ≡ Fault losing_fault }
 {}
 
 /// Two reservoirs share an elevation of 10 mm, which the second has by its volume alone. The first one first, it puts 10, and
@@ -142,5 +148,6 @@ pub fn stores_orders_differ()
     ensures newest { IsPickedRun stores no_rules newest stores_inputs
         (log_after stores_newest (placed [] stores_inputs)) }
     ensures settles { end_of (log_after stores_oldest (placed [] stores_inputs)) ≡ Settled }
-    ensures fails { end_of (log_after stores_newest (placed [] stores_inputs)) ≡ Fault stores_fault }
+    ensures fails { end_of (log_after stores_newest (placed [] stores_inputs))
+        ≡ Fault stores_fault }
 {}

@@ -20,15 +20,18 @@ use rw_run::law::one_run;
 /// One plain reservoir, whose inflow and outflow are given, has a run.
 pub fn first_run()
     ensures { (basin : Draft) (model : FirstModel) (inputs : Inputs) (inflows outflows : List ℤ)
-        → IsBasin basin → IsFirstForm basin model → IsFirstFlows inputs model.run.count inflows outflows
+        → IsBasin basin → IsFirstForm basin model
+        → IsFirstFlows inputs model.run.count inflows outflows
         → (log : Log) × IsRun basin no_rules (givens basin inputs) log }
 {}
 
 /// The section of the run of one plain reservoir, whose inflow and outflow are given, is the text of its run. It says that
 /// the run settled exactly where it did.
 pub fn first_text()
-    ensures { (basin : Draft) (model : FirstModel) (inputs : Inputs) (inflows outflows : List ℤ) (log : Log)
-        → IsBasin basin → IsFirstForm basin model → IsFirstFlows inputs model.run.count inflows outflows
+    ensures { (basin : Draft) (model : FirstModel) (inputs : Inputs)
+        (inflows outflows : List ℤ) (log : Log)
+        → IsBasin basin → IsFirstForm basin model
+        → IsFirstFlows inputs model.run.count inflows outflows
         → IsRun basin no_rules (givens basin inputs) log
         → (fault : Option ℤ)
         × IsFirstText model inflows outflows fault
@@ -41,26 +44,32 @@ pub fn first_text()
 /// A basin is in the first form in one way.
 #[tactic(auto, using(crate::proofs::OneModel::one_model))]
 pub fn one_model()
-    ensures { (basin : Draft) (model other : FirstModel) → IsFirstForm basin model → IsFirstForm basin other → model ≡ other }
+    ensures { (basin : Draft) (model other : FirstModel) → IsFirstForm basin model
+        → IsFirstForm basin other → model ≡ other }
 {}
 
 /// Such a run has one end and one text.
 #[tactic(auto, using(crate::proofs::OneText::one_text))]
 pub fn one_text()
-    ensures { (model : FirstModel) (inflows outflows : List ℤ) (end other : Option ℤ) (text more : List ℕ)
-        → IsFirstText model inflows outflows end text → IsFirstText model inflows outflows other more → (end ≡ other) × (text ≡ more) }
+    ensures { (model : FirstModel) (inflows outflows : List ℤ) (end other : Option ℤ)
+        (text more : List ℕ)
+        → IsFirstText model inflows outflows end text
+        → IsFirstText model inflows outflows other more → (end ≡ other) × (text ≡ more) }
 {}
 
 /// Worked values: 1000 and three days of inflow 100, with outflows 50, 150 and 100; a reservoir of which 1001 are taken
 /// at once; and the texts of their ends and of the columns.
 #[tactic(auto, using(crate::proofs::Worked::emptied, crate::proofs::Worked::faulted))]
 pub fn worked()
-    ensures first { storage_at (pos 1000) (pos 100 ∷ pos 100 ∷ pos 100 ∷ []) (pos 50 ∷ pos 150 ∷ pos 100 ∷ []) 1 ≡ pos 1050 }
-    ensures second { storage_at (pos 1000) (pos 100 ∷ pos 100 ∷ pos 100 ∷ []) (pos 50 ∷ pos 150 ∷ pos 100 ∷ []) 2 ≡ pos 1000 }
+    ensures first { storage_at (pos 1000) (pos 100 ∷ pos 100 ∷ pos 100 ∷ [])
+        (pos 50 ∷ pos 150 ∷ pos 100 ∷ []) 1 ≡ pos 1050 }
+    ensures second { storage_at (pos 1000) (pos 100 ∷ pos 100 ∷ pos 100 ∷ [])
+        (pos 50 ∷ pos 150 ∷ pos 100 ∷ []) 2 ≡ pos 1000 }
     ensures empty { storage_at (pos 1000) (pos 0 ∷ []) (pos 1001 ∷ []) 1 ≡ negsuc 0 }
     ensures run { IsReservoirRun 1 (pos 1000) (pos 0 ∷ []) (pos 1001 ∷ []) 0 (Some (negsuc 0)) }
     ensures settled { heading (codes "Dam") 3 None ≡ codes "# batch 0 settled\n" }
     ensures faulted { heading (codes "Dam") 0 (Some (negsuc 0))
         ≡ codes "# batch 0 fault out of range object Dam slot Dam.Storage step 1 value -1\n" }
-    ensures names { columns (codes "Dam") ≡ codes "step,stamp,Dam.Inflow,Dam.Outflow,Dam.Storage\n" }
+    ensures names { columns (codes "Dam")
+        ≡ codes "step,stamp,Dam.Inflow,Dam.Outflow,Dam.Storage\n" }
 {}

@@ -55,7 +55,8 @@ fn ask_beside(
 ) -> Result<(), Solved>
     requires { length puts.old < 7 }
     ensures asks { Asks (can_get (option_map (λ rating. rating.now) table.entry) view.entry.now)
-        (beside_flow (put asked.place asked.value asked.number) (put solved.place solved.value solved.number))
+        (beside_flow (put asked.place asked.value asked.number)
+        (put solved.place solved.value solved.number))
         puts.old puts.new result }
     ensures room { OnOk result (length puts.new ≤ length puts.old + 2) }
 {

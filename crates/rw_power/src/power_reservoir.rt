@@ -59,12 +59,15 @@ fn answer_asked(
     asked: Option<Given>,
 ) -> Solved
     requires { IsFall head }
-    ensures { (tailwater : ℤ) → head ≡ head_of (plant rating.now max_release tailwater power) view.entry.now
+    ensures { (tailwater : ℤ)
+        → head ≡ head_of (plant rating.now max_release tailwater power) view.entry.now
         → asked ≡ asked_of (plant rating.now max_release tailwater power) view.entry.now
         → result ≡ answer (can_get (Some rating.now) view.entry.now)
         (power_puts (plant rating.now max_release tailwater power) view.entry.now
-        (settled view.entry.now.past (power_balance (plant rating.now max_release tailwater power) view.entry.now).terms))
-        (settled view.entry.now.past (power_balance (plant rating.now max_release tailwater power) view.entry.now).terms)
+        (settled view.entry.now.past
+        (power_balance (plant rating.now max_release tailwater power) view.entry.now).terms))
+        (settled view.entry.now.past
+        (power_balance (plant rating.now max_release tailwater power) view.entry.now).terms)
         (fault_of_level (Some rating.now) view.entry.now) }
 {
     let terms = [
@@ -94,7 +97,9 @@ fn solve_power(view: &View, rating: &Rating, max_release: i64, tailwater: i64, p
     requires tailwater { pos 0 ≤ℤ tailwater }
     requires power { 1 ≤ power }
     ensures { (initial_storage : ℤ)
-        → result ≡ solve_of (Kind.PowerReservoir initial_storage rating.now max_release tailwater power) view.entry.now }
+        → result
+        ≡ solve_of (Kind.PowerReservoir initial_storage rating.now max_release tailwater power)
+        view.entry.now }
 {
     let head = head_of(rating, tailwater, view.past);
     match asked(view, rating, max_release, tailwater, power, head) {

@@ -27,7 +27,8 @@ fn ask_parts(
 ) -> Result<(), Solved>
     requires { length puts.old < 6 }
     ensures asks { Asks (can_get (option_map (λ rating. rating.now) table.entry) view.entry.now)
-        (put ENERGY energy outflow.number ∷ released_puts POWER_RELEASE POWER_SPILL max_release outflow)
+        (put ENERGY energy outflow.number
+        ∷ released_puts POWER_RELEASE POWER_SPILL max_release outflow)
         puts.old puts.new result }
 {
     match ask(view, table, puts, ENERGY, energy, outflow.number) {
@@ -82,7 +83,8 @@ pub(crate) fn put_all(
 ) -> Solved
     requires { IsFall head }
     ensures { (tailwater : ℤ) (rows : List Row)
-        → result ≡ answer_of_puts (can_get (option_map (λ rating. rating.now) table.entry) view.entry.now)
+        → result
+        ≡ answer_of_puts (can_get (option_map (λ rating. rating.now) table.entry) view.entry.now)
         (flow_puts asked terms.now balanced
         ++ level_puts (option_map (λ rating. rating.now) table.entry)
         (given view.entry.now STORAGE) (given view.entry.now POOL_ELEVATION) balanced

@@ -37,9 +37,11 @@ fn requested(
     requires power { 1 ≤ power }
     requires fall { head ≡ head_of (plant rating.now max_release tailwater power) view.now }
     requires bound { IsFall head }
-    ensures ok { IfOk result (HasRelease (plant rating.now max_release tailwater power) view.entry.now request) }
+    ensures ok { IfOk result
+        (HasRelease (plant rating.now max_release tailwater power) view.entry.now request) }
     ensures err { IfErr result (λ answer.
-        fault_of_request (plant rating.now max_release tailwater power) view.entry.now (Some request) ≡ Some answer) }
+        fault_of_request (plant rating.now max_release tailwater power) view.entry.now
+        (Some request) ≡ Some answer) }
 {
     let wanted = request.value.get();
     let number = request.number;
@@ -66,9 +68,15 @@ pub(crate) fn asked(
     requires power { 1 ≤ power }
     requires fall { head ≡ head_of (plant rating.now max_release tailwater power) view.now }
     requires bound { IsFall head }
-    ensures ok { IfOk result (λ asked. asked ≡ asked_of (plant rating.now max_release tailwater power) view.entry.now) }
-    ensures fine { IfOk result (λ asked. fault_of_power (plant rating.now max_release tailwater power) view.entry.now ≡ None) }
-    ensures err { IfErr result (λ answer. fault_of_power (plant rating.now max_release tailwater power) view.entry.now ≡ Some answer) }
+    ensures ok { IfOk result
+        (λ asked. asked ≡ asked_of (plant rating.now max_release tailwater power) view.entry.now) }
+    ensures fine { IfOk result
+        (λ asked.
+        fault_of_power (plant rating.now max_release tailwater power) view.entry.now ≡ None) }
+    ensures err { IfErr result
+        (λ answer.
+        fault_of_power (plant rating.now max_release tailwater power)
+        view.entry.now ≡ Some answer) }
 {
     if let Some(fault) = fault_of_past(true, Some(rating), view.past) {
         return Err(fault);

@@ -21,7 +21,8 @@ ghost use Rattle.rw_run.specs.Worked.{linked_basin, one_end_run};
 pub fn noting()
     ensures members { (cells : Cells) (noted : List Held) (more : List Cell) (one : Held)
         → Contains (noted_after cells noted more) one ↔ (Contains noted one
-        ⊎ (IsFalse (is_noted noted one.cell) × Contains more one.cell × (one.content ≡ cells one.cell))) }
+        ⊎ (IsFalse (is_noted noted one.cell) × Contains more one.cell
+        × (one.content ≡ cells one.cell))) }
     ensures cells { (cells : Cells) (noted : List Held) (more : List Cell) (cell : Cell)
         → IsTrue (is_noted (noted_after cells noted more) cell)
         ↔ (IsTrue (is_noted noted cell) ⊎ Contains more cell) }
@@ -79,7 +80,8 @@ pub fn recorded()
 pub fn worked_notes()
     ensures again { noted_after (all_hold (pos 5)) [] (cell_at 1 1 ∷ cell_at 2 1 ∷ cell_at 1 1 ∷ [])
         ≡ held_at 1 1 (pos 5) ∷ held_at 2 1 (pos 5) ∷ [] }
-    ensures first { noted_after (all_hold (pos 7)) (held_at 1 1 (pos 5) ∷ []) (cell_at 1 1 ∷ cell_at 1 2 ∷ [])
+    ensures first { noted_after (all_hold (pos 7)) (held_at 1 1 (pos 5) ∷ [])
+        (cell_at 1 1 ∷ cell_at 1 2 ∷ [])
         ≡ held_at 1 1 (pos 5) ∷ held_at 1 2 (pos 7) ∷ [] }
     ensures both { noted_after none_holds [] (flat_map (reached_by linked_basin) one_end_run)
         ≡ unknown_at 1 1 ∷ unknown_at 2 1 ∷ [] }

@@ -36,7 +36,8 @@ pub(crate) fn set_mark(marks: &mut Vec<bool>, slots: u16, steps: u16, cell: Cell
     requires many { vec_len marks.old ≡ slots * steps }
     requires there { IsTrue (has_mark slots steps cell) }
     ensures many { vec_len marks.new ≡ slots * steps }
-    ensures set { (other : Cell) → IsTrue (has_mark slots steps other) → is_marked slots marks.new.items other
+    ensures set { (other : Cell) → IsTrue (has_mark slots steps other)
+        → is_marked slots marks.new.items other
         ≡ (if is_same_cell cell other then mark else is_marked slots marks.old.items other) }
 {
     marks[position(slots, cell)] = mark;

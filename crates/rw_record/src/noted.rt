@@ -130,7 +130,8 @@ impl Noted {
         writes: &[Write],
     ) -> Result<(), NoMemory>
         requires { All (λ (write : Write). IsSlot basin.now.objects write.cell.slot.0) writes.now }
-        ensures { AddsNotes (held series.now) (cells_reached basin.now writes.now) self.old self.new result }
+        ensures { AddsNotes (held series.now) (cells_reached basin.now writes.now) self.old
+            self.new result }
     {
         for write in writes {
             self.note_group(basin, series, write.cell)?;

@@ -29,7 +29,8 @@ impl Model for StepRecord {
 
     ghost Value = { specs.StepRecord };
 
-    ghost view = { λ r. record { step = r.step.0; looked = r.looked.items; lines = lines_in r.lines } };
+    ghost view = { λ r.
+        record { step = r.step.0; looked = r.looked.items; lines = lines_in r.lines } };
 
     ghost invariant = { λ r. r.lines ≡ Some (lines_in r.lines) };
 }
@@ -84,7 +85,8 @@ impl StepRecord {
 
 // Whether so many cells, or the lines of a trace from a place on, are too many to be kept.
 fn is_large(cells: usize, trace: &Trace, from: usize) -> bool
-    ensures { result ≡ (nat_lt MOST_KEPT cells || nat_lt MOST_KEPT (length (drop from (lines_in trace.now)))) }
+    ensures { result
+        ≡ (nat_lt MOST_KEPT cells || nat_lt MOST_KEPT (length (drop from (lines_in trace.now)))) }
 {
     cells > MOST_KEPT || trace.len().saturating_sub(from) > MOST_KEPT
 }

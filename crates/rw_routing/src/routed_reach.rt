@@ -57,7 +57,8 @@ fn left(held: i128, outflow: Given) -> i128
 fn put_content(view: &View, balanced: Balanced) -> Solved
     ensures { result ≡ answer (is_bounded view.entry.now)
         (solved_put balanced ++ content_put (content_before view.entry.now)
-        (known_after view.entry.now balanced INFLOW) (known_after view.entry.now balanced OUTFLOW)) balanced None }
+        (known_after view.entry.now balanced INFLOW)
+        (known_after view.entry.now balanced OUTFLOW)) balanced None }
 {
     let mut puts = match begin_puts(view, balanced) {
         Ok(puts) => puts,
@@ -76,7 +77,8 @@ fn put_content(view: &View, balanced: Balanced) -> Solved
 pub(crate) fn solve_routed_reach(view: &View, release: u16) -> Solved
     requires some { 1 ≤ release }
     requires most { release ≤ 1000 }
-    ensures { (initial_content : ℤ) → result ≡ solve_of (Kind.RoutedReach initial_content release) view.entry.now }
+    ensures { (initial_content : ℤ)
+        → result ≡ solve_of (Kind.RoutedReach initial_content release) view.entry.now }
 {
     let routes = Share::Routes {
         content: content_before(view),

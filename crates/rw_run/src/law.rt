@@ -252,7 +252,8 @@ pub fn timesteps_behind()
         (events : List Event) (why : RunFault) → standing old ≡ rests last → step ≡ last + 1
         → standing before ≡ inside step → Leads basin policy old events (fault why ∷ before)
         → events_of step old ≡ []
-        → IsBehind step old (fault why ∷ before) × (before_closing step (fault why ∷ before) ≡ None) }
+        → IsBehind step old (fault why ∷ before)
+        × (before_closing step (fault why ∷ before) ≡ None) }
     ensures one { (basin : Draft) (policy : Policy) (step last : ℕ) (old before : Log)
         (events own : List Event) (first : Event) → standing old ≡ rests last → step ≡ last + 1
         → standing before ≡ inside step → Leads basin policy old events (closed step ∷ before)

@@ -24,7 +24,8 @@ fn inflow_of(number: u64) -> u64
 
 fn push_inflow(text: &mut String, step: u16, inflow: u64) -> Result<(), NoMemory>
     ensures { OnOk result (string_bytes text.new ≡ string_bytes text.old
-        ++ (codes "D1.Inflow," ++ (decimal step ++ (codes "," ++ (decimal inflow ++ codes "\n"))))) }
+        ++ (codes "D1.Inflow,"
+        ++ (decimal step ++ (codes "," ++ (decimal inflow ++ codes "\n"))))) }
 {
     writeln!(text, "D1.Inflow,{step},{inflow}")?;
     Ok(())

@@ -39,7 +39,8 @@ fn solve_unlagged(view: &View, side: Option<i128>) -> Solved
     requires { ForSome side (IsWithin 3) }
     ensures { (history : List ℤ) (local_inflow diversion return_flow : Bool)
         → side ≡ side_flows view.entry.now REACH_SIDE local_inflow diversion return_flow
-        → result ≡ solve_of (Kind.Reach zero history local_inflow diversion return_flow) view.entry.now }
+        → result
+        ≡ solve_of (Kind.Reach zero history local_inflow diversion return_flow) view.entry.now }
 {
     let terms = [
         view.term(Share::Brings, INFLOW),
@@ -52,7 +53,9 @@ fn solve_lagged(view: &View, side: Option<i128>) -> Solved
     requires { ForSome side (IsWithin 3) }
     ensures { (lag : ℕ) (history : List ℤ) (local_inflow diversion return_flow : Bool)
         → side ≡ side_flows view.entry.now REACH_SIDE local_inflow diversion return_flow
-        → result ≡ solve_of (Kind.Reach (suc lag) history local_inflow diversion return_flow) view.entry.now }
+        → result
+        ≡ solve_of (Kind.Reach (suc lag) history local_inflow diversion return_flow)
+        view.entry.now }
 {
     let terms = [view.term(Share::Takes, OUTFLOW)];
     put_solved(view, settle(lagged_outflow(view.past, side), &terms))
@@ -66,7 +69,8 @@ pub(crate) fn solve_reach(
     return_flow: bool,
 ) -> Solved
     ensures { (history : List ℤ)
-        → result ≡ solve_of (Kind.Reach lag history local_inflow diversion return_flow) view.entry.now }
+        → result
+        ≡ solve_of (Kind.Reach lag history local_inflow diversion return_flow) view.entry.now }
 {
     let side = side_flows(view, REACH_SIDE, local_inflow, diversion, return_flow);
     if lag == 0 {

@@ -44,7 +44,8 @@ fn flowing_back(diversion: Given, depletion: u16) -> i128
 
 // What its diversion comes to: it is the request, or is set by a rule.
 fn balanced_by(view: &View, supply: Supply) -> Balanced
-    ensures { (depletion : ℕ) → result ≡ balanced_of (Kind.WaterUser depletion supply) view.entry.now }
+    ensures { (depletion : ℕ)
+        → result ≡ balanced_of (Kind.WaterUser depletion supply) view.entry.now }
 {
     match supply {
         Supply::Request => settle(
