@@ -1,5 +1,5 @@
 -- The record of a first timestep.
-use Rattle.rw_base.proofs.Common.{◌≡◌, ℕ, List, [], ◌∷◌, Option, Some, IsSome, Ok, refl, subst}
+use Rattle.rw_base.proofs.Common.{◌≡◌, ℕ, List, [], ◌∷◌, Option, Some, IsSome, Ok, refl, subst, ◌∙◌}
 use Rattle.rw_model.specs.Draft.{Draft}
 use Rattle.rw_model.specs.Turn.{IsStep}
 use Rattle.rw_run.specs.Log.{Event, Log}
@@ -25,9 +25,9 @@ pub recorded : (basin : Draft) (step : ℕ) (old : Log) (events : List Event) (f
 recorded basin step old events found kept is same = (subst (RecordsOrNot basin step old events) same is).1
 
 pub noted_first : (basin : Draft) (policy : Accepted) (old new : Engine) (end : StepEnd) → RunsStep basin policy 1 old new (Ok end) → end ≡ Closed
-    → IsSome old.trace → (log : Log) → Shows basin old log → standing log ≡ rests 0 → IsStep basin 1
+    → IsSome old.noted → (log : Log) → Shows basin old log → standing log ≡ rests 0 → IsStep basin 1
     → (step : ℕ) × (before : Log) × (events : List Event) × HasNoted basin step before events new × (new.closed ≡ step)
 noted_first basin policy old new end runs is kept log shows rest day =
     let closed = subst (λ (e : StepEnd). RunsStep basin policy 1 old new (Ok e)) is runs in
     let closes = (closed.passes log shows (record { last = 0; rest = rest; next_one = refl; exists = day.last })).closes in
-    (1, log, closes.first ∷ closes.events, closes.noted (closed.kept kept), closed.closed_steps)
+    (1, log, closes.first ∷ closes.events, closes.noted (closed.kept.noted ∙ kept), closed.closed_steps)

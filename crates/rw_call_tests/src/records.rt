@@ -89,7 +89,7 @@ fn engine_of(
     requires fits { verified basin.now policy.now.blocks ≡ Ok policy.now }
     requires inputs { IsInputsOf basin.now inputs.now }
     ensures made { IsEngineOf basin.now policy.now result }
-    ensures kept { IsSome result.trace }
+    ensures noted { IsSome result.noted }
     ensures begun { (log : Log) × Shows basin.now result log × (standing log ≡ rests 0) }
 {
     match Engine::for_run(alloc, basin, policy, inputs) {
@@ -102,7 +102,7 @@ fn engine_of(
 fn begun(rt: &impl Abort, alloc: Global, basin: &Basin, policy: &Verified, text: &str) -> Engine
     requires fits { verified basin.now policy.now.blocks ≡ Ok policy.now }
     ensures made { IsEngineOf basin.now policy.now result }
-    ensures kept { IsSome result.trace }
+    ensures noted { IsSome result.noted }
     ensures begun { (log : Log) × Shows basin.now result log × (standing log ≡ rests 0) }
 {
     let inputs = read_inputs(alloc, basin, text.as_bytes()).expect(rt, "inputs");
@@ -121,7 +121,7 @@ fn first_day<L: Ledger>(
     engine: &mut Engine,
 ) -> StepRecord
     requires made { IsEngineOf basin.now policy.now engine.old }
-    requires kept { IsSome engine.old.trace }
+    requires noted { IsSome engine.old.noted }
     requires begun { (log : Log) × Shows basin.now engine.old log × (standing log ≡ rests 0) }
     requires day { IsStep basin.now 1 }
     requires order { AreInOrder (map (λ b. code (b.vtable, b.value)) methods.now.methods.items) }

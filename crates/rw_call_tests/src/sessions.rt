@@ -112,6 +112,7 @@ fn check_session<L: Ledger>(
     methods: &Catalogue,
     policy: &Verified,
     predefs: &Predefs,
+    traced: bool,
     steps: &mut Steps<L>,
 )
     requires fits { verified basin.now policy.now.blocks ≡ Ok policy.now }
@@ -119,13 +120,15 @@ fn check_session<L: Ledger>(
 {
     let inputs = read_inputs(alloc, basin, INPUTS.as_bytes()).expect(rt, "inputs");
     let batches = read_edits(alloc, basin, EDITS.as_bytes()).expect(rt, "edits");
-    match Session::start(alloc, basin, methods, policy, predefs, inputs, steps) {
+    match Session::start(
+        alloc, basin, methods, policy, predefs, inputs, traced, steps,
+    ) {
         Ok(mut session) => check_batches(rt, basin, &mut session, &batches, steps),
         Err(NoMemory) => panic!(rt; "memory"),
     }
 }
 
-/// A session runs those days alone that an edit touches.
+/// A session runs those days alone that an edit touches, with a trace and without one.
 pub(crate) fn check_sessions<L: Ledger>(
     rt: &impl Abort,
     alloc: Global,
@@ -137,5 +140,6 @@ pub(crate) fn check_sessions<L: Ledger>(
 {
     let basin = basin(rt, alloc, TWO_GAGES);
     let none = Verified::none(alloc);
-    check_session(rt, alloc, &basin, methods, &none, predefs, steps);
+    check_session(rt, alloc, &basin, methods, &none, predefs, true, steps);
+    check_session(rt, alloc, &basin, methods, &none, predefs, false, steps);
 }

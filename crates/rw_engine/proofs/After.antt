@@ -12,8 +12,9 @@ use Rattle.rw_run.specs.Step.{cells_reached}
 use Rattle.rw_run.specs.declared.trace.TraceEvent.{TraceEvent}
 use Rattle.rw_record.specs.Noted.{with_noted}
 use Rattle.rw_engine.specs.Noting.{NotesSome}
-use Rattle.rw_engine.proofs.Traces.{grows_some}
+use Rattle.rw_engine.proofs.Traces.{alike_on, alike_told, grows_some}
 use Rattle.std.specs.Prelude.{Bool, Contains, Result, Err, IsErrAnd, is_some}
+use Rattle.rw_engine.specs.Shows.{NotesAlike}
 use Rattle.rw_engine.specs.State.{DoesEvent, IsStill, seen_end}
 use Rattle.rw_engine.proofs.Notings.{revocable_made, revocable_noted, some_noted}
 
@@ -22,10 +23,10 @@ pub counted : (basin : Draft) (policy : Accepted) (state : State) (object : ℕ)
 counted basin policy state object within known =
     let many = within.made.counts in let last = known.last in record { first = known.first; last = omega (arith, many, last) }
 
--- nothing but the trace is another, and what waits is still
-pub only_told : (basin : Draft) (policy : Accepted) (old : State) (trace : Option (List TraceEvent)) → IsWithinStep basin policy old → TraceGrows old.run.trace trace
-    → KeepsWithin basin policy old (record old { run = record old.run { trace = trace } })
-only_told basin policy old trace within grows = record {
+-- nothing but what is told is another, and what waits is still
+pub only_told : (basin : Draft) (policy : Accepted) (old : State) (trace lines : Option (List TraceEvent)) → IsWithinStep basin policy old → TraceGrows old.run.trace trace
+    → TraceGrows old.lines lines → KeepsWithin basin policy old (record old { run = record old.run { trace = trace }; lines = lines })
+only_told basin policy old trace lines within grows adds = record {
   within = record {
     made = record {
       engine = record {
@@ -35,7 +36,7 @@ only_told basin policy old trace within grows = record {
         rules = within.made.engine.rules;
         series = within.made.engine.series;
         closed_steps = within.made.engine.closed_steps;
-        notes = within.made.engine.notes ∙ sym (grows_some old.run.trace trace grows);
+        notes = alike_told old.noted old.lines lines old.run.trace trace adds grows within.made.engine.notes;
       };
       keeps = within.made.keeps;
       counts = within.made.counts;
@@ -45,7 +46,7 @@ only_told basin policy old trace within grows = record {
     indexed = within.indexed;
   };
   revocable = λ before can. can;
-  lines_before = refl;
+  notes = refl;
   grows = grows;
 }
 
@@ -56,44 +57,42 @@ pub record Stays (basin : Draft) (policy : Accepted) (old new : State) : Type 0 
   pub rules : IsRulesOf basin policy new.rules
   pub closed_steps : new.run.closed ≡ old.run.closed
   pub keeps : new.work.keeps ≡ old.work.keeps
-  pub lines_before : new.lines_before ≡ old.lines_before
 
 -- one number was counted once more, of objects or of rules
 pub stays_counted : (basin : Draft) (policy : Accepted) (old new : State) (object : ℕ) → new.counts ≡ raised old.counts object → new.firings ≡ old.firings
-    → IsRulesOf basin policy new.rules → new.run.closed ≡ old.run.closed → new.work.keeps ≡ old.work.keeps → new.lines_before ≡ old.lines_before
+    → IsRulesOf basin policy new.rules → new.run.closed ≡ old.run.closed → new.work.keeps ≡ old.work.keeps
     → Stays basin policy old new
-stays_counted basin policy old new object counts firings rules closed keeps before = record {
+stays_counted basin policy old new object counts firings rules closed keeps = record {
   counts = ap length counts ∙ length-set old.counts (object - 1) _;
   firings = ap length firings;
   rules = rules;
   closed_steps = closed;
   keeps = keeps;
-  lines_before = before;
 }
 
 pub stays_fired : (basin : Draft) (policy : Accepted) (old new : State) (rule : ℕ) → new.firings ≡ raised old.firings rule → new.counts ≡ old.counts
-    → IsRulesOf basin policy new.rules → new.run.closed ≡ old.run.closed → new.work.keeps ≡ old.work.keeps → new.lines_before ≡ old.lines_before
+    → IsRulesOf basin policy new.rules → new.run.closed ≡ old.run.closed → new.work.keeps ≡ old.work.keeps
     → Stays basin policy old new
-stays_fired basin policy old new rule firings counts rules closed keeps before = record {
+stays_fired basin policy old new rule firings counts rules closed keeps = record {
   counts = ap length counts;
   firings = ap length firings ∙ length-set old.firings (rule - 1) _;
   rules = rules;
   closed_steps = closed;
   keeps = keeps;
-  lines_before = before;
 }
 
 module _ (basin : Draft) (policy : Accepted) (old new : State) (within : IsWithinStep basin policy old) (stays : Stays basin policy old new) where
   firings_kept : length new.firings ≡ length new.rules.agenda.rules
   firings_kept = stays.firings ∙ within.made.firings ∙ within.made.engine.rules.many ∙ sym stays.rules.many
 
-  notes_kept : is_some new.noted ≡ is_some old.noted → TraceGrows old.run.trace new.run.trace → is_some new.noted ≡ is_some new.run.trace
-  notes_kept noted grows = noted ∙ within.made.engine.notes ∙ sym (grows_some old.run.trace new.run.trace grows)
+  notes_kept : is_some new.noted ≡ is_some old.noted → TraceGrows old.run.trace new.run.trace → TraceGrows old.lines new.lines → NotesAlike new.noted new.lines new.run.trace
+  notes_kept noted grows adds =
+      alike_on old.noted new.noted old.lines new.lines old.run.trace new.run.trace noted (grows_some old.lines new.lines adds) (grows_some old.run.trace new.run.trace grows) within.made.engine.notes
 
   -- some cells were noted, and nothing changed
   pub keeps_noted : IsIndexed new.rules.agenda (held old.run.series) → new.run.series ≡ old.run.series → new.queue ≡ old.queue
-      → TraceGrows old.run.trace new.run.trace → NotesSome (held old.run.series) old.noted new.noted → KeepsWithin basin policy old new
-  keeps_noted indexed series queue grows some =
+      → TraceGrows old.run.trace new.run.trace → TraceGrows old.lines new.lines → NotesSome (held old.run.series) old.noted new.noted → KeepsWithin basin policy old new
+  keeps_noted indexed series queue grows adds some =
       let kept = some_noted (held old.run.series) old.noted new.noted some in record {
         within = record {
           made = record {
@@ -104,7 +103,7 @@ module _ (basin : Draft) (policy : Accepted) (old new : State) (within : IsWithi
               rules = stays.rules;
               series = rw series within.made.engine.series;
               closed_steps = rw stays.closed_steps within.made.engine.closed_steps;
-              notes = notes_kept kept grows;
+              notes = notes_kept kept grows adds;
             };
             keeps = stays.keeps ∙ within.made.keeps ∙ sym kept;
             counts = stays.counts ∙ within.made.counts;
@@ -114,16 +113,16 @@ module _ (basin : Draft) (policy : Accepted) (old new : State) (within : IsWithi
           indexed = rw series indexed;
         };
         revocable = λ before can. rw series (revocable_noted before (held old.run.series) old.noted new.noted some can);
-        lines_before = stays.lines_before;
+        notes = kept;
         grows = grows;
       }
 
   -- an event was made, and what it reaches was noted before
   pub keeps_done : (event : Event) (reached : List Cell) → IsIndexed new.rules.agenda (held new.run.series)
       → IsStageOf basin (stage new.run.series new.queue) → Leaves basin event (stage old.run.series old.queue) (stage new.run.series new.queue)
-      → TraceGrows old.run.trace new.run.trace → new.noted ≡ with_noted (held old.run.series) reached old.noted
+      → TraceGrows old.run.trace new.run.trace → TraceGrows old.lines new.lines → new.noted ≡ with_noted (held old.run.series) reached old.noted
       → (IsSome old.noted → (cell : Cell) → Contains (cells_reached basin (written_by event)) cell → Contains reached cell) → KeepsWithin basin policy old new
-  keeps_done event reached indexed made leaves grows noted all =
+  keeps_done event reached indexed made leaves grows adds noted all =
       let kept = some_noted (held old.run.series) old.noted new.noted (reached, noted) in record {
         within = record {
           made = record {
@@ -134,7 +133,7 @@ module _ (basin : Draft) (policy : Accepted) (old new : State) (within : IsWithi
               rules = stays.rules;
               series = made.series;
               closed_steps = subst (λ n. n ≤ basin.control.stamps.count) (sym stays.closed_steps) within.made.engine.closed_steps;
-              notes = notes_kept kept grows;
+              notes = notes_kept kept grows adds;
             };
             keeps = stays.keeps ∙ within.made.keeps ∙ sym kept;
             counts = stays.counts ∙ within.made.counts;
@@ -145,7 +144,7 @@ module _ (basin : Draft) (policy : Accepted) (old new : State) (within : IsWithi
         };
         revocable = λ before can.
             revocable_made basin before (held old.run.series) (held new.run.series) (written_by event) reached old.noted new.noted noted all leaves.cells can;
-        lines_before = stays.lines_before;
+        notes = kept;
         grows = grows;
       }
 
@@ -173,7 +172,7 @@ keeps_ended basin policy old new (Some why) keeps =
         indexed = keeps.within.indexed;
       };
       revocable = keeps.revocable;
-      lines_before = keeps.lines_before;
+      notes = keeps.notes;
       grows = keeps.grows;
     }
 
@@ -224,6 +223,6 @@ on_the_way_rule basin step old new why rule known below firings counts closed en
 
 -- memory wants for an event
 pub wanted : (basin : Draft) (policy : Accepted) (chosen : Option ℕ) (step : ℕ) (old new : State) (given : Log → Type 0) (result : Result Bool NoMemory) (why : NoMemory)
-    → IsErrAnd result (λ fault. fault ≡ why) → KeepsWithin basin policy old new → IsStill old new → IsSome old.run.trace → DoesEvent basin policy chosen step old new given result
+    → IsErrAnd result (λ fault. fault ≡ why) → KeepsWithin basin policy old new → IsStill old new → IsSome old.noted → DoesEvent basin policy chosen step old new given result
 wanted basin policy chosen step old new given (Ok end) why is keeps still kept = absurd is
 wanted basin policy chosen step old new given (Err fault) why is keeps still kept = record { keeps = keeps; on_the_way = still; goes = λ log holds. tt; few = tt; wants = kept }

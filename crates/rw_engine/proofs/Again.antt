@@ -1,6 +1,6 @@
 -- Passing a timestep again, by its record.
 use Rattle.rw_engine.proofs.Common.{Cell, Cells, Draft, Event, Leads, List, Log, None, Option, Policy, Some, State, [], ap, append_assoc, cells_of, closed, held, last_put, length, lines, opened, option_or, refl, rests, seen, standing, subst, sym, trace_of, ℕ, ◌++◌, ◌+◌, ◌∙◌, ◌∷◌, ◌≡◌, ◌≤◌}
-use Rattle.std.specs.Prelude.{Contains, Err, IfSome, Ok, Result, ◌⊎◌}
+use Rattle.std.specs.Prelude.{Contains, Err, IfSome, IsErrAnd, Ok, Result, ◌⊎◌}
 use Rattle.std.specs.List.{flat_map}
 use Rattle.rw_base.proofs.Common.{arith, inl, inr}
 use Rattle.rw_base.specs.declared.memory.NoMemory.{NoMemory}
@@ -22,7 +22,7 @@ use Rattle.rw_engine.specs.Shows.{CanReplay}
 use Rattle.rw_engine.specs.State.{HasReplayed, IsSoundState, cleared}
 use Rattle.rw_engine.proofs.Records.{held_again}
 use Rattle.rw_engine.proofs.Steps.{alone, begins_step, has_noted, trace_after}
-use Rattle.rw_engine.proofs.Traces.{shown_more}
+use Rattle.rw_engine.proofs.Traces.{alike_on, shown_more}
 
 -- the closing of a timestep, and what stands before it
 pub record Closing (step : ℕ) (whole : Log) : Type 0 where
@@ -75,6 +75,12 @@ noted_again basin before was now events looked old new is are same =
       once now [] (cells_noted looked) (nothing_noted basin before).once,
     )
 
+-- memory wants for it
+pub unpassed_again : (basin : Draft) (kept : StepRecord) (old new : State) (result : Result (Unit {0}) NoMemory) (why : NoMemory) → IsErrAnd result (λ fault. fault ≡ why)
+    → HasReplayed basin kept old new (Err why) → HasReplayed basin kept old new result
+unpassed_again basin kept old new (Ok done) why is has = absurd is
+unpassed_again basin kept old new (Err want) why is has = rw is has
+
 pub sound_again : (basin : Draft) (kept : StepRecord) (old new : State) (result : Result (Unit {0}) NoMemory) → HasReplayed basin kept old new result → IsSoundState old → IsSoundState new
 sound_again basin kept old new result has sound = record {
   counts = ap length has.counts ∙ sound.counts ∙ sym (ap (λ (q : _). q.objects) has.queue);
@@ -97,11 +103,11 @@ replays basin kept old new (Err want) again step can has = record {
     rules = rw has.rules made.rules;
     series = has.made;
     closed_steps = rw has.unchanged made.closed_steps;
-    notes = has.notes ∙ made.notes ∙ sym has.keeps_trace;
+    notes = alike_on old.noted new.noted old.lines new.lines old.run.trace new.run.trace has.notes has.keeps_lines has.keeps_trace made.notes;
   };
   passes = λ policy log framed records shows before alike. tt;
   before = λ log shows. rw has.unchanged (record { cells = shows.cells; trace = shows.trace; closed_steps = shows.closed_steps; end = shows.end });
-  keeps_trace = λ kept. has.keeps_trace ∙ kept;
+  keeps = record { trace = has.keeps_trace; noted = has.notes };
   closed_steps = tt;
 }
 replays basin kept old new (Ok done) again step can has = record {
@@ -112,7 +118,7 @@ replays basin kept old new (Ok done) again step can has = record {
     rules = rw has.rules made.rules;
     series = has.made;
     closed_steps = subst (λ n. n ≤ basin.control.stamps.count) (sym has.ends.1) step.last;
-    notes = has.notes ∙ made.notes ∙ sym has.keeps_trace;
+    notes = alike_on old.noted new.noted old.lines new.lines old.run.trace new.run.trace has.notes has.keeps_lines has.keeps_trace made.notes;
   };
   passes = λ policy log framed records shows before alike.
       let first = records.first in
@@ -148,14 +154,14 @@ replays basin kept old new (Ok done) again step can has = record {
           events = events;
           timestep = timestep;
           is = sym ends.is;
-          noted = λ keeps. has_noted basin kept.step log (first ∷ events) (seen new) new.noted old.run.trace new.run.trace refl refl
-              (has.notes ∙ can.notes ∙ sym has.keeps_trace)
+          noted = λ keeps. has_noted basin kept.step log (first ∷ events) (seen new) new.noted new.lines refl refl
+              (has.keeps_lines ∙ can.notes.same ∙ sym has.notes)
               (noted_again basin (cells_of basin log) (cells_of basin records.old) (held old.run.series) (first ∷ events) kept.looked old.noted new.noted has.noted
               records.these.looked shows.cells)
-              shown shows.trace has.lines_before (sym has.keeps_trace ∙ keeps) (subst (CanWriteLines basin) told_lines records.these.can) keeps;
+              (subst (λ told. IfSome new.lines (λ these. these ≡ told)) told_lines has.lines_are) (subst (CanWriteLines basin) told_lines records.these.can) keeps;
         };
       };
   before = λ log shows. tt;
-  keeps_trace = λ kept. has.keeps_trace ∙ kept;
+  keeps = record { trace = has.keeps_trace; noted = has.notes };
   closed_steps = has.ends.1;
 }

@@ -32,11 +32,12 @@ use Rattle.rw_record.proofs.Noting.{noted_of}
 use Rattle.rw_record.proofs.Taking.{all_put}
 use Rattle.rw_engine.specs.Passing.{ComesBack, GivesInput, TakesBack}
 use Rattle.rw_engine.specs.Records.{RecordsThese, lines_of_step}
-use Rattle.rw_engine.specs.Shows.{CanReplay, CanShow, Shows}
+use Rattle.rw_engine.specs.Shows.{CanReplay, CanShow, NotesAlike, Shows}
 use Rattle.rw_engine.specs.State.{IsSoundState, WritesAsked}
 use Rattle.rw_engine.proofs.Again.{closing}
 use Rattle.rw_engine.proofs.Notings.{dispatch_asks, firing_asks, none_written, written_reached}
 use Rattle.rw_engine.proofs.Steps.{trace_after}
+use Rattle.rw_engine.proofs.Traces.{alike_on, short_some}
 
 -- ---- what follows writes what it asked for
 
@@ -117,10 +118,6 @@ lines_back None shown more told same is = tt
 lines_back (Some these) shown more told same is =
     ap (λ all. take (length all - length told) all) (is ∙ ap (λ last. shown ++ last) (sym same)) ∙ fewer shown told
 
-some_left : (trace : Option (List TraceEvent)) (count : ℕ) → is_some (option_map (take count) trace) ≡ is_some trace
-some_left None count = refl
-some_left (Some these) count = refl
-
 -- ---- all of it
 
 -- cells, lines and the end are put back, and who waits and the rules are what they were
@@ -131,6 +128,7 @@ pub record HasTakenBack (basin : Draft) (kept : StepRecord) (old new : State) : 
   pub counts : new.counts ≡ old.counts
   pub firings : new.firings ≡ old.firings
   pub notes : is_some new.noted ≡ is_some old.noted
+  pub keeps_lines : is_some new.lines ≡ is_some old.lines
   pub made : IsSeriesOf basin new.run.series
   pub back : (before : Cells) → AreCellsOf basin before → CanTakeBack before (held old.run.series) kept.looked
       → (cell : Cell) → held new.run.series cell ≡ before cell
@@ -147,7 +145,10 @@ sound_back basin kept old new has sound = record {
 
 module _ (basin : Draft) (kept : StepRecord) (old new : State) (can : CanReplay basin (seen old)) (has : HasTakenBack basin kept old new) where
   same_trace : is_some new.run.trace ≡ is_some old.run.trace
-  same_trace = ap is_some has.trace ∙ some_left old.run.trace (length (lines_in old.run.trace) - length kept.lines)
+  same_trace = ap is_some has.trace ∙ short_some old.run.trace (length (lines_in old.run.trace) - length kept.lines)
+
+  same_notes : NotesAlike old.noted old.lines old.run.trace → NotesAlike new.noted new.lines new.run.trace
+  same_notes = alike_on old.noted new.noted old.lines new.lines old.run.trace new.run.trace has.notes has.keeps_lines same_trace
 
   module _ (policy : Policy) (log : Log) (first : Event) (events : List Event) (timestep : IsTimestep basin policy kept.step log first events)
       (these : RecordsThese basin kept.step log (first ∷ events) kept) (could : CanShow basin kept.step log)
@@ -192,9 +193,9 @@ module _ (basin : Draft) (kept : StepRecord) (old new : State) (can : CanReplay 
             let last = shows.closed_steps ∙ closed_last in
             let step = could.closed_steps in
             omega (arith, was, is, last, step);
-        notes = has.notes ∙ made.notes ∙ sym same_trace;
+        notes = same_notes made.notes;
       };
-      can = record { series = series_back; notes = has.notes ∙ can.notes ∙ sym same_trace };
+      can = record { series = series_back; notes = same_notes can.notes };
       shows = record {
         cells = cells_back;
         trace = trace_back;
@@ -204,7 +205,7 @@ module _ (basin : Draft) (kept : StepRecord) (old new : State) (can : CanReplay 
     }
 
   pub takes_back : TakesBack basin kept (seen old) (seen new)
-  takes_back = record { back = comes_back; keeps_trace = λ kept_on. same_trace ∙ kept_on }
+  takes_back = record { back = comes_back; keeps = record { trace = same_trace; noted = has.notes } }
 
 -- a log can be shown again that an engine shows which is made for the basin
 pub can_show : (basin : Draft) (engine : Engine) (step : ℕ) (log : Log) → IsHeldIn basin engine.series → Shows basin engine log → step ≡ engine.closed + 1
@@ -248,6 +249,7 @@ gives basin cell value old new series is within can made sets = rw is (record {
   can = record { series = in_bounds; notes = can.notes };
   cells = sets;
   trace = refl;
+  noted = refl;
   closed_steps = refl;
   end = refl;
 })

@@ -82,7 +82,7 @@ module _ (basin : Draft) (policy : Accepted) (step : ℕ) (old new : State) (que
         keeps = record {
           within = does.keeps.within;
           revocable = does.keeps.revocable;
-          lines_before = does.keeps.lines_before;
+          notes = does.keeps.notes;
           grows = does.keeps.grows;
         };
         on_the_way = on result does.on_the_way;

@@ -106,6 +106,11 @@ module _ (basin : Draft) (looked : List Look) (step object : ℕ) (before behind
         end = end;
       }
 
+-- the lines of a dispatch are those of its event
+pub dispatch_lines : (basin : Draft) (looked : List Look) (step object : ℕ) (event : Event) (ended : DispatchEnd) → Ends basin looked object step event ended
+    → lines_by object step ended (written_by event) ≡ lines event
+dispatch_lines basin looked step object event ended ends = (says basin looked step object [] [] [] event ended ends).lines_are
+
 -- what the state has after that
 pub record Went (basin : Draft) (old new : State) (looked : List Look) (step object : ℕ) (rest : List ℕ) (event : Event) (ended : DispatchEnd) : Type 0 where
   pub told : Told basin (seen old) (seen new) looked step object event ended

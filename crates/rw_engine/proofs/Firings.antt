@@ -1,6 +1,6 @@
 -- What follows where no object waits, and the firing of a rule, over the log that the state holds.
 use Rattle.std.specs.Prelude.{is_some}
-use Rattle.rw_engine.proofs.Common.{Asked, Bool, Cell, Cells, Draft, Fault, GoesToState, HoldsWithin, HasCount, List, Log, None, Option, Policy, RunFault, Shows, Some, State, [], ap, arith, cells_of, count_if, count_of, dispatches, ended_by, ending, false, fault, fault_of_rule, held, if◌then◌else◌, last_put, line_of, lines_of_rule, map, nat_le, nat_tests, next_of, option_or, raised, refl, seen, slice_index_or, subst, sym, trace_of, true, waiting, written_by, ℕ, ◌++◌, ◌-◌, ◌<◌, ◌==◌, ◌∙◌, ◌∷◌, ◌≡◌, ◌≤◌}
+use Rattle.rw_engine.proofs.Common.{Asked, Bool, Cell, Cells, Draft, Fault, GoesToState, HoldsWithin, HasCount, List, Log, None, Option, Policy, RunFault, Shows, Some, State, [], ap, arith, cells_of, count_if, count_of, dispatches, ended_by, ending, false, fault, fault_of_rule, held, if◌then◌else◌, last_put, line_of, lines, lines_of_rule, map, nat_le, nat_tests, next_of, option_or, raised, refl, seen, slice_index_or, subst, sym, trace_of, true, waiting, written_by, ℕ, ◌++◌, ◌-◌, ◌<◌, ◌==◌, ◌∙◌, ◌∷◌, ◌≡◌, ◌≤◌}
 use Rattle.rpl_verify.specs.Verified.{Accepted}
 use Rattle.rw_run.proofs.Waits.{fires}
 use Rattle.rw_run.specs.Dispatch.{dispatched, looks_at}
@@ -134,6 +134,14 @@ module _ (basin : Draft) (policy : Accepted) (old new : State) (rule step : ℕ)
   fired_to Unknown made = goes_on false _ _ made
   fired_to DividesByZero made = (refl, ends_by _ made)
   fired_to (OutOfRange value) made = (refl, ends_by _ made)
+
+-- its lines are those of its event
+pub firing_lines : (basin : Draft) (cells : Cells) (rule step : ℕ) (fire : Fire) (so : FireEnd)
+    → lines_of_rule rule step so fire.count (written_by (ended basin cells rule step fire so)) ≡ lines (ended basin cells rule step fire so)
+firing_lines basin cells rule step fire Done = refl
+firing_lines basin cells rule step fire Unknown = refl
+firing_lines basin cells rule step fire DividesByZero = refl
+firing_lines basin cells rule step fire (OutOfRange value) = refl
 
 -- the same, of an end that is told and its fault
 pub fired_on : (basin : Draft) (policy : Accepted) (old new : State) (rule step : ℕ) (log : Log) (fire : Fire) → HoldsWithin basin policy old step old.queue.waiting log

@@ -81,6 +81,10 @@ pub ended_noted : (why : Option RunFault) (state : State) → (ended_by why stat
 ended_noted None state = refl
 ended_noted (Some why) state = refl
 
+pub ended_lines : (why : Option RunFault) (state : State) → (ended_by why state).lines ≡ state.lines
+ended_lines None state = refl
+ended_lines (Some why) state = refl
+
 -- ---- the cells of an object
 
 pub range_more : (a n : ℕ) → range_with_len a (suc n) ≡ range_with_len a n ++ (a + n) ∷ []

@@ -1,6 +1,6 @@
 -- The lines of a timestep, what they say to be written, and its record.
 use Rattle.rw_engine.proofs.Common.{All, Asked, Cell, Cells, Draft, Engine, Event, List, Log, None, Option, Some, [], ap, append-nil, arith, cells_of, closed, fault, given, last_put, length, line_of, lines, map, opened, option_or, refl, subst, suc, sym, take, written_by, zero, ℕ, ◌++◌, ◌+◌, ◌∙◌, ◌∷◌, ◌≡◌}
-use Rattle.std.specs.Prelude.{Err, IfOk, IfSome, MatchOption, Ok, Result, drop, option_and_then, slice_get, ◌⊎◌, ◌<◌}
+use Rattle.std.specs.Prelude.{Err, IfErr, IfOk, IfSome, MatchOption, Ok, Result, option_and_then, slice_get, ◌⊎◌, ◌<◌}
 use Rattle.std.specs.List.{cons_option, flat_map}
 use Rattle.std.proofs.lemmas.Grind.{flat_map-append}
 use Rattle.rw_base.proofs.Common.{All-append, All-cons, All-head, All-nil, All-tail, inl, inr}
@@ -128,33 +128,33 @@ can_step basin step events all =
 -- ---- the record of what is noted
 
 pub record_or_not : (basin : Draft) (step : ℕ) (old : Log) (events : List Event) (engine : Engine) (kept : Option StepRecord) → HasNoted basin step old events engine → engine.closed ≡ step
-    → MatchOption kept (IsLarge (noted_in engine.noted) (drop engine.lines_before (lines_in engine.trace)))
-    (IsRecordOf engine.closed (noted_in engine.noted) (drop engine.lines_before (lines_in engine.trace))) → RecordsOrNot basin step old events kept
+    → MatchOption kept (IsLarge (noted_in engine.noted) (lines_in engine.lines))
+    (IsRecordOf engine.closed (noted_in engine.noted) (lines_in engine.lines)) → RecordsOrNot basin step old events kept
 record_or_not basin step old events engine kept has is result = by kept result
   where
     many : length (noted_in engine.noted) ≡ cell_count (flat_map (reached_by basin) events)
     many = ap (λ noted. length (noted_in noted)) has.cells_are ∙ looked basin (cells_of basin old) events has.cells has.once has.looked
 
-    told_lines : drop engine.lines_before (lines_in engine.trace) ≡ lines_of_step step events
-    told_lines = ap (λ trace. drop engine.lines_before (lines_in trace)) has.trace_is ∙ has.lines_are
+    told_lines : lines_in engine.lines ≡ lines_of_step step events
+    told_lines = ap lines_in has.lines_are
 
-    large : IsLarge (noted_in engine.noted) (drop engine.lines_before (lines_in engine.trace)) → IsTooLarge basin step events
+    large : IsLarge (noted_in engine.noted) (lines_in engine.lines) → IsTooLarge basin step events
     large (inl cells) = inl (subst (λ n. most_kept < n) many cells)
     large (inr lines) = inr (subst (λ told. most_kept < length told) told_lines lines)
 
-    small : {one : StepRecord} → IsRecordOf engine.closed (noted_in engine.noted) (drop engine.lines_before (lines_in engine.trace)) one → IsTooLarge basin step events → ⊥
+    small : {one : StepRecord} → IsRecordOf engine.closed (noted_in engine.noted) (lines_in engine.lines) one → IsTooLarge basin step events → ⊥
     small result (inl cells) = let few = result.few_cells in omega (arith, few, cells, many)
     small result (inr lines) = let few = result.few_lines in let long = ap length told_lines in omega (arith, few, lines, long)
 
-    by : (k : Option StepRecord) → MatchOption k (IsLarge (noted_in engine.noted) (drop engine.lines_before (lines_in engine.trace)))
-        (IsRecordOf engine.closed (noted_in engine.noted) (drop engine.lines_before (lines_in engine.trace))) → RecordsOrNot basin step old events k
+    by : (k : Option StepRecord) → MatchOption k (IsLarge (noted_in engine.noted) (lines_in engine.lines))
+        (IsRecordOf engine.closed (noted_in engine.noted) (lines_in engine.lines)) → RecordsOrNot basin step old events k
     by None result = large result
     by (Some one) result = (
       small result,
       record {
         step_is = result.step_is ∙ is;
-        looked = recorded basin (cells_of basin old) events engine.closed has.cells (drop engine.lines_before (lines_in engine.trace)) one has.looked
-            (subst (λ noted. IsRecordOf engine.closed (noted_in noted) (drop engine.lines_before (lines_in engine.trace)) one) has.cells_are result);
+        looked = recorded basin (cells_of basin old) events engine.closed has.cells (lines_in engine.lines) one has.looked
+            (subst (λ noted. IsRecordOf engine.closed (noted_in noted) (lines_in engine.lines) one) has.cells_are result);
         rising = result.rising;
         lines_are = result.lines_are ∙ told_lines;
         can = subst (CanWriteLines basin) (sym (result.lines_are ∙ told_lines)) has.can;
@@ -169,3 +169,7 @@ if_ok (Err why) leads holds = tt
 pub any_ok : {A E P : Type 0} (result : Result A E) → P → IfOk result (λ a. P)
 any_ok (Ok a) holds = holds
 any_ok (Err why) holds = tt
+
+pub any_err : {A E P : Type 0} (result : Result A E) → P → IfErr result (λ why. P)
+any_err (Ok a) holds = tt
+any_err (Err why) holds = holds

@@ -1,6 +1,6 @@
 -- A timestep of the engine, over the log that it shows.
 use Rattle.rw_engine.proofs.Common.{Bool, Cell, Cells, Draft, Engine, Event, GoesByEvent, TraceGrows, HoldsWithin, IsBefore, IsSome, IsStill, List, Log, None, Option, Policy, Reached, Series, Settled, Shows, Some, State, [], all_waiting, ap, append-nil, append_assoc, ap₂, arith, cells_of, closed, count_of, fault, false, given, held, held_after, if◌then◌else◌, inside, last_put, length, lines, nat_lt, nat_tests, opened, opens, option_or, refl, seen, standing, subst, sym, trace_of, true, written_by, ℕ, ◌++◌, ◌+◌, ◌∙◌, ◌∷◌, ◌≡◌, ◌≤◌}
-use Rattle.std.specs.Prelude.{Err, IfSome, IsErrAnd, Ok, Result, drop, is_some}
+use Rattle.std.specs.Prelude.{Err, IfSome, IsErrAnd, Ok, Result, is_some}
 use Rattle.std.specs.List.{flat_map}
 use Rattle.rw_base.proofs.Common.{All-push}
 use Rattle.rw_base.specs.declared.memory.NoMemory.{NoMemory}
@@ -8,7 +8,7 @@ use Rattle.rw_dispatch.specs.Writes.{AreWrites}
 use Rattle.rw_run.specs.Frame.{IsFault, IsStepFrom, log_after}
 use Rattle.rw_run.specs.Log.{fired, idle, solved}
 use Rattle.rw_run.specs.Timestep.{AreLooked}
-use Rattle.rw_run.specs.Trace.{lines_in, told}
+use Rattle.rw_run.specs.Trace.{told}
 use Rattle.rw_run.specs.declared.held.Held.{Held}
 use Rattle.rw_run.specs.declared.trace.TraceEvent.{TraceEvent}
 use Rattle.rw_record.specs.Noted.{AreOnce}
@@ -21,14 +21,14 @@ use Rattle.rw_run.specs.Runs.{follows_by}
 use Rattle.rw_run.specs.Waiting.{waiting}
 use Rattle.rw_engine.specs.Passing.{steps_of}
 use Rattle.rw_engine.specs.Picked.{EndsStepBy, CountsTurns, LeadsBy, PassesBy, PicksAt, follows_at, turn_after, turns_after}
-use Rattle.rw_engine.specs.Shows.{EndsBy}
+use Rattle.rw_engine.specs.Shows.{EndsBy, NotesAlike}
 use Rattle.rw_engine.specs.Records.{CanWriteLines, HasNoted, lines_of_step}
 use Rattle.rw_engine.specs.State.{AreWithinStep, CanGoBack, HasPassed, IsStateOf, KeepsWithin}
 use Rattle.rw_engine.specs.declared.step_end.StepEnd.{StepEnd}
 use Rattle.rw_engine.specs.declared.step_end.StepEnd.TheVariants.{Closed as IsClosed, Fault as IsFaulted}
 use Rattle.rw_engine.proofs.Notings.{notes_more}
 use Rattle.rw_engine.proofs.Records.{can_step}
-use Rattle.rw_engine.proofs.Traces.{kept_before, shown_more, told_more}
+use Rattle.rw_engine.proofs.Traces.{lines_more, shown_more, told_more}
 use Rattle.rw_engine.proofs.Turns.{turns_more}
 
 module _ (basin : Draft) (policy : Policy) (rule : Picking) where
@@ -113,7 +113,7 @@ made_by basin old new event log was is cell =
 
 pub reached_more : (basin : Draft) (policy : Accepted) (rule : Picking) (turn : ℕ) (start : Log) (old new : State) (step : ℕ) → Reached basin policy rule turn start old step
     → ((log : Log) → HoldsWithin basin policy old step old.queue.waiting log
-    → GoesByEvent basin policy (picked_at rule old.turns old.queue.waiting) None (held old.run.series) old.noted old.turns new step log)
+    → GoesByEvent basin policy (picked_at rule old.turns old.queue.waiting) None (held old.run.series) old.noted old.lines old.turns new step log)
     → PicksAt rule old.turns old.queue.waiting (inside step) → Reached basin policy rule turn start new step
 reached_more basin policy rule turn start old new step reached goes picks =
     let went = goes reached.now reached.holds in
@@ -128,6 +128,7 @@ reached_more basin policy rule turn start old new step reached goes picks =
       inside_step = inside_more step reached.events went.event reached.inside_step (alone went.event reached.now ∙ went.goes.open_step);
       notes = notes_more basin (cells_of basin start) (held old.run.series) (held new.run.series) reached.events went.event old.noted new.noted
           (went.notes calm) went.asks (made_by basin old new went.event reached.now reached.holds.shows went.goes.shows) reached.notes;
+      lines_are = lines_more step reached.events went.event old.lines new.lines went.lines_are reached.lines_are;
       can = All-push (λ (event : Event). AreWrites basin (written_by event)) reached.events went.event reached.can went.can;
     }
 
@@ -160,29 +161,20 @@ pub trace_after : (events : List Event) (log : Log) → trace_of (log_after even
 trace_after [] log = sym (append-nil (trace_of log))
 trace_after (event ∷ events) log = trace_after events (event ∷ log) ∙ append_assoc (trace_of log) (lines event) (flat_map lines events)
 
-drop_front : {A : Type 0} (xs ys : List A) → drop (length xs) (xs ++ ys) ≡ ys
-drop_front [] ys = refl
-drop_front (x ∷ xs) ys = drop_front xs ys
-
--- what an engine that keeps a trace has noted of a timestep
-pub has_noted : (basin : Draft) (step : ℕ) (old : Log) (events : List Event) (engine : Engine) (noted : Option (List Held)) (before trace : Option (List TraceEvent))
-    → engine.noted ≡ noted → engine.trace ≡ trace → is_some noted ≡ is_some trace
+-- what an engine that notes timesteps has noted of one
+pub has_noted : (basin : Draft) (step : ℕ) (old : Log) (events : List Event) (engine : Engine) (noted : Option (List Held)) (these : Option (List TraceEvent))
+    → engine.noted ≡ noted → engine.lines ≡ these → is_some these ≡ is_some noted
     → IfSome noted (λ cells. AreLooked basin (cells_of basin old) events cells × AreOnce cells)
-    → IfSome trace (λ told. told ≡ trace_of (log_after events (opened step ∷ old)))
-    → IfSome before (λ told. told ≡ trace_of old) → engine.lines_before ≡ length (lines_in before) → IsSome before
-    → CanWriteLines basin (lines_of_step step events) → IsSome trace → HasNoted basin step old events engine
-has_noted basin step old events engine None before trace is told alike notes shows was many had can kept = absurd (cc)
-has_noted basin step old events engine (Some cells) before None is told alike notes shows was many had can kept = absurd (cc)
-has_noted basin step old events engine (Some cells) None (Some ls) is told alike notes shows was many had can kept = absurd (cc)
-has_noted basin step old events engine (Some cells) (Some first) (Some ls) is told alike notes shows was many had can kept = record {
+    → IfSome these (λ told. told ≡ lines_of_step step events)
+    → CanWriteLines basin (lines_of_step step events) → IsSome noted → HasNoted basin step old events engine
+has_noted basin step old events engine None these is told alike notes shows can kept = absurd (cc)
+has_noted basin step old events engine (Some cells) None is told alike notes shows can kept = absurd (cc)
+has_noted basin step old events engine (Some cells) (Some ls) is told alike notes shows can kept = record {
   cells = cells;
   cells_are = is;
   looked = notes.0;
   once = notes.1;
-  trace = ls;
-  trace_is = told;
-  lines_are = ap₂ (λ n xs. drop n xs) (many ∙ ap length was) (shows ∙ trace_after events (opened step ∷ old) ∙ append_assoc (trace_of old) (lines (opened step)) (flat_map lines events))
-      ∙ drop_front (trace_of old) (lines_of_step step events);
+  lines_are = told ∙ ap Some shows;
   can = can;
 }
 
@@ -203,11 +195,10 @@ begins_step basin policy chosen log step before =
 
 pub ends_step : (basin : Draft) (policy : Accepted) (rule : Picking) (turn : ℕ) (log : Log) (first old new : State) (step : ℕ) (end : StepEnd) → Reached basin policy rule turn log old step
     → ((l : Log) → HoldsWithin basin policy old step old.queue.waiting l
-    → GoesByEvent basin policy (picked_at rule old.turns old.queue.waiting) (Some end) (held old.run.series) old.noted old.turns new step l)
+    → GoesByEvent basin policy (picked_at rule old.turns old.queue.waiting) (Some end) (held old.run.series) old.noted old.lines old.turns new step l)
     → PicksAt rule old.turns old.queue.waiting (inside step) → Shows basin (seen first) log → IsBefore basin step log
-    → TraceGrows first.run.trace new.run.trace → is_some new.noted ≡ is_some new.run.trace → new.lines_before ≡ length (lines_in first.run.trace)
-    → PassesBy basin (policy_in basin policy) rule turn log end (seen new) step
-ends_step basin policy rule turn log first old new step end reached goes picks shows before grows notes many =
+    → NotesAlike new.noted new.lines new.run.trace → PassesBy basin (policy_in basin policy) rule turn log end (seen new) step
+ends_step basin policy rule turn log first old new step end reached goes picks shows before notes =
     let went = goes reached.now reached.holds in
     let code = policy_in basin policy in
     let leads = leads_more basin code rule turn (opened step ∷ log) reached.events went.event reached.now reached.leads
@@ -233,7 +224,7 @@ ends_step basin policy rule turn log first old new step end reached goes picks s
     last_turn : (event : Event) → turns_after turn (opened step ∷ (reached.events ++ event ∷ [])) ≡ turn_after old.turns event
     last_turn event = turns_more turn reached.events (event ∷ []) ∙ ap (λ t. turn_after t event) (sym reached.turned)
 
-    turned : (e : StepEnd) (went : GoesByEvent basin policy (picked_at rule old.turns old.queue.waiting) (Some e) (held old.run.series) old.noted old.turns new step reached.now)
+    turned : (e : StepEnd) (went : GoesByEvent basin policy (picked_at rule old.turns old.queue.waiting) (Some e) (held old.run.series) old.noted old.lines old.turns new step reached.now)
         → CountsTurns e turn new.turns (opened step ∷ (reached.events ++ went.event ∷ []))
     turned e went = record {
       least = rw (last_turn went.event) went.turned.least;
@@ -242,7 +233,7 @@ ends_step basin policy rule turn log first old new step end reached goes picks s
           went.turned.same calm ∙ sym (last_turn went.event);
     }
 
-    closes : (e : StepEnd) (went : GoesByEvent basin policy (picked_at rule old.turns old.queue.waiting) (Some e) (held old.run.series) old.noted old.turns new step reached.now)
+    closes : (e : StepEnd) (went : GoesByEvent basin policy (picked_at rule old.turns old.queue.waiting) (Some e) (held old.run.series) old.noted old.lines old.turns new step reached.now)
         → LeadsBy basin (policy_in basin policy) rule turn (opened step ∷ log) (reached.events ++ went.event ∷ []) (went.event ∷ reached.now)
         → EndsStepBy basin (policy_in basin policy) rule turn e step log (went.event ∷ reached.now) (seen new)
     closes (IsFaulted why) went leads = tt
@@ -265,9 +256,8 @@ ends_step basin policy rule turn log first old new step end reached goes picks s
               (subst (LeadsBy basin (policy_in basin policy) rule turn (opened step ∷ log) events) whole leads);
           is = whole ∙ ap (λ these. log_after these (opened step ∷ log)) (sym split);
           noted = λ kept. subst (λ these. HasNoted basin step log these (seen new)) (sym split)
-              (has_noted basin step log events (seen new) new.noted first.run.trace new.run.trace refl refl notes (looked_once basin (cells_of basin log) (held new.run.series) events new.noted noted)
-              (subst (λ l. IfSome new.run.trace (λ told. told ≡ trace_of l)) whole went.goes.1.trace)
-              shows.trace many (kept_before first.run.trace new.run.trace grows kept) (can_step basin step events can) kept);
+              (has_noted basin step log events (seen new) new.noted new.lines refl refl notes.same (looked_once basin (cells_of basin log) (held new.run.series) events new.noted noted)
+              (lines_more step reached.events went.event old.lines new.lines went.lines_are reached.lines_are) (can_step basin step events can) kept);
         }
 
 pub grows_more : (x y z : Option (List TraceEvent)) → TraceGrows x y → TraceGrows y z → TraceGrows x z
@@ -281,13 +271,13 @@ still_more one other last before after =
 pub goes_back_more : (basin : Draft) (policy : Accepted) (first old new : State) → CanGoBack first old → KeepsWithin basin policy old new → CanGoBack first new
 goes_back_more basin policy first old new before keeps = record {
   revocable = keeps.revocable (held first.run.series) before.revocable;
-  lines_before = keeps.lines_before ∙ before.lines_before;
+  notes = keeps.notes ∙ before.notes;
   grows = grows_more first.run.trace old.run.trace new.run.trace before.grows keeps.grows;
 }
 
 -- memory wants within the timestep
 pub unpassed : (basin : Draft) (policy : Accepted) (rule : Picking) (step : ℕ) (old new : State) (result : Result StepEnd NoMemory) (why : NoMemory)
-    → IsErrAnd result (λ fault. fault ≡ why) → IsStateOf basin policy new → CanGoBack old new → IsStill old new → IsSome old.run.trace
+    → IsErrAnd result (λ fault. fault ≡ why) → IsStateOf basin policy new → CanGoBack old new → IsStill old new → IsSome old.noted
     → HasPassed basin policy rule step old new result
 unpassed basin policy rule step old new (Ok end) why is made back still kept = absurd is
 unpassed basin policy rule step old new (Err want) why is made back still kept = record {

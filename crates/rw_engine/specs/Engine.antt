@@ -7,8 +7,8 @@ use Rattle.rw_run.specs.declared.run.RunEnd.{RunEnd}
 use Rattle.rw_run.specs.declared.trace.TraceEvent.{TraceEvent}
 
 -- of how many objects it is, its rules, what the cells hold, the lines of its trace, if that is kept, the last closed timestep, how it
--- stands, at what the last timestep looked, if that is noted, how many lines stand before those of the last timestep, and the turn of the
--- dispatch that comes next, counted from 0
+-- stands, at what the last timestep looked and the lines of that one, if they are noted, and the turn of the dispatch that comes next,
+-- counted from 0
 pub record Engine : Type 0 where
   pub objects : ℕ
   pub rules : Rules
@@ -17,5 +17,5 @@ pub record Engine : Type 0 where
   pub closed : ℕ
   pub end : RunEnd
   pub noted : Option (List Held)
-  pub lines_before : ℕ
+  pub lines : Option (List TraceEvent)
   pub turns : ℕ

@@ -1,5 +1,6 @@
 -- The lines of a trace for a dispatch or a firing that ended so, and the fault that it is.
-use Rattle.std.specs.Prelude.{ℕ, Bool, true, false, List, [], ◌∷◌, ◌≡◌, map, Option, Some, None}
+use Rattle.std.specs.Prelude.{ℕ, Bool, true, false, List, [], ◌∷◌, ◌≡◌, map, Option, Some, None, IsSome, IfOk, IfErr, Result}
+use Rattle.rw_base.specs.declared.memory.NoMemory.{NoMemory}
 use Rattle.rw_run.specs.declared.fault.RunFault.{RunFault}
 use Rattle.rw_run.specs.declared.fault.RunFault.TheVariants.{Conflict, ObjectOutOfRange, ZeroDivisor, RuleOutOfRange}
 use Rattle.rw_series.specs.declared.fire.FireEnd.{FireEnd}
@@ -53,3 +54,11 @@ lines_of_rule rule step end count writes = by_fault (fault_of_rule rule step end
 -- the second trace is the first with more lines
 abbrev pub TraceGrows : Option (List TraceEvent) → Option (List TraceEvent) → Type 0
 TraceGrows old new = (more : List TraceEvent) × (new ≡ told old more)
+
+-- a call tells these lines to a trace, and to the lines of its timestep, or as many as memory is there for
+pub record TellsBoth (more : List TraceEvent) (trace lines new_trace new_lines : Option (List TraceEvent)) (result : Result (Unit {0}) NoMemory) : Type 0 where
+  pub said : IfOk result (λ done. new_trace ≡ told trace more)
+  pub noted : IfOk result (λ done. new_lines ≡ told lines more)
+  pub grows : TraceGrows trace new_trace
+  pub adds : TraceGrows lines new_lines
+  pub wants : IfErr result (λ fault. IsSome lines)

@@ -21,15 +21,15 @@ use Rattle.rw_engine.specs.declared.step_end.StepEnd.{StepEnd}
 use Rattle.rw_engine.specs.declared.step_end.StepEnd.TheVariants.{Closed as IsClosed, Fault as IsFault}
 use Rattle.rpl_verify.specs.Verified.{Accepted}
 use Rattle.rw_rules.specs.Rules.{policy_in}
-use Rattle.rw_engine.specs.Shows.{CanReplay, CanShow, IsBefore, IsEngineOf, Shows, EndsBy, closed_by}
+use Rattle.rw_engine.specs.Shows.{CanReplay, CanShow, IsBefore, IsEngineOf, KeepsOn, Shows, EndsBy, closed_by}
 
--- in the new log this timestep has followed the old one up to its closing, and an engine that keeps a trace has noted it
+-- in the new log this timestep has followed the old one up to its closing, and an engine that notes timesteps has noted it
 pub record ClosesStep (basin : Draft) (policy : Policy) (step : ℕ) (old new : Log) (engine : Engine) : Type 0 where
   pub first : Event
   pub events : List Event
   pub timestep : IsTimestep basin policy step old first events
   pub is : new ≡ log_after (first ∷ events) (opened step ∷ old)
-  pub noted : IsSome engine.trace → HasNoted basin step old (first ∷ events) engine
+  pub noted : IsSome engine.noted → HasNoted basin step old (first ∷ events) engine
 
 abbrev pub EndsStep : Draft → Policy → StepEnd → ℕ → Log → Log → Engine → Type 0
 EndsStep basin policy IsClosed step old new engine = ClosesStep basin policy step old new engine
@@ -51,7 +51,7 @@ pub record RunsStep (basin : Draft) (policy : Accepted) (step : ℕ) (old new : 
   pub made : IsEngineOf basin policy new
   pub passes : (log : Log) → Shows basin old log → IsBefore basin step log → IfOk result (λ end. Passes basin (policy_in basin policy) log end new step)
   pub before : (log : Log) → Shows basin old log → IfErr result (λ fault. Shows basin new log)
-  pub kept : IsSome old.trace → IsSome new.trace
+  pub kept : KeepsOn old new
   pub closed_steps : IfOk result (λ end. new.closed ≡ closed_by end step old.closed)
 
 -- a call passes again the timestep of which this is the record. After want of memory the engine shows what it showed before
@@ -60,7 +60,7 @@ pub record Replays (basin : Draft) (kept : StepRecord) (old new : Engine) (resul
   pub passes : (policy : Policy) (log : Log) → IsFramed policy → Records basin policy kept → Shows basin old log → IsBefore basin kept.step log
       → AreHeld (held old.series) kept.looked → IfOk result (λ done. Passes basin policy log IsClosed new kept.step)
   pub before : (log : Log) → Shows basin old log → IfErr result (λ fault. Shows basin new log)
-  pub keeps_trace : IsSome old.trace → IsSome new.trace
+  pub keeps : KeepsOn old new
   pub closed_steps : IfOk result (λ done. new.closed ≡ kept.step)
 
 -- an engine has come back to this log, and is one of what it was one of
@@ -74,7 +74,7 @@ pub record TakesBack (basin : Draft) (kept : StepRecord) (old new : Engine) : Ty
   pub back : (policy : Policy) (log : Log) (first : Event) (events : List Event) → IsTimestep basin policy kept.step log first events
       → RecordsThese basin kept.step log (first ∷ events) kept → CanShow basin kept.step log
       → Shows basin old (log_after (first ∷ events) (opened kept.step ∷ log)) → ComesBack basin log old new
-  pub keeps_trace : IsSome old.trace → IsSome new.trace
+  pub keeps : KeepsOn old new
 
 -- a call makes a cell, with those that share its value, hold this input, or nothing, and leaves all else
 pub record GivesInput (basin : Draft) (cell : Cell) (value : Option ℤ) (old new : Engine) : Type 0 where
@@ -82,6 +82,7 @@ pub record GivesInput (basin : Draft) (cell : Cell) (value : Option ℤ) (old ne
   pub can : CanReplay basin new
   pub cells : Sets basin cell (option_map input_content value) old.series new.series
   pub trace : new.trace ≡ old.trace
+  pub noted : new.noted ≡ old.noted
   pub closed_steps : new.closed ≡ old.closed
   pub end : new.end ≡ old.end
 

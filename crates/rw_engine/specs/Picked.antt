@@ -17,7 +17,7 @@ use Rattle.rpl_verify.specs.Verified.{Accepted}
 use Rattle.rw_rules.specs.Rules.{policy_in}
 use Rattle.rw_engine.specs.Engine.{Engine}
 use Rattle.rw_engine.specs.Records.{HasNoted}
-use Rattle.rw_engine.specs.Shows.{IsBefore, IsEngineOf, Shows, EndsBy, closed_by}
+use Rattle.rw_engine.specs.Shows.{IsBefore, IsEngineOf, KeepsOn, Shows, EndsBy, closed_by}
 use Rattle.rw_engine.specs.declared.step_end.StepEnd.{StepEnd}
 use Rattle.rw_engine.specs.declared.step_end.StepEnd.TheVariants.{Closed as IsClosed, Fault as IsFault}
 
@@ -64,7 +64,7 @@ LeadsBy basin policy rule turn old (event ∷ events) new =
 
 -- ---- a timestep
 
--- in the new log this timestep has followed the old one up to its closing, and an engine that keeps a trace has noted it
+-- in the new log this timestep has followed the old one up to its closing, and an engine that notes timesteps has noted it
 pub record ClosesStepBy (basin : Draft) (policy : Policy) (rule : Picking) (turn step : ℕ) (old new : Log) (engine : Engine) : Type 0 where
   pub first : Event
   pub events : List Event
@@ -74,7 +74,7 @@ pub record ClosesStepBy (basin : Draft) (policy : Policy) (rule : Picking) (turn
   pub goes : IsStepFrom step first events
   pub leads : LeadsBy basin policy rule turn (opened step ∷ old) (first ∷ events) (log_after (first ∷ events) (opened step ∷ old))
   pub is : new ≡ log_after (first ∷ events) (opened step ∷ old)
-  pub noted : IsSome engine.trace → HasNoted basin step old (first ∷ events) engine
+  pub noted : IsSome engine.noted → HasNoted basin step old (first ∷ events) engine
 
 abbrev pub EndsStepBy : Draft → Policy → Picking → ℕ → StepEnd → ℕ → Log → Log → Engine → Type 0
 EndsStepBy basin policy rule turn IsClosed step old new engine = ClosesStepBy basin policy rule turn step old new engine
@@ -103,7 +103,7 @@ pub record RunsStepBy (basin : Draft) (policy : Accepted) (rule : Picking) (step
   pub passes : (log : Log) → Shows basin old log → IsBefore basin step log
       → IfOk result (λ end. PassesBy basin (policy_in basin policy) rule old.turns log end new step)
   pub before : (log : Log) → Shows basin old log → IfErr result (λ fault. Shows basin new log)
-  pub kept : IsSome old.trace → IsSome new.trace
+  pub kept : KeepsOn old new
   pub closed_steps : IfOk result (λ end. new.closed ≡ closed_by end step old.closed)
   pub few : IfOk result (λ end. new.turns ≤ old.turns + most_turns basin)
 

@@ -1,5 +1,5 @@
 -- What an engine has noted of a timestep, and the record that it makes of it.
-use Rattle.std.specs.Prelude.{◌≡◌, ◌⊎◌, ℕ, ◌<◌, List, [], ◌∷◌, All, Option, Some, None, drop, length}
+use Rattle.std.specs.Prelude.{◌≡◌, ◌⊎◌, ℕ, ◌<◌, List, [], ◌∷◌, All, Option, Some, None, length}
 use Rattle.std.specs.List.{flat_map}
 use Rattle.rw_model.specs.Draft.{Draft}
 use Rattle.rw_dispatch.specs.Writes.{AreWrites}
@@ -40,15 +40,13 @@ abbrev pub CanWriteAll : Draft → List Event → Type 0
 CanWriteAll basin events = All (λ event. AreWrites basin (written_by event)) events
 
 -- an engine has noted at what these events of a timestep looked or what their puts reach, each cell once, with what it held before the
--- timestep, and has their lines at the end of its trace
+-- timestep, and their lines
 pub record HasNoted (basin : Draft) (step : ℕ) (old : Log) (events : List Event) (engine : Engine) : Type 0 where
   pub cells : List Held
   pub cells_are : engine.noted ≡ Some cells
   pub looked : AreLooked basin (cells_of basin old) events cells
   pub once : AreOnce cells
-  pub trace : List TraceEvent
-  pub trace_is : engine.trace ≡ Some trace
-  pub lines_are : drop engine.lines_before trace ≡ lines_of_step step events
+  pub lines_are : engine.lines ≡ Some (lines_of_step step events)
   pub can : CanWriteLines basin (lines_of_step step events)
 
 -- a record has the same cells, rising, with what they held, and the same lines, and what they say may be written

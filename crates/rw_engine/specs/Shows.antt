@@ -1,5 +1,5 @@
 -- The log that an engine stands for.
-use Rattle.std.specs.Prelude.{◌≡◌, ℕ, ◌+◌, ◌≤◌, length, IfSome, Ok, is_some}
+use Rattle.std.specs.Prelude.{◌≡◌, ℕ, ◌+◌, ◌≤◌, length, IfSome, IsSome, List, Ok, Option, is_some}
 use Rattle.rw_base.specs.declared.number.Cell.{Cell}
 use Rattle.rw_model.specs.Draft.{Draft}
 use Rattle.rw_model.specs.Basin.{IsBasin}
@@ -7,6 +7,8 @@ use Rattle.rw_series.specs.Series.{held}
 use Rattle.rw_run.specs.Log.{Event, closed, fault, Log, cells_of}
 use Rattle.rw_run.specs.Runs.{standing, rests}
 use Rattle.rw_run.specs.RunOf.{trace_of, end_of, last_closed}
+use Rattle.rw_run.specs.declared.held.Held.{Held}
+use Rattle.rw_run.specs.declared.trace.TraceEvent.{TraceEvent}
 use Rattle.rw_dispatch.specs.Stage.{AreBounded, IsHeldIn}
 use Rattle.rw_record.specs.Back.{AreCellsOf}
 use Rattle.rpl_verify.specs.Verified.{Accepted, verified}
@@ -14,6 +16,11 @@ use Rattle.rw_rules.specs.Rules.{IsRulesOf}
 use Rattle.rw_engine.specs.Engine.{Engine}
 use Rattle.rw_engine.specs.declared.step_end.StepEnd.{StepEnd}
 use Rattle.rw_engine.specs.declared.step_end.StepEnd.TheVariants.{Closed as IsClosed, Fault as IsFault}
+
+-- the lines of a timestep are noted exactly where it is noted at what that looks, and both where a trace is kept
+pub record NotesAlike (noted : Option (List Held)) (lines trace : Option (List TraceEvent)) : Type 0 where
+  pub same : is_some lines ≡ is_some noted
+  pub traced : IsSome trace → IsSome noted
 
 -- an engine made for the basin and a policy that is accepted for it: its slots hold values that they can have
 pub record IsEngineOf (basin : Draft) (policy : Accepted) (engine : Engine) : Type 0 where
@@ -23,13 +30,17 @@ pub record IsEngineOf (basin : Draft) (policy : Accepted) (engine : Engine) : Ty
   pub rules : IsRulesOf basin policy engine.rules
   pub series : IsHeldIn basin engine.series
   pub closed_steps : engine.closed ≤ basin.control.stamps.count
-  -- it notes what timesteps look at exactly where it keeps a trace
-  pub notes : is_some engine.noted ≡ is_some engine.trace
+  pub notes : NotesAlike engine.noted engine.lines engine.trace
 
 -- for whatever policy it was made, it can pass a timestep again by its record
 pub record CanReplay (basin : Draft) (engine : Engine) : Type 0 where
   pub series : IsHeldIn basin engine.series
-  pub notes : is_some engine.noted ≡ is_some engine.trace
+  pub notes : NotesAlike engine.noted engine.lines engine.trace
+
+-- an engine keeps a trace still exactly where it kept one, and so with what it notes
+pub record KeepsOn (old new : Engine) : Type 0 where
+  pub trace : is_some new.trace ≡ is_some old.trace
+  pub noted : is_some new.noted ≡ is_some old.noted
 
 -- what an engine shows of a log: what the cells hold, its trace, if that is kept, the last closed timestep, and the fault if there is one
 pub record Shows (basin : Draft) (engine : Engine) (log : Log) : Type 0 where

@@ -6,7 +6,8 @@ use Rattle.rw_series.specs.Series.{held}
 use Rattle.rw_run.specs.Frame.{IsFault}
 use Rattle.rw_run.specs.Log.{Asked, Cells, Event, Log, asked_in, cells_of, last_put, opened, written_by}
 use Rattle.rw_run.specs.Step.{reached_by}
-use Rattle.rw_run.specs.Trace.{lines_in, told}
+use Rattle.rw_run.specs.RunOf.{lines}
+use Rattle.rw_run.specs.Trace.{told}
 use Rattle.rw_run.specs.declared.held.Held.{Held}
 use Rattle.std.specs.Option.{option_or}
 use Rattle.rw_base.specs.declared.number.Cell.{Cell}
@@ -29,13 +30,14 @@ use Rattle.rw_engine.specs.Counts.{count_of, room}
 use Rattle.rw_engine.specs.Engine.{Engine}
 use Rattle.rw_engine.specs.Lines.{TraceGrows}
 use Rattle.rw_engine.specs.Picked.{LeadsBy, PassesBy, most_turns, turn_after, turns_after}
-use Rattle.rw_engine.specs.Records.{CanWriteAll, puts_in}
+use Rattle.rw_engine.specs.Records.{CanWriteAll, lines_of_step, puts_in}
 use Rattle.rw_engine.specs.Shows.{IsBefore, IsEngineOf, Shows, EndsBy, closed_by}
 use Rattle.rw_engine.specs.declared.state.State.{State}
 use Rattle.rw_engine.specs.declared.step_end.StepEnd.{StepEnd}
 use Rattle.rw_engine.specs.declared.step_end.StepEnd.TheVariants.{Closed, Fault as StepFault}
 use Rattle.rw_run.specs.declared.fault.RunFault.{RunFault}
 use Rattle.rw_run.specs.declared.run.RunEnd.{RunEnd}
+use Rattle.rw_run.specs.declared.trace.TraceEvent.{TraceEvent}
 use Rattle.rw_run.specs.declared.run.RunEnd.TheVariants.{Fault, Settled}
 
 -- the engine that a state is seen as
@@ -48,7 +50,7 @@ seen state = record {
   closed = state.run.closed;
   end = state.run.end;
   noted = state.noted;
-  lines_before = state.lines_before;
+  lines = state.lines;
   turns = state.turns;
 }
 
@@ -98,12 +100,13 @@ pub record CountsTurn (before after : ℕ) (event : Event) : Type 0 where
   pub least : turn_after before event ≤ after
   pub same : (¬ IsFault event) → after ≡ turn_after before event
 
--- after the event that follows where this object is chosen, or none where none waits. It is noted unless it is a fault
-pub record GoesByEvent (basin : Draft) (policy : Accepted) (chosen : Option ℕ) (end : Option StepEnd) (cells : Cells) (noted : Option (List Held)) (turn : ℕ) (state : State) (step : ℕ) (log : Log) : Type 0 where
+-- after the event that follows where this object is chosen, or none where none waits. Its lines are, and it is noted unless it is a fault
+pub record GoesByEvent (basin : Draft) (policy : Accepted) (chosen : Option ℕ) (end : Option StepEnd) (cells : Cells) (noted : Option (List Held)) (before : Option (List TraceEvent)) (turn : ℕ) (state : State) (step : ℕ) (log : Log) : Type 0 where
   pub event : Event
   pub follows : next_of basin (policy_in basin policy) (cells_of basin log) log step chosen ≡ Some event
   pub goes : GoesToState basin policy end state step log event
   pub notes : (¬ IsFault event) → NotesThat basin cells noted state event
+  pub lines_are : state.lines ≡ told before (lines event)
   pub asks : WritesAsked event
   pub can : AreWrites basin (written_by event)
   pub turned : CountsTurn turn state.turns event
@@ -122,6 +125,7 @@ pub record Reached (basin : Draft) (policy : Accepted) (rule : Picking) (turn : 
   pub holds : HoldsWithin basin policy state step state.queue.waiting now
   pub inside_step : AreWithinStep step events
   pub notes : IfSome state.noted (Notes basin (cells_of basin old) (held state.run.series) events)
+  pub lines_are : IfSome state.lines (λ these. these ≡ lines_of_step step events)
   pub can : CanWriteAll basin events
 
 -- ---- what work within a timestep keeps
@@ -132,7 +136,6 @@ pub record OnlyTells (old new : State) : Type 0 where
   pub noted : new.noted ≡ old.noted
   pub closed_steps : new.run.closed ≡ old.run.closed
   pub end : new.run.end ≡ old.run.end
-  pub lines_before : new.lines_before ≡ old.lines_before
   pub turns : new.turns ≡ old.turns
   pub grows : TraceGrows old.run.trace new.run.trace
 
@@ -154,13 +157,13 @@ IsRevocable before state = IfSome state.noted (CanTakeBack before (held state.ru
 pub record KeepsWithin (basin : Draft) (policy : Accepted) (old new : State) : Type 0 where
   pub within : IsWithinStep basin policy new
   pub revocable : (before : Cells) → IsRevocable before old → IsRevocable before new
-  pub lines_before : new.lines_before ≡ old.lines_before
+  pub notes : is_some new.noted ≡ is_some old.noted
   pub grows : TraceGrows old.run.trace new.run.trace
 
 -- what was done since the timestep began can be taken back
 pub record CanGoBack (old new : State) : Type 0 where
   pub revocable : IsRevocable (held old.run.series) new
-  pub lines_before : new.lines_before ≡ old.lines_before
+  pub notes : is_some new.noted ≡ is_some old.noted
   pub grows : TraceGrows old.run.trace new.run.trace
 
 -- how often objects may still be dispatched and rules may still fire
@@ -194,10 +197,10 @@ IsOnTheWay basin step (Err fault) old new = IsStill old new
 pub record DoesEvent (basin : Draft) (policy : Accepted) (chosen : Option ℕ) (step : ℕ) (old new : State) (given : Log → Type 0) (result : Result Bool NoMemory) : Type 0 where
   pub keeps : KeepsWithin basin policy old new
   pub on_the_way : IsOnTheWay basin step (seen_end new result) old new
-  pub goes : (log : Log) → given log → IfOk (seen_end new result) (λ end. GoesByEvent basin policy chosen end (held old.run.series) old.noted old.turns new step log)
+  pub goes : (log : Log) → given log → IfOk (seen_end new result) (λ end. GoesByEvent basin policy chosen end (held old.run.series) old.noted old.lines old.turns new step log)
   pub few : IfOk result (λ ended. turns_at_most basin new ≤ turns_at_most basin old)
-  -- memory wants only where a trace is kept
-  pub wants : IfErr result (λ fault. IsSome old.run.trace)
+  -- memory wants only where timesteps are noted
+  pub wants : IfErr result (λ fault. IsSome old.noted)
 
 -- ---- what opening and passing a timestep do
 
@@ -207,15 +210,16 @@ pub record Begins (basin : Draft) (policy : Accepted) (inputs : Inputs) (state :
   pub shows : Shows basin (seen state) (placed [] (givens basin inputs))
   pub turns : state.turns ≡ 0
 
--- nothing is noted yet, and the lines of the timestep come behind those that there are
+-- nothing is noted yet
 pub record IsCleared (basin : Draft) (policy : Accepted) (state : State) : Type 0 where
   pub made : IsStateOf basin policy state
   pub cleared : IfSome state.noted (λ noted. noted ≡ [])
-  pub lines_before : state.lines_before ≡ length (lines_in state.run.trace)
+  pub none_told : IfSome state.lines (λ these. these ≡ [])
 
 -- the timestep is opened
 pub record IsOpened (basin : Draft) (policy : Accepted) (step : ℕ) (old new : State) : Type 0 where
   pub within : IsWithinStep basin policy new
+  pub lines_are : new.lines ≡ told old.lines (lines (opened step))
   pub holds : (log : Log) → Shows basin (seen old) log → IsBefore basin step log → HoldsWithin basin policy new step new.queue.waiting (opened step ∷ log)
 
 -- the timestep was passed to its end, or memory wants within it and it can be taken back
@@ -227,7 +231,7 @@ pub record HasPassed (basin : Draft) (policy : Accepted) (rule : Picking) (step 
       → IfOk result (λ end. PassesBy basin (policy_in basin policy) rule old.turns log end (seen new) step)
   pub closed_steps : IfOk result (λ end. new.run.closed ≡ closed_by end step old.run.closed)
   pub few : IfOk result (λ end. new.turns ≤ old.turns + most_turns basin)
-  pub wants : IfErr result (λ fault. IsSome old.run.trace)
+  pub wants : IfErr result (λ fault. IsSome old.noted)
 
 -- ---- what passing a timestep again does
 
@@ -245,10 +249,11 @@ pub record HasReplayed (basin : Draft) (kept : StepRecord) (old new : State) (re
   pub firings : new.firings ≡ old.firings
   pub made : IsHeldIn basin new.run.series
   pub notes : is_some new.noted ≡ is_some old.noted
+  pub keeps_lines : is_some new.lines ≡ is_some old.lines
   pub keeps_trace : is_some new.run.trace ≡ is_some old.run.trace
-  pub lines_before : new.lines_before ≡ length (lines_in old.run.trace)
   pub unchanged : IfErr result (λ want. new.run ≡ old.run)
   pub noted : IfOk result (λ done. new.noted ≡ with_noted (held old.run.series) (cells_noted kept.looked) (cleared old.noted))
+  pub lines_are : IfOk result (λ done. IfSome new.lines (λ these. these ≡ kept.lines))
   pub trace : IfOk result (λ done. new.run.trace ≡ told old.run.trace kept.lines)
   pub ends : IfOk result (λ done. (new.run.end ≡ Settled) × (new.run.closed ≡ kept.step))
   pub cells : IfOk result (λ done. (cell : Cell) → held new.run.series cell

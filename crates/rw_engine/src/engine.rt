@@ -1,4 +1,4 @@
-ghost use Rattle.std.specs.Prelude.{◌≤◌, ◌+◌, ◌↔◌, ℕ, List, [], map, IfOk, IfSome, ◌≡◌, IsSome, Ok, true};
+ghost use Rattle.std.specs.Prelude.{◌≤◌, ◌+◌, ◌↔◌, ℕ, List, [], map, IfOk, IfSome, ◌≡◌, IsSome, Ok, is_some, true};
 ghost use Rattle.rw_model.specs.Draft.{Draft};
 ghost use Rattle.rw_method.specs.Catalogue.{AreInOrder};
 ghost use Rattle.rw_inputs.specs.Inputs.{IsInputsOf};
@@ -19,6 +19,7 @@ ghost use Rattle.rw_engine.specs.Records.{CanWriteLines, HasNoted, RecordsOrNot}
 use crate::setup::RunSetup;
 use crate::state::State;
 use crate::step_end::StepEnd;
+use crate::trace_lines::trace_where;
 use rpl_predef::Predefs;
 use rpl_verify::Verified;
 use rw_base::{Cell, Ledger, NoMemory, Qty, StepNo, Steps};
@@ -67,9 +68,30 @@ impl Engine {
         ensures shows { IfOk result
             (λ engine. Shows basin.now engine (placed [] (givens basin.now inputs.now))) }
         ensures kept { IfOk result (λ engine. IsSome engine.trace) }
+        ensures noted { IfOk result (λ engine. IsSome engine.noted) }
         ensures turns { IfOk result (λ engine. engine.turns ≡ 0) }
     {
-        let trace = Trace::new(alloc);
+        Engine::for_reuse(alloc, basin, policy, inputs, true)
+    }
+
+    /// The same, which keeps a trace where one is asked for, and notes timesteps in any case.
+    pub fn for_reuse(
+        alloc: Global,
+        basin: &Basin,
+        policy: &Verified,
+        inputs: &Inputs,
+        traced: bool,
+    ) -> Result<Engine, NoMemory>
+        requires fits { verified basin.now policy.now.blocks ≡ Ok policy.now }
+        requires inputs { IsInputsOf basin.now inputs.now }
+        ensures made { IfOk result (IsEngineOf basin.now policy.now) }
+        ensures shows { IfOk result
+            (λ engine. Shows basin.now engine (placed [] (givens basin.now inputs.now))) }
+        ensures noted { IfOk result (λ engine. IsSome engine.noted) }
+        ensures kept { IfOk result (λ engine. is_some engine.trace ≡ traced) }
+        ensures turns { IfOk result (λ engine. engine.turns ≡ 0) }
+    {
+        let trace = trace_where(alloc, traced);
         let noted = Noted::for_basin(alloc, basin)?;
         Ok(Engine {
             state: State::for_run(alloc, basin, policy, inputs, trace, noted)?,
@@ -153,7 +175,7 @@ impl Engine {
         self.state.run()
     }
 
-    /// The record of the timestep that was closed last, of an engine that keeps a trace. `None` exactly where it has too many cells
+    /// The record of the timestep that was closed last, of an engine that notes timesteps. `None` exactly where it has too many cells
     /// or lines to be kept.
     pub fn last_record(&self, alloc: Global) -> Result<Option<StepRecord>, NoMemory>
         ensures { (basin : Draft) (step : ℕ) (old : Log) (events : List Event)

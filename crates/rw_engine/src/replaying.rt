@@ -1,5 +1,5 @@
 //! Passing a timestep again, by its record.
-ghost use Rattle.std.specs.Prelude.{◌≡◌, [], IfOk, is_some};
+ghost use Rattle.std.specs.Prelude.{◌≡◌, [], IfErr, IfOk, IfSome, is_some};
 ghost use Rattle.std.specs.List.{cons_option};
 ghost use Rattle.std.specs.Option.{option_or};
 ghost use Rattle.rw_base.specs.declared.number.Cell.{Cell as Place};
@@ -9,7 +9,6 @@ ghost use Rattle.rw_dispatch.specs.Writes.{AreWrites};
 ghost use Rattle.rw_run.specs.Log.{last_put};
 ghost use Rattle.rw_run.specs.Trace.{lines_in, told};
 ghost use Rattle.rw_record.specs.Noted.{cells_noted, with_noted};
-ghost use Rattle.rw_engine.specs.Lines.{TraceGrows};
 ghost use Rattle.rw_engine.specs.Noting.{NotesAll};
 ghost use Rattle.rw_engine.specs.Records.{CanWriteLines, puts_in};
 
@@ -30,20 +29,26 @@ fn note_again(noted: &mut Noted, series: &Series, looked: &[Held]) -> Result<(),
     Ok(())
 }
 
-/// Notes the cells of a record, and tells its lines: all that takes memory where its timestep is passed again.
+/// Notes the cells of a record and its lines, and tells these: all that takes memory where its timestep is passed again.
 pub(crate) fn retell(
     noted: &mut Noted,
+    lines: &mut Trace,
     trace: &mut Trace,
     series: &Series,
     kept: &StepRecord,
 ) -> Result<(), NoMemory>
+    requires { IfSome lines.old (λ these. these ≡ []) }
     ensures kept { is_some noted.new ≡ is_some noted.old }
+    ensures keeps_lines { is_some lines.new ≡ is_some lines.old }
+    ensures keeps_trace { is_some trace.new ≡ is_some trace.old }
     ensures noted { IfOk result (λ _. noted.new
         ≡ with_noted (held series.now) (cells_noted kept.now.looked) noted.old) }
+    ensures lines { IfOk result (λ _. IfSome lines.new (λ these. these ≡ kept.now.lines)) }
     ensures told { IfOk result (λ _. trace.new ≡ told trace.old kept.now.lines) }
-    ensures grows { TraceGrows trace.old trace.new }
+    ensures unchanged { IfErr result (λ _. trace.new ≡ trace.old) }
 {
     note_again(noted, series, kept.looked())?;
+    lines.append(kept.lines(), 0)?;
     trace.append(kept.lines(), 0)
 }
 

@@ -26,7 +26,9 @@ use crate::placing::{input, place};
 use crate::replaying::{retell, write_again};
 use crate::setup::RunSetup;
 use crate::step_end::StepEnd;
-use crate::trace_lines::{tell, tell_firing};
+use crate::trace_lines::{
+    note_firing_lines, note_lines, tell, tell_firing, tell_line, trace_where,
+};
 use crate::turn::next_turn;
 use rpl_verify::Verified;
 use rw_base::{Cell, NoMemory, ObjectNo, Qty, RuleNo, StepNo};
@@ -41,8 +43,8 @@ use rw_series::Series;
 use std::alloc::Global;
 
 /// What an engine works on. Queue, rules and counts, of dispatches and of firings, are those of the open timestep. What is noted is
-/// at what the events of the last one looked, its lines come behind so many lines of the trace, and where memory wants within it, it
-/// is taken back by both. Turns are counted over all timesteps, one a dispatch.
+/// at what the events of the last one looked, by which it is taken back where memory wants within it, and its lines. Turns are counted
+/// over all timesteps, one a dispatch.
 #[derive(Drop)]
 pub(crate) struct State {
     run: Run,
@@ -52,7 +54,7 @@ pub(crate) struct State {
     counts: Counts,
     firings: Counts,
     noted: Noted,
-    lines_before: usize,
+    lines: Trace,
     turns: u64,
 }
 
@@ -69,15 +71,17 @@ impl State {
         requires fits { verified basin.now policy.now.blocks ≡ Ok policy.now }
         requires inputs { IsInputsOf basin.now inputs.now }
         requires fresh { IfSome trace (λ lines. lines ≡ []) }
-        requires notes { is_some noted ≡ is_some trace }
+        requires notes { IsSome trace → IsSome noted }
         ensures begun { IfOk result (Begins basin.now policy.now inputs.now) }
         ensures trace { IfOk result (λ state. state.run.trace ≡ trace) }
+        ensures noted { IfOk result (λ state. state.noted ≡ noted) }
     {
         let mut series = Series::sized(alloc, basin)?;
         let queue = Queue::for_basin(alloc, basin)?;
         let rules = Rules::for_policy(alloc, policy, basin)?;
         let counts = Counts::zero(alloc, basin.object_count())?;
         let firings = Counts::zero(alloc, policy.rule_count())?;
+        let lines = trace_where(alloc, noted.is_kept());
         place(basin, inputs, &mut series);
         Ok(State {
             run: Run {
@@ -92,7 +96,7 @@ impl State {
             counts,
             firings,
             noted,
-            lines_before: 0,
+            lines,
             turns: 0,
         })
     }
@@ -104,9 +108,10 @@ impl State {
         ensures tells { OnlyTells self.old self.new }
         ensures opened { IfOk result
             (λ _. IsOpened setup.now.basin.now setup.now.policy.now step.0 self.old self.new) }
-        ensures wants { IfErr result (λ _. IsSome self.old.run.trace) }
+        ensures wants { IfErr result (λ _. IsSome self.old.noted) }
     {
-        self.run.trace.push(TraceEvent::Opened(step))?;
+        let line = TraceEvent::Opened(step);
+        tell_line(&mut self.run.trace, &mut self.lines, &line)?;
         self.queue.begin_step(setup.basin);
         self.rules.begin_step();
         self.counts.clear();
@@ -122,7 +127,8 @@ impl State {
         ensures { DoesEvent setup.now.basin.now setup.now.policy.now None step.0 self.old self.new
             (HoldsDue setup.now.basin.now setup.now.policy.now self.old step.0 None) result }
     {
-        self.run.trace.push(TraceEvent::Closed(step))?;
+        let line = TraceEvent::Closed(step);
+        tell_line(&mut self.run.trace, &mut self.lines, &line)?;
         self.run.closed = step.0;
         self.run.end = RunEnd::Settled;
         Ok(true)
@@ -136,7 +142,8 @@ impl State {
             (HoldsBefore setup.now.basin.now setup.now.policy.now chosen self.old step.0 waits
             (fault why)) result }
     {
-        self.run.trace.push(TraceEvent::Fault(why))?;
+        let line = TraceEvent::Fault(why);
+        tell_line(&mut self.run.trace, &mut self.lines, &line)?;
         self.run.end = RunEnd::Fault(why);
         Ok(true)
     }
@@ -199,6 +206,7 @@ impl State {
             asked,
         )?;
         let writes = self.work.writes.as_slice();
+        note_lines(&mut self.lines, object, step, &end, writes)?;
         let fault = tell(&mut self.run.trace, object, step, &end, writes)?;
         make(setup.basin, &mut self.run.series, writes);
         self.queue
@@ -263,6 +271,7 @@ impl State {
             asked,
         )?;
         let writes = self.rules.written();
+        note_firing_lines(&mut self.lines, rule, step, &fired, writes)?;
         let fault = tell_firing(&mut self.run.trace, rule, step, &fired, writes)?;
         self.rules
             .write(setup.basin, &mut self.run.series, &mut self.queue, step);
@@ -359,11 +368,12 @@ impl State {
             (seen self.old) (seen self.new) result }
     {
         self.noted.begin_step();
-        self.lines_before = self.run.trace.len();
+        self.lines.truncate(0);
+        let before = self.run.trace.len();
         match self.pass(setup, pick, step) {
             Ok(end) => Ok(end),
             Err(NoMemory) => {
-                self.run.trace.truncate(self.lines_before);
+                self.run.trace.truncate(before);
                 take_back(setup.basin, &mut self.run.series, &self.noted);
                 Err(NoMemory)
             }
@@ -386,35 +396,28 @@ impl State {
             → HasNoted basin step old events (seen self.now) → self.now.run.closed ≡ step
             → IfOk result (RecordsOrNot basin step old events) }
     {
-        StepRecord::of(
-            alloc,
-            StepNo(self.run.closed),
-            &self.noted,
-            &self.run.trace,
-            self.lines_before,
-        )
+        StepRecord::of(alloc, StepNo(self.run.closed), &self.noted, &self.lines, 0)
     }
 
-    // Passes a timestep again, and takes back what was told of it where memory wants for the rest.
+    // Passes a timestep again.
     fn pass_again(&mut self, basin: &Basin, kept: &StepRecord) -> Result<(), NoMemory>
         requires can { CanWriteLines basin.now kept.now.lines }
         requires made { IsHeldIn basin.now self.old.run.series }
         ensures { HasReplayed basin.now kept.now self.old self.new result }
     {
         self.noted.begin_step();
-        self.lines_before = self.run.trace.len();
-        match retell(&mut self.noted, &mut self.run.trace, &self.run.series, kept) {
-            Ok(()) => {
-                write_again(basin, &mut self.run.series, kept.lines());
-                self.run.closed = kept.step().0;
-                self.run.end = RunEnd::Settled;
-                Ok(())
-            }
-            Err(NoMemory) => {
-                self.run.trace.truncate(self.lines_before);
-                Err(NoMemory)
-            }
-        }
+        self.lines.truncate(0);
+        retell(
+            &mut self.noted,
+            &mut self.lines,
+            &mut self.run.trace,
+            &self.run.series,
+            kept,
+        )?;
+        write_again(basin, &mut self.run.series, kept.lines());
+        self.run.closed = kept.step().0;
+        self.run.end = RunEnd::Settled;
+        Ok(())
     }
 
     /// Passes a timestep again, by its record.
@@ -436,8 +439,9 @@ impl State {
         ensures sound { IsSoundState self.old → IsSoundState self.new }
     {
         self.noted.begin_step();
-        self.lines_before = self.run.trace.len().saturating_sub(kept.lines().len());
-        self.run.trace.truncate(self.lines_before);
+        self.lines.truncate(0);
+        let before = self.run.trace.len().saturating_sub(kept.lines().len());
+        self.run.trace.truncate(before);
         put_back(basin, &mut self.run.series, kept.looked());
         self.run.closed = kept.step().0.saturating_sub(1);
         self.run.end = RunEnd::Settled;

@@ -1,15 +1,27 @@
-//! Writing the lines of events.
-ghost use Rattle.std.specs.Prelude.{◌≡◌, [], ◌∷◌, map, IfOk, IfErr, IsSome, None, Some};
+//! Telling the lines of events to a trace, and to the lines of the timestep, where these are noted.
+ghost use Rattle.std.specs.Prelude.{◌≡◌, [], ◌∷◌, if◌then◌else◌, map, IfOk, IfErr, IsSome, None, Some};
 ghost use Rattle.rw_run.specs.declared.trace.TraceEvent.TheVariants as Line;
 ghost use Rattle.rw_run.specs.RunOf.{line_of};
 ghost use Rattle.rw_run.specs.Trace.{told};
-ghost use Rattle.rw_engine.specs.Lines.{lines_by, lines_of_rule, fault_by, fault_of_rule, TraceGrows};
+ghost use Rattle.rw_engine.specs.Lines.{lines_by, lines_of_rule, fault_by, fault_of_rule, TellsBoth, TraceGrows};
 
 use rw_base::{NoMemory, ObjectNo, RuleNo, StepNo};
 use rw_dispatch::DispatchEnd;
 use rw_rules::RuleFired;
 use rw_run::{RunFault, Trace, TraceEvent, Write};
 use rw_series::FireEnd;
+use std::alloc::Global;
+
+/// A trace without lines, where lines are to be kept, and one that keeps none elsewhere.
+pub(crate) fn trace_where(alloc: Global, kept: bool) -> Trace
+    ensures { result ≡ (if kept then Some [] else None) }
+{
+    if kept {
+        Trace::new(alloc)
+    } else {
+        Trace::unkept(alloc)
+    }
+}
 
 // The line of what is written.
 fn line_of(write: &Write) -> TraceEvent
@@ -63,6 +75,7 @@ fn tell_done(
 }
 
 /// Writes the lines of a dispatch that ended so and writes these, and answers the fault that it is, if it is one.
+#[inline(always)]
 pub(crate) fn tell(
     trace: &mut Trace,
     object: ObjectNo,
@@ -102,6 +115,7 @@ pub(crate) fn tell(
 }
 
 /// Writes the lines of a rule's firing that writes these, and answers the fault that it is, if it is one.
+#[inline(always)]
 pub(crate) fn tell_firing(
     trace: &mut Trace,
     rule: RuleNo,
@@ -130,4 +144,95 @@ pub(crate) fn tell_firing(
             tell_fault(trace, RunFault::RuleOutOfRange { rule, step, value })
         }
     }
+}
+
+// Notes the lines of a dispatch.
+#[inline(never)]
+fn note_dispatched(
+    lines: &mut Trace,
+    object: ObjectNo,
+    step: StepNo,
+    end: &DispatchEnd,
+    writes: &[Write],
+) -> Result<(), NoMemory>
+    ensures told { IfOk result
+        (λ _. lines.new ≡ told lines.old (lines_by object.0 step.0 end.now writes.now)) }
+    ensures grows { TraceGrows lines.old lines.new }
+    ensures wants { IfErr result (λ _. IsSome lines.old) }
+{
+    tell(lines, object, step, end, writes)?;
+    Ok(())
+}
+
+/// The same, where lines are noted.
+#[inline(always)]
+pub(crate) fn note_lines(
+    lines: &mut Trace,
+    object: ObjectNo,
+    step: StepNo,
+    end: &DispatchEnd,
+    writes: &[Write],
+) -> Result<(), NoMemory>
+    ensures told { IfOk result
+        (λ _. lines.new ≡ told lines.old (lines_by object.0 step.0 end.now writes.now)) }
+    ensures grows { TraceGrows lines.old lines.new }
+    ensures wants { IfErr result (λ _. IsSome lines.old) }
+{
+    if lines.is_kept() {
+        note_dispatched(lines, object, step, end, writes)
+    } else {
+        Ok(())
+    }
+}
+
+// Notes the lines of a firing.
+#[inline(never)]
+fn note_fired(
+    lines: &mut Trace,
+    rule: RuleNo,
+    step: StepNo,
+    fired: &RuleFired,
+    writes: &[Write],
+) -> Result<(), NoMemory>
+    ensures told { IfOk result (λ _. lines.new ≡ told lines.old
+        (lines_of_rule rule.0 step.0 fired.now.end fired.now.count writes.now)) }
+    ensures grows { TraceGrows lines.old lines.new }
+    ensures wants { IfErr result (λ _. IsSome lines.old) }
+{
+    tell_firing(lines, rule, step, fired, writes)?;
+    Ok(())
+}
+
+/// The same, where lines are noted.
+#[inline(always)]
+pub(crate) fn note_firing_lines(
+    lines: &mut Trace,
+    rule: RuleNo,
+    step: StepNo,
+    fired: &RuleFired,
+    writes: &[Write],
+) -> Result<(), NoMemory>
+    ensures told { IfOk result (λ _. lines.new ≡ told lines.old
+        (lines_of_rule rule.0 step.0 fired.now.end fired.now.count writes.now)) }
+    ensures grows { TraceGrows lines.old lines.new }
+    ensures wants { IfErr result (λ _. IsSome lines.old) }
+{
+    if lines.is_kept() {
+        note_fired(lines, rule, step, fired, writes)
+    } else {
+        Ok(())
+    }
+}
+
+/// Tells a line to a trace, and to the lines of its timestep.
+pub(crate) fn tell_line(
+    trace: &mut Trace,
+    lines: &mut Trace,
+    line: &TraceEvent,
+) -> Result<(), NoMemory>
+    requires { IsSome trace.old → IsSome lines.old }
+    ensures { TellsBoth (line.now ∷ []) trace.old lines.old trace.new lines.new result }
+{
+    lines.push(*line)?;
+    trace.push(*line)
 }

@@ -1,5 +1,5 @@
 -- What a call tells where memory wants, and where it goes on.
-use Rattle.rw_base.proofs.Common.{◌≡◌, ◌≤◌, ◌+◌, ℕ, Err, List, Ok, Option, Result}
+use Rattle.rw_base.proofs.Common.{◌≡◌, ◌≤◌, ◌+◌, ℕ, Bool, Err, List, Ok, Option, Result}
 use Rattle.std.specs.Prelude.{IsErrAnd}
 use Rattle.rw_base.specs.declared.memory.NoMemory.{NoMemory}
 use Rattle.rw_model.specs.Draft.{Draft}
@@ -19,6 +19,7 @@ pub wants : (basin : Draft) (policy : Accepted) (step : ℕ) (Fits : Option Step
 wants basin policy step Fits old new before after (Ok done) why is rises few = absurd is
 wants basin policy step Fits old new before after (Err fault) why is rises few = record {
   made = tt;
+  kept = tt;
   goes = λ inputs earlier was last entry framed there fits next_one way. tt;
   grows = tt;
   each = tt;
@@ -26,12 +27,13 @@ wants basin policy step Fits old new before after (Err fault) why is rises few =
   few = few;
 }
 
-pub wants_all : (basin : Draft) (policy : Accepted) (inputs : Inputs) (was : List (Option StepRecord)) (before after : ℕ) (result : Result Pass NoMemory)
+pub wants_all : (basin : Draft) (policy : Accepted) (inputs : Inputs) (traced : Bool) (was : List (Option StepRecord)) (before after : ℕ) (result : Result Pass NoMemory)
     (why : NoMemory) → IsErrAnd result (λ fault. fault ≡ why) → before ≤ after → after ≤ before + basin.control.stamps.count
-    → PassesAll basin policy inputs was before after result
-wants_all basin policy inputs was before after (Ok pass) why is rises few = absurd is
-wants_all basin policy inputs was before after (Err fault) why is rises few = record {
+    → PassesAll basin policy inputs traced was before after result
+wants_all basin policy inputs traced was before after (Ok pass) why is rises few = absurd is
+wants_all basin policy inputs traced was before after (Err fault) why is rises few = record {
   made = tt;
+  kept = tt;
   goes = λ earlier kept. tt;
   each = tt;
   rises = rises;
@@ -44,6 +46,7 @@ pub wants_rest : (basin : Draft) (policy : Accepted) (was : List (Option StepRec
 wants_rest basin policy was behind old new before after (Ok done) why is rises few = absurd is
 wants_rest basin policy was behind old new before after (Err fault) why is rises few = record {
   made = tt;
+  kept = tt;
   goes = λ inputs earlier kept way. tt;
   grows = tt;
   each = tt;
@@ -57,6 +60,7 @@ pub wants_from : (basin : Draft) (policy : Accepted) (was : List (Option StepRec
 wants_from basin policy was spare before after (Ok pass) why is rises few = absurd is
 wants_from basin policy was spare before after (Err fault) why is rises few = record {
   made = tt;
+  kept = tt;
   goes = λ inputs earlier log kept shows taken. tt;
   stay = tt;
   each = tt;
@@ -73,6 +77,7 @@ weaker basin policy step Fits Known old new before after result known on = recor
   goes = λ inputs earlier was last entry framed there fits next_one way.
       on.goes inputs earlier was last entry framed there (known entry fits) next_one way;
   grows = on.grows;
+  kept = on.kept;
   each = on.each;
   rises = on.rises;
   few = on.few;

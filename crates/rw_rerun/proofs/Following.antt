@@ -1,5 +1,6 @@
 -- The next run of a session, and the spare engine behind it.
 use Rattle.rw_base.proofs.Common.{◌≡◌, ◌≤◌, ◌+◌, ◌++◌, ◌∙◌, ℕ, List, [], Err, Ok, Result, Option, Some, None, IfOk, IfSome, length, map, take, drop, refl, sym, ap, subst, arith}
+use Rattle.std.specs.Prelude.{Bool, is_some}
 use Rattle.rw_base.specs.declared.memory.NoMemory.{NoMemory}
 use Rattle.rw_base.specs.declared.number.Cell.{Cell}
 use Rattle.rw_model.specs.Draft.{Draft}
@@ -13,6 +14,7 @@ use Rattle.rw_run.specs.Runs.{placed}
 use Rattle.rw_run.proofs.OneRun.{one_run}
 use Rattle.rw_record.specs.Record.{StepRecord}
 use Rattle.rw_engine.specs.Engine.{Engine}
+use Rattle.rw_engine.specs.Shows.{KeepsOn}
 use Rattle.rpl_verify.specs.Verified.{Accepted}
 use Rattle.rw_rules.specs.Rules.{policy_in}
 use Rattle.rw_rerun.specs.Edited.{AreEdited, BecomesSpare, LeavesFirst}
@@ -24,6 +26,7 @@ use Rattle.rw_rerun.specs.Touched.{CountsUntouched}
 use Rattle.rw_rerun.specs.UnderWay.{PassesRest}
 use Rattle.rw_rerun.specs.declared.pass.Pass.{Pass}
 use Rattle.rw_rerun.specs.declared.spare.Spare.{Spare}
+use Rattle.rw_rerun.proofs.Gives.{gives_keep, keeps_between, keeps_more}
 use Rattle.rw_rerun.proofs.Keeping.{all_known, known_records, split_at, stay_first}
 use Rattle.rw_rerun.proofs.Sessions.{applies, session_behind}
 use Rattle.rw_rerun.proofs.Taken.{comes_behind, first_are_kept, same_end, stands_behind_all}
@@ -39,6 +42,7 @@ passes_from basin policy was spare first last before after done near begins rest
     let none = ap length begins.none in
     let counted = rest.each in record {
       made = rest.made;
+      kept = subst (λ (engine : Engine). KeepsOn engine last.engine) begins.engine rest.kept;
       goes = λ inputs earlier log kept shows taken. rest.goes inputs earlier kept (begins.goes basin in_run inputs earlier log was near shows taken);
       stay = ap (λ changes. take spare.behind (changed was changes)) (more.1 ∙ ap (λ changes. changes ++ more.0) begins.unchanged)
           ∙ stay_first was spare.behind more.0 near;
@@ -53,6 +57,11 @@ stays_first : (was : List (Option StepRecord)) (behind other : ℕ) (result : Re
 stays_first was behind other (Err fault) same stay = tt
 stays_first was behind other (Ok pass) same stay = subst (λ n. StayFirst was n pass) same stay
 
+kept_first : (one other : Engine) (result : Result Pass NoMemory) → KeepsOn one other → IfOk result (λ pass. KeepsOn other pass.engine)
+    → IfOk result (λ pass. KeepsOn one pass.engine)
+kept_first one other (Err fault) first kept = tt
+kept_first one other (Ok pass) first kept = keeps_more one other pass.engine first kept
+
 pub passes_behind : (basin : Draft) (policy : Accepted) (inputs : Inputs) (cells : List Cell) (was : List (Option StepRecord)) (behind : ℕ) (old new : Spare)
     (before after : ℕ) (result : Result Pass NoMemory) → IsFramed (policy_in basin policy) → IsReady basin inputs cells was behind old new
     → PassesFrom basin policy was new before after result → PassesBehind basin policy inputs cells was behind old before after result
@@ -60,6 +69,7 @@ passes_behind basin policy inputs cells was behind old new before after result f
     let in_run = policy_in basin policy in
     let at : ready.mid.behind ≡ behind = ready.brings.behind_is in record {
       made = passes.made;
+      kept = kept_first old.engine new.engine result (keeps_more old.engine ready.mid.engine new.engine ready.brings.kept (gives_keep basin inputs cells ready.mid.engine new.engine ready.gives)) passes.kept;
       goes = λ given batch earlier leaves kept stands.
           let comes = comes_behind basin policy given inputs batch cells earlier was ready.mid new framed
           (subst (LeavesFirst basin batch cells given inputs was) (sym at) leaves) kept
@@ -86,11 +96,11 @@ found_spare basin policy session is found may =
     (subst (λ log. IfSome found (IsSpareIn session.basin session.policy session log)) there.1 (may there.0)))
 
 pub spare_ready : (basin : Draft) (policy : Accepted) (session seen : Session) (is : IsSessionOf basin policy session) (kept found : Option Spare) (spare : Spare)
-    → seen ≡ session → MayBeSpare seen kept → found ≡ kept
-    → ((one : Session) (there : IsSessionOf basin policy one) → one.inputs ≡ seen.inputs → IfSome found (IsSpareIn basin policy one there.log)
+    (traced : Bool) → seen ≡ session → traced ≡ is_some seen.engine.trace → MayBeSpare seen kept → found ≡ kept
+    → ((one : Session) (there : IsSessionOf basin policy one) → one.inputs ≡ seen.inputs → is_some one.engine.trace ≡ traced → IfSome found (IsSpareIn basin policy one there.log)
     → IsSpareIn basin policy one there.log spare) → IsSpareIn basin policy session is.log spare
-spare_ready basin policy session seen is kept found spare same may was ready =
-    ready session is (sym (ap (λ (s : Session). s.inputs) same))
+spare_ready basin policy session seen is kept found spare traced same told may was ready =
+    ready session is (sym (ap (λ (s : Session). s.inputs) same)) (sym (ap (λ (s : Session). is_some s.engine.trace) same) ∙ sym told)
     (subst (λ one. IfSome one (IsSpareIn basin policy session is.log)) (sym was)
     (found_spare basin policy session is kept (subst (λ (s : Session). MayBeSpare s kept) same may)))
 
@@ -112,6 +122,7 @@ passes_next basin policy session inputs cells behind was spare before after (Ok 
         batch = batch;
         leaves = leaves;
         made = there.made;
+        kept = keeps_more session.engine spare.engine pass.engine stands.kept there.kept;
         way = there.goes session.inputs batch is.log leaves is.kept stands.stands;
         stay = there.stay;
       };
@@ -142,7 +153,7 @@ applies_next basin policy session old new batch inputs cells behind pass before 
     let whole : new ≡ session_behind session.basin session.policy inputs session.kept pass new.same =
     is ∙ ap (λ (one : Session). session_behind one.basin one.policy inputs one.kept pass new.same) same in
     subst (Applies basin policy batch session) (sym whole)
-    (applies basin policy batch inputs session pass next.is leaves.values leaves.new_made next.made next.way new.same
+    (applies basin policy batch inputs session pass next.is leaves.values leaves.new_made next.made next.way next.kept new.same
     (subst (HoldAsBefore session) whole (subst (λ (one : Session). HoldAsBefore one new) same held_before)))
 
 -- ---- the spare engine behind it
@@ -178,7 +189,7 @@ module _ (basin : Draft) (policy : Accepted) (session : Session) (inputs : Input
       (subst (λ kept. AreStepLinks basin in_run 1 start kept comes.log) first comes.taken.linked) in record {
         stands = record {
           made = comes.made;
-          traced = comes.traced;
+          noted = comes.noted;
           few = few;
           log = comes.log;
           shows = comes.shows;
@@ -186,6 +197,7 @@ module _ (basin : Draft) (policy : Accepted) (session : Session) (inputs : Input
           rest = subst (λ end. AreStepLinks basin in_run (spare.behind + 1) comes.log (drop spare.behind now_kept) end) met_end
               (subst (λ log. AreStepLinks basin in_run (spare.behind + 1) log (drop spare.behind now_kept) next.way.log) met split.2);
         };
+        kept = keeps_between session.engine pass.engine spare.engine next.kept becomes.kept;
         known = λ place entry first_one last there. all_known now_kept left.0 spare.behind (stay ∙ first) place entry last there;
       }
 

@@ -1,5 +1,6 @@
 -- What cells hold once inputs are given to them.
 use Rattle.rw_base.proofs.Common.{◌≡◌, ◌<◌, ◌+◌, ◌∙◌, ℕ, ℤ, if◌then◌else◌, List, [], ◌∷◌, Option, Some, None, IfSome, drop, get_or, length, option_map, sym, ap}
+use Rattle.std.specs.Prelude.{is_some}
 use Rattle.std.proofs.lemmas.List.{at_drop_more}
 use Rattle.rw_base.specs.declared.number.Cell.{Cell}
 use Rattle.rw_model.specs.Draft.{Draft}
@@ -8,7 +9,9 @@ use Rattle.rw_model.specs.declared.content.Content.{Content}
 use Rattle.rw_inputs.specs.Inputs.{Inputs, IsInputsOf, value_at}
 use Rattle.rw_series.specs.Series.{Series, Sets, held, is_shared}
 use Rattle.rw_run.specs.Log.{Cells, input_content}
-use Rattle.rw_rerun.specs.Spare.{given_all}
+use Rattle.rw_engine.specs.Engine.{Engine}
+use Rattle.rw_engine.specs.Shows.{KeepsOn}
+use Rattle.rw_rerun.specs.Spare.{GivesAll, given_all}
 
 pub within_given : (basin : Draft) (inputs : Inputs) → IsInputsOf basin inputs → (slot step : ℕ) (value : Option ℤ) → value ≡ value_at inputs slot step
     → IfSome value (λ value. IsBetween (bounds_in basin.objects basin.links basin.bounds slot) value)
@@ -34,3 +37,18 @@ gives_on basin inputs cells place blank value old new was cell near is sets same
     (λ at. if is_shared basin first at then option_map input_content (value_at inputs first.slot.0 first.step.0) else held old at)
     (λ at. sets at ∙ ap (λ (v : Option ℤ). if is_shared basin first at then option_map input_content v else held old at) is) cell
     ∙ sym (at_drop_more (λ (cs : List Cell). given_all basin inputs cs (held old) cell) cells place blank near) ∙ same
+
+-- ---- what an engine keeps
+
+pub keeps_same : (old new : Engine) → new ≡ old → KeepsOn old new
+keeps_same old new same = record { trace = ap (λ (engine : Engine). is_some engine.trace) same; noted = ap (λ (engine : Engine). is_some engine.noted) same }
+
+pub keeps_more : (one other last : Engine) → KeepsOn one other → KeepsOn other last → KeepsOn one last
+keeps_more one other last first next = record { trace = next.trace ∙ first.trace; noted = next.noted ∙ first.noted }
+
+-- two that come from one
+pub keeps_between : (one other last : Engine) → KeepsOn one other → KeepsOn one last → KeepsOn other last
+keeps_between one other last first next = record { trace = next.trace ∙ sym first.trace; noted = next.noted ∙ sym first.noted }
+
+pub gives_keep : (basin : Draft) (inputs : Inputs) (cells : List Cell) (old new : Engine) → GivesAll basin inputs cells old new → KeepsOn old new
+gives_keep basin inputs cells old new gives = record { trace = ap is_some gives.trace; noted = ap is_some gives.noted }

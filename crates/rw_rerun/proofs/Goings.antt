@@ -33,6 +33,7 @@ use Rattle.rw_rerun.specs.Session.{numbers_of_steps}
 use Rattle.rw_rerun.specs.UnderWay.{IsReplayable, GoesOn, IsPassOf, IsUnlike, stands_at}
 use Rattle.rw_rerun.specs.declared.pass.Pass.{Pass}
 use Rattle.rw_rerun.proofs.Anew.{IsClosedIn, kept_again, kept_anew, record_stands, these_again}
+use Rattle.rw_rerun.proofs.Gives.{keeps_same}
 use Rattle.rw_rerun.proofs.Reusing.{is_reused, not_reused, run_again, taken_over}
 use Rattle.rw_rerun.proofs.Ways.{before_next, none_on, none_open, not_kept, numbers_more, one_on, shown_next}
 
@@ -64,7 +65,8 @@ module _ (basin : Draft) (policy : Accepted) (step : ℕ) (old new : Pass) (made
   pub skip_goes : (steps : ℕ) (done : Unit {0}) → old.over ≡ true → new.over ≡ true → new.engine ≡ old.engine → new.reran.items ≡ old.reran.items
       → new.changes.items ≡ old.changes.items ++ Some None ∷ [] → GoesOn basin policy step (λ entry. Unit {0}) old new steps steps (Ok done)
   skip_goes steps done was_over is_over engine reran changes = record {
-    made = record { made = subst (λ e. IsEngineOf basin policy e) (sym engine) made.made; traced = subst (λ (e : Engine). IsSome e.trace) (sym engine) made.traced };
+    made = record { made = subst (λ e. IsEngineOf basin policy e) (sym engine) made.made; noted = subst (λ (e : Engine). IsSome e.noted) (sym engine) made.noted };
+    kept = keeps_same old.engine new.engine engine;
     goes = λ inputs earlier was last entry framed there fits next_one way.
         none_on basin in_run inputs earlier was old new last step entry (Some None) way next_one there.there changes was_over is_over engine reran
         (nothing_of step way.log (none_open basin in_run inputs earlier was old new last step entry (Some None) way next_one there.there changes step (omega arith))).1
@@ -79,7 +81,8 @@ module _ (basin : Draft) (policy : Accepted) (step : ℕ) (old new : Pass) (made
       → AreHeld (held old.engine.series) kept.looked → Replays basin kept old.engine new.engine (Ok done) → new.reran.items ≡ old.reran.items
       → new.changes.items ≡ old.changes.items ++ None ∷ [] → GoesOn basin policy step (λ entry. entry ≡ Some kept) old new steps steps (Ok done)
   take_goes steps done kept goes still_goes exists can alike replays reran changes = record {
-    made = record { made = replays.made policy made.made; traced = replays.keeps_trace made.traced };
+    made = record { made = replays.made policy made.made; noted = replays.keeps.noted ∙ made.noted };
+    kept = replays.keeps;
     goes = λ inputs earlier was last entry framed there fits next_one way.
         let is : IsKeptAs basin in_run earlier step kept =
         subst (IsKeptOrNot basin in_run earlier step) fits (subst (λ s. IsKeptOrNot basin in_run earlier s entry) (sym next_one) there.kept) in
@@ -146,7 +149,8 @@ module _ (basin : Draft) (policy : Accepted) (step : ℕ) (old new : Pass) (made
         → length noted ≡ cell_count (flat_map (reached_by basin) events))
         → new.changes.items ≡ old.changes.items ++ Some found ∷ [] → GoesOn basin policy step (IsUnlike old) old new before after (Ok done)
     run_goes found still_goes runs records how_many changes = record {
-      made = record { made = runs.made; traced = runs.kept made.traced };
+      made = record { made = runs.made; noted = runs.kept.noted ∙ made.noted };
+      kept = runs.kept;
       goes = λ inputs earlier was last entry framed there fits next_one way.
           let now : Log = way.log in
           let none : (other : ℕ) → step ≤ other → events_of other now ≡ [] =
@@ -155,7 +159,7 @@ module _ (basin : Draft) (policy : Accepted) (step : ℕ) (old new : Pass) (made
           runs.passes now way.shows (before_next basin in_run inputs earlier was old new last step entry (Some found) way next_one there.there changes goes exists.last) in
           let closes = passes.closes in
           let log : Log = passes.last ∷ passes.before in
-          let noted = closes.noted (runs.kept made.traced) in
+          let noted = closes.noted (runs.kept.noted ∙ made.noted) in
           let facts = closed_behind basin in_run step now closes.first closes.events closes.timestep (none step (omega arith)) in
           let closed_in : IsClosedIn step log now closes.first closes.events =
           subst (λ l. IsClosedIn step l now closes.first closes.events) (sym closes.is) (record { behind = facts.0; own = facts.1; closing = facts.2 }) in
@@ -182,7 +186,8 @@ module _ (basin : Draft) (policy : Accepted) (step : ℕ) (old new : Pass) (made
     pub fault_goes : (why : RunFault) → new.over ≡ true → RunsStep basin policy step old.engine new.engine (Ok (IsFault why))
         → new.changes.items ≡ old.changes.items ++ Some None ∷ [] → GoesOn basin policy step (IsUnlike old) old new before after (Ok done)
     fault_goes why ended runs changes = record {
-      made = record { made = runs.made; traced = runs.kept made.traced };
+      made = record { made = runs.made; noted = runs.kept.noted ∙ made.noted };
+      kept = runs.kept;
       goes = λ inputs earlier was last entry framed there fits next_one way.
           let now : Log = way.log in
           let none : (other : ℕ) → step ≤ other → events_of other now ≡ [] =

@@ -13,6 +13,7 @@ use Rattle.rw_run.proofs.OneRun.{one_run}
 use Rattle.rw_record.specs.Record.{AreRisingCells, StepRecord}
 use Rattle.rpl_verify.specs.Verified.{Accepted}
 use Rattle.rw_rules.specs.Rules.{policy_in}
+use Rattle.rw_engine.specs.Shows.{KeepsOn}
 use Rattle.rw_rerun.specs.Kept.{AreKept, IsKeptOrNot, IsKeepable, changed}
 use Rattle.rw_rerun.specs.Session.{Applies, HoldAsBefore, IsSessionOf, IsStarted, Session, numbers_of_steps}
 use Rattle.rw_rerun.specs.Touched.{AreRisingIn}
@@ -43,7 +44,7 @@ module _ (basin : Draft) (policy : Accepted) (inputs : Inputs) (earlier : Log) (
     by_policy = policy_is;
     given = given;
     made = made.made;
-    traced = made.traced;
+    noted = made.noted;
     log = way.log;
     whole = whole_way basin (policy_in basin policy) inputs earlier was pass way;
     shows = way.shows;
@@ -104,16 +105,17 @@ all_replayed basin policy log was are = λ place kept there.
 
 pub applies : (basin : Draft) (policy : Accepted) (batch : Batch) (inputs : Inputs) (old : Session) (pass : Pass) (session : IsSessionOf basin policy old)
     → value_at inputs ≡ after_batch batch (value_at old.inputs) → IsInputsOf basin inputs → IsPassOf basin policy pass
-    → IsUnderWay basin (policy_in basin policy) inputs session.log old.kept pass basin.control.stamps.count
+    → IsUnderWay basin (policy_in basin policy) inputs session.log old.kept pass basin.control.stamps.count → KeepsOn old.engine pass.engine
     → (same : ℕ) → HoldAsBefore old (session_behind old.basin old.policy inputs old.kept pass same)
     → Applies basin policy batch old (session_behind old.basin old.policy inputs old.kept pass same)
-applies basin policy batch inputs old pass session values given made way same before = record {
+applies basin policy batch inputs old pass session values given made way kept same before = record {
   is = is_session basin policy inputs session.log old.kept pass given made session.many way old.basin old.policy session.of_basin session.by_policy same;
   values = values;
   rerun = λ earlier run'.
       subst (λ log. AreRerun basin log way.log (numbers_of_steps pass.reran.items))
       (one_run basin (policy_in basin policy) (givens basin old.inputs) session.log earlier session.whole run') way.rerun;
   before_same = before;
+  kept = kept;
 }
 
 -- the cells of each record rise

@@ -73,6 +73,7 @@ pub goes_back : (basin : Draft) (was : List (Option StepRecord)) (old new : Spar
     → slice_get was (old.behind - 1) ≡ Some (Some kept) → TakesBack basin kept old.engine new.engine → BringsTo basin was (old.behind - 1) old new
 goes_back basin was old new kept some is there takes = record {
   behind_is = is;
+  kept = takes.keeps;
   stands = λ policy start end stands.
       let count : ℕ = old.behind - 1 in
       let more : old.behind ≡ suc count = omega (arith, some) in
@@ -82,7 +83,7 @@ goes_back basin was old new kept some is there takes = record {
       let back = link_back basin (policy_in basin policy) old.behind split.mid stands.log kept old new split.link takes stands.shows in
       let next_one : old.behind ≡ new.behind + 1 = omega (arith, is, some) in record {
         made = back.made policy stands.made;
-        traced = takes.keeps_trace stands.traced;
+        noted = takes.keeps.noted ∙ stands.noted;
         few = let few = stands.few in omega (arith, is, few);
         log = split.mid;
         shows = back.shows;
@@ -129,6 +130,7 @@ pub goes_on : (basin : Draft) (was : List (Option StepRecord)) (next : ℕ) (old
     → BringsTo basin was next old new
 goes_on basin was next old new kept done framed exists on at there replays = record {
   behind_is = at;
+  kept = replays.keeps;
   stands = λ policy start end stands.
       let in_run = policy_in basin policy in
       let step : ℕ = old.behind + 1 in
@@ -140,7 +142,7 @@ goes_on basin was next old new kept done framed exists on at there replays = rec
       (drop_more was old.behind (Some kept) within ∙ ap (λ (k : Option StepRecord). k ∷ drop step was) here) stands.rest in
       let many : length (take old.behind was) ≡ old.behind = length_taken old.behind was (omega (arith, within)) in record {
         made = replays.made policy stands.made;
-        traced = replays.keeps_trace stands.traced;
+        noted = replays.keeps.noted ∙ stands.noted;
         few = omega (arith, is, within);
         log = linked.0;
         shows = link_on basin in_run step stands.log linked.0 kept old new done (framed policy stands.made.fits) exists linked.1 replays stands.shows;

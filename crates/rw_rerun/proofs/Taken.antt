@@ -28,6 +28,7 @@ use Rattle.rw_rerun.specs.Spare.{AreKeptFrom, BringsTo, GivesAll, IsSpare, Stand
 use Rattle.rw_rerun.specs.Touched.{CountsUntouched, is_untouched}
 use Rattle.rw_rerun.specs.declared.spare.Spare.{Spare}
 use Rattle.rw_rerun.proofs.Beginning.{takes_over}
+use Rattle.rw_rerun.proofs.Gives.{gives_keep, keeps_more}
 use Rattle.rw_rerun.proofs.Edited.{AreUntouched, given_alike, given_anew, not_given, untouched_first}
 use Rattle.rw_rerun.proofs.Showing.{placed_shown}
 use Rattle.rw_rerun.proofs.Standing.{told_by, unmoved_in}
@@ -211,7 +212,7 @@ comes_behind basin policy old new batch cells earlier was spare given framed lea
     let first = takes_first basin (policy_in basin policy) old new batch cells earlier stands.log was spare.behind framed
     leaves.old_made leaves.new_made leaves.values leaves.edited leaves.many leaves.untouched kept stands.before in record {
       made = gives.made policy stands.made;
-      traced = subst IsSome (sym gives.trace) stands.traced;
+      noted = subst IsSome (sym gives.noted) stands.noted;
       log = first.log;
       taken = subst (λ n. HasTakenOver basin (policy_in basin policy) new earlier (take n was) first.log n) (sym same) first.taken;
       shows = first.shows spare.engine given.engine stands.shows gives;
@@ -225,6 +226,7 @@ pub becomes_spare : (basin : Draft) (inputs : Inputs) (cells : List Cell) (was :
     → GivesAll basin inputs cells back.engine given.engine → BecomesSpare basin inputs cells was behind engine given
 becomes_spare basin inputs cells was behind count engine back given count_is framed brings same gives = record {
   behind_is = same ∙ brings.behind_is;
+  kept = keeps_more engine back.engine given.engine brings.kept (gives_keep basin inputs cells back.engine given.engine gives);
   comes = λ policy old batch earlier leaves kept stands.
       comes_behind basin policy old inputs batch cells earlier was back given (framed policy stands.made.fits)
       (subst (LeavesFirst basin batch cells old inputs was) (sym brings.behind_is) leaves) kept
@@ -247,7 +249,7 @@ stands_behind_all basin policy session is =
     let count : ℕ = basin.control.stamps.count in
     let few : length session.kept ≤ count = let many = is.many in omega (arith, many) in record {
       made = is.made;
-      traced = is.traced;
+      noted = is.noted;
       few = let many = is.many in omega (arith, many);
       log = is.log;
       shows = is.shows;

@@ -15,7 +15,7 @@ use Rattle.rw_run.specs.Runs.{placed}
 use Rattle.rw_run.specs.Step.{is_same_cell}
 use Rattle.rw_record.specs.Record.{StepRecord}
 use Rattle.rw_engine.specs.Engine.{Engine}
-use Rattle.rw_engine.specs.Shows.{IsEngineOf, Shows}
+use Rattle.rw_engine.specs.Shows.{IsEngineOf, KeepsOn, Shows}
 use Rattle.rpl_verify.specs.Verified.{Accepted}
 use Rattle.rw_rules.specs.Rules.{policy_in}
 use Rattle.rw_rerun.specs.Begun.{HasTakenOver}
@@ -61,7 +61,7 @@ pub record LeavesFirst (basin : Draft) (batch : Batch) (cells : List Cell) (old 
 -- it has come behind first timesteps of the run of these inputs, each taken over from an earlier run
 pub record HasComeBehind (basin : Draft) (policy : Accepted) (inputs : Inputs) (earlier : Log) (was : List (Option StepRecord)) (spare : Spare) : Type 0 where
   pub made : IsEngineOf basin policy spare.engine
-  pub traced : IsSome spare.engine.trace
+  pub noted : IsSome spare.engine.noted
   pub log : Log
   pub taken : HasTakenOver basin (policy_in basin policy) inputs earlier (take spare.behind was) log spare.behind
   pub shows : Shows basin spare.engine log
@@ -69,6 +69,7 @@ pub record HasComeBehind (basin : Draft) (policy : Accepted) (inputs : Inputs) (
 -- in whatever run the engine has passed all timesteps, the spare one has come behind first ones of the run after a batch that leaves them
 pub record BecomesSpare (basin : Draft) (inputs : Inputs) (cells : List Cell) (was : List (Option StepRecord)) (behind : ℕ) (engine : Engine) (spare : Spare) : Type 0 where
   pub behind_is : spare.behind ≡ behind
+  pub kept : KeepsOn engine spare.engine
   pub comes : (policy : Accepted) (old : Inputs) (batch : Batch) (earlier : Log) → LeavesFirst basin batch cells old inputs was behind
       → AreKept basin (policy_in basin policy) earlier 1 was
       → StandsIn basin policy (placed [] (givens basin old)) earlier was (record { engine = engine; behind = basin.control.stamps.count })

@@ -9,7 +9,7 @@ use Rattle.rw_inputs.specs.Inputs.{Inputs}
 use Rattle.rw_run.specs.Log.{Log}
 use Rattle.rw_run.specs.Runs.{placed}
 use Rattle.rw_record.specs.Record.{StepRecord}
-use Rattle.rw_engine.specs.Shows.{Shows}
+use Rattle.rw_engine.specs.Shows.{KeepsOn, Shows}
 use Rattle.rpl_verify.specs.Verified.{Accepted}
 use Rattle.rw_rules.specs.Rules.{policy_in}
 use Rattle.rw_rerun.specs.Begun.{HasTakenOver}
@@ -35,6 +35,7 @@ pub record IsReady (basin : Draft) (inputs : Inputs) (cells : List Cell) (was : 
 -- a call comes from behind the timesteps that a spare engine has taken over behind all, and counts those that it runs
 pub record PassesFrom (basin : Draft) (policy : Accepted) (was : List (Option StepRecord)) (spare : Spare) (before after : ℕ) (result : Result Pass NoMemory) : Type 0 where
   pub made : IfOk result (λ pass. IsPassOf basin policy pass)
+  pub kept : IfOk result (λ pass. KeepsOn spare.engine pass.engine)
   pub goes : (inputs : Inputs) (earlier log : Log) → AreKept basin (policy_in basin policy) earlier 1 was → Shows basin spare.engine log
       → HasTakenOver basin (policy_in basin policy) inputs earlier (take spare.behind was) log spare.behind
       → IfOk result (λ pass. IsUnderWay basin (policy_in basin policy) inputs earlier was pass basin.control.stamps.count)
@@ -47,6 +48,7 @@ pub record PassesFrom (basin : Draft) (policy : Accepted) (was : List (Option St
 pub record PassesBehind (basin : Draft) (policy : Accepted) (inputs : Inputs) (cells : List Cell) (was : List (Option StepRecord)) (behind : ℕ) (spare : Spare)
     (before after : ℕ) (result : Result Pass NoMemory) : Type 0 where
   pub made : IfOk result (λ pass. IsPassOf basin policy pass)
+  pub kept : IfOk result (λ pass. KeepsOn spare.engine pass.engine)
   pub goes : (old : Inputs) (batch : Batch) (earlier : Log) → LeavesFirst basin batch cells old inputs was behind
       → AreKept basin (policy_in basin policy) earlier 1 was → StandsIn basin policy (placed [] (givens basin old)) earlier was spare
       → IfOk result (λ pass. IsUnderWay basin (policy_in basin policy) inputs earlier was pass basin.control.stamps.count)
@@ -61,6 +63,7 @@ pub record IsNext (basin : Draft) (policy : Accepted) (session : Session) (input
   pub batch : Batch
   pub leaves : LeavesFirst basin batch cells session.inputs inputs session.kept behind
   pub made : IsPassOf basin policy pass
+  pub kept : KeepsOn session.engine pass.engine
   pub way : IsUnderWay basin (policy_in basin policy) inputs is.log session.kept pass basin.control.stamps.count
   pub stay : StayFirst session.kept behind pass
 

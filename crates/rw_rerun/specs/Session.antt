@@ -13,7 +13,7 @@ use Rattle.rw_run.specs.Reuse.{AreOpened, AreRerun}
 use Rattle.rw_run.specs.Runs.{IsRun, placed}
 use Rattle.rw_record.specs.Record.{StepRecord}
 use Rattle.rw_engine.specs.Engine.{Engine}
-use Rattle.rw_engine.specs.Shows.{IsEngineOf, Shows}
+use Rattle.rw_engine.specs.Shows.{IsEngineOf, KeepsOn, Shows}
 use Rattle.rpl_verify.specs.Verified.{Accepted}
 use Rattle.rw_rules.specs.Rules.{policy_in}
 use Rattle.rw_rerun.specs.Kept.{AreKept, AreStepLinks}
@@ -38,7 +38,7 @@ pub record IsSessionOf (basin : Draft) (policy : Accepted) (session : Session) :
   pub by_policy : session.policy ≡ policy
   pub given : IsInputsOf basin session.inputs
   pub made : IsEngineOf basin policy session.engine
-  pub traced : IsSome session.engine.trace
+  pub noted : IsSome session.engine.noted
   pub log : Log
   pub whole : IsRun basin (policy_in basin policy) (givens basin session.inputs) log
   pub shows : Shows basin session.engine log
@@ -64,6 +64,7 @@ pub record Applies (basin : Draft) (policy : Accepted) (batch : Batch) (old new 
   pub rerun : (earlier : Log) → IsRun basin (policy_in basin policy) (givens basin old.inputs) earlier
       → AreRerun basin earlier is.log (numbers_of_steps new.reran)
   pub before_same : HoldAsBefore old new
+  pub kept : KeepsOn old.engine new.engine
 
 -- a call counts the timesteps that it runs, and at most all where memory wants
 pub record CountsRuns {A : Type 0} (basin : Draft) (before after : ℕ) (result : Result A NoMemory) (reran : A → List StepNo) : Type 0 where

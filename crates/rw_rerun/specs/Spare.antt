@@ -10,7 +10,7 @@ use Rattle.rw_run.specs.Next.{Policy}
 use Rattle.rw_run.specs.Runs.{placed}
 use Rattle.rw_record.specs.Record.{StepRecord}
 use Rattle.rw_engine.specs.Engine.{Engine}
-use Rattle.rw_engine.specs.Shows.{CanReplay, IsEngineOf, Shows}
+use Rattle.rw_engine.specs.Shows.{CanReplay, IsEngineOf, KeepsOn, Shows}
 use Rattle.rpl_verify.specs.Verified.{Accepted}
 use Rattle.rw_rules.specs.Rules.{policy_in}
 use Rattle.rw_rerun.specs.Begun.{HasTakenOver}
@@ -35,7 +35,7 @@ pub record BeginsBy (spare : Spare) (pass : Pass) : Type 0 where
 -- it has come behind so many of the timesteps that lead from one log to another
 pub record StandsIn (basin : Draft) (policy : Accepted) (start end : Log) (was : List (Option StepRecord)) (spare : Spare) : Type 0 where
   pub made : IsEngineOf basin policy spare.engine
-  pub traced : IsSome spare.engine.trace
+  pub noted : IsSome spare.engine.noted
   pub few : spare.behind ≤ length was
   pub log : Log
   pub shows : Shows basin spare.engine log
@@ -62,6 +62,7 @@ AreKeptFrom was first last = (place : ℕ) (entry : Option StepRecord) → first
 -- a call brings it behind so many timesteps, in whatever run it stands
 pub record BringsTo (basin : Draft) (was : List (Option StepRecord)) (behind : ℕ) (old new : Spare) : Type 0 where
   pub behind_is : new.behind ≡ behind
+  pub kept : KeepsOn old.engine new.engine
   pub stands : (policy : Accepted) (start end : Log) → StandsIn basin policy start end was old → StandsIn basin policy start end was new
 
 -- ---- what is given
@@ -79,6 +80,7 @@ pub record GivesAll (basin : Draft) (inputs : Inputs) (cells : List Cell) (old n
   pub can : CanReplay basin new
   pub holds : (cell : Cell) → held new.series cell ≡ given_all basin inputs cells (held old.series) cell
   pub trace : new.trace ≡ old.trace
+  pub noted : new.noted ≡ old.noted
   pub closed_steps : new.closed ≡ old.closed
   pub end : new.end ≡ old.end
 
@@ -88,6 +90,7 @@ pub record GivesAll (basin : Draft) (inputs : Inputs) (cells : List Cell) (old n
 pub record IsSpareIn (basin : Draft) (policy : Accepted) (session : Session) (log : Log) (spare : Spare) : Type 0 where
   pub stands : StandsIn basin policy (placed [] (givens basin session.inputs)) log session.kept spare
   pub known : AreKeptFrom session.kept 0 spare.behind
+  pub kept : KeepsOn session.engine spare.engine
 
 -- so does a spare engine, if there is one
 abbrev pub MayBeSpare : Session → Option Spare → Type 0

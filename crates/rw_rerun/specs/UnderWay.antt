@@ -1,5 +1,5 @@
 -- A run on its way, timestep by timestep, with an earlier one to go by.
-use Rattle.std.specs.Prelude.{◌≡◌, ◌≤◌, ◌<◌, ◌+◌, ◌++◌, ℕ, Bool, true, false, List, [], length, IfOk, IfSome, IsSome, Option, Some, Result, slice_get}
+use Rattle.std.specs.Prelude.{◌≡◌, ◌≤◌, ◌<◌, ◌+◌, ◌++◌, ℕ, Bool, true, false, List, [], length, IfOk, IfSome, IsSome, is_some, Option, Some, Result, slice_get}
 use Rattle.rw_base.specs.declared.memory.NoMemory.{NoMemory}
 use Rattle.rw_model.specs.Draft.{Draft}
 use Rattle.rw_inputs.specs.Givens.{givens}
@@ -14,7 +14,7 @@ use Rattle.rw_run.specs.Step.{events_of}
 use Rattle.rw_record.specs.Noted.{AreHeld}
 use Rattle.rw_record.specs.Record.{StepRecord}
 use Rattle.rw_engine.specs.Records.{CanWriteLines}
-use Rattle.rw_engine.specs.Shows.{CanShow, IsEngineOf, Shows}
+use Rattle.rw_engine.specs.Shows.{CanShow, IsEngineOf, KeepsOn, Shows}
 use Rattle.rpl_verify.specs.Verified.{Accepted}
 use Rattle.rw_rules.specs.Rules.{policy_in}
 use Rattle.rw_rerun.specs.Kept.{AreKept, AreStepLinks, IsKeptOrNot, changed}
@@ -41,10 +41,10 @@ pub record IsUnderWay (basin : Draft) (policy : Policy) (inputs : Inputs) (earli
   pub kept : AreKept basin policy log 1 (changed was pass.changes.items)
   pub linked : AreStepLinks basin policy 1 (placed [] (givens basin inputs)) (changed was pass.changes.items) log
 
--- its engine is one of the basin and the policy, and keeps a trace
+-- its engine is one of the basin and the policy, and notes timesteps
 pub record IsPassOf (basin : Draft) (policy : Accepted) (pass : Pass) : Type 0 where
   pub made : IsEngineOf basin policy pass.engine
-  pub traced : IsSome pass.engine.trace
+  pub noted : IsSome pass.engine.noted
 
 -- a record of this timestep, of which what was written can be written
 pub record IsReplayable (basin : Draft) (step : ℕ) (kept : StepRecord) : Type 0 where
@@ -68,6 +68,7 @@ pub record GoesOn (basin : Draft) (policy : Accepted) (step : ℕ) (Fits : Optio
       → IsUnderWay basin (policy_in basin policy) inputs earlier was old last
       → IfOk result (λ done. IsUnderWay basin (policy_in basin policy) inputs earlier was new step)
   pub grows : IfOk result (λ done. Grows old new)
+  pub kept : IfOk result (λ done. KeepsOn old.engine new.engine)
   pub each : IfOk result (λ done. after + length old.reran.items ≡ before + length new.reran.items)
   pub rises : before ≤ after
   pub few : after ≤ before + 1
@@ -87,13 +88,15 @@ pub record PassesRest (basin : Draft) (policy : Accepted) (was : List (Option St
       → IsUnderWay basin (policy_in basin policy) inputs earlier was old behind
       → IfOk result (λ done. IsUnderWay basin (policy_in basin policy) inputs earlier was new basin.control.stamps.count)
   pub grows : IfOk result (λ done. Grows old new)
+  pub kept : IfOk result (λ done. KeepsOn old.engine new.engine)
   pub each : IfOk result (λ done. after + length old.reran.items ≡ before + length new.reran.items)
   pub rises : before ≤ after
   pub few : after ≤ before + basin.control.stamps.count
 
 -- a call comes behind all timesteps from inputs on, and counts those that it runs
-pub record PassesAll (basin : Draft) (policy : Accepted) (inputs : Inputs) (was : List (Option StepRecord)) (before after : ℕ) (result : Result Pass NoMemory) : Type 0 where
+pub record PassesAll (basin : Draft) (policy : Accepted) (inputs : Inputs) (traced : Bool) (was : List (Option StepRecord)) (before after : ℕ) (result : Result Pass NoMemory) : Type 0 where
   pub made : IfOk result (λ pass. IsPassOf basin policy pass)
+  pub kept : IfOk result (λ pass. is_some pass.engine.trace ≡ traced)
   pub goes : (earlier : Log) → AreKept basin (policy_in basin policy) earlier 1 was
       → IfOk result (λ pass. IsUnderWay basin (policy_in basin policy) inputs earlier was pass basin.control.stamps.count)
   pub each : IfOk result (λ pass. after ≡ before + length pass.reran.items)

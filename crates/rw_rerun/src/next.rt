@@ -59,7 +59,7 @@ fn pass_others<L: Ledger>(
     requires many { length kept.now ≡ setup.now.basin.now.control.stamps.count }
     requires can { AreReplayable setup.now.basin.now kept.now }
     requires made { IsEngineOf setup.now.basin.now setup.now.policy.now spare.engine }
-    requires traced { IsSome spare.engine.trace }
+    requires noted { IsSome spare.engine.noted }
     requires near { spare.behind ≤ setup.now.basin.now.control.stamps.count }
     ensures { PassesFrom setup.now.basin.now setup.now.policy.now kept.now spare
         steps.old steps.new result }

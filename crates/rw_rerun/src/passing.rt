@@ -155,6 +155,7 @@ pub(crate) fn pass_all<L: Ledger>(
     setup: &Setup<'_>,
     kept: &[Option<StepRecord>],
     inputs: &Inputs,
+    traced: bool,
     steps: &mut Steps<L>,
 ) -> Result<Pass, NoMemory>
     requires fits { verified setup.now.basin.now setup.now.policy.now.blocks
@@ -164,10 +165,10 @@ pub(crate) fn pass_all<L: Ledger>(
     requires inputs { IsInputsOf setup.now.basin.now inputs.now }
     requires many { length kept.now ≡ setup.now.basin.now.control.stamps.count }
     requires can { AreReplayable setup.now.basin.now kept.now }
-    ensures { PassesAll setup.now.basin.now setup.now.policy.now inputs.now kept.now
+    ensures { PassesAll setup.now.basin.now setup.now.policy.now inputs.now traced kept.now
         steps.old steps.new result }
 {
-    let engine = Engine::for_run(alloc, setup.basin, setup.policy, inputs)?;
+    let engine = Engine::for_reuse(alloc, setup.basin, setup.policy, inputs, traced)?;
     let mut pass = Pass {
         engine,
         reran: Vec::new(alloc),

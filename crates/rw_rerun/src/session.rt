@@ -1,4 +1,4 @@
-ghost use Rattle.std.specs.Prelude.{◌≡◌, ◌≤◌, map, IfErr, IfOk, IsSome, Ok};
+ghost use Rattle.std.specs.Prelude.{◌≡◌, ◌≤◌, map, IfErr, IfOk, Ok, is_some};
 ghost use Rattle.rpl_verify.specs.Verified.{Accepted, verified};
 ghost use Rattle.rw_engine.specs.Passing.{ComesTo};
 ghost use Rattle.rw_inputs.specs.Edits.{IsBatch};
@@ -30,7 +30,8 @@ pub struct Session<'a> {
 }
 
 impl<'a> Session<'a> {
-    /// Runs all timesteps of a basin from its inputs, up to the last one or to a fault. Each opened timestep is counted.
+    /// Runs all timesteps of a basin from its inputs, up to the last one or to a fault. Each opened timestep is counted. The trace
+    /// is kept where it is asked for.
     pub fn start<L: Ledger>(
         alloc: Global,
         basin: &'a Basin,
@@ -38,6 +39,7 @@ impl<'a> Session<'a> {
         policy: &'a Verified,
         predefs: &'a Predefs,
         inputs: Inputs,
+        traced: bool,
         steps: &mut Steps<L>,
     ) -> Result<Session<'a>, NoMemory>
         requires fits { verified basin.now policy.now.blocks ≡ Ok policy.now }
@@ -45,6 +47,8 @@ impl<'a> Session<'a> {
         requires inputs { IsInputsOf basin.now inputs }
         ensures started { IfOk result
             (λ session. IsStarted basin.entry.now policy.entry.now inputs session.state) }
+        ensures traced { IfOk result
+            (λ session. is_some session.state.engine.trace ≡ traced) }
         ensures setup { IfOk result (λ session. session.setup ≡ record {
           basin = basin.entry;
           methods = methods.entry;
@@ -60,7 +64,7 @@ impl<'a> Session<'a> {
             policy,
             predefs,
         };
-        let state = State::start(alloc, &setup, inputs, steps)?;
+        let state = State::start(alloc, &setup, inputs, traced, steps)?;
         Ok(Session {
             alloc,
             setup,
@@ -91,7 +95,8 @@ impl<'a> Session<'a> {
         ensures run { (basin : Draft) (policy : Accepted) → IsSessionOf basin policy self.now.state
             → ComesTo basin (policy_in basin policy) self.now.state.inputs result.now }
         ensures told { (basin : Draft) (policy : Accepted) → IsSessionOf basin policy self.now.state
-            → (result.now.closed ≤ basin.control.stamps.count) × IsSome result.now.trace }
+            → (result.now.closed ≤ basin.control.stamps.count)
+            × (result.now.trace ≡ self.now.state.engine.trace) }
     {
         self.state.run()
     }

@@ -1,5 +1,5 @@
 // An engine beside that of a session's run, from which the next run begins.
-ghost use Rattle.std.specs.Prelude.{◌≡◌, ◌≤◌, ◌+◌, ◌-◌, All, IfOk, IfSome, None, Ok, length, replicate, true};
+ghost use Rattle.std.specs.Prelude.{◌≡◌, ◌≤◌, ◌+◌, ◌-◌, All, IfOk, IfSome, None, Ok, is_some, length, replicate, true};
 ghost use Rattle.rpl_verify.specs.Verified.{verified};
 ghost use Rattle.rw_inputs.specs.Inputs.{IsInputsOf};
 ghost use Rattle.rw_series.specs.Series.{IsCell};
@@ -26,20 +26,21 @@ pub(crate) struct Spare {
     pub(crate) behind: u16,
 }
 
-/// An engine of these inputs that stands before all timesteps.
+/// An engine of these inputs that stands before all timesteps, and keeps a trace where one is asked for.
 pub(crate) fn fresh(
     alloc: Global,
     basin: &Basin,
     policy: &Verified,
     inputs: &Inputs,
+    traced: bool,
 ) -> Result<Spare, NoMemory>
     requires fits { verified basin.now policy.now.blocks ≡ Ok policy.now }
     requires inputs { IsInputsOf basin.now inputs.now }
     ensures { (session : Session) (is : IsSessionOf basin.now policy.now session)
-        → session.inputs ≡ inputs.now
+        → session.inputs ≡ inputs.now → is_some session.engine.trace ≡ traced
         → IfOk result (IsSpareIn basin.now policy.now session is.log) }
 {
-    let engine = Engine::for_run(alloc, basin, policy, inputs)?;
+    let engine = Engine::for_reuse(alloc, basin, policy, inputs, traced)?;
     Ok(Spare { engine, behind: 0 })
 }
 
@@ -50,17 +51,18 @@ pub(crate) fn found_or_fresh(
     basin: &Basin,
     policy: &Verified,
     inputs: &Inputs,
+    traced: bool,
 ) -> Result<Spare, NoMemory>
     requires fits { verified basin.now policy.now.blocks ≡ Ok policy.now }
     requires inputs { IsInputsOf basin.now inputs.now }
     ensures { (session : Session) (is : IsSessionOf basin.now policy.now session)
-        → session.inputs ≡ inputs.now
+        → session.inputs ≡ inputs.now → is_some session.engine.trace ≡ traced
         → IfSome found (IsSpareIn basin.now policy.now session is.log)
         → IfOk result (IsSpareIn basin.now policy.now session is.log) }
 {
     match found {
         Some(spare) => Ok(spare),
-        None => fresh(alloc, basin, policy, inputs),
+        None => fresh(alloc, basin, policy, inputs, traced),
     }
 }
 

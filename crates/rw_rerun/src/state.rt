@@ -1,4 +1,4 @@
-ghost use Rattle.std.specs.Prelude.{◌≡◌, ◌≤◌, All, map, length, IfErr, IfOk, IsSome, Ok};
+ghost use Rattle.std.specs.Prelude.{◌≡◌, ◌≤◌, All, map, length, IfErr, IfOk, Ok, is_some};
 ghost use Rattle.rpl_verify.specs.Verified.{Accepted, verified};
 ghost use Rattle.rw_engine.specs.Passing.{ComesTo};
 ghost use Rattle.rw_inputs.specs.Edits.{IsBatch};
@@ -79,6 +79,7 @@ impl<'a> State<'a> {
         alloc: Global,
         setup: &Setup<'a>,
         inputs: Inputs,
+        traced: bool,
         steps: &mut Steps<L>,
     ) -> Result<State<'a>, NoMemory>
         requires fits { verified setup.now.basin.now setup.now.policy.now.blocks
@@ -87,11 +88,12 @@ impl<'a> State<'a> {
             (map (λ b. code (b.vtable, b.value)) setup.now.methods.now.methods.items) }
         requires inputs { IsInputsOf setup.now.basin.now inputs }
         ensures started { IfOk result (IsStarted setup.now.basin.now setup.now.policy.now inputs) }
+        ensures traced { IfOk result (λ state. is_some state.engine.trace ≡ traced) }
         ensures counted { CountsRuns setup.now.basin.now steps.old steps.new result
             (λ state. state.reran) }
     {
         let mut kept = nothing_kept(alloc, setup.basin.control().stamps.count())?;
-        let pass = pass_all(alloc, setup, &kept, &inputs, steps)?;
+        let pass = pass_all(alloc, setup, &kept, &inputs, traced, steps)?;
         let Pass {
             engine,
             reran,
@@ -133,7 +135,15 @@ impl<'a> State<'a> {
         ensures same { self.new ≡ self.old }
     {
         let found = self.spare.take();
-        let spare = found_or_fresh(found, alloc, setup.basin, setup.policy, &self.inputs)?;
+        let traced = self.engine.run().trace.is_kept();
+        let spare = found_or_fresh(
+            found,
+            alloc,
+            setup.basin,
+            setup.policy,
+            &self.inputs,
+            traced,
+        )?;
         pass_behind(
             alloc, setup, &self.kept, spare, inputs, cells, behind, steps,
         )
@@ -207,7 +217,8 @@ impl<'a> State<'a> {
         ensures run { (basin : Draft) (policy : Accepted) → IsSessionOf basin policy self.now
             → ComesTo basin (policy_in basin policy) self.now.inputs result.now }
         ensures told { (basin : Draft) (policy : Accepted) → IsSessionOf basin policy self.now
-            → (result.now.closed ≤ basin.control.stamps.count) × IsSome result.now.trace }
+            → (result.now.closed ≤ basin.control.stamps.count)
+            × (result.now.trace ≡ self.now.engine.trace) }
     {
         self.engine.run()
     }

@@ -1,6 +1,6 @@
 -- The sections of a session's runs.
 use Rattle.rw_top.proofs.Common.{Change, IfOk, IsSome, List, Err, None, Ok, Option, Result, RunEnd, Refusal, SinkView, Some, [], change, false, if◌then◌else◌, length, nat_tests, refl, subst, sym, true, ℕ, ◌+◌, ◌==◌, ◌∷◌, ◌≡◌}
-use Rattle.rw_base.proofs.Common.{Bool, arith, length-map}
+use Rattle.rw_base.proofs.Common.{Bool, IsTrue, arith, length-map}
 use Rattle.rw_base.specs.declared.number.StepNo.{StepNo}
 use Rattle.rw_engine.specs.Passing.{ComesTo}
 use Rattle.rw_inputs.specs.Edits.{Batch, after_batch}
@@ -71,14 +71,14 @@ module _ (basin : Draft) (policy : Rules) (code : Accepted) (means : IsCodeOf ba
   -- the section of its run
   pub next_section : TextsOfRuns → (extras : Extras) (number : ℕ) (given : GivenInputs) (session : Session) (run : Run)
       (reran : Option (List StepNo)) (text : List ℕ)
-      → extras.reuse ≡ true → ComesTo basin (policy_in basin code) session.inputs run → IsSome run.trace → IsNextSection basin policy number given session
+      → extras.reuse ≡ true → ComesTo basin (policy_in basin code) session.inputs run → (IsTrue extras.trace → IsSome run.trace) → IsNextSection basin policy number given session
       → reran ≡ told_of number session.reran → text ≡ whole_of basin number (outcome_of run) reran extras.flags extras.trace
       → IsRulesText basin policy extras number given run.end text
   next_section texts extras number given session run reran text reuses comes kept next told is =
       let by : ComesBy basin policy given.inputs run =
       means.comes given.inputs run (subst (λ i. ComesTo basin (policy_in basin code) i run) (sym next.inputs_are) comes) in
       let same : next.log ≡ by.log = one_run basin (policy_in_run basin policy) (givens basin given.inputs) next.log by.log next.run by.whole in
-      section_by texts basin policy extras reran number given run text by (λ asked. kept)
+      section_by texts basin policy extras reran number given run text by kept
       (subst (λ reuse. IsRerun basin (policy_in_run basin policy) reuse given by.log reran) (sym reuses)
       (subst (λ log. IsRerun basin (policy_in_run basin policy) true given log reran) same
       (subst (IsRerun basin (policy_in_run basin policy) true given next.log) (sym told) next.rerun)))

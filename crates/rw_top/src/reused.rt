@@ -1,5 +1,5 @@
 // The sections of a run by a policy that takes timesteps over after a batch of edits.
-ghost use Rattle.std.specs.Prelude.{◌≡◌, ◌≤◌, ◌+◌, length, map, option_map, IfOk, MatchResult, Ok, true};
+ghost use Rattle.std.specs.Prelude.{◌≡◌, ◌≤◌, ◌+◌, is_some, length, map, option_map, IfOk, MatchResult, Ok, true};
 ghost use Rattle.std.specs.List.{All};
 ghost use Rattle.rpl_verify.specs.Verified.{verified};
 ghost use Rattle.rw_inputs.specs.Edits.{IsBatch};
@@ -54,6 +54,7 @@ fn tell_run(
     requires made { IsSessionOf session.now.setup.basin.now
         session.now.setup.policy.now session.now.state }
     requires reuse { extras.reuse ≡ true }
+    requires traced { is_some session.now.state.engine.trace ≡ extras.trace }
     requires sheet { sheet.old.basin ≡ session.now.setup.basin.now }
     requires same { AreToldBefore session.now.setup.basin.now
         (held session.now.state.engine.series) session.now.state.same sheet.old.values }
@@ -85,6 +86,7 @@ fn write_run<K: Sink>(
     requires made { IsSessionOf session.now.setup.basin.now
         session.now.setup.policy.now session.now.state }
     requires reuse { extras.reuse ≡ true }
+    requires traced { is_some session.now.state.engine.trace ≡ extras.trace }
     requires sheet { sheet.old.basin ≡ session.now.setup.basin.now }
     requires same { AreToldBefore session.now.setup.basin.now
         (held session.now.state.engine.series) session.now.state.same sheet.old.values }
@@ -127,6 +129,7 @@ fn write_from<K: Sink, L: Ledger>(
     requires batches { All (IsBatch session.old.setup.basin.now) batches.now }
     requires few { number + length batches.now ≤ 64 }
     requires reuse { extras.reuse ≡ true }
+    requires traced { is_some session.old.state.engine.trace ≡ extras.trace }
     requires sheet { sheet.old.basin ≡ session.old.setup.basin.now }
     requires same { AreToldBefore session.old.setup.basin.now
         (held session.old.state.engine.series) session.old.state.same sheet.old.values }
@@ -185,6 +188,7 @@ fn write_by_code<K: Sink, L: Ledger>(
         by,
         setup.predefs,
         inputs,
+        extras.trace,
         steps,
     ) {
         Ok(session) => session,

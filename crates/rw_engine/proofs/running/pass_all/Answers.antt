@@ -23,7 +23,7 @@ loop-before-preserved g c =
     let more = c.in_ok-end.ensures.counted in
     record {
       made = c.run_step_by.ensures.runs.made;
-      kept = λ kept. c.run_step_by.ensures.runs.kept (c.loop-before.invariant.kept kept);
+      kept = λ kept. c.run_step_by.ensures.runs.kept.trace ∙ c.loop-before.invariant.kept kept;
       few = more_turns basin c.loop-before.before _ _ c.in_ok-end.ensures.runs.few c.loop-before.invariant.few;
       last = rw c.in-Closed.is at c.in_ok-end.ensures.runs.closed_steps;
       steps = omega (arith, was, more);
@@ -66,7 +66,7 @@ returns-in-Fault g c =
           counted_fault _ _ before c.finish.result.end c.finish.result.closed c.in-Fault.field-0
           (is.end ∙ ap (λ event. end_of (event ∷ passes.before)) passes.ends) (c.finish.ensures.same.0 ∙ last ∙ c.loop-before.invariant.last) was more;
       closed_steps = c.finish.ensures.closed basin policy made;
-      kept = λ kept. subst (λ trace. IsSome trace) (sym c.finish.ensures.same.1) (c.run_step_by.ensures.runs.kept (c.loop-before.invariant.kept kept));
+      kept = λ kept. subst (λ trace. IsSome trace) (sym c.finish.ensures.same.1) (c.run_step_by.ensures.runs.kept.trace ∙ c.loop-before.invariant.kept kept);
       rises = omega (arith, was, more);
       few = omega (arith, near, was, more);
     }

@@ -15,11 +15,11 @@ pass_others-requires-clause-made g c =
     let ready = c.in_ok-ready.ensures in
     ready.gives.made policy (ready.brings.stands policy is.start is.end is.stands).made
 
-pub pass_others-requires-clause-traced : goal.pass_others-requires-clause-traced
-pass_others-requires-clause-traced g c =
+pub pass_others-requires-clause-noted : goal.pass_others-requires-clause-noted
+pass_others-requires-clause-noted g c =
     let is = c.requires.stands in
     let ready = c.in_ok-ready.ensures in
-    subst IsSome (sym ready.gives.trace) (ready.brings.stands c.args.setup.now.policy.now is.start is.end is.stands).traced
+    subst IsSome (sym ready.gives.noted) (ready.brings.stands c.args.setup.now.policy.now is.start is.end is.stands).noted
 
 pub pass_others-requires-clause-near : goal.pass_others-requires-clause-near
 pass_others-requires-clause-near g c =

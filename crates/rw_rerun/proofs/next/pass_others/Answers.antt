@@ -9,7 +9,7 @@ pub pass_rest-requires-clause-made : goal.pass_rest-requires-clause-made
 pass_rest-requires-clause-made g c =
     let same = c.in_ok-pass.ensures.engine in record {
       made = subst (IsEngineOf c.args.setup.now.basin.now c.args.setup.now.policy.now) (sym same) c.requires.made;
-      traced = subst (λ (engine : Engine). IsSome engine.trace) (sym same) c.requires.traced;
+      noted = subst (λ (engine : Engine). IsSome engine.noted) (sym same) c.requires.noted;
     }
 
 pub returns-in_err-pass_rest : goal.returns-in_err-pass_rest

@@ -1,4 +1,4 @@
-use Rattle.rw_base.proofs.Common.{[], ap, arith, length, refl, ◌≡◌}
+use Rattle.rw_base.proofs.Common.{[], ap, arith, length, refl, ◌∙◌, ◌≡◌}
 use Rattle.rw_inputs.specs.Givens.{givens}
 use Rattle.rw_run.proofs.Passings.{begun, nothing_of}
 use Rattle.rw_run.proofs.Placed.{standing-placed}
@@ -10,11 +10,11 @@ use Rattle.rw_rerun.proofs.Ways.{first_way}
 use Rattle.rw_rerun.proofs.passing.pass_all.Goals as goal
 
 pub pass_rest-requires-clause-made : goal.pass_rest-requires-clause-made
-pass_rest-requires-clause-made g c = record { made = c.in_ok-engine.ensures.made; traced = c.in_ok-engine.ensures.kept }
+pass_rest-requires-clause-made g c = record { made = c.in_ok-engine.ensures.made; noted = c.in_ok-engine.ensures.noted }
 
 pub returns-in_err-pass_rest : goal.returns-in_err-pass_rest
 returns-in_err-pass_rest g c =
-    wants_all c.args.setup.now.basin.now c.args.setup.now.policy.now c.args.inputs.now c.args.kept.now c.args.steps.now _
+    wants_all c.args.setup.now.basin.now c.args.setup.now.policy.now c.args.inputs.now c.args.traced c.args.kept.now c.args.steps.now _
     c.from_residual-in_err-pass_rest.result _ c.from_residual-in_err-pass_rest.ensures.1 c.pass_rest.ensures.rises c.pass_rest.ensures.few
 
 pub returns : goal.returns
@@ -24,6 +24,7 @@ returns g c =
     let none = ap length c.new.ensures.items in
     let counted = c.in_ok-pass_rest.ensures.each in record {
       made = c.in_ok-pass_rest.ensures.made;
+      kept = c.in_ok-pass_rest.ensures.kept.trace ∙ c.in_ok-engine.ensures.kept;
       goes = λ earlier kept.
           c.in_ok-pass_rest.ensures.goes c.args.inputs.now earlier kept
           (first_way basin (policy_in basin c.args.setup.now.policy.now) c.args.inputs.now earlier c.args.kept.now _ c.new-2.ensures.items c.new.ensures.items refl

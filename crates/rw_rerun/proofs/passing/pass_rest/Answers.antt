@@ -1,9 +1,10 @@
-use Rattle.rw_base.proofs.Common.{Some, [], ap, append-nil, arith, length, slice_get, subst, sym, ◌<◌, ◌≡◌, ◌≤◌}
+use Rattle.rw_base.proofs.Common.{Some, [], ap, append-nil, arith, length, refl, slice_get, subst, sym, ◌<◌, ◌≡◌, ◌≤◌}
 use Rattle.rw_model.specs.declared.control.RunControl.{RunControl}
 use Rattle.rw_run.specs.Frame.{IsFramed}
 use Rattle.rw_rules.specs.Rules.{policy_in}
 use Rattle.rw_rerun.specs.UnderWay.{IsUnderWay}
 use Rattle.rw_rerun.proofs.Counted.{wants_rest}
+use Rattle.rw_rerun.proofs.Gives.{keeps_more, keeps_same}
 use Rattle.rw_rerun.proofs.Sessions.{entry_there, passes_on, replayed_here}
 use Rattle.rw_rerun.proofs.Ways.{grows_on}
 use Rattle.rw_rerun.proofs.passing.pass_rest.Goals as goal
@@ -13,6 +14,7 @@ loop-before-init g c = record {
   made = c.requires.made;
   way = λ inputs earlier kept way. way;
   grows = ([], sym (append-nil c.args.pass.now.changes.items));
+  kept = keeps_same c.args.pass.now.engine c.args.pass.now.engine refl;
   each = omega arith;
   rises = omega arith;
   few = omega arith;
@@ -61,6 +63,7 @@ loop-before-preserved g c =
           passes_on basin policy inputs earlier c.args.kept.now c.loop-before.before c.index-kept-from.result c.loop-before.pass c.pass_step.new.pass
           c.loop-before.steps c.pass_step.new.steps _ framed there kept c.in_ok-pass_step.ensures (c.loop-before.invariant.way inputs earlier kept way);
       grows = grows_on c.args.pass.now c.loop-before.pass c.pass_step.new.pass c.loop-before.invariant.grows c.in_ok-pass_step.ensures.grows;
+      kept = keeps_more c.args.pass.now.engine c.loop-before.pass.engine c.pass_step.new.pass.engine c.loop-before.invariant.kept c.in_ok-pass_step.ensures.kept;
       each = omega (arith, was, more);
       rises = omega (arith, were, rises);
       few = omega (arith, most, few);
@@ -82,6 +85,7 @@ returns g c =
           subst (λ n. IsUnderWay basin (policy_in basin policy) inputs earlier c.args.kept.now c.loop-before.pass n) last
           (c.loop-before.invariant.way inputs earlier kept way);
       grows = c.loop-before.invariant.grows;
+      kept = c.loop-before.invariant.kept;
       each = was;
       rises = were;
       few = omega (arith, most, last);

@@ -1,6 +1,7 @@
 use Rattle.rw_base.proofs.Common.{length, ◌+◌, ◌≡◌, ◌≤◌}
 use Rattle.rw_inputs.specs.Inputs.{Inputs}
 use Rattle.rw_run.specs.Log.{Log}
+use Rattle.rw_engine.specs.Shows.{KeepsOn}
 use Rattle.rw_rules.specs.Rules.{policy_in}
 use Rattle.rw_rerun.specs.Kept.{AreKept}
 use Rattle.rw_rerun.specs.UnderWay.{Grows, IsPassOf, IsUnderWay}
@@ -13,6 +14,7 @@ invariant-loop-before g l = record {
       → IsUnderWay l.setup.basin.now (policy_in l.setup.basin.now l.setup.policy.now) inputs earlier l.kept l.fn.pass l.behind
       → IsUnderWay l.setup.basin.now (policy_in l.setup.basin.now l.setup.policy.now) inputs earlier l.kept l.pass l.before;
   grows : Grows l.fn.pass l.pass;
+  kept : KeepsOn l.fn.pass.engine l.pass.engine;
   each : l.steps + length l.fn.pass.reran.items ≡ l.fn.steps + length l.pass.reran.items;
   rises : l.fn.steps ≤ l.steps;
   few : l.steps ≤ l.fn.steps + l.before;

@@ -1,4 +1,4 @@
-use Rattle.rw_base.proofs.Common.{[], arith, refl, subst, sym}
+use Rattle.rw_base.proofs.Common.{[], arith, refl, subst, sym, ◌∙◌}
 use Rattle.rw_inputs.specs.Givens.{givens}
 use Rattle.rw_inputs.specs.Inputs.{Inputs}
 use Rattle.rw_engine.specs.Shows.{Shows}
@@ -6,10 +6,10 @@ use Rattle.rw_run.specs.Runs.{placed}
 use Rattle.rw_rerun.proofs.spare.fresh.Goals as goal
 
 pub returns : goal.returns
-returns c = λ session is same. record {
+returns c = λ session is same traced. record {
   stands = record {
     made = c.in_ok-engine.ensures.made;
-    traced = c.in_ok-engine.ensures.kept;
+    noted = c.in_ok-engine.ensures.noted;
     few = omega arith;
     log = placed [] (givens c.args.basin.now session.inputs);
     shows = subst (λ (inputs : Inputs). Shows c.args.basin.now c.in_ok-engine.engine (placed [] (givens c.args.basin.now inputs))) (sym same)
@@ -17,5 +17,6 @@ returns c = λ session is same. record {
     before = refl;
     rest = is.linked;
   };
+  kept = record { trace = c.in_ok-engine.ensures.kept ∙ sym traced; noted = c.in_ok-engine.ensures.noted ∙ sym is.noted };
   known = λ place entry first last there. absurd (omega (arith, last));
 }

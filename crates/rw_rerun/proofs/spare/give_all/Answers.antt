@@ -15,6 +15,7 @@ loop-cell-preserved c =
           gives_on c.args.basin.now c.args.inputs.now c.args.cells.now c.loop-cell.cell-index (record { slot = record { 0 = 0 }; step = record { 0 = 0 } })
           c.value.result c.loop-cell.engine.series c.give.new.self.series _ cell near c.value.ensures c.give.ensures.cells (was.holds cell);
       trace = c.give.ensures.trace ∙ was.trace;
+      noted = c.give.ensures.noted ∙ was.noted;
       closed_steps = c.give.ensures.closed_steps ∙ was.closed_steps;
       end = c.give.ensures.end ∙ was.end;
     }

@@ -13,6 +13,7 @@ invariant-loop-cell l = record {
   holds : (cell : Cell) → given_all l.basin l.inputs (drop l.cell-index l.cells) (held l.engine.series) cell
       ≡ given_all l.basin l.inputs l.cells (held l.fn.engine.series) cell;
   trace : l.engine.trace ≡ l.fn.engine.trace;
+  noted : l.engine.noted ≡ l.fn.engine.noted;
   closed_steps : l.engine.closed ≡ l.fn.engine.closed;
   end : l.engine.end ≡ l.fn.engine.end;
 }

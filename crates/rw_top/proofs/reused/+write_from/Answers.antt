@@ -55,7 +55,13 @@ write_from-requires g t c κs within =
                 rw kept batches,
                 (
                   omega (arith, few, shorter),
-                  (c.requires.reuse, (rw kept (c.in-Ok.ensures.sheet ∙ c.requires.sheet), rw kept same)),
+                  (
+                    c.requires.reuse,
+                    (
+                      c.in-Ok-apply.ensures.applied.kept.trace ∙ c.requires.traced,
+                      (rw kept (c.in-Ok.ensures.sheet ∙ c.requires.sheet), rw kept same),
+                    ),
+                  ),
                 ),
               ),
             ),

@@ -1,4 +1,5 @@
-use Rattle.rw_top.proofs.Common.{subst, sym}
+use Rattle.rw_top.proofs.Common.{ap, subst, sym, ◌∙◌}
+use Rattle.std.specs.Prelude.{is_some}
 use Rattle.rw_report.specs.Sheet.{AreToldBefore, AreToldOf}
 use Rattle.rw_series.specs.Series.{held}
 use Rattle.rw_top.proofs.RulesText.{of_basin}
@@ -38,6 +39,7 @@ returns-clause-text g c = λ policy given means next.
     let basin = c.args.session.now.setup.basin.now in
     let code = c.args.session.now.setup.policy.now in
     next_section basin policy code means c.texts_of_runs.ensures.whole c.args.extras c.args.number given c.args.session.now.state c.run-run.result.now _
-    _ c.requires.reuse (c.run-run.ensures.run basin code c.requires.made) (c.run-run.ensures.told basin code c.requires.made).1 next
+    _ c.requires.reuse (c.run-run.ensures.run basin code c.requires.made)
+    (λ asked. ap is_some (c.run-run.ensures.told basin code c.requires.made).1 ∙ c.requires.traced ∙ asked) next
     c.told-reran.ensures
     (of_basin c.args.sheet.now.basin basin c.args.number c.run-run.result.now _ c.args.extras _ c.requires.sheet c.in_ok-tell.ensures.text)

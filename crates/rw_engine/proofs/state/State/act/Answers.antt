@@ -6,8 +6,8 @@ use Rattle.rw_dispatch.proofs.Waking.{leaves_written}
 use Rattle.rw_dispatch.specs.Answer.{answer_of}
 use Rattle.rw_dispatch.specs.Writes.{AreWrites}
 use Rattle.rw_engine.proofs.After.{counted, keeps_noted, keeps_done, keeps_ended, on_the_way_object, rules_on, wanted, stays_counted}
-use Rattle.rw_engine.proofs.Events.{next_is, goes_to}
-use Rattle.rw_engine.proofs.Notings.{dispatch_asks, dispatch_reached, ended_noted, notes_same, written_reached}
+use Rattle.rw_engine.proofs.Events.{dispatch_lines, next_is, goes_to}
+use Rattle.rw_engine.proofs.Notings.{dispatch_asks, dispatch_reached, ended_lines, ended_noted, notes_same, written_reached}
 use Rattle.rw_engine.proofs.Traces.{told_none}
 use Rattle.rw_engine.proofs.Turns.{counts_dispatch, counts_ended, few_ended, few_object}
 use Rattle.rw_rules.specs.Rules.{policy_in}
@@ -24,9 +24,21 @@ returns-in_err-note_dispatch g c = λ place waits taken.
     let old = c.args.self.now in
     wanted basin policy (Some c.args.object.0) c.args.step.0 old _ _ c.from_residual.result _ c.from_residual.ensures.1
     (keeps_noted basin policy old _ c.requires.within
-    (stays_counted basin policy old _ c.args.object.0 c.raise.ensures refl c.requires.within.made.engine.rules refl c.judge_dispatch-end.ensures.work.keeps refl)
-    c.requires.within.indexed refl refl ([], sym (told_none _)) c.in_err-note_dispatch.ensures.1)
-    (record { closed_steps = refl; end = refl }) (sym c.requires.within.made.engine.notes ∙ c.in_err-note_dispatch.ensures.0)
+    (stays_counted basin policy old _ c.args.object.0 c.raise.ensures refl c.requires.within.made.engine.rules refl c.judge_dispatch-end.ensures.work.keeps)
+    c.requires.within.indexed refl refl ([], sym (told_none _)) ([], sym (told_none _)) c.in_err-note_dispatch.ensures.1)
+    (record { closed_steps = refl; end = refl }) c.in_err-note_dispatch.ensures.0
+
+pub returns-in_err-note_lines : goal.returns-in_err-note_lines
+returns-in_err-note_lines g c = λ place waits taken.
+    let basin = c.args.setup.now.basin.now in
+    let policy = c.args.setup.now.policy.now in
+    let old = c.args.self.now in
+    wanted basin policy (Some c.args.object.0) c.args.step.0 old _ _ c.from_residual-in_err-note_lines.result _ c.from_residual-in_err-note_lines.ensures.1
+    (keeps_noted basin policy old _ c.requires.within
+    (stays_counted basin policy old _ c.args.object.0 c.raise.ensures refl c.requires.within.made.engine.rules refl c.judge_dispatch-end.ensures.work.keeps)
+    c.requires.within.indexed refl refl ([], sym (told_none _)) c.note_lines.ensures.grows
+    (looked_cells basin c.args.object.0 c.args.step.0 ++ cells_reached basin c.as_slice-asked.result.now, c.in_ok-note_dispatch.ensures))
+    (record { closed_steps = refl; end = refl }) (sym c.requires.within.made.engine.notes.same ∙ c.in_err-note_lines.ensures.wants)
 
 pub returns-in_err-fault : goal.returns-in_err-fault
 returns-in_err-fault g c = λ place waits taken.
@@ -35,10 +47,10 @@ returns-in_err-fault g c = λ place waits taken.
     let old = c.args.self.now in
     wanted basin policy (Some c.args.object.0) c.args.step.0 old _ _ c.from_residual-in_err-fault.result _ c.from_residual-in_err-fault.ensures.1
     (keeps_noted basin policy old _ c.requires.within
-    (stays_counted basin policy old _ c.args.object.0 c.raise.ensures refl c.requires.within.made.engine.rules refl c.judge_dispatch-end.ensures.work.keeps refl)
-    c.requires.within.indexed refl refl c.tell.ensures.grows
+    (stays_counted basin policy old _ c.args.object.0 c.raise.ensures refl c.requires.within.made.engine.rules refl c.judge_dispatch-end.ensures.work.keeps)
+    c.requires.within.indexed refl refl c.tell.ensures.grows c.note_lines.ensures.grows
     (looked_cells basin c.args.object.0 c.args.step.0 ++ cells_reached basin c.as_slice-asked.result.now, c.in_ok-note_dispatch.ensures))
-    (record { closed_steps = refl; end = refl }) c.in_err-fault.ensures.wants
+    (record { closed_steps = refl; end = refl }) (c.requires.within.made.engine.notes.traced c.in_err-fault.ensures.wants)
 
 leaves : (g : _) (c : goal.After-end_by g) → Leaves c.args.setup.now.basin.now (dispatched c.args.setup.now.basin.now (held c.args.self.now.run.series) c.args.object.0 c.args.step.0)
     (stage c.args.self.now.run.series c.args.self.now.queue) (stage c.make.new.series c.wake_written.new.self)
@@ -73,9 +85,9 @@ returns g c = λ place waits taken.
     rw (c.end_by.ensures.state, c.end_by.ensures.end) (record {
       keeps = keeps_ended basin policy old _ c.in_ok-fault.fault
           (keeps_done basin policy old _ within
-          (stays_counted basin policy old _ object c.raise.ensures refl (rules_on basin policy cells (held c.make.new.series) old.rules c.touched.new.self on within.made.engine.rules) refl work.keeps refl)
+          (stays_counted basin policy old _ object c.raise.ensures refl (rules_on basin policy cells (held c.make.new.series) old.rules c.touched.new.self on within.made.engine.rules) refl work.keeps)
           event reached (on.indexed within.indexed)
-          (record { series = c.make.ensures.made; queue = c.wake_written.ensures.made }) made c.tell.ensures.grows c.in_ok-note_dispatch.ensures
+          (record { series = c.make.ensures.made; queue = c.wake_written.ensures.made }) made c.tell.ensures.grows c.note_lines.ensures.grows c.in_ok-note_dispatch.ensures
           (λ kept. written_reached basin event reached
           (dispatch_reached basin cells object step asked (λ calm. c.as_slice-asked.ensures ∙ work.asked (within.made.keeps ∙ kept) calm)) asks));
       on_the_way = on_the_way_object basin step old _ c.in_ok-fault.fault object (counted basin policy old object within known) c.requires.below c.raise.ensures refl refl refl;
@@ -99,6 +111,9 @@ returns g c = λ place waits taken.
         }) refl c.in_ok-fault.fault (sym c.in_ok-fault.ensures.fault);
         notes = λ calm. ended_noted c.in_ok-fault.fault _ ∙ notes_same cells reached (reached_by basin event) old.noted _ c.in_ok-note_dispatch.ensures
             (λ kept. dispatch_reached basin cells object step asked (λ calm. c.as_slice-asked.ensures ∙ work.asked (within.made.keeps ∙ kept) calm) calm);
+        lines_are = ended_lines c.in_ok-fault.fault _ ∙ c.in_ok-note_lines.ensures.told
+            ∙ ap (λ writes. told old.lines (lines_by object step c.judge_dispatch-end.result writes)) (c.as_slice-writes.ensures ∙ work.writes)
+            ∙ ap (told old.lines) (dispatch_lines basin (looks_of basin cells object step) step object event c.judge_dispatch-end.result c.judge_dispatch-end.ensures.ends);
         asks = asks;
         can = subst (AreWrites basin) work.writes work.can;
         turned = counts_ended old.turns _ event c.in_ok-fault.fault

@@ -1,19 +1,22 @@
-use Rattle.rw_engine.proofs.Common.{All-nil, None, [], arith, closed, held, lines, refl, sym, trace_of, ◌∙◌}
+use Rattle.rw_engine.proofs.Common.{All-nil, None, arith, closed, held, lines, refl, sym, trace_of, ◌∙◌}
 use Rattle.rw_rules.specs.Rules.{policy_in}
 use Rattle.rw_engine.proofs.After.{only_told, wanted}
 use Rattle.rw_engine.proofs.Firings.{after_all}
 use Rattle.rw_engine.proofs.Notings.{none_written, with_none}
-use Rattle.rw_engine.proofs.Traces.{shown_more, told_none}
+use Rattle.rw_engine.proofs.Traces.{shown_more}
 use Rattle.rw_engine.proofs.state.State.close.Goals as goal
 
-pub returns-in_err-push : goal.returns-in_err-push
-returns-in_err-push g c =
+pub tell_line-requires : goal.tell_line-requires
+tell_line-requires g c kept = c.requires.within.made.engine.notes.same ∙ c.requires.within.made.engine.notes.traced kept
+
+pub returns-in_err-tell_line : goal.returns-in_err-tell_line
+returns-in_err-tell_line g c =
     let basin = c.args.setup.now.basin.now in
     let policy = c.args.setup.now.policy.now in
     let old = c.args.self.now in
     wanted basin policy None c.args.step.0 old _ _ c.from_residual.result _ c.from_residual.ensures.1
-    (only_told basin policy old c.push.new.self c.requires.within ([], c.in_err-push.ensures.unchanged ∙ sym (told_none old.run.trace)))
-    (record { closed_steps = refl; end = refl }) c.in_err-push.ensures.wants
+    (only_told basin policy old c.tell_line.new.trace c.tell_line.new.lines c.requires.within c.tell_line.ensures.grows c.tell_line.ensures.adds)
+    (record { closed_steps = refl; end = refl }) (sym c.requires.within.made.engine.notes.same ∙ c.in_err-tell_line.ensures.wants)
 
 pub returns : goal.returns
 returns g c =
@@ -22,7 +25,7 @@ returns g c =
     let step = c.args.step.0 in
     record {
       keeps =
-          let told_on = only_told basin c.args.setup.now.policy.now old c.push.new.self c.requires.within (_, c.in_ok-push.ensures.pushed) in
+          let told_on = only_told basin c.args.setup.now.policy.now old c.tell_line.new.trace c.tell_line.new.lines c.requires.within c.tell_line.ensures.grows c.tell_line.ensures.adds in
           let engine = told_on.within.made.engine in record {
             within = record {
               made = record {
@@ -43,7 +46,7 @@ returns g c =
               indexed = told_on.within.indexed;
             };
             revocable = λ before can. can;
-            lines_before = refl;
+            notes = refl;
             grows = told_on.grows;
           };
       on_the_way = refl;
@@ -55,12 +58,13 @@ returns g c =
           refl,
           record {
             cells = given.0.shows.cells;
-            trace = shown_more old.run.trace c.push.new.self (trace_of log) (lines (closed step)) c.in_ok-push.ensures.pushed given.0.shows.trace;
+            trace = shown_more old.run.trace c.tell_line.new.trace (trace_of log) (lines (closed step)) c.in_ok-tell_line.ensures.said given.0.shows.trace;
             closed_steps = refl;
             end = refl;
           },
         );
         notes = λ calm. sym (with_none (held old.run.series) old.noted);
+        lines_are = c.in_ok-tell_line.ensures.noted;
         asks = none_written (closed step) refl;
         can = All-nil _;
         turned = record { least = omega arith; same = λ calm. refl };

@@ -9,8 +9,8 @@ use Rattle.rw_run.specs.Step.{cells_reached, reached_by}
 use Rattle.std.specs.Prelude.{Contains, unwrap_or}
 use Rattle.rw_rules.specs.Rules.{policy_in}
 use Rattle.rw_engine.proofs.After.{keeps_noted, keeps_done, keeps_ended, on_the_way_rule, rules_on, wanted, stays_fired}
-use Rattle.rw_engine.proofs.Firings.{after_all, fired_on, looks_on, rule_fires}
-use Rattle.rw_engine.proofs.Notings.{ended_noted, firing_asks, firing_reached, notes_same, written_reached}
+use Rattle.rw_engine.proofs.Firings.{after_all, fired_on, firing_lines, looks_on, rule_fires}
+use Rattle.rw_engine.proofs.Notings.{ended_lines, ended_noted, firing_asks, firing_reached, notes_same, written_reached}
 use Rattle.rw_engine.proofs.Traces.{told_none}
 use Rattle.rw_engine.proofs.Turns.{counts_ended, counts_firing, few_ended}
 use Rattle.rw_engine.proofs.state.State.fire.Goals as goal
@@ -36,9 +36,21 @@ returns-in_err-note_firing g c =
     let old = c.args.self.now in
     wanted basin policy None c.args.step.0 old _ _ c.from_residual.result _ c.from_residual.ensures.1
     (keeps_noted basin policy old _ c.requires.within
-    (stays_fired basin policy old _ c.args.rule.0 c.raise.ensures refl c.fire-fired.ensures.made refl refl refl)
-    (c.fire-fired.ensures.keeps.indexed c.requires.within.indexed) refl refl ([], sym (told_none _)) c.in_err-note_firing.ensures.1)
-    (record { closed_steps = refl; end = refl }) (sym c.requires.within.made.engine.notes ∙ c.in_err-note_firing.ensures.0)
+    (stays_fired basin policy old _ c.args.rule.0 c.raise.ensures refl c.fire-fired.ensures.made refl refl)
+    (c.fire-fired.ensures.keeps.indexed c.requires.within.indexed) refl refl ([], sym (told_none _)) ([], sym (told_none _)) c.in_err-note_firing.ensures.1)
+    (record { closed_steps = refl; end = refl }) c.in_err-note_firing.ensures.0
+
+pub returns-in_err-note_firing_lines : goal.returns-in_err-note_firing_lines
+returns-in_err-note_firing_lines g c =
+    let basin = c.args.setup.now.basin.now in
+    let policy = c.args.setup.now.policy.now in
+    let old = c.args.self.now in
+    wanted basin policy None c.args.step.0 old _ _ c.from_residual-in_err-note_firing_lines.result _ c.from_residual-in_err-note_firing_lines.ensures.1
+    (keeps_noted basin policy old _ c.requires.within
+    (stays_fired basin policy old _ c.args.rule.0 c.raise.ensures refl c.fire-fired.ensures.made refl refl)
+    (c.fire-fired.ensures.keeps.indexed c.requires.within.indexed) refl refl ([], sym (told_none _)) c.note_firing_lines.ensures.grows
+    (cells_looked c.looked-looked.result.now ++ cells_reached basin c.asked-asked.result.now, c.in_ok-note_firing.ensures))
+    (record { closed_steps = refl; end = refl }) (sym c.requires.within.made.engine.notes.same ∙ c.in_err-note_firing_lines.ensures.wants)
 
 pub returns-in_err-fault : goal.returns-in_err-fault
 returns-in_err-fault g c =
@@ -47,10 +59,10 @@ returns-in_err-fault g c =
     let old = c.args.self.now in
     wanted basin policy None c.args.step.0 old _ _ c.from_residual-in_err-fault.result _ c.from_residual-in_err-fault.ensures.1
     (keeps_noted basin policy old _ c.requires.within
-    (stays_fired basin policy old _ c.args.rule.0 c.raise.ensures refl c.fire-fired.ensures.made refl refl refl)
-    (c.fire-fired.ensures.keeps.indexed c.requires.within.indexed) refl refl c.tell_firing.ensures.grows
+    (stays_fired basin policy old _ c.args.rule.0 c.raise.ensures refl c.fire-fired.ensures.made refl refl)
+    (c.fire-fired.ensures.keeps.indexed c.requires.within.indexed) refl refl c.tell_firing.ensures.grows c.note_firing_lines.ensures.grows
     (cells_looked c.looked-looked.result.now ++ cells_reached basin c.asked-asked.result.now, c.in_ok-note_firing.ensures))
-    (record { closed_steps = refl; end = refl }) c.in_err-fault.ensures.wants
+    (record { closed_steps = refl; end = refl }) (c.requires.within.made.engine.notes.traced c.in_err-fault.ensures.wants)
 
 pub returns : goal.returns
 returns g c =
@@ -75,12 +87,15 @@ returns g c =
     let on = c.write.ensures.keeps in
     let firing : Firing = record { rule = rule; step = step; is_done = true; looked = []; asked = []; written = c.fire-fired.new.self.written; count = 0 } in
     let made = c.write.ensures.leaves firing refl refl in
+    let said = ap (λ writes. lines_of_rule rule step c.fire-fired.result.end c.fire-fired.result.count writes) (c.written-writes.ensures ∙ tells.written)
+    ∙ ap (λ count. lines_of_rule rule step c.fire-fired.result.end count (written_by event)) tells.count
+    ∙ ap (λ so. lines_of_rule rule step so fire.count (written_by event)) tells.end in
     rw (c.end_by.ensures.state, c.end_by.ensures.end) (record {
       keeps = keeps_ended basin policy old _ c.in_ok-fault.fault
           (keeps_done basin policy old _ within
-          (stays_fired basin policy old _ rule c.raise.ensures refl (rules_on basin policy cells (held c.write.new.series) c.fire-fired.new.self c.write.new.self on c.fire-fired.ensures.made) refl refl refl)
+          (stays_fired basin policy old _ rule c.raise.ensures refl (rules_on basin policy cells (held c.write.new.series) c.fire-fired.new.self c.write.new.self on c.fire-fired.ensures.made) refl refl)
           (fired firing) reached (on.indexed (c.fire-fired.ensures.keeps.indexed within.indexed))
-          c.write.ensures.made made c.tell_firing.ensures.grows c.in_ok-note_firing.ensures
+          c.write.ensures.made made c.tell_firing.ensures.grows c.note_firing_lines.ensures.grows c.in_ok-note_firing.ensures
           (λ kept. subst (λ puts. (cell : Cell) → Contains (cells_reached basin puts) cell → Contains reached cell) (sym tells.written)
           (written_reached basin event reached reaches asks)));
       on_the_way = on_the_way_rule basin step old _ c.in_ok-fault.fault rule known c.requires.below c.raise.ensures refl refl refl;
@@ -93,10 +108,7 @@ returns g c =
                 ∙ tells.event;
             goes = fired_on basin policy old _ rule step log fire holds refl c.fire-fired.result.end tells.end c.in_ok-fault.fault c.in_ok-fault.ensures.fault (record {
               cells = λ cell. made.cells cell ∙ ap (λ puts. option_or (last_put basin puts cell) (cells cell)) written;
-              trace = c.in_ok-fault.ensures.told
-                  ∙ ap (λ writes. told old.run.trace (lines_of_rule rule step c.fire-fired.result.end c.fire-fired.result.count writes)) (c.written-writes.ensures ∙ written)
-                  ∙ ap (λ count. told old.run.trace (lines_of_rule rule step c.fire-fired.result.end count (written_by event))) tells.count
-                  ∙ ap (λ so. told old.run.trace (lines_of_rule rule step so fire.count (written_by event))) tells.end;
+              trace = c.in_ok-fault.ensures.told ∙ ap (told old.run.trace) said;
               closed_steps = refl;
               counted = known;
               firings = c.raise.ensures;
@@ -106,6 +118,8 @@ returns g c =
                   (c.fire-fired.ensures.keeps.shows log firing same (tells.looked ∙ ap (λ looks. Some looks) (sym looked)) holds.looks);
             });
             notes = λ calm. ended_noted c.in_ok-fault.fault _ ∙ notes_same cells reached (reached_by basin event) old.noted _ c.in_ok-note_firing.ensures (λ kept. reaches calm);
+            lines_are = ended_lines c.in_ok-fault.fault _ ∙ c.in_ok-note_firing_lines.ensures.told
+                ∙ ap (told old.lines) (said ∙ firing_lines basin cells rule step fire fire.end);
             asks = asks;
             can = subst (AreWrites basin) written c.fire-fired.ensures.can;
             turned = counts_ended old.turns _ event c.in_ok-fault.fault (counts_firing basin cells rule step fire old.turns fire.end);

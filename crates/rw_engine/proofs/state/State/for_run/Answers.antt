@@ -1,6 +1,7 @@
 use Rattle.rw_engine.proofs.Common.{[], givens, refl, rules, sym, ◌∙◌}
 use Rattle.rw_run.proofs.Placed.{trace-placed, closed-placed, end-placed}
-use Rattle.rw_engine.proofs.Traces.{shows_nothing}
+use Rattle.rw_engine.proofs.Traces.{kept_where, shows_nothing}
+use Rattle.rw_engine.specs.Shows.{NotesAlike}
 use Rattle.rw_engine.proofs.state.State.for_run.Goals as goal
 
 pub place-requires-clause-made : goal.place-requires-clause-made
@@ -11,8 +12,12 @@ place-requires-clause-made c = record {
 
 pub returns-clause-begun : goal.returns-clause-begun
 returns-clause-begun c =
+    let notes : NotesAlike c.args.noted c.trace_where-lines.result c.args.trace = record {
+      same = kept_where c.trace_where-lines.result _ c.trace_where-lines.ensures ∙ c.is_kept.ensures;
+      traced = c.requires.notes;
+    } in
     let given = givens c.args.basin.now c.args.inputs.now in record {
-      made = search rules;
+      made = search (rules, notes);
       shows = record {
         cells = c.place.ensures.placed [] c.in_ok-series.ensures.unknown;
         trace = shows_nothing c.args.trace _ (trace-placed [] given) c.requires.fresh;

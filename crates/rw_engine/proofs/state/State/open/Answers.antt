@@ -1,10 +1,16 @@
-use Rattle.rw_engine.proofs.Common.{ap, refl, rules, subst, sym, ◌∙◌}
-use Rattle.std.specs.Prelude.{is_some}
+use Rattle.rw_engine.proofs.Common.{refl, subst, sym, ◌∙◌}
 use Rattle.rw_run.proofs.Ready.{all_waiting-ready, AreReady}
 use Rattle.rw_run.proofs.Placed.{settled_at_rest}
+use Rattle.rw_engine.proofs.Records.{any_err}
 use Rattle.rw_engine.proofs.Steps.{opens_step}
-use Rattle.rw_engine.proofs.Traces.{grows_some}
+use Rattle.rw_engine.proofs.Traces.{alike_told}
 use Rattle.rw_engine.proofs.state.State.open.Goals as goal
+
+pub tell_line-requires : goal.tell_line-requires
+tell_line-requires g c kept = c.requires.fresh.made.engine.notes.same ∙ c.requires.fresh.made.engine.notes.traced kept
+
+pub returns-in_err-tell_line-clause-wants : goal.returns-in_err-tell_line-clause-wants
+returns-in_err-tell_line-clause-wants g c = any_err c.from_residual.result (sym c.requires.fresh.made.engine.notes.same ∙ c.in_err-tell_line.ensures.wants)
 
 pub returns-clause-made : goal.returns-clause-made
 returns-clause-made g c = record {
@@ -15,7 +21,8 @@ returns-clause-made g c = record {
     rules = c.begin_step-2.ensures.made c.args.setup.now.basin.now c.args.setup.now.policy.now c.requires.fresh.made.engine.rules;
     series = c.requires.fresh.made.engine.series;
     closed_steps = c.requires.fresh.made.engine.closed_steps;
-    notes = c.requires.fresh.made.engine.notes ∙ sym (grows_some c.args.self.now.run.trace c.push.new.self (_, c.in_ok-push.ensures.pushed));
+    notes = alike_told c.args.self.now.noted c.args.self.now.lines c.tell_line.new.lines c.args.self.now.run.trace c.tell_line.new.trace c.tell_line.ensures.adds c.tell_line.ensures.grows
+        c.requires.fresh.made.engine.notes;
   };
   keeps = c.requires.fresh.made.keeps;
   counts = c.clear.ensures.many ∙ c.requires.fresh.made.counts;
@@ -23,8 +30,8 @@ returns-clause-made g c = record {
       ∙ sym (c.begin_step-2.ensures.made c.args.setup.now.basin.now c.args.setup.now.policy.now c.requires.fresh.made.engine.rules).many;
 }
 
-pub returns-in_err-push-clause-made : goal.returns-in_err-push-clause-made
-returns-in_err-push-clause-made g c =
+pub returns-in_err-tell_line-clause-made : goal.returns-in_err-tell_line-clause-made
+returns-in_err-tell_line-clause-made g c =
     let made = c.requires.fresh.made in record {
       engine = record {
         valid = made.engine.valid;
@@ -33,7 +40,8 @@ returns-in_err-push-clause-made g c =
         rules = made.engine.rules;
         series = made.engine.series;
         closed_steps = made.engine.closed_steps;
-        notes = made.engine.notes ∙ sym (ap is_some c.in_err-push.ensures.unchanged);
+        notes = alike_told c.args.self.now.noted c.args.self.now.lines c.tell_line.new.lines c.args.self.now.run.trace c.tell_line.new.trace c.tell_line.ensures.adds c.tell_line.ensures.grows
+            made.engine.notes;
       };
       keeps = made.keeps;
       counts = made.counts;
@@ -47,7 +55,8 @@ returns-clause-opened g c = record {
     ready = subst (AreReady c.args.setup.now.basin.now) (sym c.begin_step.ensures.all) (all_waiting-ready c.args.setup.now.basin.now);
     indexed = c.begin_step-2.ensures.indexed _;
   };
+  lines_are = c.in_ok-tell_line.ensures.noted;
   holds = λ log shows before. opens_step c.args.setup.now.basin.now c.args.setup.now.policy.now c.args.self.now _ c.args.step.0 log shows refl c.begin_step.ensures.all
-      c.clear.ensures.zero c.clear-2.ensures.zero (c.begin_step-2.ensures.fresh c.args.setup.now.policy.now log c.args.step.0) (search rules) refl
+      c.clear.ensures.zero c.clear-2.ensures.zero (c.begin_step-2.ensures.fresh c.args.setup.now.policy.now log c.args.step.0) c.in_ok-tell_line.ensures.said refl
       (shows.end ∙ settled_at_rest log before.last before.rest);
 }

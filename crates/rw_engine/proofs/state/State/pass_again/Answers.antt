@@ -1,17 +1,21 @@
-use Rattle.rw_engine.proofs.Common.{ap, held, last_put, option_map, option_or, refl, subst, sym, take, ◌∙◌}
+use Rattle.rw_engine.proofs.Common.{ap, held, last_put, option_or, refl, subst, sym, ◌∙◌}
 use Rattle.std.specs.Prelude.{is_some}
 use Rattle.rw_record.specs.Noted.{cells_noted, with_noted}
 use Rattle.rw_run.specs.Trace.{lines_in}
 use Rattle.rw_engine.specs.Records.{CanWriteLines, puts_in}
+use Rattle.rw_engine.proofs.Again.{unpassed_again}
 use Rattle.rw_engine.proofs.Notings.{cleared_is, cleared_some}
-use Rattle.rw_engine.proofs.Traces.{grows_some, shortened}
+use Rattle.rw_engine.proofs.Traces.{emptied, short_some}
 use Rattle.rw_engine.proofs.state.State.pass_again.Goals as goal
+
+pub retell-requires : goal.retell-requires
+retell-requires c = rw c.truncate.ensures (emptied c.args.self.now.lines)
 
 pub write_again-requires-clause-can : goal.write_again-requires-clause-can
 write_again-requires-clause-can c = subst (CanWriteLines c.args.basin.now) (sym (ap lines_in c.lines.ensures)) c.requires.can
 
-pub returns-in-Ok : goal.returns-in-Ok
-returns-in-Ok c = record {
+pub returns : goal.returns
+returns c = record {
   rules = refl;
   queue = refl;
   work = refl;
@@ -19,32 +23,33 @@ returns-in-Ok c = record {
   firings = refl;
   made = c.write_again.ensures.made;
   notes = c.retell.ensures.kept ∙ ap is_some c.begin_step.ensures ∙ cleared_some c.args.self.now.noted;
-  keeps_trace = grows_some c.args.self.now.run.trace c.retell.new.trace c.retell.ensures.grows;
-  lines_before = c.len-self.ensures;
+  keeps_lines = c.retell.ensures.keeps_lines ∙ ap is_some c.truncate.ensures ∙ short_some c.args.self.now.lines 0;
+  keeps_trace = c.retell.ensures.keeps_trace;
   unchanged = tt;
-  noted = c.in-Ok.ensures.noted ∙ ap (with_noted (held c.args.self.now.run.series) (cells_noted c.args.kept.now.looked)) (c.begin_step.ensures ∙ cleared_is c.args.self.now.noted);
-  trace = c.in-Ok.ensures.told;
+  noted = c.in_ok-retell.ensures.noted ∙ ap (with_noted (held c.args.self.now.run.series) (cells_noted c.args.kept.now.looked)) (c.begin_step.ensures ∙ cleared_is c.args.self.now.noted);
+  lines_are = c.in_ok-retell.ensures.lines;
+  trace = c.in_ok-retell.ensures.told;
   ends = (refl, c.step.ensures);
   cells = λ cell. c.write_again.ensures.cells cell
       ∙ ap (λ told. option_or (last_put c.args.basin.now (puts_in told) cell) (held c.args.self.now.run.series cell)) (ap lines_in c.lines.ensures);
 }
 
-pub returns-in-Err : goal.returns-in-Err
-returns-in-Err c =
-    let old = c.args.self.now in
-    let same = c.truncate.ensures ∙ ap (λ count. option_map (take count) c.retell.new.trace) c.len-self.ensures ∙ shortened old.run.trace c.retell.new.trace c.retell.ensures.grows in record {
+pub returns-in_err-retell : goal.returns-in_err-retell
+returns-in_err-retell c =
+    unpassed_again c.args.basin.now c.args.kept.now c.args.self.now _ c.from_residual.result _ c.from_residual.ensures.1 (record {
       rules = refl;
       queue = refl;
       work = refl;
       counts = refl;
       firings = refl;
       made = c.requires.made;
-      notes = c.retell.ensures.kept ∙ ap is_some c.begin_step.ensures ∙ cleared_some old.noted;
-      keeps_trace = ap is_some same;
-      lines_before = c.len-self.ensures;
-      unchanged = ap (λ trace. record old.run { trace = trace }) same;
+      notes = c.retell.ensures.kept ∙ ap is_some c.begin_step.ensures ∙ cleared_some c.args.self.now.noted;
+      keeps_lines = c.retell.ensures.keeps_lines ∙ ap is_some c.truncate.ensures ∙ short_some c.args.self.now.lines 0;
+      keeps_trace = c.retell.ensures.keeps_trace;
+      unchanged = ap (λ trace. record c.args.self.now.run { trace = trace }) c.in_err-retell.ensures.unchanged;
       noted = tt;
+      lines_are = tt;
       trace = tt;
       ends = tt;
       cells = tt;
-    }
+    })

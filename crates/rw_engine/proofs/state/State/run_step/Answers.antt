@@ -1,11 +1,11 @@
-use Rattle.std.proofs.Common.{IfSome, IsSome, ap, is_some, option_map, subst, sym, take, ◌∙◌, ◌≡◌}
+use Rattle.std.proofs.Common.{IfSome, ap, is_some, option_map, refl, subst, sym, take, ◌∙◌, ◌≡◌}
 use Rattle.rw_run.specs.RunOf.{trace_of}
 use Rattle.rw_series.specs.Series.{held}
 use Rattle.rw_base.specs.declared.number.Cell.{Cell}
 use Rattle.rw_record.specs.Noted.{noted_in}
 use Rattle.rw_record.specs.Notes.{CanTakeBack}
 use Rattle.rw_engine.proofs.Notings.{cleared_none, cleared_some, in_some}
-use Rattle.rw_engine.proofs.Traces.{grows_some, kept_on, shortened}
+use Rattle.rw_engine.proofs.Traces.{alike_on, emptied, grows_some, short_some, shortened}
 use Rattle.rw_engine.proofs.state.State.run_step.Goals as goal
 
 pub pass-requires-clause-fresh : goal.pass-requires-clause-fresh
@@ -21,27 +21,28 @@ pass-requires-clause-fresh g c =
           rules = made.engine.rules;
           series = made.engine.series;
           closed_steps = made.engine.closed_steps;
-          notes = kept ∙ made.engine.notes;
+          notes = alike_on old.noted c.begin_step.new.self old.lines c.truncate.new.self old.run.trace old.run.trace kept
+              (ap is_some c.truncate.ensures ∙ short_some old.lines 0) refl made.engine.notes;
         };
         keeps = made.keeps ∙ sym kept;
         counts = made.counts;
         firings = made.firings;
       };
       cleared = rw c.begin_step.ensures (cleared_none old.noted);
-      lines_before = c.len-self.ensures;
+      none_told = rw c.truncate.ensures (emptied old.lines);
     }
 
 module _ (g : _) (c : goal.After-take_back g) where
   can : CanTakeBack (held c.args.self.now.run.series) (held c.pass.new.self.run.series) (noted_in c.pass.new.self.noted)
   can = in_some c.pass.new.self.noted (CanTakeBack (held c.args.self.now.run.series) (held c.pass.new.self.run.series))
-      (c.pass.ensures.made.engine.notes ∙ kept_on c.args.self.now.run.trace c.pass.new.self.run.trace c.pass.ensures.back.grows c.in-Err.ensures.wants)
+      (c.pass.ensures.back.notes ∙ c.in-Err.ensures.wants)
       c.pass.ensures.back.revocable
 
   back : (cell : Cell) → held c.take_back.new.series cell ≡ held c.args.self.now.run.series cell
   back = c.take_back.ensures.back c.args.self.now.run.series c.requires.made.engine.series.made can
 
-  same : c.truncate.new.self ≡ c.args.self.now.run.trace
-  same = c.truncate.ensures ∙ ap (λ count. option_map (take count) c.pass.new.self.run.trace) (c.pass.ensures.back.lines_before ∙ c.len-self.ensures)
+  same : c.truncate-in-Err.new.self ≡ c.args.self.now.run.trace
+  same = c.truncate-in-Err.ensures ∙ ap (λ count. option_map (take count) c.pass.new.self.run.trace) c.len-before.ensures
       ∙ shortened c.args.self.now.run.trace c.pass.new.self.run.trace c.pass.ensures.back.grows
 
 pub returns-in-Err-clause-made : goal.returns-in-Err-clause-made
@@ -56,7 +57,8 @@ returns-in-Err-clause-made g c = record {
       bounded = λ cell content known is. c.requires.made.engine.series.bounded cell content known (sym (back g c cell) ∙ is);
     };
     closed_steps = c.pass.ensures.made.engine.closed_steps;
-    notes = c.pass.ensures.made.engine.notes ∙ grows_some c.args.self.now.run.trace c.pass.new.self.run.trace c.pass.ensures.back.grows ∙ ap is_some (sym (same g c));
+    notes = alike_on c.pass.new.self.noted c.pass.new.self.noted c.pass.new.self.lines c.pass.new.self.lines c.pass.new.self.run.trace c.truncate-in-Err.new.self refl refl
+        (ap is_some (same g c) ∙ sym (grows_some c.args.self.now.run.trace c.pass.new.self.run.trace c.pass.ensures.back.grows)) c.pass.ensures.made.engine.notes;
   };
   keeps = c.pass.ensures.made.keeps;
   counts = c.pass.ensures.made.counts;
@@ -68,7 +70,10 @@ returns-in-Ok-clause-runs g c = record {
   made = c.pass.ensures.made.engine;
   passes = λ log shows. c.in-Ok.ensures.passes log (record { cells = shows.cells; trace = shows.trace; closed_steps = shows.closed_steps; end = shows.end });
   before = λ log shows. tt;
-  kept = kept_on c.args.self.now.run.trace c.pass.new.self.run.trace c.pass.ensures.back.grows;
+  kept = record {
+    trace = grows_some c.args.self.now.run.trace c.pass.new.self.run.trace c.pass.ensures.back.grows;
+    noted = c.pass.ensures.back.notes ∙ ap is_some c.begin_step.ensures ∙ cleared_some c.args.self.now.noted;
+  };
   closed_steps = c.in-Ok.ensures.closed_steps;
   few = c.in-Ok.ensures.few;
 }
@@ -83,7 +88,10 @@ returns-in-Err-clause-runs g c = record {
     closed_steps = c.in-Err.ensures.still.closed_steps ∙ shows.closed_steps;
     end = c.in-Err.ensures.still.end ∙ shows.end;
   };
-  kept = subst (λ trace. IsSome trace) (sym (same g c));
+  kept = record {
+    trace = ap is_some (same g c);
+    noted = c.pass.ensures.back.notes ∙ ap is_some c.begin_step.ensures ∙ cleared_some c.args.self.now.noted;
+  };
   closed_steps = tt;
   few = tt;
 }

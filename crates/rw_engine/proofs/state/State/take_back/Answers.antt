@@ -5,17 +5,18 @@ use Rattle.rw_record.specs.Notes.{CanTakeBack}
 use Rattle.rw_series.specs.Series.{held}
 use Rattle.rw_engine.proofs.Backs.{HasTakenBack, sound_back, takes_back}
 use Rattle.rw_engine.proofs.Notings.{cleared_some}
+use Rattle.rw_engine.proofs.Traces.{short_some}
 use Rattle.rw_engine.proofs.state.State.take_back.Goals as goal
 
-module _ (c : goal.After-self-3-1) where
+module _ (c : goal.After-self-2-1) where
   abbrev new : State
   new = record c.args.self.now {
     noted = c.begin_step.new.self;
-    lines_before = c.saturating_sub-self.result;
+    lines = c.truncate.new.self;
     run = record c.args.self.now.run {
-      trace = c.truncate.new.self;
+      trace = c.truncate-2.new.self;
       series = c.put_back.new.series;
-      closed = c.saturating_sub-self-2.result;
+      closed = c.saturating_sub-self.result;
       end = Settled;
     };
   }
@@ -28,11 +29,12 @@ module _ (c : goal.After-self-3-1) where
     counts = refl;
     firings = refl;
     notes = ap is_some c.begin_step.ensures ∙ cleared_some c.args.self.now.noted;
+    keeps_lines = ap is_some c.truncate.ensures ∙ short_some c.args.self.now.lines 0;
     made = c.put_back.ensures.made;
     back = λ before made can. c.put_back.ensures.back before made (subst (CanTakeBack before (held c.args.self.now.run.series)) (sym c.looked.ensures) can);
-    trace = c.truncate.ensures ∙ ap (λ count. option_map (take count) c.args.self.now.run.trace)
-        (c.saturating_sub-self.ensures ∙ ap₂ (λ all last. all - last) c.len.ensures (c.len-2.ensures ∙ ap (λ told. length (lines_in told)) c.lines.ensures));
-    closed_steps = c.saturating_sub-self-2.ensures ∙ ap (λ step. step - 1) c.step.ensures;
+    trace = c.truncate-2.ensures ∙ ap (λ count. option_map (take count) c.args.self.now.run.trace)
+        (c.saturating_sub-before.ensures ∙ ap₂ (λ all last. all - last) c.len.ensures (c.len-2.ensures ∙ ap (λ told. length (lines_in told)) c.lines.ensures));
+    closed_steps = c.saturating_sub-self.ensures ∙ ap (λ step. step - 1) c.step.ensures;
     end = refl;
   }
 

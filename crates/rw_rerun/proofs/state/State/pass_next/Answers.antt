@@ -1,4 +1,5 @@
 use Rattle.rw_base.proofs.Common.{List, Option, [], ap, arith, length, subst, sym, ◌∙◌, ◌≡◌, ◌≤◌}
+use Rattle.std.specs.Prelude.{is_some}
 use Rattle.rw_inputs.specs.Givens.{givens}
 use Rattle.rw_run.specs.Runs.{placed}
 use Rattle.rw_record.specs.Record.{StepRecord}
@@ -29,7 +30,8 @@ pass_behind-requires-clause-stands g c =
     let made = c.requires.made in
     let lent : c.args.self.now.kept ≡ c.deref.result.now = sym (ap (λ (s : Session). s.kept) c.self.view_is) ∙ sym c.deref.ensures.value in
     let stands : IsSpareIn basin policy c.args.self.now made.log c.in_ok-spare.spare =
-    spare_ready basin policy c.args.self.now _ made c.self.inside.spare c.take-found.result c.in_ok-spare.spare c.self.view_is c.self.invariant
+    spare_ready basin policy c.args.self.now _ made c.self.inside.spare c.take-found.result c.in_ok-spare.spare c.is_kept-traced.result c.self.view_is
+    (c.is_kept-traced.ensures ∙ ap is_some c.run.ensures.same.1) c.self.invariant
     c.take-found.ensures.value c.in_ok-spare.ensures in record {
       start = placed [] (givens basin c.args.self.now.inputs);
       end = made.log;
@@ -43,7 +45,8 @@ pass_behind-requires-clause-known g c =
     let made = c.requires.made in
     let lent : c.args.self.now.kept ≡ c.deref.result.now = sym (ap (λ (s : Session). s.kept) c.self.view_is) ∙ sym c.deref.ensures.value in
     let stands : IsSpareIn basin policy c.args.self.now made.log c.in_ok-spare.spare =
-    spare_ready basin policy c.args.self.now _ made c.self.inside.spare c.take-found.result c.in_ok-spare.spare c.self.view_is c.self.invariant
+    spare_ready basin policy c.args.self.now _ made c.self.inside.spare c.take-found.result c.in_ok-spare.spare c.is_kept-traced.result c.self.view_is
+    (c.is_kept-traced.ensures ∙ ap is_some c.run.ensures.same.1) c.self.invariant
     c.take-found.ensures.value c.in_ok-spare.ensures in
     subst (λ kept. AreKeptFrom kept 0 c.in_ok-spare.spare.behind) lent stands.known
 
@@ -64,7 +67,8 @@ returns-clause-passes g c =
     let made = c.requires.made in
     let lent : c.args.self.now.kept ≡ c.deref.result.now = sym (ap (λ (s : Session). s.kept) c.self.view_is) ∙ sym c.deref.ensures.value in
     let stands : IsSpareIn basin policy c.args.self.now made.log c.in_ok-spare.spare =
-    spare_ready basin policy c.args.self.now _ made c.self.inside.spare c.take-found.result c.in_ok-spare.spare c.self.view_is c.self.invariant
+    spare_ready basin policy c.args.self.now _ made c.self.inside.spare c.take-found.result c.in_ok-spare.spare c.is_kept-traced.result c.self.view_is
+    (c.is_kept-traced.ensures ∙ ap is_some c.run.ensures.same.1) c.self.invariant
     c.take-found.ensures.value c.in_ok-spare.ensures in
     passes_next basin policy c.args.self.now c.args.inputs.now c.args.cells.now c.args.behind c.deref.result.now c.in_ok-spare.spare c.args.steps.now _ _
     made stands lent c.pass_behind.ensures
