@@ -9,11 +9,13 @@ ghost use Rattle.rw_method.specs.Puts.{solved_put, level_puts, evaporation_put, 
 ghost use Rattle.rw_method.specs.Solve.{answer, fault_of_level, fault_of_past, or_else, solve_of};
 ghost use Rattle.rw_method.specs.Asking.{can_get};
 
-use crate::balance::balance;
+use crate::balance::{balance, is_short};
 use crate::evaporation::evaporation_of;
 use crate::puts::put_all;
 use rw_method::places::RESERVOIR_SIDE;
-use rw_method::{Balanced, Method, Solved, View, ended, fault_of_level, fault_of_past, side_flows};
+use rw_method::{
+    Balanced, Method, Solved, View, ended, fault_of_level, fault_of_past, side_flows, stores,
+};
 use rw_model::Kind;
 use rw_table::Rating;
 
@@ -68,8 +70,12 @@ pub(crate) fn solve_reservoir(
         → result ≡ solve_of (Kind.Reservoir initial_storage (option_map (λ rating. rating.now) table.entry) local_inflow diversion return_flow evaporation
         max_release) view.entry.now }
 {
+    let contents = stores(view, table);
+    if is_short(view, &contents, side) {
+        return Solved::Idle;
+    }
     let evaporated = evaporation_of(evaporation, table, view);
-    let balanced = balance(view, table, side, evaporated);
+    let balanced = balance(view, &contents, side, evaporated);
     let fault = fault_of_contents(view, table, evaporation);
     answer_by(
         view,
