@@ -1,5 +1,6 @@
 -- A list that is filled place by place.
-use Rattle.rw_base.proofs.Common.{◌≡◌, ◌<◌, ◌+◌, ℕ, List, [], ◌∷◌, ◌++◌, drop, drop_more, map, set, length, sym, ap, ap₂, ◌∙◌, arith, append_assoc, get_or-map-range_with_len, range_with_len, set-append_seam, slice_index_or, map-range_with_len_more, length-map-range_with_len, IfSome, None, Option, Some, refl}
+use Rattle.rw_base.proofs.Common.{append-nil, ◌≡◌, ◌<◌, ◌+◌, ℕ, List, [], ◌∷◌, ◌++◌, drop, drop_more, map, set, length, sym, ap, ap₂, ◌∙◌, arith, append_assoc, get_or-map-range_with_len, range_with_len, set-append_seam, slice_index_or, map-range_with_len_more, length-map-range_with_len, IfSome, None, Option, Some, refl}
+use Rattle.std.proofs.Math.ListN.{drop_of_length-le}
 use Rattle.rw_base.specs.declared.number.SlotNo.{SlotNo}
 use Rattle.rw_model.specs.Draft.{IsSlot}
 use Rattle.rw_model.proofs.Common.{Object, known_in_place, slot_in_place}
@@ -22,6 +23,13 @@ filled-more f before count now v near is same =
     ∙ ap (λ x. done ++ x ∷ rest) same
     ∙ sym (append_assoc done (f count ∷ []) rest)
     ∙ ap (λ xs. xs ++ rest) (sym (map-range_with_len_more f 0 count count from))
+
+-- all are filled
+pub filled-all : {X : Type 0} (f : ℕ → X) (before now : List X) (count all : ℕ) → count ≡ all → length before ≡ all → now ≡ filled f before count
+    → now ≡ map f (range_with_len 0 all)
+filled-all f before now count all at many is =
+    let none : drop count before ≡ [] = drop_of_length-le before (omega (arith, at, many)) in
+    is ∙ ap (λ xs. map f (range_with_len 0 count) ++ xs) none ∙ append-nil _ ∙ ap (λ n. map f (range_with_len 0 n)) at
 
 -- ---- the numbers of an object's slots
 

@@ -218,17 +218,24 @@ pub fn judge_dispatch(
 {
     let kind = see(&mut work.view, basin, series, object, step);
     let method = methods.method(kind);
-    let solved = &method.solve(kind, &work.view);
+    work.solved = method.solve(kind, &work.view);
     let end = answer(
         &work.view,
         basin,
         object,
         step,
-        solved,
+        &work.solved,
         &mut work.written,
         &mut work.writes,
     );
-    keep_asked(work.keeps, &mut work.asked, basin, object, step, solved);
+    keep_asked(
+        work.keeps,
+        &mut work.asked,
+        basin,
+        object,
+        step,
+        &work.solved,
+    );
     end
 }
 

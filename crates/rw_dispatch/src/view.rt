@@ -48,7 +48,10 @@ fn see_slot(
     match number {
         Some(number) => {
             let slot = SlotNo(number);
-            now[place] = cells.get(slot);
+            match cells.get(slot) {
+                Some(content) => now[place] = Some(content),
+                None => now[place] = None,
+            }
             bounds[place] = basin.bounds(slot);
         }
         None => {
@@ -75,7 +78,11 @@ pub(crate) fn see_slots(
     let numbers = basin.row(object);
     // Where they lie is found once.
     let cells = series.at_step(step);
-    for place in 0..12 {
+    // Two loops of so few turns are both unrolled.
+    for place in 0..6 {
         see_slot(now, bounds, basin, &cells, place, numbers[place]);
+    }
+    for late in 6..12 {
+        see_slot(now, bounds, basin, &cells, late, numbers[late]);
     }
 }

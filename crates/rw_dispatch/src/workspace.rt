@@ -2,13 +2,15 @@ ghost use Rattle.std.specs.Prelude.{◌≡◌};
 
 use crate::view::blank_view;
 use crate::write_list::WriteList;
-use rw_method::{PutList, View};
+use rw_method::{PutList, Solved, View};
 
 /// What dispatches work in, one after another. A dispatch fills all of it in anew, but for whether it keeps what is asked for.
 #[derive(Drop)]
 pub struct Workspace {
     /// What the object sees.
     pub view: View,
+    /// What its method answers.
+    pub solved: Solved,
     /// Its puts that are to be written.
     pub written: PutList,
     /// What they write.
@@ -26,6 +28,7 @@ impl Workspace {
     {
         Workspace {
             view: blank_view(),
+            solved: Solved::Idle,
             written: PutList::none(),
             writes: WriteList::none(),
             keeps,

@@ -1,16 +1,15 @@
-ghost use Rattle.std.specs.Prelude.{◌≡◌, option_map, ◌+ℤ◌, ◌-ℤ◌, ◌∷◌, []};
+ghost use Rattle.std.specs.Prelude.{◌≡◌, ◌+◌, ◌+ℤ◌, ◌-ℤ◌, ◌∷◌, [], ℤ, Option, if◌then◌else◌, is_some, nat_le, true};
 ghost use Rattle.std.specs.Option.{ForSome};
-ghost use Rattle.rw_method.specs.declared.places.TheConstants.{INFLOW, OUTFLOW, POOL_ELEVATION, STORAGE};
-ghost use Rattle.rw_method.specs.View.{given};
+ghost use Rattle.rw_method.specs.declared.balanced.Balanced.TheVariants as Balanced;
+ghost use Rattle.rw_method.specs.declared.places.TheConstants.{INFLOW, OUTFLOW};
 ghost use Rattle.rw_method.specs.Term.{IsWithin};
-ghost use Rattle.rw_method.specs.Contents.{basis_of, contents_by, difference};
-ghost use Rattle.rw_method.specs.Balance.{sum_of, brings, takes, stores};
+ghost use Rattle.rw_method.specs.Contents.{difference};
+ghost use Rattle.rw_method.specs.Balance.{sum_of, brings, takes};
 ghost use Rattle.rw_method.specs.Settling.{settled};
 
 use rw_base::Qty;
 use rw_method::places::{INFLOW, OUTFLOW};
-use rw_method::{Balanced, Share, View, settle, stores};
-use rw_table::Rating;
+use rw_method::{Balanced, Given, Share, Term, View, settle};
 
 fn with_side(past: Qty, side: i128) -> i128
     requires { IsWithin 3 side }
@@ -44,24 +43,49 @@ fn steady(past: Option<Qty>, side: Option<i128>, evaporation: Option<i128>) -> O
     }
 }
 
+// Whether two of these aren't given.
+#[inline(always)]
+fn are_two_missing(one: Option<Given>, other: Option<Given>, last: Option<Given>) -> bool
+    ensures { result ≡ nat_le 2 ((if is_some one then 0 else 1)
+        + ((if is_some other then 0 else 1) + ((if is_some last then 0 else 1) + 0))) }
+{
+    match (one, other, last) {
+        (None, None, _) | (None, _, None) | (_, None, None) => true,
+        _ => false,
+    }
+}
+
+/// Whether too little is known, whatever evaporates.
+#[inline(always)]
+pub(crate) fn is_short(view: &View, contents: &Term, side: Option<i128>) -> bool
+    ensures { result ≡ true → (evaporated : Option ℤ)
+        → settled (difference (sum_of view.entry.now.past side) evaporated)
+        (brings view.entry.now INFLOW ∷ takes view.entry.now OUTFLOW ∷ contents.now ∷ [])
+        ≡ Balanced.Idle }
+{
+    match side {
+        None => true,
+        Some(_) => { are_two_missing(view.given(INFLOW), view.given(OUTFLOW), contents.given) }
+    }
+}
+
 /// What the balance comes to, beside what flows by the side and what evaporates.
+#[inline(always)]
 pub(crate) fn balance(
     view: &View,
-    table: Option<&Rating>,
+    contents: &Term,
     side: Option<i128>,
     evaporated: Option<i128>,
 ) -> Balanced
     requires side { ForSome side (IsWithin 3) }
     requires evaporated { ForSome evaporated (IsWithin 1) }
     ensures { result ≡ settled (difference (sum_of view.entry.now.past side) evaporated)
-        (brings view.entry.now INFLOW ∷ takes view.entry.now OUTFLOW
-        ∷ stores (contents_by (option_map (λ rating. rating.now) table.entry)
-        (basis_of (given view.entry.now STORAGE) (given view.entry.now POOL_ELEVATION))) ∷ []) }
+        (brings view.entry.now INFLOW ∷ takes view.entry.now OUTFLOW ∷ contents.now ∷ []) }
 {
     let terms = [
         view.term(Share::Brings, INFLOW),
         view.term(Share::Takes, OUTFLOW),
-        stores(view, table),
+        *contents,
     ];
     settle(steady(view.past, side, evaporated), &terms)
 }

@@ -1,7 +1,8 @@
-ghost use Rattle.std.specs.Prelude.{◌≡◌, option_map, ◌++◌, ℤ, Bool};
+ghost use Rattle.std.specs.Prelude.{◌≡◌, option_map, ◌++◌, ℤ, Bool, List, Some};
 ghost use Rattle.std.specs.Option.{ForSome};
 ghost use Rattle.rw_model.specs.declared.kind.Kind.TheVariants as Kind;
 ghost use Rattle.rw_method.specs.declared.places.TheConstants.{OUTFLOW, POOL_ELEVATION, RESERVOIR_SIDE, STORAGE};
+ghost use Rattle.rw_method.specs.declared.put.Put.{Put};
 ghost use Rattle.rw_method.specs.View.{given};
 ghost use Rattle.rw_method.specs.Term.{IsWithin};
 ghost use Rattle.rw_method.specs.Balance.{side_flows};
@@ -9,11 +10,13 @@ ghost use Rattle.rw_method.specs.Puts.{solved_put, level_puts, evaporation_put, 
 ghost use Rattle.rw_method.specs.Solve.{answer, fault_of_level, fault_of_past, or_else, solve_of};
 ghost use Rattle.rw_method.specs.Asking.{can_get};
 
-use crate::balance::balance;
+use crate::balance::{balance, is_short};
 use crate::evaporation::evaporation_of;
 use crate::puts::put_all;
 use rw_method::places::RESERVOIR_SIDE;
-use rw_method::{Balanced, Method, Solved, View, ended, fault_of_level, fault_of_past, side_flows};
+use rw_method::{
+    Balanced, Method, Solved, View, ended, fault_of_level, fault_of_past, side_flows, stores,
+};
 use rw_model::Kind;
 use rw_table::Rating;
 
@@ -21,18 +24,17 @@ use rw_table::Rating;
 #[derive(Debug, Drop)]
 pub struct ReservoirMethod;
 
-// What is wrong with what the reservoir holds: with the storage before, or with what is given.
-fn fault_of_contents(view: &View, table: Option<&Rating>, evaporation: bool) -> Option<Solved>
-    ensures { result ≡ or_else (fault_of_past evaporation (option_map (λ rating. rating.now) table.entry) view.entry.now.past)
-        (fault_of_level (option_map (λ rating. rating.now) table.entry) view.entry.now) }
+// What is answered where something is wrong with what the reservoir holds.
+fn faulty(balanced: Balanced, fault: Solved) -> Solved
+    ensures { (fit : Put → Bool) (puts : List Put) → result ≡ answer fit puts balanced (Some fault) }
 {
-    if let Some(fault) = fault_of_past(evaporation, table, view.past) {
-        return Some(fault);
+    match balanced {
+        Balanced::Idle => Solved::Idle,
+        Balanced::Holds | Balanced::Solves { .. } | Balanced::Conflicts { .. } => fault,
     }
-    fault_of_level(view, table)
 }
 
-// What is answered, by what the balance comes to and what is wrong with the contents.
+// What is answered, by what the balance comes to, and by what is wrong with the storage before or with the contents that are given.
 fn answer_by(
     view: &View,
     table: Option<&Rating>,
@@ -40,15 +42,22 @@ fn answer_by(
     evaporated: Option<i128>,
     max_release: Option<i64>,
     balanced: Balanced,
-    fault: Option<Solved>,
 ) -> Solved
     ensures { result ≡ answer (can_get (option_map (λ rating. rating.now) table.entry) view.entry.now) (solved_put balanced
         ++ level_puts (option_map (λ rating. rating.now) table.entry) (given view.entry.now STORAGE) (given view.entry.now POOL_ELEVATION) balanced
         ++ evaporation_put evaporation evaporated ++ release_puts max_release
         (known_after view.entry.now balanced OUTFLOW))
-        balanced fault }
+        balanced
+        (or_else (fault_of_past evaporation (option_map (λ rating. rating.now) table.entry) view.entry.now.past)
+        (fault_of_level (option_map (λ rating. rating.now) table.entry) view.entry.now)) }
 {
-    match ended(balanced, fault) {
+    if let Some(fault) = fault_of_past(evaporation, table, view.past) {
+        return faulty(balanced, fault);
+    }
+    if let Some(fault) = fault_of_level(view, table) {
+        return faulty(balanced, fault);
+    }
+    match ended(balanced, None) {
         Some(answer) => answer,
         None => put_all(view, table, evaporation, evaporated, max_release, balanced),
     }
@@ -68,18 +77,13 @@ pub(crate) fn solve_reservoir(
         → result ≡ solve_of (Kind.Reservoir initial_storage (option_map (λ rating. rating.now) table.entry) local_inflow diversion return_flow evaporation
         max_release) view.entry.now }
 {
+    let contents = stores(view, table);
+    if is_short(view, &contents, side) {
+        return Solved::Idle;
+    }
     let evaporated = evaporation_of(evaporation, table, view);
-    let balanced = balance(view, table, side, evaporated);
-    let fault = fault_of_contents(view, table, evaporation);
-    answer_by(
-        view,
-        table,
-        evaporation,
-        evaporated,
-        max_release,
-        balanced,
-        fault,
-    )
+    let balanced = balance(view, &contents, side, evaporated);
+    answer_by(view, table, evaporation, evaporated, max_release, balanced)
 }
 
 impl Method for ReservoirMethod {

@@ -1,15 +1,16 @@
-use Rattle.rw_dispatch.proofs.Common.{None, ap, held, length, rules, slice_index_or, ◌∙◌}
+use Rattle.rw_dispatch.proofs.Common.{None, ap, arith, held, length, rules, slice_index_or, ◌<◌, ◌∙◌}
 use Rattle.std.proofs.Math.ListN.{length-set}
 use Rattle.rw_run.specs.Dispatch.{bounds_in_place, content_in}
 use Rattle.rw_dispatch.specs.Seeing.{bounds_of_slot, content_of}
-use Rattle.rw_dispatch.proofs.Filling.{content_there, filled-more, number_known, number_there}
+use Rattle.rw_dispatch.proofs.Filling.{content_there, filled-all, filled-more, number_known, number_there}
 use Rattle.rw_dispatch.proofs.view.see_slots.Goals as goal
 
 pub see_slot-requires-clause-known : goal.see_slot-requires-clause-known
 see_slot-requires-clause-known c =
     let objects = c.args.basin.now.objects in
+    let near : c.loop-place.place < 12 = omega (arith, c.loop-place-test.true) in
     number_known objects c.args.object.0 c.loop-place.place (slice_index_or c.row-numbers.result.now c.loop-place.place None)
-    (number_there objects c.args.object.0 c.loop-place.place c.row-numbers.result.now c.row-numbers.ensures c.loop-place-test.true)
+    (number_there objects c.args.object.0 c.loop-place.place c.row-numbers.result.now c.row-numbers.ensures near)
 
 pub loop-place-preserved : goal.loop-place-preserved
 loop-place-preserved c =
@@ -17,7 +18,8 @@ loop-place-preserved c =
     let place = c.loop-place.place in
     let was = c.loop-place.invariant in
     let seen = c.see_slot.ensures in
-    let number = number_there basin.objects c.args.object.0 place c.row-numbers.result.now c.row-numbers.ensures c.loop-place-test.true in
+    let near : place < 12 = omega (arith, c.loop-place-test.true) in
+    let number = number_there basin.objects c.args.object.0 place c.row-numbers.result.now c.row-numbers.ensures near in
     let same =
     content_there (held c.at_step-cells.result) (held c.args.series.now) 1 c.args.step.0 (slice_index_or c.row-numbers.result.now place None)
     c.at_step-cells.ensures in
@@ -30,3 +32,39 @@ loop-place-preserved c =
       contents_all = ap length seen.content ∙ length-set c.loop-place.now place _ ∙ was.contents_all;
       bounds_all = ap length seen.bounds ∙ length-set c.loop-place.bounds place _ ∙ was.bounds_all;
     }
+
+pub see_slot-requires-in-loop-late-clause-known : goal.see_slot-requires-in-loop-late-clause-known
+see_slot-requires-in-loop-late-clause-known c =
+    let objects = c.args.basin.now.objects in
+    number_known objects c.args.object.0 c.loop-late.late (slice_index_or c.row-numbers.result.now c.loop-late.late None)
+    (number_there objects c.args.object.0 c.loop-late.late c.row-numbers.result.now c.row-numbers.ensures c.loop-late-test.true)
+
+pub loop-late-preserved : goal.loop-late-preserved
+loop-late-preserved c =
+    let basin = c.args.basin.now in
+    let late = c.loop-late.late in
+    let was = c.loop-late.invariant in
+    let seen = c.see_slot-in-loop-late.ensures in
+    let number = number_there basin.objects c.args.object.0 late c.row-numbers.result.now c.row-numbers.ensures c.loop-late-test.true in
+    let same =
+    content_there (held c.at_step-cells.result) (held c.args.series.now) 1 c.args.step.0 (slice_index_or c.row-numbers.result.now late None)
+    c.at_step-cells.ensures in
+    record {
+      contents = seen.content ∙ filled-more (content_in basin (held c.args.series.now) c.args.object.0 c.args.step.0) c.args.now.now late c.loop-late.now _
+          (search rules) was.contents
+          (same ∙ ap (content_of (held c.args.series.now) c.args.step.0) number);
+      bounds = seen.bounds ∙ filled-more (bounds_in_place basin c.args.object.0) c.args.bounds.now late c.loop-late.bounds _
+          (search rules) was.bounds (ap (bounds_of_slot basin) number);
+      contents_all = ap length seen.content ∙ length-set c.loop-late.now late _ ∙ was.contents_all;
+      bounds_all = ap length seen.bounds ∙ length-set c.loop-late.bounds late _ ∙ was.bounds_all;
+    }
+
+pub returns-clause-contents : goal.returns-clause-contents
+returns-clause-contents c =
+    filled-all (content_in c.args.basin.now (held c.args.series.now) c.args.object.0 c.args.step.0) c.args.now.now c.loop-late.now c.loop-late.late 12
+    (search rules) (search rules) c.loop-late.invariant.contents
+
+pub returns-clause-bounds : goal.returns-clause-bounds
+returns-clause-bounds c =
+    filled-all (bounds_in_place c.args.basin.now c.args.object.0) c.args.bounds.now c.loop-late.bounds c.loop-late.late 12
+    (search rules) (search rules) c.loop-late.invariant.bounds

@@ -10,3 +10,11 @@ invariant-loop-place l = record {
   contents_all : length l.now ≡ 12;
   bounds_all : length l.bounds ≡ 12;
 }
+
+abbrev pub invariant-loop-late : goal.invariant-loop-late
+invariant-loop-late l = record {
+  contents : l.now ≡ filled (content_in l.basin (held l.series) l.fn.object.0 l.fn.step.0) l.fn.now l.late;
+  bounds : l.bounds ≡ filled (bounds_in_place l.basin l.fn.object.0) l.fn.bounds l.late;
+  contents_all : length l.now ≡ 12;
+  bounds_all : length l.bounds ≡ 12;
+}
