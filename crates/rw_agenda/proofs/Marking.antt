@@ -367,3 +367,17 @@ unwatched index step group marks none = record {
       (list_any_none (λ slot. is_watching index (cell_at slot step) rule) group (λ k d there. none (cell_at (get_or group k d) step) rule))
       ∙ or-false (is_flagged marks rule));
 }
+
+-- where a cell has no newest watch none is marked
+met_none : (watches : List Watch) (times rule : ℕ) → is_met watches times 0 rule ≡ false
+met_none watches zero rule = refl
+met_none watches (suc times) rule = refl
+
+pub unmet : (watches : List Watch) (times number : ℕ) (marks : Marks) → number ≡ 0 → MarksMore (is_met watches times number) marks marks
+unmet watches times number marks none = record {
+  order = refl;
+  many = refl;
+  marked = λ rule near.
+      sym (ap (λ met. is_flagged marks rule || met) (ap (λ n. is_met watches times n rule) none ∙ met_none watches times rule)
+      ∙ or-false (is_flagged marks rule));
+}

@@ -72,6 +72,9 @@ impl Agenda {
         ensures rules { self.new.rules ≡ self.old.rules }
         ensures marked { MarksThose basin.now c self.old self.new }
     {
+        if self.index.is_idle() {
+            return;
+        }
         self.index
             .mark(&mut self.marks, basin.group(c.slot), c.step);
     }

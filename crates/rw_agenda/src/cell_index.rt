@@ -156,16 +156,14 @@ impl CellIndex {
         ensures { MarksMore (λ rule. list_any (λ slot. is_watching self.now (cell_at slot step.0) rule)
             (numbers_of group.now)) marks.old marks.new }
     {
-        if self.is_idle() {
-            return;
-        }
         for slot in group {
             self.mark_at(marks, Cell { slot: *slot, step });
         }
     }
 
-    // Whether it is known that no rule watches a cell.
-    fn is_idle(&self) -> bool
+    /// Whether it is known that no rule watches a cell.
+    #[inline(always)]
+    pub(crate) fn is_idle(&self) -> bool
         ensures { result ≡ true → (cell : Cell) (rule : ℕ) → is_watching self.now cell rule ≡ false }
     {
         if self.full {
@@ -182,7 +180,7 @@ impl CellIndex {
         if self.full {
             marks.set_all();
         } else {
-            mark_met(marks, self.watches.as_slice(), self.newest_at(cell));
+            mark_from(marks, self.watches.as_slice(), self.newest_at(cell));
         }
     }
 
@@ -312,6 +310,16 @@ fn forget_newest(newest: &mut Vec<u32>, watches: &[Watch])
         if watch.place < newest.len() {
             newest[watch.place] = 0;
         }
+    }
+}
+
+// Marks each rule that is met, going from the newest watch of a cell, if it has one.
+#[inline(always)]
+fn mark_from(marks: &mut Marks, watches: &[Watch], newest: u32)
+    ensures { MarksMore (is_met watches.now (length watches.now) newest) marks.old marks.new }
+{
+    if newest != 0 {
+        mark_met(marks, watches, newest);
     }
 }
 

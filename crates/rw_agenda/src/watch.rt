@@ -2,7 +2,7 @@
 /// and the number of the watch before this one of the same cell. Watches are numbered from 1; 0 is none.
 #[derive(Clone, Copy)]
 pub(crate) struct Watch {
-    pub(crate) rule: u16,
     pub(crate) place: usize,
     pub(crate) before: u32,
+    pub(crate) rule: u16,
 }
