@@ -1,10 +1,12 @@
 // A value of a kept line, in eight bytes.
 ghost use Rattle.std.specs.Prelude.{◌≡◌, option_map, true};
 ghost use Rattle.rw_model.specs.declared.content.Content.{Content};
-ghost use Rattle.rw_report.specs.Value.{value_kept};
 
 use rw_model::Content;
 use std::marker::Model;
+
+// As what no value is kept, which is no quantity.
+const NONE: i64 = i64::MAX;
 
 /// A value from which a line was told, seen as a value or none.
 #[derive(Drop)]
@@ -21,25 +23,17 @@ impl Model for KeptValue {
     ghost view = { λ k. value_kept k.number };
 }
 
-// As what number a cell's value is kept.
-#[inline(always)]
-fn number_of(content: Option<Content>) -> i64
-    ensures { value_kept result ≡ option_map (λ (content : Content). content.value) content }
-{
-    match content {
-        Some(content) => content.value.get(),
-        None => i64::MAX,
-    }
-}
-
 impl KeptValue {
     /// The value that a cell holds.
     #[inline(always)]
     pub(crate) fn of(content: Option<Content>) -> KeptValue
         ensures { result ≡ option_map (λ (content : Content). content.value) content }
     {
-        KeptValue {
-            number: number_of(content),
+        match content {
+            Some(content) => KeptValue {
+                number: content.value.get(),
+            },
+            None => KeptValue { number: NONE },
         }
     }
 
@@ -49,6 +43,9 @@ impl KeptValue {
         ensures { result ≡ true
             → self.now ≡ option_map (λ (content : Content). content.value) content }
     {
-        self.number == number_of(content)
+        match content {
+            Some(content) => self.number == content.value.get(),
+            None => self.number == NONE,
+        }
     }
 }
