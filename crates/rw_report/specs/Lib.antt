@@ -1,5 +1,6 @@
 pub mod Section
 pub mod Sheet
+pub mod Value
 pub mod Kept
 pub mod Flags
 pub mod Lines

@@ -7,7 +7,7 @@ use Rattle.rw_model.specs.Objects.{all_slots}
 use Rattle.rw_run.specs.Log.{Cells}
 use Rattle.rw_report.specs.Section.{value_words, values_in}
 
--- the basin of whose runs it tells, the text that it told last, and the values that it told there of the first timesteps
+-- the basin of whose runs it tells, the text that it told last, and the values of the lines that it keeps of it, of the first timesteps
 pub record Sheet : Type 0 where
   pub basin : Draft
   pub text : List ℕ

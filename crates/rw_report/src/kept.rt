@@ -1,9 +1,8 @@
 // The lines of a table, each kept beside the values from which it was told.
-ghost use Rattle.std.specs.Prelude.{◌≡◌, ◌≤◌, ◌<◌, ◌+◌, ◌-◌, ◌++◌, OnOk, option_map, string_bytes, length, true, vec_len};
+ghost use Rattle.std.specs.Prelude.{◌≡◌, ◌≤◌, ◌<◌, ◌+◌, ◌-◌, ◌++◌, OnOk, string_bytes, length, true, vec_len};
 ghost use Rattle.std.specs.List.{All};
 ghost use Rattle.rw_model.specs.Draft.{Draft};
 ghost use Rattle.rw_model.specs.Objects.{all_slots};
-ghost use Rattle.rw_model.specs.declared.content.Content.{Content};
 ghost use Rattle.rw_run.specs.Log.{Cells};
 ghost use Rattle.rw_series.specs.Series.{held};
 ghost use Rattle.rw_report.specs.Kept.{IsTold, TellFirst, Tells};
@@ -11,8 +10,9 @@ ghost use Rattle.rw_report.specs.Section.{row, rows, values_in};
 ghost use Rattle.rw_report.specs.Sheet.{listed};
 
 use crate::table::push_row;
-use rw_base::{Cell, NoMemory, Qty, SlotNo, StepNo};
-use rw_model::{Basin, Content};
+use crate::value::KeptValue;
+use rw_base::{NoMemory, SlotNo, StepNo};
+use rw_model::Basin;
 use rw_series::Series;
 use std::alloc::Global;
 
@@ -22,7 +22,7 @@ pub(crate) struct KeptLine {
     /// The timestep of which it tells, which is 0 while it is made.
     pub(crate) step: u16,
     /// The values of all slots at it.
-    pub(crate) values: Vec<Option<Qty>>,
+    pub(crate) values: Vec<KeptValue>,
     /// Its text.
     pub(crate) text: String,
 }
@@ -38,37 +38,15 @@ fn blank(alloc: Global) -> KeptLine
     }
 }
 
-#[inline(always)]
-fn value_of(content: Option<Content>) -> Option<Qty>
-    ensures { result ≡ option_map (λ (content : Content). content.value) content }
-{
-    match content {
-        Some(content) => Some(content.value),
-        None => None,
-    }
-}
-
-// Whether a cell holds this value.
-#[inline(always)]
-fn is_value(value: Option<Qty>, content: Option<Content>) -> bool
-    ensures { result ≡ true → value ≡ option_map (λ (content : Content). content.value) content }
-{
-    match (value, content) {
-        (Some(value), Some(content)) => value == content.value,
-        (None, None) => true,
-        _ => false,
-    }
-}
-
 // Whether the slots have these values at a timestep.
-fn are_alike(values: &[Option<Qty>], basin: &Basin, series: &Series, step: StepNo) -> bool
+fn are_alike(values: &[KeptValue], basin: &Basin, series: &Series, step: StepNo) -> bool
     requires { length values.now ≡ length (all_slots basin.now.objects) }
     ensures { result ≡ true → values.now ≡ listed (λ slot. values_in (held series.now) slot step.0)
         (length (all_slots basin.now.objects)) }
 {
+    let cells = series.at_step(step);
     for before in 0..basin.slot_count() {
-        let slot = SlotNo(before + 1);
-        if !is_value(values[usize::from(before)], series.get(Cell { slot, step })) {
+        if !values[usize::from(before)].is_in(cells.get(SlotNo(before + 1))) {
             return false;
         }
     }
@@ -77,7 +55,7 @@ fn are_alike(values: &[Option<Qty>], basin: &Basin, series: &Series, step: StepN
 
 // Puts what the slots have at a timestep in the place of the values.
 fn list(
-    values: &mut Vec<Option<Qty>>,
+    values: &mut Vec<KeptValue>,
     basin: &Basin,
     series: &Series,
     step: StepNo,
@@ -86,10 +64,10 @@ fn list(
         ≡ listed (λ slot. values_in (held series.now) slot step.0)
         (length (all_slots basin.now.objects))) }
 {
+    let cells = series.at_step(step);
     values.clear();
     for before in 0..basin.slot_count() {
-        let slot = SlotNo(before + 1);
-        values.push(value_of(series.get(Cell { slot, step })))?;
+        values.push(KeptValue::of(cells.get(SlotNo(before + 1))))?;
     }
     Ok(())
 }
@@ -223,8 +201,8 @@ fn push_first(text: &mut String, lines: &[KeptLine], first: u16) -> Result<(), N
     Ok(())
 }
 
-/// Appends the lines of the first timesteps, so many of them. Those alone are told anew of which a value isn't as it was, and the
-/// first ones that tell what they told are not looked at.
+/// Appends the lines of the first timesteps, so many of them, and keeps them. Those alone are told anew of which a value isn't as
+/// it was, and the first ones that tell what they told are not looked at.
 pub(crate) fn push_kept(
     alloc: Global,
     text: &mut String,
@@ -232,22 +210,22 @@ pub(crate) fn push_kept(
     basin: &Basin,
     series: &Series,
     first: u16,
-    closed: u16,
+    kept: u16,
 ) -> Result<(), NoMemory>
-    requires closed { closed ≤ basin.now.control.stamps.count }
+    requires kept { kept ≤ basin.now.control.stamps.count }
     requires lines { All (IsTold basin.now) lines.old.items }
-    requires first { first ≤ closed }
+    requires first { first ≤ kept }
     requires there { first ≤ vec_len lines.old }
     requires same { TellFirst basin.now (held series.now) first lines.old.items }
     ensures told { All (IsTold basin.now) lines.new.items }
-    ensures room { OnOk result (closed ≤ vec_len lines.new) }
+    ensures room { OnOk result (kept ≤ vec_len lines.new) }
     ensures tells { OnOk result
-        (TellFirst basin.now (held series.now) closed lines.new.items) }
+        (TellFirst basin.now (held series.now) kept lines.new.items) }
     ensures rows { OnOk result (string_bytes text.new
-        ≡ string_bytes text.old ++ rows basin.now (values_in (held series.now)) closed) }
+        ≡ string_bytes text.old ++ rows basin.now (values_in (held series.now)) kept) }
 {
     push_first(text, lines.as_slice(), first)?;
-    for before in first..closed {
+    for before in first..kept {
         make_room(alloc, basin, lines, before)?;
         push_line(alloc, text, lines, basin, series, before + 1)?;
     }

@@ -16,6 +16,7 @@ mod names;
 mod numbers;
 mod sheet;
 mod table;
+mod value;
 mod whole;
 
 pub use cell::why;

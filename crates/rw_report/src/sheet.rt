@@ -7,7 +7,7 @@ ghost use Rattle.rw_report.specs.Sheet.{AreToldBefore, AreToldOf};
 ghost use Rattle.rw_report.specs.Whole.{table_of, whole_of};
 
 use crate::kept::{KeptLine, push_kept};
-use crate::table::push_columns;
+use crate::table::{push_columns, push_rows};
 use crate::whole::{push_flags_if, push_top, push_trace_if};
 use rw_base::{NoMemory, StepNo};
 use rw_model::Basin;
@@ -15,12 +15,13 @@ use rw_run::Run;
 use std::alloc::Global;
 use std::marker::Model;
 
-/// What was told last of a basin's runs, seen as the basin, the text and the values of its table. It keeps the lines of the table,
-/// and tells anew those alone of which a value isn't as it was.
+/// What was told last of a basin's runs, seen as the basin, the text and the values of the lines that it keeps. A sheet that is to
+/// keep them keeps those of the table, and tells anew those alone of which a value isn't as it was.
 #[derive(Drop)]
 pub struct Sheet<'a> {
     alloc: Global,
     basin: &'a Basin,
+    keeps: bool,
     lines: Vec<KeptLine>,
     told: u16,
     text: String,
@@ -45,7 +46,7 @@ impl<'a> Model for Sheet<'a> {
         × (s.told ≤ vec_len s.lines × AreInPlace s.told s.lines.items) };
 }
 
-// Appends the table of a run.
+// Appends the table of a run, and keeps the lines of the first timesteps, so many of them.
 fn push_table(
     alloc: Global,
     text: &mut String,
@@ -53,24 +54,27 @@ fn push_table(
     basin: &Basin,
     run: &Run,
     first: u16,
+    kept: u16,
 ) -> Result<(), NoMemory>
     requires closed { run.now.closed ≤ basin.now.control.stamps.count }
+    requires kept { kept ≤ run.now.closed }
     requires lines { All (IsTold basin.now) lines.old.items }
-    requires first { first ≤ run.now.closed }
+    requires first { first ≤ kept }
     requires there { first ≤ vec_len lines.old }
     requires same { TellFirst basin.now (held run.now.series) first lines.old.items }
     ensures told { All (IsTold basin.now) lines.new.items }
-    ensures room { OnOk result (run.now.closed ≤ vec_len lines.new) }
+    ensures room { OnOk result (kept ≤ vec_len lines.new) }
     ensures tells { OnOk result
-        (TellFirst basin.now (held run.now.series) run.now.closed lines.new.items) }
+        (TellFirst basin.now (held run.now.series) kept lines.new.items) }
     ensures table { OnOk result (string_bytes text.new
         ≡ string_bytes text.old ++ table_of basin.now (outcome_of run.now)) }
 {
     push_columns(text, basin)?;
-    push_kept(alloc, text, lines, basin, &run.series, first, run.closed)
+    push_kept(alloc, text, lines, basin, &run.series, first, kept)?;
+    push_rows(alloc, text, basin, &run.series, kept, run.closed)
 }
 
-// Appends the text of a section.
+// Appends the text of a section, and keeps such lines.
 fn push_section(
     alloc: Global,
     text: &mut String,
@@ -82,22 +86,24 @@ fn push_section(
     flags: bool,
     trace: bool,
     first: u16,
+    kept: u16,
 ) -> Result<(), NoMemory>
     requires closed { run.now.closed ≤ basin.now.control.stamps.count }
+    requires kept { kept ≤ run.now.closed }
     requires lines { All (IsTold basin.now) lines.old.items }
-    requires first { first ≤ run.now.closed }
+    requires first { first ≤ kept }
     requires there { first ≤ vec_len lines.old }
     requires same { TellFirst basin.now (held run.now.series) first lines.old.items }
     ensures told { All (IsTold basin.now) lines.new.items }
-    ensures room { OnOk result (run.now.closed ≤ vec_len lines.new) }
+    ensures room { OnOk result (kept ≤ vec_len lines.new) }
     ensures tells { OnOk result
-        (TellFirst basin.now (held run.now.series) run.now.closed lines.new.items) }
+        (TellFirst basin.now (held run.now.series) kept lines.new.items) }
     ensures section { OnOk result (string_bytes text.new
         ≡ string_bytes text.old ++ whole_of basin.now batch (outcome_of run.now)
         (option_map (λ steps. steps.now) reran.entry) flags trace) }
 {
     push_top(text, basin, batch, &run.end, reran)?;
-    push_table(alloc, text, lines, basin, run, first)?;
+    push_table(alloc, text, lines, basin, run, first, kept)?;
     push_flags_if(text, basin, run, flags)?;
     push_trace_if(text, basin, run, trace)
 }
@@ -120,14 +126,23 @@ fn count_before(same: u16, told: u16) -> u16
     lesser(same - 1, told)
 }
 
+// Of how many of the closed timesteps lines are kept.
+fn count_kept(keeps: bool, closed: u16) -> u16
+    ensures { result ≤ closed }
+{
+    if keeps { closed } else { 0 }
+}
+
 impl<'a> Sheet<'a> {
-    /// A sheet on which nothing is told of the basin's runs. It takes no memory.
-    pub fn new(alloc: Global, basin: &'a Basin) -> Sheet<'a>
+    /// A sheet on which nothing is told of the basin's runs. Whether it keeps lines goes by `keeps`: for a sheet that tells one
+    /// section they are of no use. It takes no memory.
+    pub fn new(alloc: Global, basin: &'a Basin, keeps: bool) -> Sheet<'a>
         ensures { result ≡ record { basin = basin.now; text = []; values = [] } }
     {
         Sheet {
             alloc,
             basin,
+            keeps,
             lines: Vec::new(alloc),
             told: 0,
             text: String::new(alloc),
@@ -155,7 +170,8 @@ impl<'a> Sheet<'a> {
         ensures untold { IfErr result (λ fault. self.new.text ≡ []) }
         ensures basin { self.new.basin ≡ self.old.basin }
     {
-        let first = lesser(count_before(same, self.told), run.closed);
+        let kept = count_kept(self.keeps, run.closed);
+        let first = lesser(count_before(same, self.told), kept);
         self.told = 0;
         self.text.clear();
         match push_section(
@@ -169,9 +185,10 @@ impl<'a> Sheet<'a> {
             flags,
             trace,
             first,
+            kept,
         ) {
             Ok(()) => {
-                self.told = run.closed;
+                self.told = kept;
                 Ok(())
             }
             Err(NoMemory) => {

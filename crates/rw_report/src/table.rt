@@ -1,4 +1,4 @@
-ghost use Rattle.std.specs.Prelude.{◌≡◌, ◌≤◌, ◌++◌, OnOk, string_bytes, codes, option_map, length};
+ghost use Rattle.std.specs.Prelude.{◌≡◌, ◌≤◌, ◌++◌, ℕ, List, OnOk, string_bytes, codes, option_map, length};
 ghost use Rattle.std.specs.Fmt.{decimal};
 ghost use Rattle.rw_calendar.specs.Stamps.{end_of, stamp_text};
 ghost use Rattle.rw_model.specs.declared.content.Content.{Content};
@@ -7,7 +7,7 @@ ghost use Rattle.rw_report.specs.Section.{columns, for_slots, row, rows, slot_wo
 
 use crate::names::push_slot;
 use crate::numbers::{push_count, push_number};
-use rw_base::{Cell, NoMemory, SlotNo, StepNo};
+use rw_base::{NoMemory, SlotNo, StepNo};
 use rw_model::{Basin, Content};
 use rw_series::Series;
 use std::alloc::Global;
@@ -62,9 +62,9 @@ fn push_values(
     ensures { OnOk result (string_bytes text.new ≡ string_bytes text.old
         ++ for_slots basin.now (λ slot. codes "," ++ value_words (values_in (held series.now) slot step.0))) }
 {
+    let cells = series.at_step(step);
     for before in 0..basin.slot_count() {
-        let slot = SlotNo(before + 1);
-        push_value(text, series.get(Cell { slot, step }))?;
+        push_value(text, cells.get(SlotNo(before + 1)))?;
     }
     Ok(())
 }
@@ -110,18 +110,23 @@ pub(crate) fn push_row(
     Ok(())
 }
 
-/// Appends the lines of the first timesteps, so many of them.
+/// Appends the lines of the first timesteps, so many of them, to a text that has the first ones already.
 pub(crate) fn push_rows(
     alloc: Global,
     text: &mut String,
     basin: &Basin,
     series: &Series,
+    first: u16,
     closed: u16,
 ) -> Result<(), NoMemory>
+    requires first { first ≤ closed }
     requires closed { closed ≤ basin.now.control.stamps.count }
-    ensures { OnOk result (string_bytes text.new ≡ string_bytes text.old ++ rows basin.now (values_in (held series.now)) closed) }
+    ensures { (front : List ℕ)
+        → string_bytes text.old ≡ front ++ rows basin.now (values_in (held series.now)) first
+        → OnOk result (string_bytes text.new
+        ≡ front ++ rows basin.now (values_in (held series.now)) closed) }
 {
-    for before in 0..closed {
+    for before in first..closed {
         push_row(alloc, text, basin, series, before + 1)?;
     }
     Ok(())

@@ -88,7 +88,7 @@ fn push_table(alloc: Global, text: &mut String, basin: &Basin, run: &Run) -> Res
         ≡ string_bytes text.old ++ table_of basin.now (outcome_of run.now)) }
 {
     push_columns(text, basin)?;
-    push_rows(alloc, text, basin, &run.series, run.closed)
+    push_rows(alloc, text, basin, &run.series, 0, run.closed)
 }
 
 pub(crate) fn push_flags_if(

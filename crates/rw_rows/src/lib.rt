@@ -1,5 +1,5 @@
-//! Worked examples of the top call, over files and sinks in memory, and of the methods of objects, by a catalogue of all
-//! seven. There is nothing here but tests: what they compare with was worked out by hand, or by programs that know nothing
+//! Worked examples of the top call, over files and sinks in memory, and of the methods of objects, by a catalogue of them
+//! all. There is nothing here but tests: what they compare with was worked out by hand, or by programs that know nothing
 //! of this one.
 #![tactic(auto)]
 

@@ -194,7 +194,7 @@ fn write_by_code<K: Sink, L: Ledger>(
         Ok(session) => session,
         Err(NoMemory) => return Err(Refusal::NoMemory),
     };
-    let mut sheet = Sheet::new(alloc, setup.basin);
+    let mut sheet = Sheet::new(alloc, setup.basin, !batches.is_empty());
     write_from(&mut session, extras, 0, batches, steps, &mut sheet, out)
 }
 

@@ -157,7 +157,7 @@ pub(crate) fn write_sections<K: Sink, L: Ledger>(
         (StopsAmong (IsRulesText setup.now.basin.now (policy_of policy.now) extras)
         0 (first_given inputs) batches.now (change (K.seen out.old) (K.seen out.new))) }
 {
-    let mut sheet = Sheet::new(alloc, setup.basin);
+    let mut sheet = Sheet::new(alloc, setup.basin, !batches.is_empty());
     write_from(
         alloc, setup, policy, extras, 0, inputs, batches, steps, &mut sheet, out,
     )

@@ -7,4 +7,4 @@ use Rattle.rw_report.proofs.kept.are_alike.Given as goal
 -- the values so far are those of the slots
 abbrev pub invariant-loop-before : goal.invariant-loop-before
 invariant-loop-before l =
-    take l.before l.values ≡ listed (λ slot. values_in (held l.series) slot l.step.0) l.before
+    take l.before l.values ≡ listed (λ slot. values_in (held l.fn.series) slot l.fn.step.0) l.before

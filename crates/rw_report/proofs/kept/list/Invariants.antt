@@ -7,4 +7,4 @@ use Rattle.rw_report.proofs.kept.list.Given as goal
 -- the values so far are those of the slots
 abbrev pub invariant-loop-before : goal.invariant-loop-before
 invariant-loop-before l =
-    l.values.items ≡ listed (λ slot. values_in (held l.series) slot l.step.0) l.before
+    l.values.items ≡ listed (λ slot. values_in (held l.fn.series) slot l.fn.step.0) l.before

@@ -44,7 +44,7 @@ pub returns-clause-rows : goal.returns-clause-rows
 returns-clause-rows c =
     let done = c.loop-before-test.false in
     let few = c.loop-before.invariant.1.1.1.0 in
-    let same : c.loop-before.before ≡ c.args.closed = omega (arith, done, few) in
+    let same : c.loop-before.before ≡ c.args.kept = omega (arith, done, few) in
     c.loop-before.invariant.0
     ∙ ap (λ n. string_bytes c.args.text.now ++ for_each (row c.args.basin.now (values_in (held c.args.series.now))) n) same
 
@@ -56,5 +56,5 @@ pub returns-clause-tells : goal.returns-clause-tells
 returns-clause-tells c =
     let done = c.loop-before-test.false in
     let few = c.loop-before.invariant.1.1.1.0 in
-    let same : c.loop-before.before ≡ c.args.closed = omega (arith, done, few) in
+    let same : c.loop-before.before ≡ c.args.kept = omega (arith, done, few) in
     subst (λ n. TellFirst c.args.basin.now (held c.args.series.now) n c.loop-before.lines.items) same c.loop-before.invariant.1.1.1.1

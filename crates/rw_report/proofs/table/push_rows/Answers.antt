@@ -1,10 +1,23 @@
-use Rattle.std.proofs.Common.{string_bytes}
+use Rattle.std.proofs.Common.{◌≡◌, ◌++◌, ◌∙◌, ap, arith, string_bytes}
 use Rattle.rw_series.specs.Series.{held}
-use Rattle.rw_report.specs.Section.{row, values_in}
+use Rattle.rw_report.specs.Section.{for_each, row, values_in}
 use Rattle.rw_report.proofs.Growing.{next}
 use Rattle.rw_report.proofs.table.push_rows.Goals as goal
 
+pub loop-before-init : goal.loop-before-init
+loop-before-init c = (c.requires.first, λ front is. is)
+
 pub loop-before-preserved : goal.loop-before-preserved
 loop-before-preserved c =
-    next (row c.args.basin.now (values_in (held c.args.series.now))) c.loop-before.before
-    (string_bytes c.args.text.now) (string_bytes c.loop-before.text) (string_bytes c.push_row.new.text) c.loop-before.invariant c.in_ok-push_row.ensures
+    let near = c.loop-before-test.true in (
+      omega (arith, near),
+      λ front is. next (row c.args.basin.now (values_in (held c.args.series.now))) c.loop-before.before
+          front (string_bytes c.loop-before.text) (string_bytes c.push_row.new.text) (c.loop-before.invariant.1 front is) c.in_ok-push_row.ensures,
+    )
+
+pub returns : goal.returns
+returns c = λ front is.
+    let done = c.loop-before-test.false in
+    let few = c.loop-before.invariant.0 in
+    let same : c.loop-before.before ≡ c.args.closed = omega (arith, done, few) in
+    c.loop-before.invariant.1 front is ∙ ap (λ n. front ++ for_each (row c.args.basin.now (values_in (held c.args.series.now))) n) same

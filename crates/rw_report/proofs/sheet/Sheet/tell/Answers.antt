@@ -29,7 +29,7 @@ invariant_of-self c = (
   c.in-Ok.ensures.told,
   (
     c.in-Ok.ensures.room,
-    in_place c.self.inside.basin.now (held c.args.run.now.series) c.args.run.now.closed c.push_section.new.lines.items c.in-Ok.ensures.tells,
+    in_place c.self.inside.basin.now (held c.args.run.now.series) c.count_kept-kept.result c.push_section.new.lines.items c.in-Ok.ensures.tells,
   ),
 )
 
@@ -37,6 +37,6 @@ pub returns-in-Ok-clause-values : goal.returns-in-Ok-clause-values
 returns-in-Ok-clause-values c =
     let cells = held c.args.run.now.series in
     let lines = c.push_section.new.lines.items in
-    let closed = c.args.run.now.closed in
-    subst (λ (sheet : Sheet). AreToldOf sheet.basin cells (map (λ (line : KeptLine). line.values.items) (take closed lines)))
-    c.self.view_is (told_by c.self.inside.basin.now cells lines closed c.in-Ok.ensures.tells)
+    let kept = c.count_kept-kept.result in
+    subst (λ (sheet : Sheet). AreToldOf sheet.basin cells (map (λ (line : KeptLine). line.values.items) (take kept lines)))
+    c.self.view_is (told_by c.self.inside.basin.now cells lines kept c.in-Ok.ensures.tells)
